@@ -65,24 +65,31 @@ near_from link here p a_on b_on (inl w) = by_a (reach_from link here link.a p a_
 near_from link here p a_on b_on (inr w) = by_b (reach_from link here link.b p b_on w)
 
 -- a point of the active area is four steps from one of the strings at some node of the question
+area_gives : (q : LinkQuestion) (pos : BoardState) (p : ℕ) → q.a < pos.size * pos.size → q.b < pos.size * pos.size
+    → InConnectionArea q pos p → IsLookedAt q pos p
+area_gives q pos p a_on b_on h = record {
+  plies = h.plies;
+  own = h.own;
+  here = h.here;
+  in_tree = h.in_tree;
+  reached = near_gives (link_of q) h.here p (tree_on q.a a_on h.in_tree) (tree_on q.b b_on h.in_tree) h.near;
+}
+
+-- what these steps reach is in the active area
+area_from : (q : LinkQuestion) (pos : BoardState) (p : ℕ) → q.a < pos.size * pos.size → q.b < pos.size * pos.size
+    → IsLookedAt q pos p → InConnectionArea q pos p
+area_from q pos p a_on b_on h = record {
+  plies = h.plies;
+  own = h.own;
+  here = h.here;
+  in_tree = h.in_tree;
+  near = near_from (link_of q) h.here p (tree_on q.a a_on h.in_tree) (tree_on q.b b_on h.in_tree) h.reached;
+}
+
+-- the active area is what these steps reach
 pub area-is : (q : LinkQuestion) (pos : BoardState) (p : ℕ) → q.a < pos.size * pos.size → q.b < pos.size * pos.size
     → InConnectionArea q pos p ↔ IsLookedAt q pos p
-area-is q pos p a_on b_on = (
-  λ h. record {
-    plies = h.plies;
-    own = h.own;
-    here = h.here;
-    in_tree = h.in_tree;
-    reached = near_gives (link_of q) h.here p (tree_on q.a a_on h.in_tree) (tree_on q.b b_on h.in_tree) h.near;
-  },
-  λ h. record {
-    plies = h.plies;
-    own = h.own;
-    here = h.here;
-    in_tree = h.in_tree;
-    near = near_from (link_of q) h.here p (tree_on q.a a_on h.in_tree) (tree_on q.b b_on h.in_tree) h.reached;
-  },
-)
+area-is q pos p a_on b_on = (area_gives q pos p a_on b_on, area_from q pos p a_on b_on)
 
 -- no path joins the strings at an undecided node
 apart_gives : (link : Link) (here : BoardState) → link.a < here.size * here.size → IsUndecided link here

@@ -6,6 +6,7 @@ use Rattle.go_rules.specs.declared.Colour.{Colour}
 use Rattle.go_rules.specs.Strings.{cell_at}
 use Rattle.go_rules.specs.Position.{BoardState, colour_of}
 use Rattle.read_rules.specs.declared.question.Kind.{Kind}
+use Rattle.read_rules.specs.declared.question.ReadingQuestion.{ReadingQuestion}
 use Rattle.read_rules.specs.declared.tree.Tree.{Tree}
 use Rattle.read_rules.specs.Answer.{is_about, asked_in}
 use Rattle.read_rules.proofs.AnswerLemmas.{stone-colour, about_from}
@@ -16,34 +17,22 @@ pub about_asked : (tree : Tree) (pos : BoardState) (kind : Kind) (t plies wide :
 about_asked tree pos kind t plies wide stone =
     about_from (asked_in tree pos kind t plies wide) pos refl (stone-colour (cell_at pos.cells t) stone)
 
+-- the question of a kind about a stone of this colour on a board of this size
+abbrev stone_asked : Tree → Kind → ℕ → ℕ → ℕ → ℕ → Colour → ReadingQuestion
+stone_asked tree kind t plies wide size colour = record {
+  tree = tree;
+  size = size;
+  kind = kind;
+  target = t;
+  colour = colour;
+  plies = plies;
+  wide = wide;
+}
+
 -- the question that is asked, by its parts
 pub question_is : (tree : Tree) (shown : BoardState) (size t plies wide : ℕ) (kind : Kind) (cell : Cell)
     (colour : Colour) → size ≡ shown.size → colour ≡ colour_of cell → cell ≡ cell_at shown.cells t
-    → record {
-      tree = tree;
-      size = size;
-      kind = kind;
-      target = t;
-      colour = colour;
-      plies = plies;
-      wide = wide;
-    } ≡ asked_in tree shown kind t plies wide
+    → stone_asked tree kind t plies wide size colour ≡ asked_in tree shown kind t plies wide
 question_is tree shown size t plies wide kind cell colour s o e =
-    ap (λ (n : ℕ). record {
-      tree = tree;
-      size = n;
-      kind = kind;
-      target = t;
-      colour = colour;
-      plies = plies;
-      wide = wide;
-    }) s
-    ∙ ap (λ (c : Colour). record {
-      tree = tree;
-      size = shown.size;
-      kind = kind;
-      target = t;
-      colour = c;
-      plies = plies;
-      wide = wide;
-    }) (o ∙ ap colour_of e)
+    ap (λ n. stone_asked tree kind t plies wide n colour) s
+    ∙ ap (stone_asked tree kind t plies wide shown.size) (o ∙ ap colour_of e)

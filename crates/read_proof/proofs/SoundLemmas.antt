@@ -4,7 +4,7 @@ use Rattle.std.proofs.Common.{eqb, List, [], ◌∷◌, ◌++◌, Option, Some, 
 use Rattle.std.proofs.Common.{arith, add-one}
 use Rattle.std.specs.List.{filter_map, cons_option, filter, range_with_len, AllByRecursion}
 use Rattle.std.proofs.lemmas.Option.{option_and_then_some}
-use Rattle.std.proofs.lemmas.Bool.{cases_Bool, and_parts, or_cases, both_ways, eqb-true, eqb-false, ltb-true}
+use Rattle.std.proofs.lemmas.Bool.{cases_Bool, cases_eq, and_parts, or_cases, both_ways, eqb-true, ltb-true}
 use Rattle.std.proofs.lemmas.Bool.{not-true}
 use Rattle.go_rules.specs.Position.{BoardState}
 use Rattle.go_rules.specs.Strings.{liberties}
@@ -117,30 +117,29 @@ other_children : (P : Node × BoardState → Type 0) (o : Option (Node × BoardS
 other_children P None more all = all
 other_children P (Some first) more all = all.1
 
+-- what holds of each child after the plays at a row of points holds of the child that the first gives, if it is chosen
+at_first : (f : ℕ → Option (Node × BoardState)) (P : Node × BoardState → Type 0) (a : ℕ) (more : List ℕ)
+    (child : Node × BoardState) (b : Bool) → AllByRecursion P (filter_map f (cond b (a ∷ more) more)) → b ≡ true
+    → f a ≡ Some child → P child
+at_first f P a more child true all chosen is = first_child P (f a) (filter_map f more) child all is
+at_first f P a more child false all chosen is = absurd (let w = chosen in cc)
+
+-- and of each child after the plays at those behind it
+at_others : (f : ℕ → Option (Node × BoardState)) (P : Node × BoardState → Type 0) (a : ℕ) (more : List ℕ) (b : Bool)
+    → AllByRecursion P (filter_map f (cond b (a ∷ more) more)) → AllByRecursion P (filter_map f more)
+at_others f P a more true all = other_children P (f a) (filter_map f more) all
+at_others f P a more false all = all
+
 -- what holds of each child after the plays holds of the child that one of them gives
 plays_give : (f : ℕ → Option (Node × BoardState)) (g : ℕ → Bool) (P : Node × BoardState → Type 0) (n a p : ℕ)
     (child : Node × BoardState) → AllByRecursion P (filter_map f (filter g (range_with_len a n))) → a ≤ p → p < a + n
     → g p ≡ true → f p ≡ Some child → P child
 plays_give f g P zero a p child all low high chosen e = absurd (omega arith)
-plays_give f g P (suc n) a p child all low high chosen e =
-    elim (cases_Bool (eqb a p)) [
-      | inl same ↦ at_first (g a) all (ap g (eqb-true a p same) ∙ chosen) (ap f (eqb-true a p same) ∙ e)
-      | inr other ↦ let ne = eqb-false a p other in
-          plays_give f g P n (a + 1) p child (behind (g a) all) (omega arith) (omega arith) chosen e
-    ]
-  where
-    at_first : (b : Bool)
-        → AllByRecursion P (filter_map f (cond b (a ∷ filter g (range_with_len (a + 1) n))
-        (filter g (range_with_len (a + 1) n)))) → b ≡ true → f a ≡ Some child → P child
-    at_first true all chosen is = first_child P (f a) _ child all is
-    at_first false all chosen is = absurd (let w = chosen in cc)
-
-    behind : (b : Bool)
-        → AllByRecursion P (filter_map f (cond b (a ∷ filter g (range_with_len (a + 1) n))
-        (filter g (range_with_len (a + 1) n))))
-        → AllByRecursion P (filter_map f (filter g (range_with_len (a + 1) n)))
-    behind true all = other_children P (f a) _ all
-    behind false all = all
+plays_give f g P (suc n) a p child all low high chosen e = elim (cases_eq a p) [
+  | inl same ↦ at_first f P a (filter g (range_with_len (a + 1) n)) child (g a) all (ap g same ∙ chosen) (ap f same ∙ e)
+  | inr ne ↦ plays_give f g P n (a + 1) p child
+      (at_others f P a (filter g (range_with_len (a + 1) n)) (g a) all) (omega arith) (omega arith) chosen e
+]
 
 -- each child of the rows is one of a row
 pub both_rows : (P : Node × BoardState → Type 0) (xs ys : List (Node × BoardState)) → AllByRecursion P xs

@@ -1,6 +1,6 @@
 -- What a reading under one code finds, and which answer the codes come to.
-use Rattle.std.proofs.Common.{◌≡◌, ◌≢◌, ◌∙◌, ℕ, ◌-◌, Bool, true, false, not, cond, Option, None, is_some, ◌<◌}
-use Rattle.std.proofs.Common.{◌≤◌, ap, sym, refl, arith, inl, inr, eq-eqb}
+use Rattle.std.proofs.Common.{◌≡◌, ◌≢◌, ◌∙◌, ℕ, zero, suc, ◌-◌, ◌<◌, ◌≤◌, Bool, true, false, not, cond, Option, None}
+use Rattle.std.proofs.Common.{is_some, ap, sym, refl, arith, inl, inr, eq-eqb}
 use Rattle.std.proofs.lemmas.Bool.{cases_Bool, cases_eq, ne_eqb, and_parts, and_from}
 use Rattle.go_rules.specs.declared.Cell.{Cell}
 use Rattle.go_rules.specs.declared.Cell.TheVariants.{Empty, Black, White}
@@ -45,7 +45,7 @@ reads q pos code found ne h e =
     }
 
 -- a cell that holds a stone is not empty
-stone_stands : (cell : Cell) (c : Colour) → cell ≡ stone_of c → same_cell cell Empty ≡ false
+pub stone_stands : (cell : Cell) (c : Colour) → cell ≡ stone_of c → same_cell cell Empty ≡ false
 stone_stands cell black e = ap (λ k. same_cell k Empty) e
 stone_stands cell white e = ap (λ k. same_cell k Empty) e
 
@@ -110,24 +110,27 @@ pub attained_by : (q : ReadingQuestion) (pos : BoardState) (code : ℕ) → q.pl
 attained_by q pos code ne h =
     sym (reads q pos code (good_move (q.plies - 1) (first_node q code) pos) ne h refl).attained
 
+-- a code that is attained, where no greater one is, is the code of the question
+code_best : (q : ReadingQuestion) (pos : BoardState) (code : ℕ) → is_about q pos ≡ true → code ≤ 3
+    → (code ≢ 0 → attains_code q pos code ≡ true)
+    → ((more : ℕ) → code < more → more ≤ 3 → attains_code q pos more ≡ false) → code_of q pos ≡ code
+code_best q pos zero about bounded hit miss = code_of-chosen q pos ∙ chosen-0 _ _ _ _ about
+    (miss 3 (omega arith) (omega arith)) (miss 2 (omega arith) (omega arith)) (miss 1 (omega arith) (omega arith))
+code_best q pos (suc zero) about bounded hit miss = code_of-chosen q pos ∙ chosen-1 _ _ _ _ about
+    (miss 3 (omega arith) (omega arith)) (miss 2 (omega arith) (omega arith)) (hit (λ e. cc))
+code_best q pos (suc (suc zero)) about bounded hit miss = code_of-chosen q pos
+    ∙ chosen-2 _ _ _ _ about (miss 3 (omega arith) (omega arith)) (hit (λ e. cc))
+code_best q pos (suc (suc (suc zero))) about bounded hit miss =
+    code_of-chosen q pos ∙ chosen-3 _ _ _ _ about (hit (λ e. cc))
+code_best q pos (suc (suc (suc (suc more)))) about bounded hit miss = absurd (omega arith)
+
 -- a code that is attained, where no greater one is, and its move are the answer
 pub answer_best : (q : ReadingQuestion) (pos : BoardState) (code : ℕ) (at : Option Spot) → is_about q pos ≡ true
     → code ≤ 3 → (code ≢ 0 → attains_code q pos code ≡ true)
     → ((more : ℕ) → code < more → more ≤ 3 → attains_code q pos more ≡ false) → (code ≡ 0 → at ≡ None)
     → (code ≢ 0 → at ≡ first_move_of q pos code) → record { code = code; at = at } ≡ answer_of q pos
-answer_best q pos code at about bounded hit miss no_move move = elim (cases_eq code 0) [
-  | inl e ↦ answer_with q pos code at (code_of-chosen q pos
-      ∙ chosen-0 _ _ _ _ about (miss 3 (omega arith) (omega arith)) (miss 2 (omega arith) (omega arith))
-      (miss 1 (omega arith) (omega arith)) ∙ sym e)
-      (no_move e ∙ sym (ap (move_of q pos) e))
-  | inr n0 ↦ answer_with q pos code at (elim (cases_eq code 1) [
-    | inl e ↦ code_of-chosen q pos ∙ chosen-1 _ _ _ _ about (miss 3 (omega arith) (omega arith))
-        (miss 2 (omega arith) (omega arith)) (ap (attains_code q pos) (sym e) ∙ hit n0) ∙ sym e
-    | inr n1 ↦ elim (cases_eq code 2) [
-      | inl e ↦ code_of-chosen q pos ∙ chosen-2 _ _ _ _ about (miss 3 (omega arith) (omega arith))
-          (ap (attains_code q pos) (sym e) ∙ hit n0) ∙ sym e
-      | inr n2 ↦ let e : code ≡ 3 = omega arith in
-          code_of-chosen q pos ∙ chosen-3 _ _ _ _ about (ap (attains_code q pos) (sym e) ∙ hit n0) ∙ sym e
-    ]
-  ]) (move n0 ∙ sym (ap (λ b. cond b None (first_move_of q pos code)) (ne_eqb code 0 n0)))
-]
+answer_best q pos code at about bounded hit miss no_move move =
+    answer_with q pos code at (code_best q pos code about bounded hit miss) (elim (cases_eq code 0) [
+      | inl e ↦ no_move e ∙ sym (ap (move_of q pos) e)
+      | inr some ↦ move some ∙ sym (ap (λ b. cond b None (first_move_of q pos code)) (ne_eqb code 0 some))
+    ])

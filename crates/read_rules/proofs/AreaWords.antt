@@ -53,32 +53,39 @@ tree_on on (by_play {n} {node} {here} tree undecided p c next new child) =
     (subst (λ (m : Node). m.target < here.size * here.size) (sym free.2) (tree_on on tree))
 tree_on on (by_pass tree undecided turn) = tree_on on tree
 
+-- a point of the active area is reached by the steps of the tree from the target's string at some node of the question
+area_gives : (q : ReadingQuestion) (pos : BoardState) (p : ℕ) → q.target < pos.size * pos.size
+    → InActiveArea q pos p → IsLookedAt q pos p
+area_gives q pos p on h = record {
+  plies = h.plies;
+  node = h.node;
+  here = h.here;
+  in_tree = h.in_tree;
+  stands = stands_gives h.here h.node.target h.near.stands;
+  reached = (reach-is h.node.tree h.here.size h.here.cells h.node.target p (tree_on on h.in_tree)).0 h.near.near;
+}
+
+-- what these steps reach is in the active area
+area_from : (q : ReadingQuestion) (pos : BoardState) (p : ℕ) → q.target < pos.size * pos.size
+    → IsLookedAt q pos p → InActiveArea q pos p
+area_from q pos p on h =
+    let stands = stands_from h.here h.node.target h.stands in
+    let reach = reach-is h.node.tree h.here.size h.here.cells h.node.target p (tree_on on h.in_tree) in
+    record {
+      plies = h.plies;
+      node = h.node;
+      here = h.here;
+      in_tree = h.in_tree;
+      near = record { stands = stands; near = reach.1 h.reached };
+    }
+
 -- a point of the active area is the steps of the tree from the target's string at some node of the question
 pub area-is : (q : ReadingQuestion) (pos : BoardState) (p : ℕ) → q.target < pos.size * pos.size
     → InActiveArea q pos p ↔ IsLookedAt q pos p
-area-is q pos p on = (
-  λ h. record {
-    plies = h.plies;
-    node = h.node;
-    here = h.here;
-    in_tree = h.in_tree;
-    stands = stands_gives h.here h.node.target h.near.stands;
-    reached = (reach-is h.node.tree h.here.size h.here.cells h.node.target p (tree_on on h.in_tree)).0 h.near.near;
-  },
-  λ h. record {
-    plies = h.plies;
-    node = h.node;
-    here = h.here;
-    in_tree = h.in_tree;
-    near = record {
-      stands = stands_from h.here h.node.target h.stands;
-      near = (reach-is h.node.tree h.here.size h.here.cells h.node.target p (tree_on on h.in_tree)).1 h.reached;
-    };
-  },
-)
+area-is q pos p on = (area_gives q pos p on, area_from q pos p on)
 
 -- the same question, asked as an attack or as a defence
-abbrev asked_as : ReadingQuestion → Kind → ReadingQuestion
+abbrev pub asked_as : ReadingQuestion → Kind → ReadingQuestion
 asked_as q kind = record {
   tree = q.tree;
   size = q.size;
@@ -193,20 +200,28 @@ node_gives {q} {pos} (by_pass {n} {node} {here} tree undecided turn) = inr (reco
   move = inr (record { defender_to_play = turn; node_is = refl; here_is = refl });
 })
 
--- a first node, and what comes of an undecided one by a move, is a node of the question
-pub node_from : (q : ReadingQuestion) (pos : BoardState) (n : ℕ) (node : Node) (here : BoardState)
-    → IsFirstOf q pos n node here ⊎ IsNextOf q pos n node here → IsNodeOf q pos n node here
-node_from q pos n node here (inl w) =
+-- a first node is a node of the question
+first_is : (q : ReadingQuestion) (pos : BoardState) (n : ℕ) (node : Node) (here : BoardState)
+    → IsFirstOf q pos n node here → IsNodeOf q pos n node here
+first_is q pos n node here w =
     subst (λ m. IsNodeOf q pos m node here) (sym w.plies)
     (subst (λ (b : BoardState). IsNodeOf q pos q.plies node b) (sym w.on_it)
     (subst (λ (m : Node). IsNodeOf q pos q.plies m pos) (sym w.is_node)
     (first_from q pos w.attacker_ko w.defender_ko w.one_at_most)))
-node_from q pos n node here (inr w) =
-    let undecided = undecided_from w.before w.there w.stands w.few in
-    elim w.move [
-      | inl m ↦ by_play w.in_tree undecided m.point m.candidate node here
-          (child_from w.before w.there m.point node here m.child)
-      | inr m ↦ subst (λ (b : BoardState). IsNodeOf q pos n node b) (sym m.here_is)
-          (subst (λ (k : Node). IsNodeOf q pos n k (pass w.there)) (sym m.node_is)
-          (by_pass w.in_tree undecided m.defender_to_play))
-    ]
+
+-- what comes of an undecided node by a move is one
+next_is : (q : ReadingQuestion) (pos : BoardState) (n : ℕ) (node : Node) (here : BoardState)
+    → IsNextOf q pos n node here → IsNodeOf q pos n node here
+next_is q pos n node here w = let undecided = undecided_from w.before w.there w.stands w.few in elim w.move [
+  | inl m ↦ by_play w.in_tree undecided m.point m.candidate node here
+      (child_from w.before w.there m.point node here m.child)
+  | inr m ↦ subst (λ (b : BoardState). IsNodeOf q pos n node b) (sym m.here_is)
+      (subst (λ (k : Node). IsNodeOf q pos n k (pass w.there)) (sym m.node_is)
+      (by_pass w.in_tree undecided m.defender_to_play))
+]
+
+-- a first node, and what comes of an undecided one by a move, is a node of the question
+pub node_from : (q : ReadingQuestion) (pos : BoardState) (n : ℕ) (node : Node) (here : BoardState)
+    → IsFirstOf q pos n node here ⊎ IsNextOf q pos n node here → IsNodeOf q pos n node here
+node_from q pos n node here (inl w) = first_is q pos n node here w
+node_from q pos n node here (inr w) = next_is q pos n node here w

@@ -188,29 +188,37 @@ by_test tree attacker pos target k p h = elim (or_cases (by_four pos target k p)
           of_further (ltb-true 0 k parts.0) (wider_gives tree both.0) both.1
     ]
 
+-- a wide move by the test is one by the rules
+wide_candidate : (tree : Tree) (attacker : Bool) (pos : BoardState) (target k p : ℕ)
+    → by_wide pos target k p ≡ true → IsCandidate tree attacker pos target k p
+wide_candidate tree attacker pos target k p h =
+    let parts = and_parts _ _ h in
+    let both = and_parts _ _ parts.0 in
+    let l = wide_gives pos.size pos.cells target p parts.1 in
+    let few = ltb-true (liberties pos.size pos.cells target) 3 both.1 in
+    looks_wide (ltb-true 0 k both.0) (omega arith) l.0 (IsLiberty-from_test pos.size pos.cells target l.0 l.1) l.2
+
+-- so is a backfilling move
+backfilling_candidate : (tree : Tree) (attacker : Bool) (pos : BoardState) (target k p : ℕ)
+    → by_backfilling pos target k p ≡ true → IsCandidate tree attacker pos target k p
+backfilling_candidate tree attacker pos target k p h =
+    let parts = and_parts _ _ h in
+    let l = backfills_gives pos target p parts.1 in
+    backfills (ltb-true 0 k parts.0) l.0 l.1
+
 -- a point of one of the four sets by the test is one by the rules
 four_gives : (tree : Tree) (attacker : Bool) (pos : BoardState) (target k p : ℕ)
     → by_four pos target k p ≡ true → IsCandidate tree attacker pos target k p
 four_gives tree attacker pos target k p h =
     let lib = is_liberty pos.size pos.cells target p in
-    let wide = by_wide pos target k p in
     let last = is_last_liberty_of_enemy pos.size pos.cells target p in
-    elim (or_cases (lib || wide || last) (by_backfilling pos target k p) h) [
-      | inr b ↦
-          let parts = and_parts _ _ b in
-          let l = backfills_gives pos target p parts.1 in
-          backfills (ltb-true 0 k parts.0) l.0 l.1
-      | inl f ↦ elim (or_cases (lib || wide) last f) [
+    elim (or_cases (lib || by_wide pos target k p || last) (by_backfilling pos target k p) h) [
+      | inr b ↦ backfilling_candidate tree attacker pos target k p b
+      | inl f ↦ elim (or_cases (lib || by_wide pos target k p) last f) [
         | inr t ↦ let taken = takes_gives pos.size pos.cells target p t in takes taken.0 taken.1
-        | inl e ↦ elim (or_cases lib wide e) [
+        | inl e ↦ elim (or_cases lib (by_wide pos target k p) e) [
           | inl its ↦ fills (IsLiberty-from_test pos.size pos.cells target p its)
-          | inr w ↦
-              let parts = and_parts _ _ w in
-              let both = and_parts _ _ parts.0 in
-              let l = wide_gives pos.size pos.cells target p parts.1 in
-              let few = ltb-true (liberties pos.size pos.cells target) 3 both.1 in
-              looks_wide (ltb-true 0 k both.0) (omega arith) l.0
-              (IsLiberty-from_test pos.size pos.cells target l.0 l.1) l.2
+          | inr w ↦ wide_candidate tree attacker pos target k p w
         ]
       ]
     ]

@@ -215,6 +215,23 @@ Hypothesis n = (next : Node) (new : BoardState) → next.target < new.size * new
     → outlasts next.tree next.attacker_to_play n next.wide (liberties new.size new.cells next.target) ≡ true
     → attacker_wins n next new ≡ false
 
+-- a target that outlasts at the attacker's turn, where he may play at it, outlasts at each child of a play of his
+child_outlasts : (n : ℕ) (node : Node) (pos : BoardState) (p : ℕ) (next : Node) (new : BoardState)
+    → node.target < pos.size * pos.size → node.attacker_to_play ≡ true
+    → (HasManyLiberties node.tree pos node.target node.wide → ⊥) → IsChild node pos p next new
+    → outlasts node.tree true (suc n) node.wide (liberties pos.size pos.cells node.target) ≡ true
+    → (next.target < new.size * new.size)
+    × (outlasts next.tree next.attacker_to_play n next.wide (liberties new.size new.cells next.target) ≡ true)
+child_outlasts n node pos p next new on turn few is h =
+    let child = child_free node pos p next new is in
+    let l = liberties new.size new.cells node.target in
+    let bound = play_outlasts node.tree n node.wide (liberties pos.size pos.cells node.target) l h
+    (λ x. few (inl x)) (λ e x. few (inr (e, x))) (play_takes_one pos (mover_of node) p new node.target on child.1) in
+    let stays = subst (λ m. node.target < m * m) (sym (play_size pos (mover_of node) p new child.1)) on in
+    subst (λ (m : Node). (m.target < new.size * new.size)
+    × (outlasts m.tree m.attacker_to_play n m.wide (liberties new.size new.cells m.target) ≡ true)) (sym child.2)
+    (stays, ap (λ b. outlasts node.tree (not b) n (node.wide - 1) l) turn ∙ bound)
+
 -- if too many liberties save a target with n plies left, they do at the attacker's turn with one more ply
 bounded_attacker : (n : ℕ) (node : Node) (pos : BoardState) → Hypothesis n → node.target < pos.size * pos.size
     → is_captured pos node.target ≡ false → node.attacker_to_play ≡ true
@@ -224,19 +241,11 @@ bounded_attacker n node pos ih on stands turn h = elim (cases_Bool (attacker_win
   | inr f ↦ f
   | inl t ↦
       let w = attacker_gives n node pos stands turn (ap (λ m. attacker_wins m node pos) (add-one n) ∙ t) in
-      let child = child_free node pos w.1.point w.1.next w.1.new w.1.child in
       let few : HasManyLiberties node.tree pos node.target node.wide → ⊥ =
       λ many. both_ways (has_many_liberties node.tree pos node.target node.wide) w.0
       (many_from node.tree pos node.target node.wide many) in
-      let size = play_size pos (mover_of node) w.1.point w.1.new child.1 in
-      let less = play_takes_one pos (mover_of node) w.1.point w.1.new node.target on child.1 in
-      let bound = play_outlasts node.tree n node.wide (liberties pos.size pos.cells node.target)
-      (liberties w.1.new.size w.1.new.cells node.target) h (λ l. few (inl l)) (λ e l. few (inr (e, l))) less in
-      let lost = ih (next_node node child.0) w.1.new (subst (λ m. node.target < m * m) (sym size) on)
-      (ap (λ b. outlasts node.tree (not b) n (node.wide - 1) (liberties w.1.new.size w.1.new.cells node.target)) turn
-      ∙ bound) in
-      absurd (both_ways (attacker_wins n w.1.next w.1.new)
-      (ap (λ (m : Node). attacker_wins n m w.1.new) child.2 ∙ lost) w.1.wins)
+      let child = child_outlasts n node pos w.1.point w.1.next w.1.new on turn few w.1.child h in
+      absurd (both_ways (attacker_wins n w.1.next w.1.new) (ih w.1.next w.1.new child.0 child.1) w.1.wins)
 ]
 
 -- if too many liberties save a target with n plies left, they do at the defender's turn with one more ply
@@ -249,8 +258,8 @@ bounded_defender n node pos ih on stands turn h = elim (cases_Bool (attacker_win
   | inl t ↦
       let w = defender_gives n node pos stands turn (ap (λ m. attacker_wins m node pos) (add-one n) ∙ t) in
       let bound = pass_outlasts node.tree n node.wide (liberties pos.size pos.cells node.target) h in
-      let lost = ih (next_node node (allowance_of node)) (pass pos) on
-      (ap (λ b. outlasts node.tree (not b) n (node.wide - 1) (liberties pos.size pos.cells node.target)) turn ∙ bound) in
+      let lost = ih (next_node node (allowance_of node)) (pass pos) on (ap (λ b. outlasts node.tree (not b) n
+      (node.wide - 1) (liberties pos.size pos.cells node.target)) turn ∙ bound) in
       absurd (both_ways (attacker_wins n (next_node node (allowance_of node)) (pass pos)) lost w.passed)
 ]
 

@@ -1,10 +1,10 @@
 -- Who wins at a node, by the first move that suits the side to play.
 use Rattle.std.proofs.Common.{◌≡◌, ◌≢◌, ℕ, zero, suc, ◌+◌, ◌-◌, ◌*◌, ◌<◌, ◌≤◌, Bool, true, false, not, ◌&&◌, ◌||◌, cond}
-use Rattle.std.proofs.Common.{List, [], ◌∷◌, Option, Some, None, refl, ap, sym, ◌∙◌, arith, is_some, is_none, eqb, inl}
+use Rattle.std.proofs.Common.{List, [], ◌∷◌, Option, Some, None, refl, ap, sym, ◌∙◌, arith, is_some, is_none, inl}
 use Rattle.std.proofs.Common.{inr}
 use Rattle.std.specs.List.{range_with_len, filter, find, list_any, list_all}
 use mathlib.Core.Bool.{beq}
-use Rattle.std.proofs.lemmas.Bool.{eqb-true, eqb-false, cases_Bool, cases_lt}
+use Rattle.std.proofs.lemmas.Bool.{cases_Bool, cases_eq, cases_lt, and_parts}
 use Rattle.go_rules.specs.Position.{BoardState}
 use Rattle.go_rules.specs.Play.{pass}
 use Rattle.read_rules.specs.Candidates.{is_candidate_at, candidates_of}
@@ -16,46 +16,30 @@ use Rattle.read_rules.specs.GameTree.{attacker_wins, child_of, next_node, allowa
 use Rattle.read_rules.specs.GameTree.{at_point, is_captured, has_many_liberties, some_child, each_child}
 use Rattle.read_rules.specs.GoodMoves.{good_move}
 
+-- a number that fails a test is passed over
+passed_over : (t : ℕ → Bool) (a : ℕ) (rest : List ℕ) (found : Option ℕ) (x : Bool) → (x && t a) ≡ false
+    → find t rest ≡ found → find t (cond x (a ∷ rest) rest) ≡ found
+passed_over t a rest found true h e = rw h e
+passed_over t a rest found false h e = e
+
 -- the first that passes both tests, among the numbers from a on
 pub first-found : (g t : ℕ → Bool) (n a p : ℕ) → a ≤ p → p < a + n → ((q : ℕ) → a ≤ q → q < p → (g q && t q) ≡ false)
     → (g p && t p) ≡ true → find t (filter g (range_with_len a n)) ≡ Some p
 first-found g t zero a p lo hi before here = absurd (omega arith)
-first-found g t (suc n) a p lo hi before here =
-    step (eqb a p) refl (λ ne. first-found g t n (a + 1) p (omega arith) (omega arith)
-    (λ q l h. before q (omega arith) h) here)
-  where
-    skip : (x : Bool) → (x && t a) ≡ false → find t (filter g (range_with_len (a + 1) n)) ≡ Some p
-        → find t (cond x (a ∷ filter g (range_with_len (a + 1) n)) (filter g (range_with_len (a + 1) n))) ≡ Some p
-    skip true h rest = rw h rest
-    skip false h rest = rest
-
-    now : (x y : Bool) → (x && y) ≡ true → x ≡ true × y ≡ true
-    now true true h = (refl, refl)
-    now true false h = cc
-    now false y h = cc
-
-    step : (b : Bool) → eqb a p ≡ b → ((a ≢ p) → find t (filter g (range_with_len (a + 1) n)) ≡ Some p)
-        → find t (filter g (range_with_len a (suc n))) ≡ Some p
-    step true eb rest =
-        let e = eqb-true a p eb in
-        let both = now (g p) (t p) here in
-        rw (e, both.0) (rw both.1 refl)
-    step false eb rest =
-        let ne : a ≢ p = eqb-false a p eb in
-        skip (g a) (before a (omega arith) (omega arith)) (rest ne)
+first-found g t (suc n) a p lo hi before here = elim (cases_eq a p) [
+  | inl e ↦ let both = and_parts (g p) (t p) here in rw (e, both.0) (rw both.1 refl)
+  | inr ne ↦ passed_over t a (filter g (range_with_len (a + 1) n)) (Some p) (g a)
+      (before a (omega arith) (omega arith))
+      (first-found g t n (a + 1) p (omega arith) (omega arith) (λ q l h. before q (omega arith) h) here)
+]
 
 -- where no number passes both tests, none is found
 pub first-none : (g t : ℕ → Bool) (n a : ℕ) → ((q : ℕ) → a ≤ q → q < a + n → (g q && t q) ≡ false)
     → find t (filter g (range_with_len a n)) ≡ None
 first-none g t zero a none = refl
 first-none g t (suc n) a none =
-    skip (g a) (none a (omega arith) (omega arith))
+    passed_over t a (filter g (range_with_len (a + 1) n)) None (g a) (none a (omega arith) (omega arith))
     (first-none g t n (a + 1) (λ q l h. none q (omega arith) (omega arith)))
-  where
-    skip : (x : Bool) → (x && t a) ≡ false → find t (filter g (range_with_len (a + 1) n)) ≡ None
-        → find t (cond x (a ∷ filter g (range_with_len (a + 1) n)) (filter g (range_with_len (a + 1) n))) ≡ None
-    skip true h rest = rw h rest
-    skip false h rest = rest
 
 -- a move was found exactly where one is there
 pub any-first : {X : Type 0} (f : X → Bool) (xs : List X) → is_some (find f xs) ≡ list_any f xs
@@ -66,28 +50,30 @@ any-first f (x ∷ xs) = by (f x) (any-first f xs)
     by true h = refl
     by false h = h
 
+-- none passes a test exactly where each passes the opposite test
+none-first : {X : Type 0} (f g : X → Bool) (xs : List X) → ((x : X) → f x ≡ not (g x))
+    → is_none (find f xs) ≡ list_all g xs
+none-first f g [] h = refl
+none-first f g (x ∷ xs) h =
+    ap (λ b. is_none (cond b (Some x) (find f xs))) (h x) ∙ by (g x) (none-first f g xs h)
+  where
+    by : (b : Bool) → is_none (find f xs) ≡ list_all g xs
+        → is_none (cond (not b) (Some x) (find f xs)) ≡ (b && list_all g xs)
+    by true h = h
+    by false h = refl
+
+-- there is a child that the attacker does not win exactly where it is not so that he wins it if it is there
+lost_child : (n : ℕ) (child : Option (Node × BoardState))
+    → some_child (λ s pos. not (attacker_wins n s pos)) child ≡ not (each_child (attacker_wins n) child)
+lost_child n None = refl
+lost_child n (Some child) = refl
+
 -- no move saves the target exactly where each child is lost
 all-first : (n : ℕ) (f : ℕ → Option (Node × BoardState)) (ps : List ℕ)
     → is_none (find (λ p. some_child (λ s pos. not (attacker_wins n s pos)) (f p)) ps)
     ≡ list_all (λ p. each_child (attacker_wins n) (f p)) ps
-all-first n f [] = refl
-all-first n f (p ∷ ps) = by (f p) (all-first n f ps)
-  where
-    lost : (b : Bool) → is_none (find (λ p. some_child (λ s pos. not (attacker_wins n s pos)) (f p)) ps)
-        ≡ list_all (λ p. each_child (attacker_wins n) (f p)) ps
-        → is_none (cond (not b) (Some p) (find (λ p. some_child (λ s pos. not (attacker_wins n s pos)) (f p)) ps))
-        ≡ (b && list_all (λ p. each_child (attacker_wins n) (f p)) ps)
-    lost true h = h
-    lost false h = refl
-
-    by : (o : Option (Node × BoardState))
-        → is_none (find (λ p. some_child (λ s pos. not (attacker_wins n s pos)) (f p)) ps)
-        ≡ list_all (λ p. each_child (attacker_wins n) (f p)) ps
-        → is_none (cond (some_child (λ s pos. not (attacker_wins n s pos)) o) (Some p)
-        (find (λ p. some_child (λ s pos. not (attacker_wins n s pos)) (f p)) ps))
-        ≡ (each_child (attacker_wins n) o && list_all (λ p. each_child (attacker_wins n) (f p)) ps)
-    by None h = h
-    by (Some child) h = lost (attacker_wins n child.0 child.1) h
+all-first n f ps = none-first (λ p. some_child (λ s pos. not (attacker_wins n s pos)) (f p))
+    (λ p. each_child (attacker_wins n) (f p)) ps (λ p. lost_child n (f p))
 
 -- the target is captured
 pub wins-captured : (n : ℕ) (node : Node) (pos : BoardState) → is_captured pos node.target ≡ true
@@ -155,6 +141,22 @@ unfolding by_turn
 defender_none many true first all e = ap not (some-at_point first) ∙ e
 defender_none many false first all e = refl
 
+-- at the attacker's turn some point succeeds exactly where he wins some child
+attacker_first : (n : ℕ) (node : Node) (pos : BoardState) → node.attacker_to_play ≡ true
+    → is_some (first_success n node pos)
+    ≡ list_any (λ p. some_child (attacker_wins n) (child_of node pos p)) (candidates_of node pos)
+attacker_first n node pos e =
+    ap (λ turn. is_some (find (λ p. suits n turn (child_of node pos p)) (candidates_of node pos))) e
+    ∙ any-first (λ p. some_child (attacker_wins n) (child_of node pos p)) (candidates_of node pos)
+
+-- at the defender's turn none succeeds exactly where the attacker wins each child
+defender_first : (n : ℕ) (node : Node) (pos : BoardState) → node.attacker_to_play ≡ false
+    → is_none (first_success n node pos)
+    ≡ list_all (λ p. each_child (attacker_wins n) (child_of node pos p)) (candidates_of node pos)
+defender_first n node pos e =
+    ap (λ turn. is_none (find (λ p. suits n turn (child_of node pos p)) (candidates_of node pos))) e
+    ∙ all-first n (child_of node pos) (candidates_of node pos)
+
 -- the attacker wins at his turn exactly where he has a good move
 pub wins-attacker_move : (n : ℕ) (node : Node) (pos : BoardState) → is_captured pos node.target ≡ false → n ≢ 0
     → node.attacker_to_play ≡ true
@@ -164,14 +166,10 @@ wins-attacker_move (suc n) node pos h ne e =
     let less : n ≡ suc n - 1 = omega arith in
     let many = has_many_liberties node.tree pos node.target node.wide in
     let saved = not (attacker_wins n (next_node node (allowance_of node)) (pass pos)) in
-    let ps = candidates_of node pos in
     wins-attacker n node pos h e
     ∙ sym (ap (λ m. is_some (good_move m node pos)) (sym less) ∙ ap is_some (good_move-by_turn n node pos)
     ∙ ap (λ turn. is_some (by_turn turn many saved (first_success n node pos))) e
-    ∙ attacker_some many saved (first_success n node pos)
-    (list_any (λ p. some_child (attacker_wins n) (child_of node pos p)) ps)
-    (ap (λ turn. is_some (find (λ p. suits n turn (child_of node pos p)) ps)) e
-    ∙ any-first (λ p. some_child (attacker_wins n) (child_of node pos p)) ps))
+    ∙ attacker_some many saved (first_success n node pos) _ (attacker_first n node pos e))
 
 -- and at the defender's turn exactly where the defender has none
 pub wins-defender_move : (n : ℕ) (node : Node) (pos : BoardState) → is_captured pos node.target ≡ false → n ≢ 0
@@ -182,13 +180,10 @@ wins-defender_move (suc n) node pos h ne e =
     let less : n ≡ suc n - 1 = omega arith in
     let many = has_many_liberties node.tree pos node.target node.wide in
     let lost = attacker_wins n (next_node node (allowance_of node)) (pass pos) in
-    let ps = candidates_of node pos in
     wins-defender n node pos h e
     ∙ sym (ap (λ m. is_none (good_move m node pos)) (sym less) ∙ ap is_none (good_move-by_turn n node pos)
     ∙ ap (λ turn. is_none (by_turn turn many (not lost) (first_success n node pos))) e
-    ∙ defender_none many lost (first_success n node pos)
-    (list_all (λ p. each_child (attacker_wins n) (child_of node pos p)) ps)
-    (ap (λ turn. is_none (find (λ p. suits n turn (child_of node pos p)) ps)) e ∙ all-first n (child_of node pos) ps))
+    ∙ defender_none many lost (first_success n node pos) _ (defender_first n node pos e))
 
 -- no point before p is a candidate that succeeds, where none before the next one is, and between them stands no
 -- candidate
@@ -198,6 +193,15 @@ pub none_before : (cands wins : ℕ → Bool) (next p : ℕ) → ((q : ℕ) → 
 none_before cands wins next p before between q h = elim (cases_lt q next) [
   | inl l ↦ before q l
   | inr g ↦ rw (between q g h) refl
+]
+
+-- nor is p, where it does not succeed
+pub none_up_to : (cands wins : ℕ → Bool) (next p : ℕ) → ((q : ℕ) → q < next → (cands q && wins q) ≡ false)
+    → ((q : ℕ) → next ≤ q → q < p → cands q ≡ false) → cands p ≡ true → wins p ≡ false
+    → (q : ℕ) → q < p + 1 → (cands q && wins q) ≡ false
+none_up_to cands wins next p before between c fails q h = elim (cases_eq q p) [
+  | inl e ↦ ap (λ k. cands k && wins k) e ∙ ap (λ b. b && wins p) c ∙ fails
+  | inr ne ↦ none_before cands wins next p before between q (omega (arith, h, ne))
 ]
 
 -- the first that succeeds, found by a walk over the candidates

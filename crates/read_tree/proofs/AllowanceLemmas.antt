@@ -14,12 +14,13 @@ use Rattle.read_rules.specs.Candidates.{is_candidate_at, candidates_of}
 use Rattle.read_rules.proofs.CandidateLaws.{candidate_at_on}
 use Rattle.read_rules.specs.declared.question.Spot.TheVariants.{Pass}
 use Rattle.read_rules.specs.GameTree.{is_captured, has_many_liberties, allowance_of, next_node, attacker_wins, suits}
-use Rattle.read_rules.specs.GameTree.{succeeds, pass_saves, first_success, at_point}
+use Rattle.read_rules.specs.GameTree.{child_of, succeeds, pass_saves, first_success, at_point}
 use Rattle.read_tree.specs.Allowances.{all_three}
 use Rattle.read_tree.specs.Allowances.{Ko, defender_may, neither_may, attacker_may, attacker_ko_of, defender_ko_of, has}
 use Rattle.read_tree.specs.Allowances.{has_some, own_ko, own_where, under, next_turn, without, Tells}
 use Rattle.read_rules.specs.declared.question.ReadingQuestion.{ReadingQuestion}
-use Rattle.read_rules.specs.ActiveArea.{IsNodeOf, by_pass}
+use Rattle.read_rules.specs.ActiveArea.{IsUndecided, IsNodeOf, by_play, by_pass}
+use Rattle.read_tree.specs.Stages.{is_candidate_on}
 use Rattle.read_rules.specs.GoodMoves.{good_move}
 use Rattle.read_tree.specs.Steps.{has_way, IsLeft, AreNodesOf}
 use Rattle.read_rules.proofs.WinLemmas.{any-first}
@@ -54,6 +55,19 @@ pub has-without : (a b : Allowances) (ko : Ko) → has (without a b) ko ≡ (has
 has-without a b defender_may = refl
 has-without a b neither_may = refl
 has-without a b attacker_may = refl
+
+-- what two stages tell: of the asked all but what neither gives
+pub has-two : (asked found rest : Allowances) (ko : Ko) → has (without asked (without (without asked found) rest)) ko
+    ≡ (has asked ko && not ((has asked ko && not (has found ko)) && not (has rest ko)))
+has-two asked found rest ko = has-without asked (without (without asked found) rest) ko
+    ∙ ap (λ x. has asked ko && not x) (has-without (without asked found) rest ko
+    ∙ ap (λ x. x && not (has rest ko)) (has-without asked found ko))
+
+-- what is in a set, and is not left without another, is in the other
+pub in_other : (a b : Bool) → a ≡ true → (a && not b) ≡ false → b ≡ true
+in_other true true e h = refl
+in_other true false e h = cc
+in_other false b e h = cc
 
 -- the side to play has nothing left under another's allowance
 pub nothing_left : (attacker : Bool) (ko : Ko) → ko ≢ own_ko attacker
@@ -116,29 +130,44 @@ pub Tells-same : {asked found : Allowances} {a b : Ko → Bool} → Tells asked 
     → Tells asked found b
 Tells-same {asked} t same = record { each = λ ko. t.each ko ∙ ap (λ x. has asked ko && x) (same ko) }
 
+-- an allowance that fails the test is not found
+found_not : (a b : Bool) → b ≡ false → false ≡ (a && b)
+found_not true b e = sym e
+found_not false b e = refl
+
+-- an asked allowance is found where it passes the test
+found_as : (a b y : Bool) → a ≡ true → y ≡ b → y ≡ (a && b)
+found_as true b y h e = e
+found_as false b y h e = cc
+
 -- where the own allowance alone passes
 pub Tells-own : (attacker : Bool) (asked : Allowances) (there : Bool) (test : Ko → Bool)
     → has asked (own_ko attacker) ≡ true → there ≡ test (own_ko attacker)
     → ((ko : Ko) → ko ≢ own_ko attacker → test ko ≡ false) → Tells asked (own_where attacker there) test
 Tells-own attacker asked there test h e none = record { each = by attacker h e none }
   where
-    and_no : (a b : Bool) → b ≡ false → false ≡ (a && b)
-    and_no true b e = sym e
-    and_no false b e = refl
-
-    and_yes : (a b y : Bool) → a ≡ true → y ≡ b → y ≡ (a && b)
-    and_yes true b y h e = e
-    and_yes false b y h e = cc
-
     by : (attacker : Bool) → has asked (own_ko attacker) ≡ true → there ≡ test (own_ko attacker)
         → ((ko : Ko) → ko ≢ own_ko attacker → test ko ≡ false)
         → (ko : Ko) → has (own_where attacker there) ko ≡ (has asked ko && test ko)
-    by true h e none defender_may = and_no asked.defender (test defender_may) (none defender_may (λ w. cc))
-    by true h e none neither_may = and_no asked.neither (test neither_may) (none neither_may (λ w. cc))
-    by true h e none attacker_may = and_yes asked.attacker (test attacker_may) there h e
-    by false h e none defender_may = and_yes asked.defender (test defender_may) there h e
-    by false h e none neither_may = and_no asked.neither (test neither_may) (none neither_may (λ w. cc))
-    by false h e none attacker_may = and_no asked.attacker (test attacker_may) (none attacker_may (λ w. cc))
+    by true h e none neither_may = found_not asked.neither (test neither_may) (none neither_may (λ w. cc))
+    by true h e none attacker_may = found_as asked.attacker (test attacker_may) there h e
+    by true h e none defender_may = found_not asked.defender (test defender_may) (none defender_may (λ w. cc))
+    by false h e none neither_may = found_not asked.neither (test neither_may) (none neither_may (λ w. cc))
+    by false h e none defender_may = found_as asked.defender (test defender_may) there h e
+    by false h e none attacker_may = found_not asked.attacker (test attacker_may) (none attacker_may (λ w. cc))
+
+-- what is found after a play by the own allowance alone is told of the asked
+pub told_allowed : (n : ℕ) (turn : Turn) (here new : BoardState) (p : ℕ) (asked : Allowances) (way : Bool)
+    → let own = own_ko turn.attacker_to_play in has asked own ≡ true
+    → (child_of (under turn own) here p ≡ Some (under (next_turn turn) neither_may, new))
+    × ((ko : Ko) → ko ≢ own → child_of (under turn ko) here p ≡ None)
+    → way ≡ has_way turn.attacker_to_play (attacker_wins n (under (next_turn turn) neither_may) new)
+    → Tells asked (own_where turn.attacker_to_play way) (λ ko. succeeds n (under turn ko) here p)
+told_allowed n turn here new p asked way own made is =
+    Tells-own turn.attacker_to_play asked way (λ ko. succeeds n (under turn ko) here p) own
+    (is ∙ suits_child n turn.attacker_to_play (child_of (under turn (own_ko turn.attacker_to_play)) here p)
+    (under (next_turn turn) neither_may) new made.0)
+    (λ ko ne. suits_none n turn.attacker_to_play (child_of (under turn ko) here p) (made.1 ko ne))
 
 -- Each pass of the walk over the candidates.
 pub left_first : (n : ℕ) (turn : Turn) (here : BoardState) (candidate tried : ℕ → Bool) (asked : Allowances)
@@ -161,42 +190,53 @@ pub and_false_right : (a b : Bool) → b ≡ false → (a && b) ≡ false
 and_false_right true b e = e
 and_false_right false b e = refl
 
--- once the play at p was read, what it gives is no longer missing
-pub left_next : (n : ℕ) (turn : Turn) (here : BoardState) (candidate tried now : ℕ → Bool) (p : ℕ) (asked missing good
-    : Allowances)
-    → IsLeft n turn here candidate tried asked missing → candidate p ≡ true → ((q : ℕ) → now q ≡ true
-    → (q ≡ p) ⊎ (tried q ≡ true))
-    → Tells missing good (λ ko. succeeds n (under turn ko) here p) → IsLeft n turn here candidate now asked
-    (without missing good)
-left_next n turn here candidate tried now p asked missing good left cand one_more tells = record {
-  asked_for = λ ko h. left.asked_for ko (and_parts_not _ _ (sym (has-without missing good ko) ∙ h)).0;
-  none = λ ko h q was.
+-- an asked allowance that was not found fails the test
+told_fails : (a b g : Bool) → g ≡ (a && b) → a ≡ true → g ≡ false → b ≡ false
+told_fails true b g e h f = sym e ∙ f
+told_fails false b g e h f = cc
+
+-- an asked allowance that is no longer missing passes it
+told_passes : (a b g : Bool) → g ≡ (a && b) → a ≡ true → (a && not g) ≡ false → b ≡ true
+told_passes true b true e h f = sym e
+told_passes true b false e h f = cc
+told_passes false b g e h f = cc
+
+-- The play at p was read, a candidate that was not tried before.
+module _ (n : ℕ) (turn : Turn) (here : BoardState) (candidate tried now : ℕ → Bool) (p : ℕ)
+    (asked missing good : Allowances) (left : IsLeft n turn here candidate tried asked missing)
+    (cand : candidate p ≡ true) (one_more : (q : ℕ) → now q ≡ true → (q ≡ p) ⊎ (tried q ≡ true))
+    (tells : Tells missing good (λ ko. succeeds n (under turn ko) here p)) where
+  -- none that was tried gives what is still missing
+  still_missing : (ko : Ko) → has (without missing good) ko ≡ true → (q : ℕ) → now q ≡ true
+      → (candidate q && succeeds n (under turn ko) here q) ≡ false
+  still_missing ko h q was =
       let parts = and_parts_not _ _ (sym (has-without missing good ko) ∙ h) in
-      let fails : succeeds n (under turn ko) here p ≡ false =
-      fails_by (has missing ko) _ (has good ko) (tells.each ko) parts.0 parts.1 in
+      let fails = told_fails (has missing ko) _ (has good ko) (tells.each ko) parts.0 parts.1 in
       elim (one_more q was) [
         | inl e ↦ and_false_right (candidate q) _ (ap (succeeds n (under turn ko) here) e ∙ fails)
         | inr before ↦ left.none ko parts.0 q before
-      ];
-  given = λ ko a m. elim (cases_Bool (has missing ko)) [
+      ]
+
+  -- what is missing no longer is given by p, or by one before
+  no_longer : (ko : Ko) → has asked ko ≡ true → has (without missing good) ko ≡ false
+      → (q : ℕ) × (candidate q ≡ true) × (succeeds n (under turn ko) here q ≡ true)
+  no_longer ko a m = elim (cases_Bool (has missing ko)) [
     | inr f ↦ left.given ko a f
     | inl t ↦ (
       p,
       cand,
-      passes_by (has missing ko) _ (has good ko) (tells.each ko) t
+      told_passes (has missing ko) _ (has good ko) (tells.each ko) t
           (sym (has-without missing good ko) ∙ m),
     )
-  ];
-}
-  where
-    fails_by : (a b g : Bool) → g ≡ (a && b) → a ≡ true → g ≡ false → b ≡ false
-    fails_by true b g e h f = sym e ∙ f
-    fails_by false b g e h f = cc
+  ]
 
-    passes_by : (a b g : Bool) → g ≡ (a && b) → a ≡ true → (a && not g) ≡ false → b ≡ true
-    passes_by true b true e h f = sym e
-    passes_by true b false e h f = cc
-    passes_by false b g e h f = cc
+  -- what it gives is no longer missing
+  pub left_next : IsLeft n turn here candidate now asked (without missing good)
+  left_next = record {
+    asked_for = λ ko h. left.asked_for ko (and_parts_not _ _ (sym (has-without missing good ko) ∙ h)).0;
+    none = still_missing;
+    given = no_longer;
+  }
 
 -- a node under no allowance is one of the trees
 pub neither_nodes : {q : ReadingQuestion} {root here : BoardState} {n : ℕ} {turn : Turn}
@@ -209,6 +249,26 @@ neither_nodes {q} {root} {here} {n} {turn} node = record { each = by }
     by defender_may h = cc
     by neither_may h = node
     by attacker_may h = cc
+
+-- after a legal play at a candidate of undecided nodes, the node under each allowance is one of the trees
+pub legal_nodes : {q : ReadingQuestion} {root here new : BoardState} {n : ℕ} {turn : Turn} {asked : Allowances} (p : ℕ)
+    → AreNodesOf q root (suc n) turn asked here → ((ko : Ko) → IsUndecided (under turn ko) here)
+    → is_candidate_on turn here p ≡ true
+    → ((ko : Ko) → child_of (under turn ko) here p ≡ Some (under (next_turn turn) ko, new))
+    → AreNodesOf q root n (next_turn turn) asked new
+legal_nodes {new} {turn} p tree und candidate made = record {
+  each = λ ko h. by_play (tree.each ko h) (und ko) p candidate (under (next_turn turn) ko) new (made ko);
+}
+
+-- after one that spends the own allowance, the node under no allowance is
+pub allowed_nodes : {q : ReadingQuestion} {root here new : BoardState} {n : ℕ} {turn : Turn} {asked : Allowances}
+    (p : ℕ) → AreNodesOf q root (suc n) turn asked here → ((ko : Ko) → IsUndecided (under turn ko) here)
+    → is_candidate_on turn here p ≡ true → has asked (own_ko turn.attacker_to_play) ≡ true
+    → child_of (under turn (own_ko turn.attacker_to_play)) here p ≡ Some (under (next_turn turn) neither_may, new)
+    → AreNodesOf q root n (next_turn turn) (record { defender = false; neither = true; attacker = false }) new
+allowed_nodes {new} {turn} p tree und candidate own made =
+    neither_nodes (by_play (tree.each (own_ko turn.attacker_to_play) own) (und (own_ko turn.attacker_to_play)) p
+    candidate (under (next_turn turn) neither_may) new made)
 
 -- after the pass the node under each allowance is one of the trees
 pub pass_nodes : {q : ReadingQuestion} {root here : BoardState} {n : ℕ} {turn : Turn} {asked : Allowances}
@@ -279,9 +339,7 @@ pub Tells-good : (n : ℕ) (turn : Turn) (here : BoardState) (asked saved some :
     (λ ko. is_some (good_move n (under turn ko) here))
 Tells-good n turn here asked saved some defends s m = record {
   each = λ ko.
-      has-without asked (without (without asked saved) some) ko
-      ∙ ap (λ x. has asked ko && not x) (has-without (without asked saved) some ko
-      ∙ ap (λ x. x && not (has some ko)) (has-without asked saved ko))
+      has-two asked saved some ko
       ∙ count (has asked ko) (pass_saves n (under turn ko) here) (is_some (first_success n (under turn ko) here))
       (has saved ko) (has some ko) (s.each ko)
       (m.each ko ∙ ap (λ x. x && is_some (first_success n (under turn ko) here)) (has-without asked saved ko))
@@ -297,26 +355,25 @@ Tells-good n turn here asked saved some defends s m = record {
     count true false false s m e g = rw (g, e) refl
     count false p f s m e g = refl
 
+-- the same where the test says it of the attacker
+said_true : (b : Bool) → b ≡ beq b true
+said_true true = refl
+said_true false = refl
+
+-- what is not found of the asked fails the test
+not_found : (a b g : Bool) → g ≡ (a && b) → (a && not g) ≡ (a && beq b false)
+not_found true true g e = ap not e
+not_found true false g e = ap not e
+not_found false b g e = refl
+
 -- under which the attacker wins
 pub Tells-attackers : (attacker : Bool) (asked good : Allowances) (way won : Ko → Bool) → Tells asked good way
     → ((ko : Ko) → beq (way ko) attacker ≡ won ko)
     → Tells asked (cond attacker good (without asked good)) won
-Tells-attackers attacker asked good way won t same = record { each = by attacker same }
-  where
-    beq_true : (b : Bool) → b ≡ beq b true
-    beq_true true = refl
-    beq_true false = refl
-
-    minus : (a b g : Bool) → g ≡ (a && b) → (a && not g) ≡ (a && beq b false)
-    minus true true g e = ap not e
-    minus true false g e = ap not e
-    minus false b g e = refl
-
-    by : (attacker : Bool) → ((ko : Ko) → beq (way ko) attacker ≡ won ko) → (ko : Ko)
-        → has (cond attacker good (without asked good)) ko ≡ (has asked ko && won ko)
-    by true same ko = t.each ko ∙ ap (λ x. has asked ko && x) (beq_true (way ko) ∙ same ko)
-    by false same ko = has-without asked good ko ∙ minus (has asked ko) (way ko) (has good ko) (t.each ko)
-        ∙ ap (λ x. has asked ko && x) (same ko)
+Tells-attackers true asked good way won t same = Tells-same t (λ ko. said_true (way ko) ∙ same ko)
+Tells-attackers false asked good way won t same = Tells-same (record {
+  each = λ ko. has-without asked good ko ∙ not_found (has asked ko) (way ko) (has good ko) (t.each ko);
+}) same
 
 -- where all pass, and where none does
 pub Tells-all : (asked : Allowances) (test : Ko → Bool) → ((ko : Ko) → test ko ≡ true) → Tells asked asked test

@@ -18,8 +18,8 @@ use Rattle.read_rules.specs.declared.question.Spot.TheVariants.{At, Pass}
 use Rattle.read_tree.specs.declared.allowances.Allowances.{Allowances}
 use Rattle.read_rules.specs.GameTree.{is_captured, has_many_liberties, next_node, allowance_of, attacker_wins, succeeds}
 use Rattle.read_rules.specs.GameTree.{pass_saves, first_success, first_move, at_point}
-use Rattle.read_rules.specs.Answer.{is_attack, first_node, is_about, answer_of}
-use Rattle.read_rules.specs.ActiveArea.{IsNodeOf, first}
+use Rattle.read_rules.specs.Answer.{is_attack, first_node, attains_code, is_about, answer_of}
+use Rattle.read_rules.specs.ActiveArea.{IsNodeOf, IsUndecided, first}
 use Rattle.read_rules.specs.Bound.{outlasts}
 use Rattle.read_tree.specs.Allowances.{all_three}
 use Rattle.read_tree.specs.Allowances.{Ko, defender_may, neither_may, attacker_may, has, has_some, own_ko, under, ko_of}
@@ -27,10 +27,12 @@ use Rattle.read_tree.specs.Allowances.{codes_above, best_code, Tells}
 use Rattle.read_rules.specs.GoodMoves.{IsOnBoard, good_move}
 use Rattle.read_tree.specs.Stages.{is_candidate_on}
 use Rattle.read_tree.specs.Steps.{first_turn, unread, better, node_of, IsBest, AreNodesOf}
-use Rattle.read_tree.proofs.AllowanceLemmas.{none_of, has_all}
+use Rattle.read_tree.proofs.AllowanceLemmas.{none_of, has_all, and_false_right}
 use Rattle.read_rules.proofs.LibertyLemmas.{bounded, pass_outlasts}
-use Rattle.read_rules.proofs.WinLemmas.{first_success-found, first_success-none}
+use Rattle.read_rules.proofs.WinLemmas.{none_up_to, first_success-found, first_success-none}
 use Rattle.read_rules.proofs.AnswerLemmas.{attained_by, answer_best, about_stands}
+use Rattle.read_rules.proofs.RuleLemmas.{above_one, above_two}
+use Rattle.read_rules.proofs.AreaWords.{asked_as}
 
 -- a code from 1 to 3 is one of them
 pub data IsCode : ℕ → Type 0 where
@@ -79,64 +81,25 @@ record IsBestCode (set : Allowances) (attack : Bool) (code : ℕ) : Type 0 where
   there : has set (ko_of attack code) ≡ true
   none : (more : ℕ) → code < more → more ≤ 3 → has set (ko_of attack more) ≡ false
 
+-- a set that has none of the three allowances has none
+none_some : (set : Allowances) (attack : Bool) → has set (own_ko (not attack)) ≡ false → set.neither ≡ false
+    → has set (own_ko attack) ≡ false → has_some set ≡ false
+none_some set true f3 f2 f1 = rw (f3, f2, f1) refl
+none_some set false f3 f2 f1 = rw (f1, f2, f3) refl
+
 -- a set that has an allowance has a best code, whatever the code before was
 best_is : (set : Allowances) (code : ℕ) (attack : Bool) → has_some set ≡ true
     → IsBestCode set attack (best_code set code attack)
 best_is set code attack h = by (has set (own_ko (not attack))) set.neither (has set (own_ko attack)) refl refl refl
   where
-    at_three : (attack : Bool) → has set (own_ko (not attack)) ≡ true → has set (ko_of attack 3) ≡ true
-    at_three true t = t
-    at_three false t = t
-
-    at_two : (attack : Bool) → set.neither ≡ true → has set (ko_of attack 2) ≡ true
-    at_two true t = t
-    at_two false t = t
-
-    at_one : (attack : Bool) → has set (own_ko attack) ≡ true → has set (ko_of attack 1) ≡ true
-    at_one true t = t
-    at_one false t = t
-
-    not_three : (attack : Bool) → has set (own_ko (not attack)) ≡ false → has set (ko_of attack 3) ≡ false
-    not_three true t = t
-    not_three false t = t
-
-    not_two : (attack : Bool) → set.neither ≡ false → has set (ko_of attack 2) ≡ false
-    not_two true t = t
-    not_two false t = t
-
-    above_one : (more : ℕ) → 1 < more → more ≤ 3 → has set (own_ko (not attack)) ≡ false → set.neither ≡ false
-        → has set (ko_of attack more) ≡ false
-    above_one more lo hi f3 f2 = elim (cases_eq more 3) [
-      | inl e ↦ ap (λ m. has set (ko_of attack m)) e ∙ not_three attack f3
-      | inr ne ↦ let e : more ≡ 2 = omega arith in ap (λ m. has set (ko_of attack m)) e ∙ not_two attack f2
-    ]
-
-    none_of_three : (a b c : Bool) → a ≡ false → b ≡ false → c ≡ false → (a || b || c) ≡ false
-    none_of_three a b c ea eb ec = rw (ea, eb, ec) refl
-
-    none_there : (attack : Bool) → has set (own_ko (not attack)) ≡ false → set.neither ≡ false
-        → has set (own_ko attack) ≡ false → ⊥
-    none_there true f3 f2 f1 = both_ways (has_some set) (none_of_three set.defender set.neither set.attacker f3 f2 f1) h
-    none_there false f3 f2 f1 =
-        both_ways (has_some set) (none_of_three set.defender set.neither set.attacker f1 f2 f3) h
-
     by : (x y z : Bool) → has set (own_ko (not attack)) ≡ x → set.neither ≡ y → has set (own_ko attack) ≡ z
         → IsBestCode set attack (cond x 3 (cond y 2 (cond z 1 code)))
-    by true y z e3 e2 e1 = record {
-      is_code = three;
-      there = at_three attack e3;
-      none = λ more lo hi. absurd (omega arith);
-    }
+    by true y z e3 e2 e1 = record { is_code = three; there = e3; none = λ more lo hi. absurd (omega arith) }
     by false true z e3 e2 e1 =
-        record {
-          is_code = two;
-          there = at_two attack e2;
-          none = λ more lo hi. let e : more ≡ 3 = omega arith in
-              ap (λ m. has set (ko_of attack m)) e ∙ not_three attack e3;
-        }
+        record { is_code = two; there = e2; none = above_two (λ m. has set (ko_of attack m)) e3 }
     by false false true e3 e2 e1 =
-        record { is_code = one; there = at_one attack e1; none = λ more lo hi. above_one more lo hi e3 e2 }
-    by false false false e3 e2 e1 = absurd (none_there attack e3 e2 e1)
+        record { is_code = one; there = e1; none = above_one (λ m. has set (ko_of attack m)) e3 e2 }
+    by false false false e3 e2 e1 = absurd (both_ways (has_some set) (none_some set attack e3 e2 e1) h)
 
 -- the test that an asked allowance passes or not
 told : (asked : Bool) (found test : Bool) → found ≡ (asked && test) → asked ≡ true → test ≡ found
@@ -164,21 +127,66 @@ asks_some code attack l = by attack (lt-ltb code 3 l)
     by true h = rw h refl
     by false h = rw h (or_last (ltb code 1) (ltb code 2))
 
+-- a code is not above 3
+code_at_most : {code : ℕ} → IsCode code → code ≤ 3
+code_at_most one = omega arith
+code_at_most two = omega arith
+code_at_most three = omega arith
+
+-- and it is above 0
+code_above : {code : ℕ} → IsCode code → 0 < code
+code_above one = omega arith
+code_above two = omega arith
+code_above three = omega arith
+
+-- a point that is not among the first fails with the others
+off_first : (l c s : Bool) → l ≡ false → ((l && c) && s) ≡ false
+off_first true c s e = cc
+off_first false c s e = refl
+
+-- a point that fails fails among the first
+off_among : (l c s : Bool) → (c && s) ≡ false → ((l && c) && s) ≡ false
+off_among true c s e = e
+off_among false c s e = refl
+
+-- one of the first that fails among them fails
+off_alone : (l c s : Bool) → l ≡ true → ((l && c) && s) ≡ false → (c && s) ≡ false
+off_alone true c s e h = h
+off_alone false c s e h = cc
+
+-- the attacker does not pass
+no_pass : (attacks saves : Bool) → attacks ≡ true → (not attacks && saves) ≡ false
+no_pass true saves e = refl
+no_pass false saves e = cc
+
 -- Where n plies are left after the moves of this turn.
 module _ (n : ℕ) (turn : Turn) (here : BoardState) where
-  -- before any move
-  pub best_nothing : turn.attacker_to_play ≡ true → IsBest n turn here nowhere (record { code = 0; at = None })
-  best_nothing attacks = record {
+  -- what is best of some candidates is best of others of which none attains a greater code
+  best_of : {tried : ℕ → Bool} {best : Answer} (others : ℕ → Bool) → IsBest n turn here tried best
+      → ((more : ℕ) → best.code < more → more ≤ 3 → (q : ℕ)
+      → (others q && succeeds n (node_of turn more) here q) ≡ false) → IsBest n turn here others best
+  best_of others i none = record {
+    bounded = i.bounded;
+    no_pass = i.no_pass;
+    no_point = none;
+    no_move = i.no_move;
+    move = i.move;
+  }
+
+  -- no move yet, where the pass does not save under any code
+  best_none : ((more : ℕ) → 0 < more → more ≤ 3 → pass_saves n (node_of turn more) here ≡ false)
+      → IsBest n turn here nowhere (record { code = 0; at = None })
+  best_none fails = record {
     bounded = omega arith;
-    no_pass = λ code lo hi. off turn.attacker_to_play _ attacks;
-    no_point = λ code lo hi q. refl;
+    no_pass = fails;
+    no_point = λ more lo hi q. refl;
     no_move = λ _. refl;
     move = λ ne. absurd (ne refl);
   }
-    where
-      off : (a b : Bool) → a ≡ true → (not a && b) ≡ false
-      off true b e = refl
-      off false b e = cc
+
+  -- before any move
+  pub best_nothing : turn.attacker_to_play ≡ true → IsBest n turn here nowhere (record { code = 0; at = None })
+  best_nothing attacks = best_none (λ more lo hi. no_pass turn.attacker_to_play _ attacks)
 
   -- the defender's pass
   pub best_pass : (saved : Allowances)
@@ -192,12 +200,13 @@ module _ (n : ℕ) (turn : Turn) (here : BoardState) where
     | inl some ↦
         let best = best_is saved 0 turn.attacker_to_play some in
         let code = best_code saved 0 turn.attacker_to_play in
+        let above = code_above best.is_code in
         rw some (record {
-          bounded = at_most_three code best.is_code;
+          bounded = code_at_most best.is_code;
           no_pass = λ more lo hi. told _ _ _ (t.each (ko_of turn.attacker_to_play more))
               (has_all (ko_of turn.attacker_to_play more)) ∙ best.none more lo hi;
           no_point = λ more lo hi q. refl;
-          no_move = λ e. absurd (above_none code best.is_code e);
+          no_move = λ e. absurd (omega arith);
           move = λ ne. (
             Pass,
             refl,
@@ -205,25 +214,9 @@ module _ (n : ℕ) (turn : Turn) (here : BoardState) where
                 (told_there _ _ _ (t.each (ko_of turn.attacker_to_play code)) best.there).1),
           );
         })
-    | inr none ↦ rw none (record {
-      bounded = omega arith;
-      no_pass = λ more lo hi. told _ _ _ (t.each (ko_of turn.attacker_to_play more))
-          (has_all (ko_of turn.attacker_to_play more)) ∙ none_of saved (ko_of turn.attacker_to_play more) none;
-      no_point = λ more lo hi q. refl;
-      no_move = λ _. refl;
-      move = λ ne. absurd (ne refl);
-    })
+    | inr none ↦ rw none (best_none (λ more lo hi. told _ _ _ (t.each (ko_of turn.attacker_to_play more))
+        (has_all (ko_of turn.attacker_to_play more)) ∙ none_of saved (ko_of turn.attacker_to_play more) none))
   ]
-    where
-      at_most_three : (code : ℕ) → IsCode code → code ≤ 3
-      at_most_three code one = omega arith
-      at_most_three code two = omega arith
-      at_most_three code three = omega arith
-
-      above_none : (code : ℕ) → IsCode code → code ≡ 0 → ⊥
-      above_none code one e = omega arith
-      above_none code two e = omega arith
-      above_none code three e = omega arith
 
   -- one more candidate
   pub best_point : (cands : ℕ → Bool) (next p : ℕ) (best : Answer) (good : Allowances)
@@ -233,140 +226,76 @@ module _ (n : ℕ) (turn : Turn) (here : BoardState) where
       → Tells (codes_above best.code turn.attacker_to_play) good (λ ko. succeeds n (under turn ko) here p)
       → IsBest n turn here (λ q. ltb q (p + 1) && cands q) (better best turn.attacker_to_play good (At p))
   best_point cands next p best good same i cand between t = elim (cases_Bool (has_some good)) [
-    | inr none ↦ rw none (record {
-      bounded = i.bounded;
-      no_pass = i.no_pass;
-      no_point = λ more lo hi q. later more lo hi
-          (told _ _ _ (t.each (ko_of turn.attacker_to_play more)) (above_has turn.attacker_to_play best.code more lo hi)
-          ∙ none_of good (ko_of turn.attacker_to_play more) none) q;
-      no_move = i.no_move;
-      move = i.move;
-    })
+    | inr none ↦ rw none (best_of (λ q. ltb q (p + 1) && cands q) i (λ more lo hi. later more lo hi
+        (fails more lo hi (none_of good (ko_of turn.attacker_to_play more) none))))
     | inl some ↦
         let found = best_is good best.code turn.attacker_to_play some in
         let code = best_code good best.code turn.attacker_to_play in
         let asked = told_there _ _ _ (t.each (ko_of turn.attacker_to_play code)) found.there in
         let above = above_only turn.attacker_to_play best.code code found.is_code asked.0 in
+        let bounded = code_at_most found.is_code in
         rw some (record {
-          bounded = at_most_three code found.is_code;
+          bounded = bounded;
           no_pass = λ more lo hi. i.no_pass more (omega arith) hi;
-          no_point = λ more lo hi q. later more (omega arith) hi
-              (told _ _ _ (t.each (ko_of turn.attacker_to_play more))
-              (above_has turn.attacker_to_play best.code more (omega arith) hi) ∙ found.none more lo hi) q;
+          no_point = λ more lo hi. later more (omega arith) hi (fails more (omega arith) hi (found.none more lo hi));
           no_move = λ e. absurd (omega arith);
           move = λ ne. (
             At p,
             refl,
-            ap at_point (first_success-found n (node_of turn code) here next p cands same
-                (λ q l. before (ltb q next) (cands q) _ (lt-ltb q next l)
-                (i.no_point code above (at_most_three code found.is_code) q)) between cand (sym asked.1))
+            ap at_point (first_success-found n (node_of turn code) here next p cands same (before code above bounded)
+                between cand (sym asked.1))
                 ∙ sym (ap (λ b. cond b (Some Pass) (at_point (first_success n (node_of turn code) here)))
-                (i.no_pass code above (at_most_three code found.is_code))),
+                (i.no_pass code above bounded)),
           );
         })
   ]
     where
-      at_most_three : (code : ℕ) → IsCode code → code ≤ 3
-      at_most_three code one = omega arith
-      at_most_three code two = omega arith
-      at_most_three code three = omega arith
+      fails : (more : ℕ) → best.code < more → more ≤ 3 → has good (ko_of turn.attacker_to_play more) ≡ false
+          → succeeds n (node_of turn more) here p ≡ false
+      fails more lo hi not_there = told _ _ _ (t.each (ko_of turn.attacker_to_play more))
+          (above_has turn.attacker_to_play best.code more lo hi) ∙ not_there
 
-      before : (l c s : Bool) → l ≡ true → ((l && c) && s) ≡ false → (c && s) ≡ false
-      before true c s e h = h
-      before false c s e h = cc
-
-      drop : (l c s : Bool) → c ≡ false → ((l && c) && s) ≡ false
-      drop true c s e = rw e refl
-      drop false c s e = refl
-
-      drop_last : (lc s : Bool) → s ≡ false → (lc && s) ≡ false
-      drop_last true s e = e
-      drop_last false s e = refl
+      before : (more : ℕ) → best.code < more → more ≤ 3 → (q : ℕ) → q < next
+          → (cands q && succeeds n (node_of turn more) here q) ≡ false
+      before more lo hi q l = off_alone (ltb q next) (cands q) _ (lt-ltb q next l) (i.no_point more lo hi q)
 
       later : (more : ℕ) → best.code < more → more ≤ 3 → succeeds n (node_of turn more) here p ≡ false → (q : ℕ)
           → ((ltb q (p + 1) && cands q) && succeeds n (node_of turn more) here q) ≡ false
-      later more lo hi fails q = elim (cases_lt q next) [
-        | inl l ↦ drop_left (ltb q (p + 1)) (cands q) _
-            (before (ltb q next) (cands q) _ (lt-ltb q next l) (i.no_point more lo hi q))
-        | inr g ↦ elim (cases_eq q p) [
-          | inl e ↦ drop_last (ltb q (p + 1) && cands q) _ (ap (succeeds n (node_of turn more) here) e ∙ fails)
-          | inr ne ↦ elim (cases_lt q p) [
-            | inl l ↦ drop (ltb q (p + 1)) (cands q) _ (between q (omega arith) l)
-            | inr m ↦ off (ltb q (p + 1)) (cands q) _ (le-ltb q (p + 1) (omega arith))
-          ]
-        ]
+      later more lo hi lost q = elim (cases_lt q (p + 1)) [
+        | inl l ↦ off_among (ltb q (p + 1)) (cands q) _ (none_up_to cands (succeeds n (node_of turn more) here)
+            next p (before more lo hi) between cand lost q l)
+        | inr g ↦ off_first (ltb q (p + 1)) (cands q) _ (le-ltb q (p + 1) g)
       ]
-        where
-          drop_left : (l c s : Bool) → (c && s) ≡ false → ((l && c) && s) ≡ false
-          drop_left true c s e = e
-          drop_left false c s e = refl
-
-          off : (l c s : Bool) → l ≡ false → ((l && c) && s) ≡ false
-          off true c s e = cc
-          off false c s e = refl
 
   -- no candidate is left
   pub best_all : (cands : ℕ → Bool) (next : ℕ) (best : Answer)
       → ((q : ℕ) → cands q ≡ is_candidate_on turn here q)
       → IsBest n turn here (λ q. ltb q next && cands q) best
       → ((q : ℕ) → next ≤ q → cands q ≡ false) → IsBest n turn here (is_candidate_on turn here) best
-  best_all cands next best same i rest = record {
-    bounded = i.bounded;
-    no_pass = i.no_pass;
-    no_point = λ more lo hi q. ap (λ b. b && succeeds n (node_of turn more) here q) (sym (same q))
-        ∙ elim (cases_lt q next) [
-          | inl l ↦ before (ltb q next) (cands q) _ (lt-ltb q next l) (i.no_point more lo hi q)
-          | inr g ↦ ap (λ b. b && succeeds n (node_of turn more) here q) (rest q g)
-        ];
-    no_move = i.no_move;
-    move = i.move;
-  }
-    where
-      before : (l c s : Bool) → l ≡ true → ((l && c) && s) ≡ false → (c && s) ≡ false
-      before true c s e h = h
-      before false c s e h = cc
+  best_all cands next best same i rest = best_of (is_candidate_on turn here) i (λ more lo hi q.
+      ap (λ b. b && succeeds n (node_of turn more) here q) (sym (same q))
+      ∙ elim (cases_lt q next) [
+        | inl l ↦ off_alone (ltb q next) (cands q) _ (lt-ltb q next l) (i.no_point more lo hi q)
+        | inr g ↦ ap (λ b. b && succeeds n (node_of turn more) here q) (rest q g)
+      ])
 
   -- no code is greater than 3
   pub best_three : (tried : ℕ → Bool) (best : Answer) → IsBest n turn here tried best → best.code ≡ 3 → (all : ℕ → Bool)
       → IsBest n turn here all best
-  best_three tried best i e all = record {
-    bounded = i.bounded;
-    no_pass = i.no_pass;
-    no_point = λ more lo hi q. absurd (omega arith);
-    no_move = i.no_move;
-    move = i.move;
-  }
+  best_three tried best i e all = best_of all i (λ more lo hi q. absurd (omega arith))
 
   -- no candidate stands below point 0: what is best without a candidate is best of those below it
   pub best_start : (cands : ℕ → Bool) (best : Answer) → IsBest n turn here nowhere best
       → IsBest n turn here (λ q. ltb q 0 && cands q) best
-  best_start cands best i = record {
-    bounded = i.bounded;
-    no_pass = i.no_pass;
-    no_point = λ more lo hi q. off (ltb q 0) (cands q) _ (le-ltb q 0 (omega arith));
-    no_move = i.no_move;
-    move = i.move;
-  }
-    where
-      off : (l c s : Bool) → l ≡ false → ((l && c) && s) ≡ false
-      off true c s e = cc
-      off false c s e = refl
+  best_start cands best i = best_of (λ q. ltb q 0 && cands q) i
+      (λ more lo hi q. off_first (ltb q 0) (cands q) _ (le-ltb q 0 (omega arith)))
 
 -- The best of all moves at the first turn of a question is its answer.
 pub node_is : (q : ReadingQuestion) (code : ℕ) → IsCode code → node_of (first_turn q) code ≡ first_node q code
 node_is q code c = by q.kind code c
   where
-    by : (kind : Kind) (code : ℕ) → IsCode code → let q' : ReadingQuestion =
-        record {
-          tree = q.tree;
-          size = q.size;
-          kind = kind;
-          target = q.target;
-          colour = q.colour;
-          plies = q.plies;
-          wide = q.wide;
-        } in
-        node_of (first_turn q') code ≡ first_node q' code
+    by : (kind : Kind) (code : ℕ) → IsCode code
+        → node_of (first_turn (asked_as q kind)) code ≡ first_node (asked_as q kind) code
     by Attack code one = refl
     by Attack code two = refl
     by Attack code three = refl
@@ -393,31 +322,53 @@ no_first n node pos ps none =
     ap (λ b. is_some (cond b (Some Pass) (at_point (first_success n node pos)))) ps
     ∙ ap (λ o. is_some (at_point o)) nothing
 
+-- a question does not attain a code under which neither the pass nor a candidate has its way at the first turn
+not_attained : (q : ReadingQuestion) (pos : BoardState) (code : ℕ) → IsCode code → q.plies ≢ 0
+    → is_captured pos q.target ≡ false
+    → (is_attack q.kind && has_many_liberties q.tree pos q.target q.wide) ≡ false
+    → pass_saves (q.plies - 1) (node_of (first_turn q) code) pos ≡ false
+    → ((p : ℕ) → (is_candidate_on (first_turn q) pos p
+    && succeeds (q.plies - 1) (node_of (first_turn q) code) pos p) ≡ false) → attains_code q pos code ≡ false
+not_attained q pos code is ne stands few pass points =
+    let e = node_is q code is in
+    attained_by q pos code ne stands ∙ ap is_some (not_barred (q.plies - 1) (first_node q code) pos few)
+    ∙ no_first (q.plies - 1) (first_node q code) pos
+    (subst (λ node. pass_saves (q.plies - 1) node pos ≡ false) e pass)
+    (λ p. subst (λ node. (is_candidate_on (first_turn q) pos p && succeeds (q.plies - 1) node pos p) ≡ false) e
+    (points p))
+
 -- the best of all moves at the first turn is the answer, unless an attack's target has many liberties
-pub best_answer : (q : ReadingQuestion) (pos : BoardState) (best : Answer) → q.plies ≢ 0 → is_about q pos ≡ true
+best_answer : (q : ReadingQuestion) (pos : BoardState) (best : Answer) → q.plies ≢ 0 → is_about q pos ≡ true
     → (is_attack q.kind && has_many_liberties q.tree pos q.target q.wide) ≡ false
     → IsBest (q.plies - 1) (first_turn q) pos (is_candidate_on (first_turn q) pos) best → best ≡ answer_of q pos
 best_answer q pos best ne about few i =
+    let stands = about_stands q pos about in
+    let moved : (some : best.code ≢ 0)
+    → Some (i.move some).0 ≡ first_move (q.plies - 1) (first_node q best.code) pos =
+    λ some. (i.move some).2 ∙ ap (λ node. first_move (q.plies - 1) node pos)
+    (node_is q best.code (code_cases best.code (omega arith) i.bounded)) in
     answer_best q pos best.code best.at about i.bounded
-    (λ some. attained_by q pos best.code ne stands ∙ ap is_some (not_barred n (first_node q best.code) pos few)
-    ∙ ap is_some (sym (moved some)))
-    (λ more lo hi. let e = node_is q more (code_cases more (omega arith) hi) in
-    attained_by q pos more ne stands ∙ ap is_some (not_barred n (first_node q more) pos few)
-    ∙ no_first n (first_node q more) pos (subst (λ node. pass_saves n node pos ≡ false) e (i.no_pass more lo hi))
-    (λ p. subst (λ node. (is_candidate_on (first_turn q) pos p && succeeds n node pos p) ≡ false) e
-    (i.no_point more lo hi p)))
-    i.no_move
-    (λ some. (i.move some).1 ∙ moved some)
-  where
-    n : ℕ
-    n = q.plies - 1
+    (λ some. attained_by q pos best.code ne stands
+    ∙ ap is_some (not_barred (q.plies - 1) (first_node q best.code) pos few) ∙ ap is_some (sym (moved some)))
+    (λ more lo hi. not_attained q pos more (code_cases more (omega arith) hi) ne stands few
+    (i.no_pass more lo hi) (i.no_point more lo hi))
+    i.no_move (λ some. (i.move some).1 ∙ moved some)
 
-    stands : is_captured pos q.target ≡ false
-    stands = about_stands q pos about
+-- the best move of an attack at an undecided first turn is the answer
+pub attack_answer : (q : ReadingQuestion) (pos : BoardState) (best : Answer) → q.plies ≢ 0 → is_about q pos ≡ true
+    → is_attack q.kind ≡ true → IsUndecided (under (first_turn q) neither_may) pos
+    → (IsBest (q.plies - 1) (first_turn q) pos nowhere (record { code = 0; at = None })
+    → IsBest (q.plies - 1) (first_turn q) pos (is_candidate_on (first_turn q) pos) best) → best ≡ answer_of q pos
+attack_answer q pos best ne about attacks und moves =
+    best_answer q pos best ne about (and_false_right (is_attack q.kind) _ (und.few attacks))
+    (moves (best_nothing (q.plies - 1) (first_turn q) pos attacks))
 
-    moved : (some : best.code ≢ 0) → Some (i.move some).0 ≡ first_move n (first_node q best.code) pos
-    moved some = (i.move some).2 ∙ ap (λ node. first_move n node pos)
-        (node_is q best.code (code_cases best.code (omega arith) i.bounded))
+-- the best move of a defence is the answer
+pub defence_answer : (q : ReadingQuestion) (pos : BoardState) (best : Answer) → q.plies ≢ 0 → is_about q pos ≡ true
+    → is_attack q.kind ≡ false
+    → IsBest (q.plies - 1) (first_turn q) pos (is_candidate_on (first_turn q) pos) best → best ≡ answer_of q pos
+defence_answer q pos best ne about defends i =
+    best_answer q pos best ne about (ap (λ b. b && has_many_liberties q.tree pos q.target q.wide) defends) i
 
 -- the first turn is one of the trees under each allowance
 pub first_nodes : (q : ReadingQuestion) (pos : BoardState) → q.plies ≢ 0
@@ -427,17 +378,8 @@ first_nodes q pos ne = record {
       subst (λ m. IsNodeOf q pos m (under (first_turn q) ko) pos) e (by q.kind ko);
 }
   where
-    by : (kind : Kind) (ko : Ko) → let q' : ReadingQuestion =
-        record {
-          tree = q.tree;
-          size = q.size;
-          kind = kind;
-          target = q.target;
-          colour = q.colour;
-          plies = q.plies;
-          wide = q.wide;
-        } in
-        IsNodeOf q' pos q'.plies (under (first_turn q') ko) pos
+    by : (kind : Kind) (ko : Ko)
+        → IsNodeOf (asked_as q kind) pos q.plies (under (first_turn (asked_as q kind)) ko) pos
     by Attack defender_may = first 3 (omega arith) (omega arith)
     by Attack neither_may = first 2 (omega arith) (omega arith)
     by Attack attacker_may = first 1 (omega arith) (omega arith)

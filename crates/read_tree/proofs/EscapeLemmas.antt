@@ -1,7 +1,7 @@
 -- The defender's play at a liberty of the target keeps the other liberties, and gains the empty sides of its point;
 -- with too many of them the target is saved.
 use Rattle.std.proofs.Common.{◌≡◌, ◌≢◌, ℕ, ◌-◌, ◌*◌, ◌<◌, ◌≤◌, ◌⊎◌, Bool, true, false, not, cond, List}
-use Rattle.std.proofs.Common.{length, refl, sym, ap, subst, ◌∙◌, arith, inl, inr, set}
+use Rattle.std.proofs.Common.{length, refl, sym, ap, subst, ◌∙◌, arith, inl, inr, set, Ok}
 use Rattle.std.proofs.lemmas.Bool.{and_from, and_parts, lt-ltb}
 use Rattle.std.specs.Ordering.{nat_cmp}
 use Rattle.std.specs.FinSet as sets
@@ -131,36 +131,48 @@ module _ (s : ℕ) (cells : List Cell) (c : Colour) (l t : ℕ) (whole : length 
       let lives = liberties_from s gone l x.0 lib.on_board (liberty_moves s gone l t x.0 lib.on_board back x.1) in
       omega (arith, lives, z)
 
--- so a defender who runs free has his way there, under any allowance
-pub escape_succeeds : (n : ℕ) (turn : Turn) (here : BoardState) (known : sets.FinSet nat_cmp) → IsWhole here
-    → turn.target < here.size * here.size → turn.attacker_to_play ≡ false
-    → ((q : ℕ) → sets.contains known q ≡ is_liberty here.size here.cells turn.target q)
-    → (e : Escapes n turn here known) → (ko : Ko) → succeeds n (under turn ko) here e.l ≡ true
-escape_succeeds n turn here known whole on defends its e ko =
-    let s = here.size in
-    let c = turn.defender in
-    let t = turn.target in
-    let l = e.l in
-    let lib = IsLiberty-from_test s here.cells t l (sym (its l) ∙ e.there) in
-    let each : (x : ℕ) → sets.contains e.runs.kept x ≡ true
-    → (IsLiberty s here.cells t x × (x ≢ l)) ⊎ IsEmptyNeighbour s here.cells l x =
-    λ x h. elim (e.runs.each x h) [
-      | inl other ↦ inl (IsLiberty-from_test s here.cells t x (sym (its x) ∙ other.0), other.1)
-      | inr side ↦ inr side
-    ] in
-    let new = result_of here c l in
-    let many = more_outlasts_attacker turn.tree n (turn.wide - 1) (sets.len e.runs.kept) (liberties s new.cells t)
-    e.runs.many (kept_count s here.cells c l t whole on e.own lib e.runs.kept each) in
-    let vacant = ap is_stone lib.is_empty in
-    let alive = new_lives s here.cells c l t whole on e.own lib
-    (some_liberty turn.tree true n (turn.wide - 1) (liberties s new.cells t) many) in
-    let legal = sym (play_else here c l vacant e.runs.free) ∙ sym (free_done here c l vacant alive) in
-    let mover = ap (λ b. cond b (other c) c) defends in
-    let node = next_node (under turn ko) (allowance_of (under turn ko)) in
-    let child = child_from (under turn ko) here l node new (inl (record {
-      legal = ap (λ k. play here k l) mover ∙ legal;
-      next_is = refl;
-    })) in
-    let lost = bounded n node new on
-    (ap (λ b. outlasts turn.tree (not b) n (turn.wide - 1) (liberties s new.cells t)) defends ∙ many) in
-    ap (λ b. suits n b (child_of (under turn ko) here l)) defends ∙ ap (suits n false) child ∙ ap not lost
+-- A defender who runs free at a liberty of his target.
+module _ (n : ℕ) (turn : Turn) (here : BoardState) (known : sets.FinSet nat_cmp) (whole : IsWhole here)
+    (on : turn.target < here.size * here.size) (defends : turn.attacker_to_play ≡ false)
+    (its : (q : ℕ) → sets.contains known q ≡ is_liberty here.size here.cells turn.target q)
+    (e : Escapes n turn here known) where
+  -- the position after his play there
+  abbrev new : BoardState
+  new = result_of here turn.defender e.l
+
+  -- the point is a liberty
+  played : IsLiberty here.size here.cells turn.target e.l
+  played = IsLiberty-from_test here.size here.cells turn.target e.l (sym (its e.l) ∙ e.there)
+
+  -- what he keeps are other liberties, or empty sides of the point
+  kept_each : (x : ℕ) → sets.contains e.runs.kept x ≡ true
+      → (IsLiberty here.size here.cells turn.target x × (x ≢ e.l)) ⊎ IsEmptyNeighbour here.size here.cells e.l x
+  kept_each x h = elim (e.runs.each x h) [
+    | inl other ↦ inl (IsLiberty-from_test here.size here.cells turn.target x (sym (its x) ∙ other.0), other.1)
+    | inr side ↦ inr side
+  ]
+
+  -- so the target then has too many
+  escaped : outlasts turn.tree true n (turn.wide - 1) (liberties here.size new.cells turn.target) ≡ true
+  escaped = more_outlasts_attacker turn.tree n (turn.wide - 1) (sets.len e.runs.kept) _ e.runs.many
+      (kept_count here.size here.cells turn.defender e.l turn.target whole on e.own played e.runs.kept kept_each)
+
+  -- the play is legal
+  run_legal : play here turn.defender e.l ≡ Ok new
+  run_legal =
+      let alive = new_lives here.size here.cells turn.defender e.l turn.target whole on e.own played
+      (some_liberty turn.tree true n (turn.wide - 1) (liberties here.size new.cells turn.target) escaped) in
+      let vacant = ap is_stone played.is_empty in
+      sym (play_else here turn.defender e.l vacant e.runs.free)
+      ∙ sym (free_done here turn.defender e.l vacant alive)
+
+  -- so he has his way there, under any allowance
+  pub escape_succeeds : (ko : Ko) → succeeds n (under turn ko) here e.l ≡ true
+  escape_succeeds ko =
+      let mover = ap (λ b. cond b (other turn.defender) turn.defender) defends in
+      let node = next_node (under turn ko) (allowance_of (under turn ko)) in
+      let child = child_from (under turn ko) here e.l node new
+      (inl (record { legal = ap (λ k. play here k e.l) mover ∙ run_legal; next_is = refl })) in
+      let lost = bounded n node new on (ap (λ b. outlasts turn.tree (not b) n (turn.wide - 1)
+      (liberties here.size new.cells turn.target)) defends ∙ escaped) in
+      ap (λ b. suits n b (child_of (under turn ko) here e.l)) defends ∙ ap (suits n false) child ∙ ap not lost

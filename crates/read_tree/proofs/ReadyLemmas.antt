@@ -14,9 +14,10 @@ use Rattle.read_rules.proofs.CandidateLaws.{candidate_at_on}
 use Rattle.read_tree.specs.declared.table.Entry.{Entry}
 use Rattle.read_tree.specs.declared.turn.Turn.{Turn}
 use Rattle.read_tree.specs.declared.allowances.Allowances.{Allowances}
-use Rattle.read_tree.specs.Allowances.{has_some}
+use Rattle.read_tree.specs.Allowances.{neither_may, has_some, under}
+use Rattle.read_tree.specs.Stages.{is_candidate_on}
 use Rattle.read_tree.specs.Table.{IsTrueTable}
-use Rattle.read_tree.specs.Walk.{IsReady, IsPointOf, AreLibertiesOf}
+use Rattle.read_tree.specs.Walk.{IsReady, IsPointOf, AreLibertiesOf, OnEachAgreeing}
 
 -- a candidate is on the board
 pub candidate_inside : (node : Node) (shown : BoardState) (moves : List TrialMove) (p : ℕ)
@@ -38,6 +39,15 @@ module _ {L : Type 0} {shows : L → BoardState} {seen : L → Fact → Bool} {o
   pub point_after : (p : ℕ) → IsPointOf shows old p → IsPointOf shows new p
   point_after p on = subst (λ (pos : BoardState). p < pos.size * pos.size) (sym stays.shown) on
 
+  -- points that are candidates at a turn, on each position that agrees with what is seen now, are on it
+  pub candidates_inside : (turn : Turn) (points : sets.FinSet nat_cmp) → Agrees (seen new.look) (shows new.look)
+      → OnEachAgreeing seen old new (λ here. (p : ℕ) → sets.contains points p ≡ true
+      → is_candidate_on turn here p ≡ true)
+      → (p : ℕ) → sets.contains points p ≡ true → IsPointOf shows new p
+  candidates_inside turn points holds each p h =
+      point_after p (candidate_inside (under turn neither_may) (shows old.look) old.moves p
+      (each (shows old.look) (subst (Agrees (seen new.look)) stays.shown holds) p h))
+
   -- the liberties that are known are still the target's
   pub liberties_after : (target : ℕ) (points : sets.FinSet nat_cmp) → AreLibertiesOf seen old target points
       → AreLibertiesOf seen new target points
@@ -45,8 +55,8 @@ module _ {L : Type 0} {shows : L → BoardState} {seen : L → Fact → Bool} {o
 
   -- the walk may go on, where some allowance is left, by a table that is true of what is seen
   pub ready_after : {turn : Turn} {n : ℕ} {asked : Allowances} {points : sets.FinSet nat_cmp}
-      {entries later : List Entry} (left : Allowances) → IsReady shows seen old turn n asked points entries → has_some left ≡ true
-      → IsTrueTable (seen new.look) turn.tree turn.target turn.defender later
+      {entries later : List Entry} (left : Allowances) → IsReady shows seen old turn n asked points entries
+      → has_some left ≡ true → IsTrueTable (seen new.look) turn.tree turn.target turn.defender later
       → IsReady shows seen new turn n left points later
   ready_after {turn} {points} left ready some table = record {
     room = rw stays.moves ready.room;

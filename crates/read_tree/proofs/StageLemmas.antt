@@ -29,7 +29,7 @@ use Rattle.read_rules.proofs.StageLemmas.{candidate_stages}
 use Rattle.read_tree.specs.Stages.{is_candidate_on, is_capture, is_other}
 use Rattle.read_tree.specs.Steps.{IsLeft, TellsBy, is_off_liberties}
 use Rattle.read_tree.proofs.AllowanceLemmas.{none_of, has-without, success_some, and_parts_not, and_false_right}
-use Rattle.read_tree.proofs.AllowanceLemmas.{and_true, has_none}
+use Rattle.read_tree.proofs.AllowanceLemmas.{and_true, has_none, has-two, in_other}
 use Rattle.read_rules.proofs.LibertyLemmas.{bounded, child_free, play_size, play_takes_none, more_outlasts}
 
 -- a liberty of the target is a candidate
@@ -62,17 +62,12 @@ module _ (n : ℕ) (turn : Turn) (here : BoardState) (points : ℕ → Bool) whe
     given = λ ko h. let parts = and_parts_not _ _ (sym (has-without asked missing ko) ∙ h) in
         left.given ko parts.0 parts.1;
     none = λ ko a f q.
-        let miss = left_of (has asked ko) (has missing ko) a (sym (has-without asked missing ko) ∙ f) in
+        let miss = in_other (has asked ko) (has missing ko) a (sym (has-without asked missing ko) ∙ f) in
         elim (cases_Bool (tried q)) [
           | inl was ↦ left.none ko miss q was
           | inr yet ↦ ap (λ b. b && succeeds n (under turn ko) here q) (rest q yet)
         ];
   }
-    where
-      left_of : (a m : Bool) → a ≡ true → (a && not m) ≡ false → m ≡ true
-      left_of true true e h = refl
-      left_of true false e h = cc
-      left_of false m e h = cc
 
   -- none gives it
   pub by_none : (asked : Allowances) → ((ko : Ko) (q : ℕ) → (points q && succeeds n (under turn ko) here q) ≡ false)
@@ -117,14 +112,9 @@ module _ (n : ℕ) (turn : Turn) (here : BoardState) (points more : ℕ → Bool
   by_enough among none = record {
     asked_for = told.asked_for;
     given = λ ko h. let w = told.given ko h in (w.0, among w.0 w.1, w.2);
-    none = λ ko a f q. absurd (missing (has asked ko) (has found ko) a f
-        (sym (has-without asked found ko) ∙ none_of (without asked found) ko none));
+    none = λ ko a f q. absurd (both_ways (has found ko) f (in_other (has asked ko) (has found ko) a
+        (sym (has-without asked found ko) ∙ none_of (without asked found) ko none)));
   }
-    where
-      missing : (a f : Bool) → a ≡ true → f ≡ false → (a && not f) ≡ false → ⊥
-      missing true false ea ef h = cc
-      missing true true ea ef h = cc
-      missing false f ea ef h = cc
 
   -- the rest was asked of others
   pub by_both : (others : ℕ → Bool) (rest : Allowances) → ((q : ℕ) → more q ≡ (points q || others q))
@@ -135,22 +125,17 @@ module _ (n : ℕ) (turn : Turn) (here : BoardState) (points more : ℕ → Bool
     given = λ ko h. elim (cases_Bool (has found ko)) [
       | inl t ↦ let w = told.given ko t in (w.0, both w.0 ∙ or_left _ _ w.1, w.2)
       | inr f ↦
-          let w = second.given ko (from_rest (has asked ko) (has found ko) (has rest ko) f (sym (told_by ko) ∙ h)) in
+          let w = second.given ko (from_rest (has asked ko) (has found ko) (has rest ko) f
+          (sym (has-two asked found rest ko) ∙ h)) in
           (w.0, both w.0 ∙ or_right (points w.0) _ w.1, w.2)
     ];
     none = λ ko a f q.
-        let off = not_told (has asked ko) (has found ko) (has rest ko) a (sym (told_by ko) ∙ f) in
+        let off = not_told (has asked ko) (has found ko) (has rest ko) a (sym (has-two asked found rest ko) ∙ f) in
         let missing = has-without asked found ko ∙ ap (λ g. has asked ko && not g) off.0 ∙ ap (λ b. b && true) a in
         ap (λ b. b && succeeds n (under turn ko) here q) (both q)
         ∙ neither (points q) (others q) _ (told.none ko a off.0 q) (second.none ko missing off.1 q);
   }
     where
-      told_by : (ko : Ko) → has (without asked (without (without asked found) rest)) ko
-          ≡ (has asked ko && not ((has asked ko && not (has found ko)) && not (has rest ko)))
-      told_by ko = has-without asked (without (without asked found) rest) ko
-          ∙ ap (λ x. has asked ko && not x) (has-without (without asked found) rest ko
-          ∙ ap (λ x. x && not (has rest ko)) (has-without asked found ko))
-
       from_rest : (a g r : Bool) → g ≡ false → (a && not ((a && not g) && not r)) ≡ true → r ≡ true
       from_rest true true r e h = cc
       from_rest true false true e h = refl
@@ -180,14 +165,9 @@ module _ (n : ℕ) (turn : Turn) (here : BoardState) (asked good : Allowances)
       → Tells asked asked (λ ko. is_some (first_success n (under turn ko) here))
   stage_done none = record {
     each = λ ko. and_true _ _ (λ a. by_liberty ko
-        (all_good (has asked ko) (has good ko) a (sym (has-without asked good ko)
+        (in_other (has asked ko) (has good ko) a (sym (has-without asked good ko)
         ∙ none_of (without asked good) ko none)));
   }
-    where
-      all_good : (a g : Bool) → a ≡ true → (a && not g) ≡ false → g ≡ true
-      all_good true true e h = refl
-      all_good true false e h = cc
-      all_good false g e h = cc
 
   -- and then the other candidates
   pub stage_over : (rest : Allowances) → TellsBy n turn here (is_off_liberties turn here) (without asked good) rest
@@ -196,9 +176,7 @@ module _ (n : ℕ) (turn : Turn) (here : BoardState) (asked good : Allowances)
   stage_over rest second = record {
     each = λ ko.
         let e = has-without asked good ko in
-        has-without asked (without (without asked good) rest) ko
-        ∙ ap (λ x. has asked ko && not x) (has-without (without asked good) rest ko
-        ∙ ap (λ x. x && not (has rest ko)) e)
+        has-two asked good rest ko
         ∙ sorted (has asked ko) (has good ko) (has rest ko) _ (by_liberty ko) (by_other ko)
         (λ a g r. none_at ko a g r (e ∙ left_over (has asked ko) (has good ko) a g));
   }

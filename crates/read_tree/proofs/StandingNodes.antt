@@ -1,6 +1,6 @@
 -- The looks at a node of a question's trees whose target stands: they lie in the question's active area.
 use Rattle.std.proofs.Common.{◌≡◌, ◌⊎◌, ℕ, suc, ◌*◌, ◌<◌, ◌&&◌, ◌||◌, Bool, true, false, List, ap, inl, inr}
-use Rattle.std.proofs.Common.{◌∙◌}
+use Rattle.std.proofs.Common.{◌∙◌, refl, arith}
 use Rattle.std.proofs.lemmas.Bool.{and_from, and_parts, or_cases, or_left, or_right, eqb-true}
 use Rattle.std.specs.Ordering.{nat_cmp}
 use Rattle.std.specs.FinSet as sets
@@ -16,7 +16,9 @@ use Rattle.trial_board.specs.Overlays.{neighbourhood_twice}
 use Rattle.trial_board.specs.Trials.{Trying, after}
 use Rattle.trial_board.proofs.AfterLemmas.{size-after}
 use Rattle.read_rules.specs.declared.question.ReadingQuestion.{ReadingQuestion}
-use Rattle.read_rules.specs.ActiveArea.{IsNodeOf, InActiveArea, AddsNear}
+use Rattle.read_rules.specs.ActiveArea.{IsNodeOf, IsUndecided, first as by_code, InActiveArea, AddsNear}
+use Rattle.read_rules.specs.Answer.{is_about, first_node}
+use Rattle.read_rules.proofs.AnswerLemmas.{about_stands}
 use Rattle.read_rules.specs.Candidates.{near_candidates}
 use Rattle.read_rules.specs.GameTree.{is_captured}
 use Rattle.read_rules.proofs.AreaLemmas.{AddsNear-in, AddsNear-trans, AddsNear-mono, area_target, area_once}
@@ -25,7 +27,7 @@ use Rattle.read_moves.proofs.CandidateLemmas.{near_twice, near_liberties}
 use Rattle.read_tree.specs.declared.table.Entry.{Entry}
 use Rattle.read_tree.specs.declared.turn.Turn.{Turn}
 use Rattle.read_tree.specs.declared.allowances.Allowances.{Allowances}
-use Rattle.read_tree.specs.Allowances.{Ko, under, has_some}
+use Rattle.read_tree.specs.Allowances.{Ko, neither_may, under, has_some}
 use Rattle.read_tree.specs.Stages.{is_candidate_on}
 use Rattle.read_tree.specs.Steps.{AreNodesOf}
 use Rattle.read_tree.specs.Walk.{IsReady}
@@ -43,8 +45,8 @@ pub record IsStandingNode (q : ReadingQuestion) (root here : BoardState) (n s : 
 
 -- so is a node under asked allowances after the moves, on a position that agrees with what was seen
 pub standing_node : {q : ReadingQuestion} {root pos : BoardState} {n : ℕ} {turn : Turn} {asked : Allowances}
-    {seen : Fact → Bool} (s : ℕ) → seen (SizeIs s) ≡ true → Agrees seen pos → (moves : List TrialMove) → turn.target < s * s
-    → has_some asked ≡ true → AreNodesOf q root n turn asked (after pos moves)
+    {seen : Fact → Bool} (s : ℕ) → seen (SizeIs s) ≡ true → Agrees seen pos → (moves : List TrialMove)
+    → turn.target < s * s → has_some asked ≡ true → AreNodesOf q root n turn asked (after pos moves)
     → is_captured (after pos moves) turn.target ≡ false → IsStandingNode q root (after pos moves) n pos.size turn
 standing_node {pos} {turn} {asked} s told agrees moves target some nodes stands =
     let one = some_of asked some in
@@ -66,6 +68,16 @@ pub ready_node : {L : Type 0} {shows : L → BoardState} {seen : L → Fact → 
     → IsStandingNode q root (after pos board.moves) (suc n) pos.size turn
 ready_node {board} ready told agrees nodes stands =
     standing_node _ told agrees board.moves ready.target ready.some nodes stands
+
+-- and where it is undecided
+pub undecided_node : {L : Type 0} {shows : L → BoardState} {seen : L → Fact → Bool} {board : Trying L} {turn : Turn}
+    {n : ℕ} {asked : Allowances} {points : sets.FinSet nat_cmp} {entries : List Entry} {q : ReadingQuestion}
+    {root pos : BoardState} → IsReady shows seen board turn n asked points entries
+    → seen board.look (SizeIs (shows board.look).size) ≡ true → Agrees (seen board.look) pos
+    → AreNodesOf q root (suc n) turn asked (after pos board.moves)
+    → ((ko : Ko) → IsUndecided (under turn ko) (after pos board.moves))
+    → IsStandingNode q root (after pos board.moves) (suc n) pos.size turn
+undecided_node ready told agrees nodes und = ready_node ready told agrees nodes (und neither_may).stands
 
 -- What is looked at there.
 module _ {q : ReadingQuestion} {root here : BoardState} {n s : ℕ} {turn : Turn}
@@ -165,6 +177,13 @@ module _ {q : ReadingQuestion} {root here : BoardState} {n s : ℕ} {turn : Turn
       → AddsIn c d (neighbourhood_of s here.cells (alone turn.target)) → AddsNear a d (InActiveArea q root)
   near_outlook first liberties outlook =
       AddsNear-trans (near_target first) (AddsNear-trans (near_beside liberties) (near_beside outlook))
+
+-- a look at the target of a question lies in its active area on a position that it is about
+pub near_asked : {a b : Fact → Bool} (q : ReadingQuestion) (pos : BoardState) → q.target < pos.size * pos.size
+    → is_about q pos ≡ true → AddsIn a b (alone q.target) → AddsNear a b (InActiveArea q pos)
+near_asked q pos inside about looks = AddsNear-in (InActiveArea q pos) looks (λ p h.
+    area_target q pos pos q.plies (first_node q 1) (by_code 1 (omega arith) (omega arith)) pos.size refl inside
+    (about_stands q pos about) p (eqb-true p q.target h))
 
 -- what lies in a set lies there or at a point
 pub near_at : {a b : Fact → Bool} (t : ℕ) (S : ℕ → Type 0) → AddsNear a b S → AddsNear a b (λ p. (p ≡ t) ⊎ S p)

@@ -20,7 +20,7 @@ use Rattle.trial_board.specs.Changed.{changed}
 use Rattle.read_tree.specs.Allowances.{Ko, defender_may, neither_may, attacker_may, under, has, has_some, without, both}
 use Rattle.read_tree.specs.Allowances.{either, Tells}
 use Rattle.read_rules.specs.declared.node.Node.{Node}
-use Rattle.read_tree.proofs.AllowanceLemmas.{none_of, Tells-same, has-without}
+use Rattle.read_tree.proofs.AllowanceLemmas.{none_of, Tells-same, has-without, in_other}
 use Rattle.read_tree.specs.Table.{is_won, IsTrueOf, IsTrueTable}
 
 -- nodes that compare as equal are one
@@ -74,13 +74,8 @@ joined false good false found test k f h = cc
 -- what was asked is known where nothing of it is missing
 nothing_missing : (asked known : Allowances) → has_some (without asked known) ≡ false
     → (ko : Ko) → has asked ko ≡ true → has known ko ≡ true
-nothing_missing asked known none ko h =
-    of_two (has asked ko) (has known ko) (sym (has-without asked known ko) ∙ none_of (without asked known) ko none) h
-  where
-    of_two : (a k : Bool) → (a && not k) ≡ false → a ≡ true → k ≡ true
-    of_two true true e h = refl
-    of_two true false e h = cc
-    of_two false k e h = cc
+nothing_missing asked known none ko h = in_other (has asked ko) (has known ko) h
+    (sym (has-without asked known ko) ∙ none_of (without asked known) ko none)
 
 -- and where what was missing is known too
 all_known : (asked known missing : Allowances) → missing ≡ without asked known

@@ -1,6 +1,6 @@
 -- The attacker takes a target by its only liberty, where the ban lets him play there.
 use Rattle.std.proofs.Common.{◌≡◌, ◌≢◌, ℕ, suc, ◌*◌, ◌<◌, true, false, cond, List, length, refl, sym, ap, subst, ◌∙◌}
-use Rattle.std.proofs.Common.{arith, add-one, set, inl, inr, ◌||◌, eqb}
+use Rattle.std.proofs.Common.{arith, add-one, set, inl, inr, ◌||◌, eqb, Ok}
 use Rattle.std.proofs.lemmas.Bool.{or_cases, or_right, and_parts, and_from, lt-ltb}
 use Rattle.std.specs.FinSet as sets
 use Rattle.std.specs.Ordering.{nat_cmp}
@@ -13,7 +13,7 @@ use Rattle.go_rules.specs.declared.Cell.{Cell}
 use Rattle.go_rules.specs.declared.Cell.TheVariants.{Empty}
 use Rattle.go_rules.specs.declared.Colour.{Colour}
 use Rattle.go_rules.specs.declared.Colour.TheVariants.{Black as black, White as white}
-use Rattle.go_rules.specs.Strings.{cell_at, is_stone, same_cell, start, IsLiberty, is_liberty, liberties}
+use Rattle.go_rules.specs.Strings.{cell_at, is_stone, start, IsLiberty, is_liberty, liberties}
 use Rattle.go_rules.specs.Strings.{liberty_points}
 use Rattle.go_rules.specs.Position.{BoardState, other, stone_of}
 use Rattle.go_rules.specs.Play.{play, cells_after, is_taken}
@@ -29,7 +29,9 @@ use Rattle.read_rules.proofs.CandidateLaws.{candidate_from}
 use Rattle.read_rules.specs.declared.node.Node.{Node}
 use Rattle.read_tree.specs.declared.turn.Turn.{Turn}
 use Rattle.read_moves.proofs.WholeBoards.{IsWhole}
-use Rattle.read_rules.specs.GameTree.{has_many_liberties, attacker_wins, next_node, allowance_of}
+use Rattle.read_rules.specs.GameTree.{is_captured, has_many_liberties, attacker_wins, next_node, allowance_of}
+use Rattle.read_rules.specs.Rules.{SomeChildWins}
+use Rattle.read_rules.proofs.AnswerLemmas.{stone_stands}
 use Rattle.read_tree.specs.Allowances.{Ko, under}
 use Rattle.read_tree.specs.Steps.{IsTaken}
 use Rattle.read_rules.proofs.RuleLemmas.{attacker_from}
@@ -99,40 +101,49 @@ turn_at node = record {
   wide = node.wide;
 }
 
+-- the attacker's play at the only liberty of the target is legal, and captures it
+take_legal : (turn : Turn) (here : BoardState) → IsWhole here → turn.target < here.size * here.size
+    → (t : IsTaken turn here) → let new = result_of here (other turn.defender) t.l in
+    (play here (other turn.defender) t.l ≡ Ok new) × (is_captured new turn.target ≡ true)
+take_legal turn here whole on t =
+    let s = here.size in
+    let c = other turn.defender in
+    let enemy = t.enemy ∙ ap stone_of (sym (other_twice turn.defender)) in
+    let lib = IsLiberty-from_test s here.cells turn.target t.l t.liberty in
+    let only : (x : ℕ) → IsLiberty s here.cells turn.target x → x ≡ t.l =
+    λ x h. t.only x (is_liberty-from_fact s here.cells turn.target x on h) in
+    let vacant = ap is_stone lib.is_empty in
+    let lives = stone_lives s here.cells c t.l turn.target whole on enemy lib only in (
+      sym (play_else here c t.l vacant t.free) ∙ sym (free_done here c t.l vacant lives),
+      same_cell-from _ _ (target_gone s here.cells c t.l turn.target whole on enemy lib only),
+    )
+
+-- so at the attacker's turn some child is won, however many plies are left
+take_child : (n : ℕ) (node : Node) (here : BoardState) → IsWhole here → node.target < here.size * here.size
+    → IsTaken (turn_at node) here → SomeChildWins n node here
+take_child n node here whole on t =
+    let new = result_of here (other node.defender) t.l in
+    let taken = take_legal (turn_at node) here whole on t in
+    let next = next_node node (allowance_of node) in
+    let mover = ap (λ b. cond b (other node.defender) node.defender) t.attacks in
+    let lib = IsLiberty-from_test here.size here.cells node.target t.l t.liberty in
+    record {
+      point = t.l;
+      next = next;
+      new = new;
+      candidate = candidate_from node.tree node.attacker_to_play here node.target node.wide t.l on (fills lib);
+      child = inl (record { legal = ap (λ k. play here k t.l) mover ∙ taken.0; next_is = refl });
+      wins = wins-captured n next new taken.1;
+    }
+
 -- with a ply left, an attacker who may play at the only liberty of the target captures it
 pub taking_wins : (n : ℕ) (node : Node) (here : BoardState) → IsWhole here → node.target < here.size * here.size
     → has_many_liberties node.tree here node.target node.wide ≡ false → IsTaken (turn_at node) here
     → attacker_wins (suc n) node here ≡ true
 taking_wins n node here whole on few t =
-    let s = here.size in
-    let c = other node.defender in
-    let enemy = t.enemy ∙ ap stone_of (sym (other_twice node.defender)) in
-    let lib = IsLiberty-from_test s here.cells node.target t.l t.liberty in
-    let only : (x : ℕ) → IsLiberty s here.cells node.target x → x ≡ t.l =
-    λ x h. t.only x (is_liberty-from_fact s here.cells node.target x on h) in
-    let vacant = ap is_stone lib.is_empty in
-    let free = sym (free_done here c t.l vacant (stone_lives s here.cells c t.l node.target whole on enemy lib only)) in
-    let legal = sym (play_else here c t.l vacant t.free) ∙ free in
-    let new = result_of here c t.l in
-    let gone = same_cell-from _ _ (target_gone s here.cells c t.l node.target whole on enemy lib only) in
-    let stands = stands_by (cell_at here.cells node.target) node.defender t.enemy in
-    let mover = ap (λ b. cond b (other node.defender) node.defender) t.attacks in
+    let stands = stone_stands (cell_at here.cells node.target) node.defender t.enemy in
     sym (ap (λ m. attacker_wins m node here) (add-one n))
-    ∙ attacker_from n node here stands t.attacks (
-      few,
-      record {
-        point = t.l;
-        next = next_node node (allowance_of node);
-        new = new;
-        candidate = candidate_from node.tree node.attacker_to_play here node.target node.wide t.l on (fills lib);
-        child = inl (record { legal = ap (λ k. play here k t.l) mover ∙ legal; next_is = refl });
-        wins = wins-captured n (next_node node (allowance_of node)) new gone;
-      },
-    )
-  where
-    stands_by : (cell : Cell) (d : Colour) → cell ≡ stone_of d → same_cell cell Empty ≡ false
-    stands_by cell black e = ap (λ k. same_cell k Empty) e
-    stands_by cell white e = ap (λ k. same_cell k Empty) e
+    ∙ attacker_from n node here stands t.attacks (few, take_child n node here whole on t)
 
 -- the same at a turn, under any allowance
 pub take_wins : (n : ℕ) (turn : Turn) (here : BoardState) → IsWhole here → turn.target < here.size * here.size

@@ -38,7 +38,7 @@ use trial_board::Trial;
 const PLIES_WITH_TABLE: u8 = 12;
 
 /// The first turn of a question: the side that is asked about is to play.
-fn first_turn(question: &ReadingQuestion) -> Turn
+pub fn first_turn(question: &ReadingQuestion) -> Turn
     ensures { result ≡ first_turn question.now }
 {
     Turn {

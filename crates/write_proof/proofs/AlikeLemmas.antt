@@ -13,7 +13,7 @@ use Rattle.read_rules.specs.GameTree.{pass_saves, first_success, first_move, at_
 use Rattle.read_tree.specs.Allowances.{Ko, defender_may, neither_may, attacker_may, all_three, has, has_some}
 use Rattle.read_tree.specs.Allowances.{under, Tells, own_ko, own_where, without, both, attacker_ko_of, defender_ko_of}
 use Rattle.read_tree.specs.Steps.{first_turn}
-use Rattle.read_tree.proofs.AllowanceLemmas.{some_of, none_of, has-without, and_parts_not, has_all}
+use Rattle.read_tree.proofs.AllowanceLemmas.{some_of, none_of, has-without, in_other, and_parts_not, has_all}
 use Rattle.read_tree.proofs.TableLemmas.{has_both}
 use Rattle.read_tree.proofs.NodeLemmas.{under_by, first_point}
 use Rattle.read_proof.specs.Proves.{is_settled, has_too_many}
@@ -92,12 +92,6 @@ own_alone attacker asked one there = elim (cases_Bool (has_some (without asked (
       (ap (has (own_where attacker true)) same ∙ has_own attacker))
   | inr none ↦ none
 ]
-
--- what is in a set, and is not left without another, is in the other
-pub in_other : (a b : Bool) → a ≡ true → (a && not b) ≡ false → b ≡ true
-in_other true true e h = refl
-in_other true false e h = cc
-in_other false b e h = cc
 
 -- what is in a set, and not in both, is not in the other
 pub not_both : (a b : Bool) → a ≡ true → (a && b) ≡ false → b ≡ false

@@ -1,7 +1,7 @@
 -- What is put behind a text, piece by piece.
-use Rattle.std.proofs.Common.{◌≡◌, ◌≢◌, ◌∙◌, ℕ, zero, suc, ◌+◌, ◌-◌, ◌<◌, ◌≤◌, Bool, true, false, cond, eqb, List, [], ◌∷◌}
-use Rattle.std.proofs.Common.{◌++◌, length, Option, Some, None, Result, Ok, Err, refl, sym, ap, subst, inl, inr, arith}
-use Rattle.std.proofs.Common.{append_assoc, length-append, codes, ◌⊎◌, drop}
+use Rattle.std.proofs.Common.{◌≡◌, ◌≢◌, ◌∙◌, ℕ, zero, suc, ◌+◌, ◌-◌, ◌<◌, ◌≤◌, Bool, true, false, cond, eqb, List}
+use Rattle.std.proofs.Common.{[], ◌∷◌, ◌++◌, length, Option, Some, None, Result, Ok, Err, refl, sym, ap, subst, inl}
+use Rattle.std.proofs.Common.{inr, arith, append_assoc, length-append, codes, ◌⊎◌, drop}
 use Rattle.std.specs.List.{filter_map, cons_option, filter, range_with_len, join_with_byte}
 use Rattle.std.specs.Result.{IsErrAnd}
 use Rattle.std.proofs.lemmas.Bool.{cases_eq, eq-eqb, ne_eqb}
@@ -88,7 +88,8 @@ each_words (suc n) won node pos some settled wanted =
     ∙ ap (λ t. blank ∷ (codes "*" ++ t)) (ap behind_blanks (each_both write (pass_children node pos)
     (play_children node pos))
     ∙ blanks_both (write_each write (pass_children node pos)) (write_each write (play_children node pos)))
-    ∙ ap (λ m. behind_blanks (codes "*" ∷ []) ++ (behind_blanks (write_each (first_words m won) (pass_children node pos))
+    ∙ ap (λ m. behind_blanks (codes "*" ∷ [])
+    ++ (behind_blanks (write_each (first_words m won) (pass_children node pos))
     ++ behind_blanks (write_each (first_words m won) (play_children node pos)))) less
 
 -- the first child of a row, where there is one

@@ -1,7 +1,7 @@
 -- What is written at a node, by what is written at the nodes to which its moves lead.
 use Rattle.std.proofs.Common.{◌≡◌, ◌∙◌, ℕ, ◌-◌, ◌≤◌, Bool, true, false, cond, List, [], ◌∷◌, ◌++◌, length}
 use Rattle.std.proofs.Common.{Option, Some, None, Result, Ok, Err, refl, sym, ap, subst, arith, ltb, eqb, ◌||◌, ◌&&◌}
-use Rattle.std.proofs.Common.{not, ◌+◌, ◌/◌, ◌<◌, ◌≢◌, drop, ◌↔◌}
+use Rattle.std.proofs.Common.{not, ◌+◌, ◌*◌, ◌/◌, ◌<◌, ◌≢◌, drop, ◌↔◌}
 use Rattle.std.proofs.lemmas.Bool.{ne_eqb}
 use Rattle.std.specs.List.{filter_map, filter, range_with_len}
 use Rattle.std.specs.Option.{option_to_list, option_map}
@@ -19,12 +19,14 @@ use Rattle.read_rules.specs.Trees.{most_narrow}
 use Rattle.read_rules.specs.GameTree.{child_of, next_node, allowance_of, first_move, is_captured, has_many_liberties}
 use Rattle.read_rules.proofs.RuleLemmas.{first_move_gives}
 use Rattle.read_tree.specs.Nodes.{LeadsTo}
-use Rattle.read_proof.specs.Proves.{child_after, passed, pass_children, is_settled, has_too_many}
+use Rattle.read_rules.specs.Candidates.{is_candidate_at}
+use Rattle.read_rules.proofs.CandidateLaws.{candidate_at_on}
+use Rattle.read_proof.specs.Proves.{child_after, passed, pass_children, play_children, is_settled, has_too_many}
 use Rattle.read_proof.specs.FirstProof.{Writer, move_word, write_child, write_each, write_move, first_words}
 use Rattle.write_proof.specs.declared.text.ProofError.{ProofError}
 use Rattle.write_proof.specs.declared.text.ProofError.TheVariants.{TooLong, NoMemory}
 use Rattle.write_proof.specs.Printed.{most_bytes, behind_blanks, Puts, Writes, position_on}
-use Rattle.write_proof.proofs.PutLemmas.{puts_both, puts_up, blanks_both, one_less}
+use Rattle.write_proof.proofs.PutLemmas.{puts_both, puts_up, blanks_both, one_less, walk_words}
 
 -- where the trial moves and the position shown stay, so does the position after the moves
 pub here_stays : {L : Type 0} (shows : L → BoardState) (seen : L → Fact → Bool) (old new : Trying L)
@@ -50,6 +52,31 @@ pass_each write false child = sym (append-nil (write child.0 child.1))
 
 -- The first proof of a claim at a node, with n plies left after its move.
 module _ (n : ℕ) (won : Bool) (node : Node) (here : BoardState) where
+  -- what is written after the play at p
+  abbrev pub play_words : ℕ → List ℕ
+  play_words p = behind_blanks (write_each (first_words n won) (option_to_list (child_of node here p)))
+
+  -- what is written after the plays at the candidates from a point on
+  abbrev pub words_from : ℕ → List ℕ
+  words_from from = behind_blanks (write_each (first_words n won) (filter_map (child_of node here)
+      (filter (is_candidate_at node here) (range_with_len from (here.size * here.size - from)))))
+
+  -- what is written after the pass
+  abbrev pub pass_words : List ℕ
+  pass_words = behind_blanks (write_each (first_words n won) (pass_children node here))
+
+  -- and after all plays
+  abbrev pub plays_words : List ℕ
+  plays_words = behind_blanks (write_each (first_words n won) (play_children node here))
+
+  -- from a point on it is what the play at the next candidate gives, and what is written from behind that on
+  pub next_words : (from p : ℕ) → from ≤ p → is_candidate_at node here p ≡ true
+      → ((k : ℕ) → from ≤ k → k < p → is_candidate_at node here k ≡ false)
+      → words_from from ≡ play_words p ++ words_from (p + 1)
+  next_words from p low is none =
+      walk_words (first_words n won) (child_of node here) (is_candidate_at node here) (here.size * here.size) from p low
+      (candidate_at_on node here p is) is none
+
   -- what is written after a play that was made
   pub play_written : {T : Type 0} (p : ℕ) (child : Option Node) (next : Node) (new : BoardState) (old out : List ℕ)
       (r : Result T ProofError) → LeadsTo node here p child new → child ≡ Some next

@@ -5,7 +5,7 @@ ghost use Rattle.trial_board.specs.Trials.{Stays, most_moves};
 ghost use Rattle.read_rules.specs.GameTree.{pass_saves, succeeds, first_success, first_move, at_point};
 ghost use Rattle.read_tree.specs.Allowances.{under, has, has_some, without, own_where};
 ghost use Rattle.read_tree.specs.Table.{IsTrueTable};
-ghost use Rattle.read_tree.specs.Walk.{IsPointOf, AreLibertiesOf};
+ghost use Rattle.read_tree.specs.Walk.{IsReady, IsPointOf};
 ghost use Rattle.write_proof.specs.Printed.{position_on};
 ghost use Rattle.write_proof.specs.Alike.{IsTold, IsCommon, IsOne, IsMoveOn};
 
@@ -72,11 +72,7 @@ fn pass_told<L: Look>(
     known: &PointSet,
     memory: &mut Memory,
 ) -> Told
-    requires room { length board.old.moves + plies < most_moves }
-    requires target { IsPointOf L.shows board.old turn.target }
-    requires liberties { AreLibertiesOf L.seen board.old turn.target known.now }
-    requires some { has_some asked ≡ true }
-    requires table { IsTrueTable (L.seen board.old.look) turn.tree turn.target turn.defender memory.old.table.now }
+    requires { IsReady L.shows L.seen board.old turn plies asked known.now memory.old.table.now }
     ensures stays { Stays L.shows L.seen board.old board.new }
     ensures table { IsTrueTable (L.seen board.new.look) turn.tree turn.target turn.defender memory.new.table.now }
     ensures told { IsTold asked result (λ ko. pass_saves plies (under turn ko) (position_on L.shows board.old)) }
@@ -99,12 +95,8 @@ fn play_told<L: Look>(
     known: &PointSet,
     memory: &mut Memory,
 ) -> Told
-    requires room { length board.old.moves + plies < most_moves }
-    requires target { IsPointOf L.shows board.old turn.target }
+    requires ready { IsReady L.shows L.seen board.old turn plies asked known.now memory.old.table.now }
     requires on_board { IsPointOf L.shows board.old p }
-    requires liberties { AreLibertiesOf L.seen board.old turn.target known.now }
-    requires some { has_some asked ≡ true }
-    requires table { IsTrueTable (L.seen board.old.look) turn.tree turn.target turn.defender memory.old.table.now }
     ensures stays { Stays L.shows L.seen board.old board.new }
     ensures table { IsTrueTable (L.seen board.new.look) turn.tree turn.target turn.defender memory.new.table.now }
     ensures told { IsTold asked result (λ ko. succeeds plies (under turn ko) (position_on L.shows board.old) p) }
@@ -124,11 +116,7 @@ fn first_point<L: Look>(
     known: &PointSet,
     memory: &mut Memory,
 ) -> Common
-    requires room { length board.old.moves + plies < most_moves }
-    requires target { IsPointOf L.shows board.old turn.target }
-    requires liberties { AreLibertiesOf L.seen board.old turn.target known.now }
-    requires some { has_some asked ≡ true }
-    requires table { IsTrueTable (L.seen board.old.look) turn.tree turn.target turn.defender memory.old.table.now }
+    requires { IsReady L.shows L.seen board.old turn plies asked known.now memory.old.table.now }
     ensures stays { Stays L.shows L.seen board.old board.new }
     ensures table { IsTrueTable (L.seen board.new.look) turn.tree turn.target turn.defender memory.new.table.now }
     ensures first { IsCommon asked result (λ ko.

@@ -3,7 +3,6 @@
 ghost use Rattle.std.specs.Prelude.{◌≡◌, ◌≢◌, ◌+◌, ◌*◌, ◌<◌, ◌≤◌, [], ◌∷◌, length, Ok, true, false};
 ghost use Rattle.trial_board.specs.Trials.{Stays, most_moves};
 ghost use Rattle.read_tree.specs.Allowances.{has_some};
-ghost use Rattle.read_tree.specs.Steps.{first_turn};
 ghost use Rattle.read_tree.specs.Table.{IsTrueTable};
 ghost use Rattle.read_tree.specs.Walk.{IsPointOf};
 ghost use Rattle.read_proof.specs.ProofOf.{codes_down_to, letter_of};
@@ -15,9 +14,9 @@ use crate::text::{ProofError, put_word};
 use crate::walk::write;
 use go_base::{Bytes, Look};
 use read_proof::codes::claim_under;
-use read_rules::{Kind, ReadingQuestion};
+use read_rules::ReadingQuestion;
 use read_tree::memory::Memory;
-use read_tree::{Allowances, Turn};
+use read_tree::{Allowances, first_turn};
 use trial_board::Trial;
 
 /// The letter of a claim.
@@ -25,22 +24,6 @@ pub fn letter(won: bool) -> &'static [u8]
     ensures { result.now ≡ letter_of won }
 {
     if won { b"W" } else { b"N" }
-}
-
-/// The turn at which the question begins.
-fn turn_of(question: &ReadingQuestion) -> Turn
-    ensures { result ≡ first_turn question.now }
-{
-    Turn {
-        tree: question.tree,
-        target: question.target,
-        defender: question.colour,
-        attacker_to_play: match question.kind {
-            Kind::Attack => true,
-            Kind::Defend => false,
-        },
-        wide: question.wide,
-    }
 }
 
 /// The allowance of a code, for a question of this kind, alone.
@@ -80,7 +63,7 @@ pub fn write_claim<L: Look>(
     put_word(out, letter(won))?;
     write(
         board,
-        turn_of(question),
+        first_turn(question),
         asked,
         question.plies,
         won,
@@ -109,7 +92,7 @@ fn write_under<L: Look>(
     ensures puts { Puts out.old
         (behind_blanks (first_words_of question.now (position_on L.shows board.old) code (more ∷ []))) out.new result }
 {
-    let asked = allowance_under(turn_of(question).attacker_to_play, more);
+    let asked = allowance_under(first_turn(question).attacker_to_play, more);
     let won = claim_under(question, code, more);
     match write_claim(board, question, asked, won, memory, out) {
         Ok(_) => Ok(()),

@@ -1,17 +1,16 @@
 -- The walk over the moves of a node answers what the tree says, over every position that agrees with what was seen.
-use Rattle.std.proofs.Common.{◌∙◌, ◌&&◌, ap, sym, inl, inr, arith, rules}
+use Rattle.std.proofs.Common.{◌∙◌, sym, arith, rules}
 use Rattle.std.specs.FinSet as set
-use Rattle.std.proofs.lemmas.Bool.{cases_eq}
 use Rattle.go_base.specs.Facts.{agrees_before, Grows-refl, Grows-trans}
 use Rattle.go_rules.specs.declared.Cell.TheVariants.{Empty}
 use Rattle.go_rules.proofs.Cells.{eq_is_same_cell}
 use Rattle.trial_board.specs.Trials.{after}
 use Rattle.read_rules.specs.GameTree.{succeeds}
-use Rattle.read_rules.proofs.WinLemmas.{wins-captured, wins-no_plies, wins-by_move, none_before, first_success-found}
+use Rattle.read_rules.proofs.WinLemmas.{wins-captured, wins-no_plies, wins-by_move, none_up_to, first_success-found}
 use Rattle.read_rules.proofs.WinLemmas.{first_success-none}
 use Rattle.read_tree.proofs.TableLemmas.{table_more}
-use Rattle.read_tree.proofs.NodeLemmas.{play_made, play_refused, no_pass, pass_made, first_pass, first_point, good_barred}
-use Rattle.read_tree.proofs.NodeLemmas.{good_first}
+use Rattle.read_tree.proofs.NodeLemmas.{play_made, play_refused, no_pass, pass_made, first_pass, first_point}
+use Rattle.read_tree.proofs.NodeLemmas.{good_barred, good_first}
 use Rattle.trial_board.specs.Trials.{Stays-trans}
 use Rattle.read_tree.proofs.ReadyLemmas.{candidate_inside, point_after}
 use Rattle.read_tree.proofs.nodes.+wins.Goals as goal
@@ -71,18 +70,10 @@ first_success-plays-preserved g t c =
       stays = Stays-trans i.stays later;
       grows = Grows-trans i.grows later.grows;
       table = c.succeeds.ensures.table;
-      none = λ pos a q below.
-          let here = after pos c.args.board.now.moves in
-          let fails = rw i.stays.moves at (c.succeeds.ensures.over pos a) in
-          elim (cases_eq q c.in-Some.p) [
-            | inl same ↦ ap (λ k. set.contains c.candidates-candidates.result k
-                && succeeds c.args.plies c.args.node here k) same
-                ∙ ap (λ b. b && succeeds c.args.plies c.args.node here c.in-Some.p) found.2
-                ∙ sym fails ∙ c.if-succeeds.false
-            | inr ne ↦ none_before (set.contains c.candidates-candidates.result)
-                (succeeds c.args.plies c.args.node here) c.plays.from c.in-Some.p
-                (i.none pos (agrees_before later.grows a)) found.3 q (omega (arith, below, ne))
-          ];
+      none = λ pos a. none_up_to (set.contains c.candidates-candidates.result)
+          (succeeds c.args.plies c.args.node (after pos c.args.board.now.moves)) c.plays.from c.in-Some.p
+          (i.none pos (agrees_before later.grows a)) found.3 found.2
+          (sym (rw i.stays.moves at (c.succeeds.ensures.over pos a)) ∙ c.if-succeeds.false);
     }
 
 -- it is the first that succeeds

@@ -53,7 +53,8 @@ returns-clause-over g c = λ pos a.
 
 -- a target that is taken has all of its liberties known
 pub returns-then-can_take-clause-all : goal.returns-then-can_take-clause-all
-returns-then-can_take-clause-all g c = λ pos a few. all_known g (goal.at.returns-then-can_take-clause-all g c).After-can_take pos a
+returns-then-can_take-clause-all g c = λ pos a few.
+    all_known g (goal.at.returns-then-can_take-clause-all g c).After-can_take pos a
 
 -- and so has one whose node is to be read
 pub returns-clause-all : goal.returns-clause-all
@@ -67,7 +68,8 @@ returns-then-can_take-clause-taken g c = λ pos a is.
 
 -- where it is taken the looks lie in its neighbourhood
 pub returns-then-can_take-clause-near : goal.returns-then-can_take-clause-near
-returns-then-can_take-clause-near g c = λ pos a. looks_near g (goal.at.returns-then-can_take-clause-near g c).After-can_take pos a
+returns-then-can_take-clause-near g c = λ pos a.
+    looks_near g (goal.at.returns-then-can_take-clause-near g c).After-can_take pos a
 
 -- at a node that is to be read the looks lie in the target's neighbourhood
 pub returns-clause-near : goal.returns-clause-near
@@ -77,6 +79,6 @@ returns-clause-near g c = λ pos a. looks_near g (goal.at.returns-clause-near g 
 pub can_take-requires : goal.can_take-requires
 can_take-requires g c = record {
   target = c.requires.target;
-  liberties = (c.requires.liberties (g.L.Look.shows c.args.board.now.look) (g.met.L.Look.holds c.args.board.now.look)).all
-      (sym c.has_too_many.ensures ∙ c.if-has_too_many.false);
+  liberties = (c.requires.liberties (g.L.Look.shows c.args.board.now.look)
+      (g.met.L.Look.holds c.args.board.now.look)).all (sym c.has_too_many.ensures ∙ c.if-has_too_many.false);
 }

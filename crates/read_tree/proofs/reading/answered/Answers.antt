@@ -1,6 +1,5 @@
 -- The question is made from the stone at the target, and read.
-use Rattle.std.proofs.Common.{◌≡◌, ◌∙◌, true, refl, ap, sym, subst, arith}
-use Rattle.std.proofs.lemmas.Bool.{eqb-true}
+use Rattle.std.proofs.Common.{◌≡◌, ◌∙◌, true, ap, sym, subst}
 use Rattle.go_rules.specs.Strings.{cell_at}
 use Rattle.go_rules.specs.Position.{BoardState, stone_of}
 use Rattle.go_base.specs.Facts.{AddsIn, AddsIn-trans, AddsIn-mono, CellIs, same_size}
@@ -8,10 +7,11 @@ use Rattle.go_base.specs.Views.{alone}
 use Rattle.go_base.proofs.PointNeighbourhoods.{close_alone}
 use Rattle.go_rules.specs.Neighbourhood.{neighbourhood_of}
 use Rattle.read_rules.specs.declared.question.ReadingQuestion.{ReadingQuestion}
-use Rattle.read_rules.specs.Answer.{is_about, asked_in, first_node}
-use Rattle.read_rules.specs.ActiveArea.{first, InActiveArea, AddsNear}
-use Rattle.read_rules.proofs.AnswerLemmas.{about_stands, about_from, stone-colour}
-use Rattle.read_rules.proofs.AreaLemmas.{AddsNear-in, AddsNear-trans, area_target, target_on}
+use Rattle.read_rules.specs.Answer.{is_about, asked_in}
+use Rattle.read_rules.specs.ActiveArea.{InActiveArea, AddsNear}
+use Rattle.read_rules.proofs.AnswerLemmas.{about_from, stone-colour}
+use Rattle.read_rules.proofs.AreaLemmas.{AddsNear-trans, target_on}
+use Rattle.read_tree.proofs.StandingNodes.{near_asked}
 use Rattle.read_tree.proofs.reading.answered.Goals as goal
 
 -- the question is about the position shown
@@ -39,11 +39,8 @@ returns-clause-near g c = λ pos a.
     let about : is_about asked pos ≡ true = subst (λ (q : ReadingQuestion). is_about q pos ≡ true) is_asked
     (about_from question pos (ap (λ (q : ReadingQuestion). q.size) is_asked ∙ sym size) stone) in
     let inside = target_on pos.size shown.size c.args.target size c.requires.on_board in
-    let target = AddsNear-in (InActiveArea asked pos) c.asked-question.ensures.near
-    (λ p h. area_target asked pos pos c.args.depths.plies (first_node asked 1)
-    (first 1 (omega arith) (omega arith)) pos.size refl inside
-    (about_stands asked pos about) p (eqb-true p c.args.target h)) in
-    AddsNear-trans target (subst (λ (q : ReadingQuestion). AddsNear (g.L.Look.seen c.asked-question.new.look)
+    AddsNear-trans (near_asked asked pos inside about c.asked-question.ensures.near)
+    (subst (λ (q : ReadingQuestion). AddsNear (g.L.Look.seen c.asked-question.new.look)
     (g.L.Look.seen c.read.result.look) (InActiveArea q pos)) is_asked (c.read.ensures.near pos a))
 
 -- with too many liberties no play is tried

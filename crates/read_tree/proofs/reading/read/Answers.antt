@@ -1,6 +1,5 @@
 -- The first look is at the target, and those of the reading lie in the active area.
-use Rattle.std.proofs.Common.{◌≡◌, ◌∙◌, true, refl, ap, sym, subst, arith}
-use Rattle.std.proofs.lemmas.Bool.{eqb-true}
+use Rattle.std.proofs.Common.{◌≡◌, ◌∙◌, true, ap, sym, subst}
 use Rattle.go_rules.specs.Strings.{cell_at}
 use Rattle.go_rules.specs.Position.{BoardState, stone_of}
 use Rattle.go_base.specs.Facts.{Agrees, AddsIn, AddsIn-trans, AddsIn-mono, CellIs, agrees_before, same_size}
@@ -9,10 +8,11 @@ use Rattle.go_base.proofs.AddedFacts.{cell_near}
 use Rattle.go_base.proofs.PointNeighbourhoods.{close_alone}
 use Rattle.go_rules.specs.Neighbourhood.{neighbourhood_of}
 use Rattle.trial_board.specs.Trials.{after}
-use Rattle.read_rules.specs.Answer.{is_about, first_node, answer_of}
-use Rattle.read_rules.specs.ActiveArea.{first, InActiveArea, AddsNear}
-use Rattle.read_rules.proofs.AnswerLemmas.{about_stands, about_from}
-use Rattle.read_rules.proofs.AreaLemmas.{AddsNear-in, AddsNear-trans, area_target, target_on}
+use Rattle.read_rules.specs.Answer.{is_about, answer_of}
+use Rattle.read_rules.specs.ActiveArea.{InActiveArea, AddsNear}
+use Rattle.read_rules.proofs.AnswerLemmas.{about_from}
+use Rattle.read_rules.proofs.AreaLemmas.{AddsNear-trans, target_on}
+use Rattle.read_tree.proofs.StandingNodes.{near_asked}
 use Rattle.read_tree.proofs.reading.read.Given.{Over}
 use Rattle.read_tree.proofs.reading.read.Goals as goal
 use Rattle.read_tree.proofs.reading.read.Goals.{After-finish}
@@ -66,10 +66,7 @@ returns-clause-near g c = λ pos a.
     (InActiveArea q (after pos t.moves)))
     c.new-board.ensures (c.read_on-answer.ensures.answers.near pos (at_end g d pos a)) (about g d pos a) in
     let inside = target_on pos.size q.size q.target (size g d pos a ∙ sym c.requires.size) c.requires.on_board in
-    let target = AddsNear-in (InActiveArea q pos) (cell_near c.cell-stone.ensures.only)
-    (λ p h. area_target q pos pos q.plies (first_node q 1)
-    (first 1 (omega arith) (omega arith)) pos.size refl inside
-    (about_stands q pos (about g d pos a)) p (eqb-true p q.target h)) in
+    let target = near_asked q pos inside (about g d pos a) (cell_near c.cell-stone.ensures.only) in
     subst (λ look. AddsNear (g.L.Look.seen c.args.look) (g.L.Look.seen look) (InActiveArea q pos))
     (sym c.finish.ensures) (AddsNear-trans target reading)
 

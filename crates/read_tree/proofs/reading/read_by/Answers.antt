@@ -1,5 +1,5 @@
 -- The best of all moves is the answer, and the reading stays in the area.
-use Rattle.std.proofs.Common.{ℕ, List, rules, ◌≡◌, ◌≢◌, ◌∙◌, ◌-◌, ◌&&◌, Bool, true, false, refl, ap, sym, arith}
+use Rattle.std.proofs.Common.{ℕ, List, rules, ◌≡◌, ◌≢◌, ◌∙◌, ◌-◌, Bool, true, false, ap, sym, arith}
 use Rattle.std.specs.FinSet as set
 use Rattle.std.specs.Ordering.{nat_cmp}
 use Rattle.go_rules.specs.declared.Cell.{Cell}
@@ -13,26 +13,20 @@ use Rattle.trial_board.specs.Trials.{after}
 use Rattle.trial_board.proofs.AfterLemmas.{size-after}
 use Rattle.read_tree.specs.declared.turn.Turn.{Turn}
 use Rattle.read_rules.specs.Answer.{is_attack}
-use Rattle.read_tree.specs.Allowances.{neither_may}
+use Rattle.read_tree.specs.Allowances.{Ko, neither_may, under}
 use Rattle.read_tree.specs.Stages.{is_candidate_on}
 use Rattle.read_tree.specs.Steps.{first_turn}
 use Rattle.read_rules.proofs.AnswerLemmas.{about_stands}
 use Rattle.read_rules.proofs.AreaLemmas.{AddsNear-trans, undecided_defender}
-use Rattle.read_tree.proofs.BestLemmas.{best_nothing, best_pass, best_three, best_answer, first_nodes}
+use Rattle.read_tree.proofs.BestLemmas.{best_pass, best_three, attack_answer, defence_answer, first_nodes}
 use Rattle.read_tree.proofs.TurnBounds.{undecided_at}
-use Rattle.read_rules.specs.ActiveArea.{InActiveArea, AddsNear}
+use Rattle.read_rules.specs.ActiveArea.{IsUndecided, InActiveArea, AddsNear}
 use Rattle.read_rules.specs.Answer.{is_about}
 use Rattle.read_tree.specs.Steps.{IsBest}
 use Rattle.read_tree.specs.Walk.{OnEachAgreeing}
-use Rattle.read_tree.proofs.AllowanceLemmas.{and_false_right}
 use Rattle.read_tree.proofs.reading.read_by.Given.{Over}
-use Rattle.read_tree.proofs.reading.read_by.Goals.{After-better-best}
+use Rattle.read_tree.proofs.reading.read_by.Goals.{After-best_point, After-better-best}
 use Rattle.read_tree.proofs.reading.read_by.Goals as goal
-
--- two tests do not both pass where the first fails
-and_off : (a b : Bool) → a ≡ false → (a && b) ≡ false
-and_off true b e = cc
-and_off false b e = refl
 
 -- whose turn the first is
 turn_of : {turn first : Turn} {b : Bool} → turn ≡ first → turn.attacker_to_play ≡ b → first.attacker_to_play ≡ b
@@ -47,38 +41,38 @@ few_at q s cells known few is =
     sym (ap (outlasts q.tree (is_attack q.kind) q.plies q.wide)
     (ap set.len is ∙ len-liberty_points s cells q.target)) ∙ few
 
+-- The attacker's moves were read.
+module _ (g : Over) (c : After-best_point g) where
+  -- on a position that agrees, the first turn is undecided where the question is about it
+  first_undecided : OnEachAgreeing g.L.Look.seen c.args.board.now c.best_point.new.board (λ here.
+      is_about c.args.question.now here ≡ true → (ko : Ko)
+      → IsUndecided (under (first_turn c.args.question.now) ko) here)
+  first_undecided pos a about =
+      let q = c.args.question.now in
+      let here = after pos c.args.board.now.moves in
+      undecided_at q.plies (first_turn q) here pos.size (size-after pos c.args.board.now.moves)
+      (about_stands q here about) (few_at q pos.size here.cells c.args.known.now c.requires.ready.few
+      (c.requires.ready.liberties pos (agrees_before c.best_point.ensures.stays.grows a)))
+
 -- the attacker's moves, whose looks lie in the active area
 pub returns-then-turn : goal.returns-then-turn
-returns-then-turn g c = record {
-  stays = c.best_point.ensures.stays;
-  code = c.best_point.ensures.code;
-  none = c.best_point.ensures.none;
-  on_board = c.best_point.ensures.on_board;
-  over = λ pos a about.
-      let q = c.args.question.now in
-      let here = after pos c.args.board.now.moves in
-      let some : q.plies ≢ 0 = omega (arith, c.requires.ready.plies) in
-      let a1 = agrees_before c.best_point.ensures.stays.grows a in
-      let few = few_at q pos.size here.cells c.args.known.now c.requires.ready.few
-      (c.requires.ready.liberties pos a1) in
-      let attacks = turn_of c.first_turn-turn.ensures c.if-turn.true in
-      let und = undecided_at q.plies (first_turn q) here pos.size (size-after pos c.args.board.now.moves)
-      (about_stands q here about) few in
-      best_answer q here c.best_point.result some about
-      (and_false_right (is_attack q.kind) _ ((und neither_may).few attacks))
-      ((rw c.first_turn-turn.ensures at (c.best_point.ensures.over pos a))
-      (best_nothing (q.plies - 1) (first_turn q) here attacks));
-  near = λ pos a about.
-      let q = c.args.question.now in
-      let here = after pos c.args.board.now.moves in
-      let some : q.plies ≢ 0 = omega (arith, c.requires.ready.plies) in
-      let a0 = agrees_before c.best_point.ensures.stays.grows a in
-      let few = few_at q pos.size here.cells c.args.known.now c.requires.ready.few
-      (c.requires.ready.liberties pos a0) in
-      (rw c.first_turn-turn.ensures at (c.best_point.ensures.near pos a q here)) (first_nodes q here some)
-      (undecided_at q.plies (first_turn q) here pos.size (size-after pos c.args.board.now.moves)
-      (about_stands q here about) few);
-}
+returns-then-turn g c =
+    let q = c.args.question.now in
+    let some : q.plies ≢ 0 = omega (arith, c.requires.ready.plies) in
+    let attacks = turn_of c.first_turn-turn.ensures c.if-turn.true in
+    let und = first_undecided g (goal.at.returns-then-turn g c).After-best_point in
+    record {
+      stays = c.best_point.ensures.stays;
+      code = c.best_point.ensures.code;
+      none = c.best_point.ensures.none;
+      on_board = c.best_point.ensures.on_board;
+      over = λ pos a about.
+          attack_answer q (after pos c.args.board.now.moves) c.best_point.result some about attacks
+          (und pos a about neither_may) (rw c.first_turn-turn.ensures at (c.best_point.ensures.over pos a));
+      near = λ pos a about.
+          (rw c.first_turn-turn.ensures at (c.best_point.ensures.near pos a q (after pos c.args.board.now.moves)))
+          (first_nodes q (after pos c.args.board.now.moves) some) (und pos a about);
+    }
 
 -- The defender's pass was read.
 module _ (g : Over) (c : After-better-best g) where
@@ -118,8 +112,7 @@ returns-then-best-eq3 g c =
       over = λ pos a about.
           let q = c.args.question.now in
           let here = after pos c.args.board.now.moves in
-          let some : q.plies ≢ 0 = omega (arith, c.requires.ready.plies) in
-          best_answer q here c.better-best.result some about (and_off (is_attack q.kind) _ (defends g d))
+          defence_answer q here c.better-best.result (omega (arith, c.requires.ready.plies)) about (defends g d)
           (best_three (q.plies - 1) (first_turn q) here nowhere c.better-best.result (pass_best g d pos a)
           c.if-best-eq3.true (is_candidate_on (first_turn q) here));
       near = pass_near g d;
@@ -129,30 +122,22 @@ returns-then-best-eq3 g c =
 pub returns : goal.returns
 returns g c =
     let d = (goal.at.returns g c).After-better-best in
+    let q = c.args.question.now in
+    let some : q.plies ≢ 0 = omega (arith, c.requires.ready.plies) in
+    let later = c.best_point-2.ensures in
     record {
       stays = search rules;
       code = search rules;
       none = search rules;
       on_board = search rules;
       over = λ pos a about.
-          let q = c.args.question.now in
-          let some : q.plies ≢ 0 = omega (arith, c.requires.ready.plies) in
-          let a1 = agrees_before c.best_point-2.ensures.stays.grows a in
-          best_answer q (after pos c.args.board.now.moves) c.best_point-2.result some about
-          (and_off (is_attack q.kind) _ (defends g d))
-          ((rw (
-            c.pass_saves-saved.ensures.stays.moves,
-            c.first_turn-turn.ensures,
-          ) at (c.best_point-2.ensures.over pos a)) (pass_best g d pos a1));
+          defence_answer q (after pos c.args.board.now.moves) c.best_point-2.result some about (defends g d)
+          ((rw (c.pass_saves-saved.ensures.stays.moves, c.first_turn-turn.ensures) at (later.over pos a))
+          (pass_best g d pos (agrees_before later.stays.grows a)));
       near = λ pos a about.
-          let q = c.args.question.now in
           let here = after pos c.args.board.now.moves in
-          let some : q.plies ≢ 0 = omega (arith, c.requires.ready.plies) in
-          AddsNear-trans (pass_near g d pos (agrees_before c.best_point-2.ensures.stays.grows a) about)
-          ((rw (
-            c.pass_saves-saved.ensures.stays.moves,
-            c.first_turn-turn.ensures,
-          ) at (c.best_point-2.ensures.near pos a q here))
+          AddsNear-trans (pass_near g d pos (agrees_before later.stays.grows a) about)
+          ((rw (c.pass_saves-saved.ensures.stays.moves, c.first_turn-turn.ensures) at (later.near pos a q here))
           (first_nodes q here some) (λ ko. undecided_defender (about_stands q here about) (defends g d)));
     }
 

@@ -19,12 +19,12 @@ use Rattle.read_rules.proofs.AreaLemmas.{AddsNear-trans}
 use Rattle.read_tree.proofs.BestLemmas.{unread_answer, first_nodes}
 use Rattle.std.proofs.Common.{true, refl}
 use Rattle.read_rules.specs.ActiveArea.{AddsNear}
-use Rattle.read_rules.specs.Answer.{is_about}
+use Rattle.read_rules.specs.Answer.{is_about, answer_of}
 use Rattle.read_tree.specs.Walk.{OnEachAgreeing}
 use Rattle.read_tree.proofs.ReadyLemmas.{on_after}
 use Rattle.read_tree.proofs.StandingNodes.{standing_node, near_beside}
 use Rattle.read_tree.proofs.reading.read_on.Given.{Over}
-use Rattle.read_tree.proofs.reading.read_on.Goals.{After-liberties_within-known}
+use Rattle.read_tree.proofs.reading.read_on.Goals.{After-liberties_within-known, After-unread}
 use Rattle.read_tree.proofs.reading.read_on.Goals as goal
 
 -- the liberties that were found are too many where the target's are
@@ -56,25 +56,30 @@ shown_agrees : (g : Over) (c : After-liberties_within-known g)
 shown_agrees g c = subst (Agrees (g.L.Look.seen c.liberties_within-known.new.board.look))
     c.liberties_within-known.ensures.stays.shown (g.met.L.Look.holds c.liberties_within-known.new.board.look)
 
--- the answer where the liberties are too many: the looks at them lie in the active area
+-- the answer where the liberties are too many
+unread_told : (g : Over) (c : After-unread g) → OnEachAgreeing g.L.Look.seen c.args.board.now
+    c.liberties_within-known.new.board (λ here. is_about c.args.question.now here ≡ true
+    → c.unread.result ≡ answer_of c.args.question.now here)
+unread_told g c pos a about =
+    let q = c.args.question.now in
+    let here = after pos c.args.board.now.moves in
+    let a0 = agrees_before c.liberties_within-known.ensures.stays.grows a in
+    let many = sym (many_at q pos.size here.cells c.first_turn-turn.ensures c.has_too_many.ensures
+    (c.liberties_within-known.ensures.over pos a)) ∙ c.if-has_too_many.true in
+    c.unread.ensures ∙ ap (λ (t : Turn). unread t.attacker_to_play) c.first_turn-turn.ensures
+    ∙ unread_answer q here (omega (arith, c.requires.plies)) about
+    (on_after _ (g.met.L.Look.sized c.args.board.now.look) a0 c.args.board.now.moves c.requires.target)
+    (ap (λ s. outlasts q.tree (is_attack q.kind) q.plies q.wide (liberties s here.cells q.target))
+    (size-after pos c.args.board.now.moves) ∙ many)
+
+-- it is told, and the looks at them lie in the active area
 pub returns-then-has_too_many-clause-answers : goal.returns-then-has_too_many-clause-answers
 returns-then-has_too_many-clause-answers g c = record {
   stays = search rules;
   code = search rules;
   none = search rules;
   on_board = search rules;
-  over = λ pos a about.
-      let q = c.args.question.now in
-      let here = after pos c.args.board.now.moves in
-      let some : q.plies ≢ 0 = omega (arith, c.requires.plies) in
-      let a0 = agrees_before c.liberties_within-known.ensures.stays.grows a in
-      let many = sym (many_at q pos.size here.cells c.first_turn-turn.ensures c.has_too_many.ensures
-      (c.liberties_within-known.ensures.over pos a)) ∙ c.if-has_too_many.true in
-      c.unread.ensures ∙ ap (λ (t : Turn). unread t.attacker_to_play) c.first_turn-turn.ensures
-      ∙ unread_answer q here some about
-      (on_after _ (g.met.L.Look.sized c.args.board.now.look) a0 c.args.board.now.moves c.requires.target)
-      (ap (λ s. outlasts q.tree (is_attack q.kind) q.plies q.wide (liberties s here.cells q.target))
-      (size-after pos c.args.board.now.moves) ∙ many);
+  over = unread_told g (goal.at.returns-then-has_too_many-clause-answers g c).After-unread;
   near = found_near g (goal.at.returns-then-has_too_many-clause-answers g c).After-liberties_within-known;
 }
 

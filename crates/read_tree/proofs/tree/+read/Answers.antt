@@ -1,27 +1,26 @@
 -- The walk over the game tree answers what the tree says under each of the asked allowances, over every position that
 -- agrees with what was seen.
 use Rattle.std.proofs.Common.{arith, ◌||◌, ◌≡◌, ◌∙◌, ◌-◌, ◌*◌, ◌<◌, ℕ, suc, true, false, ap, sym}
-use Rattle.std.proofs.Common.{subst, refl, is_some, rules}
+use Rattle.std.proofs.Common.{refl, is_some, rules}
 use Rattle.std.specs.FinSet as set
 use Rattle.go_base.specs.Facts.{agrees_before, Grows-refl, Grows-trans, same_size}
 use Rattle.go_rules.specs.declared.Cell.TheVariants.{Empty}
 use Rattle.go_rules.proofs.Cells.{eq_is_same_cell}
 use Rattle.std.proofs.lemmas.Bool.{and_parts, lt-ltb, le-ltb}
 use Rattle.go_rules.specs.Strings.{is_liberty}
-use Rattle.go_base.specs.Facts.{Agrees}
 use Rattle.read_rules.specs.Bound.{outlasts}
 use Rattle.read_tree.specs.Stages.{is_candidate_on, is_other}
 use Rattle.trial_board.specs.Trials.{after}
 use Rattle.trial_board.proofs.AfterLemmas.{size-after}
-use Rattle.read_rules.specs.ActiveArea.{by_play, InActiveArea}
-use Rattle.read_tree.specs.declared.table.AttackerNode.{AttackerNode}
-use Rattle.read_tree.specs.Allowances.{under, next_turn, own_ko, neither_may, has_some, without}
+use Rattle.read_rules.specs.ActiveArea.{IsUndecided, InActiveArea}
+use Rattle.read_tree.specs.Table.{IsTrueOf}
+use Rattle.read_tree.specs.Allowances.{Ko, under, next_turn, own_ko, neither_may, has_some, without}
 use Rattle.read_rules.specs.GoodMoves.{good_move}
-use Rattle.read_tree.specs.Steps.{AreNodesOf, is_off_liberties, is_safe}
-use Rattle.read_rules.specs.GameTree.{has_many_liberties, attacker_wins, child_of, succeeds, first_success}
-use Rattle.read_tree.proofs.AllowanceLemmas.{success_some, good_by_success, suits_child, suits_none}
-use Rattle.read_tree.proofs.AllowanceLemmas.{Tells-same, Tells-own, Tells-good, Tells-attackers, Tells-all, Tells-none}
-use Rattle.read_tree.proofs.AllowanceLemmas.{good_attacker, neither_nodes, pass_nodes, fewer_nodes}
+use Rattle.read_tree.specs.Steps.{AreNodesOf, TellsBy, is_off_liberties, is_safe}
+use Rattle.read_rules.specs.GameTree.{has_many_liberties, attacker_wins, child_of, first_success}
+use Rattle.read_tree.proofs.AllowanceLemmas.{success_some, good_by_success, suits_child}
+use Rattle.read_tree.proofs.AllowanceLemmas.{Tells-same, Tells-good, Tells-attackers, Tells-all, Tells-none}
+use Rattle.read_tree.proofs.AllowanceLemmas.{good_attacker, told_allowed, legal_nodes, allowed_nodes, pass_nodes}
 use Rattle.read_tree.proofs.AllowanceLemmas.{left_first, left_next}
 use Rattle.read_tree.proofs.StageLemmas.{by_done, by_over, by_none, by_same, by_more, by_enough, by_both, stage_done}
 use Rattle.read_tree.proofs.StageLemmas.{stage_over, none_other, nothing_near, liberty_is_candidate}
@@ -41,15 +40,18 @@ use Rattle.read_tree.specs.Steps.{IsLeft}
 use Rattle.std.specs.Ordering.{nat_cmp}
 use Rattle.read_rules.specs.GameTree.{is_captured}
 use Rattle.trial_board.specs.Trials.{Stays-trans}
-use Rattle.read_tree.specs.Walk.{IsPointOf, AreLibertiesOf, OnEachAgreeing, LooksNear, LooksNearWhere, LooksNearOrAt}
-use Rattle.read_tree.proofs.AllowanceLemmas.{left_nodes}
+use Rattle.read_tree.specs.Walk.{AreLibertiesOf, OnEachAgreeing, LooksNear, LooksNearWhere, LooksNearOrAt}
+use Rattle.read_tree.proofs.AllowanceLemmas.{fewer_nodes, left_nodes}
 use Rattle.read_tree.proofs.CarryLemmas.{carried_on}
-use Rattle.read_tree.proofs.ReadyLemmas.{candidate_inside, on_after, point_after, ready_after}
-use Rattle.read_tree.proofs.StandingNodes.{standing_node, ready_node, near_target, near_captures, near_play, near_sides}
+use Rattle.read_tree.proofs.ReadyLemmas.{on_after, point_after, candidates_inside, ready_after}
+use Rattle.read_tree.proofs.StandingNodes.{standing_node, ready_node, undecided_node, near_target, near_captures}
+use Rattle.read_tree.proofs.StandingNodes.{near_play, near_sides}
 use Rattle.read_tree.proofs.StandingNodes.{near_wide, near_escape, near_child, near_outlook, near_at}
 use Rattle.read_tree.proofs.tree.+read.Given.{Over}
 use Rattle.read_tree.proofs.tree.+read.Goals.{some_of-After-succeeds-good, some_other-After-some_of-good}
+use Rattle.read_tree.proofs.tree.+read.Goals.{some_other-After-others_of-others, some_success-After-some_of-good}
 use Rattle.read_tree.proofs.tree.+read.Goals.{has_good_move-After-pass_saves, attacker_wins-After-outlook_of}
+use Rattle.read_tree.proofs.tree.+read.Goals.{some_by_table-After-with-verdict}
 use Rattle.read_tree.proofs.tree.+read.Goals as goal
 
 -- the liberties after a legal play
@@ -92,45 +94,31 @@ succeeds-returns-in-Legal-clause-over g t c = λ pos a.
 -- a play by the own allowance
 pub succeeds-returns-in-Allowed-clause-over : goal.succeeds-returns-in-Allowed-clause-over
 succeeds-returns-in-Allowed-clause-over g t c = λ pos a.
+    let next = c.liberties_after-next-in-Allowed.ensures in
     let a2 = rw c.back-in-Allowed.ensures.moves at a in
-    let a3 = agrees_before c.has_way-good-in-Allowed.ensures.stays.grows a2 in
-    let a1 = agrees_before c.liberties_after-next-in-Allowed.ensures.stays.grows a3 in
-    let here = after pos c.args.board.now.moves in
-    let new = after pos c.make.new.board.moves in
-    let turn = c.args.turn in
-    let own = own_ko turn.attacker_to_play in
-    let made = rw c.in-Allowed.is at (c.make.ensures.over pos a1) in
-    let good = rw (c.neither_alone.ensures, c.liberties_after-next-in-Allowed.ensures.stays.moves) at
-    (c.has_way-good-in-Allowed.ensures.over pos a2) in
-    let asked = sym c.has_own-own.ensures ∙ c.make.ensures.own c.in-Allowed.is in
-    rw c.own_where.ensures (Tells-own turn.attacker_to_play c.args.asked c.has_way-good-in-Allowed.result.neither
-    (λ ko. succeeds c.args.plies (under turn ko) here c.args.p) asked
-    (good.each neither_may ∙ suits_child c.args.plies turn.attacker_to_play (child_of (under turn own) here c.args.p)
-    (under (next_turn turn) neither_may) new made.0)
-    (λ ko ne. suits_none c.args.plies turn.attacker_to_play (child_of (under turn ko) here c.args.p) (made.1 ko ne)))
+    let a1 = agrees_before (Stays-trans next.stays c.has_way-good-in-Allowed.ensures.stays).grows a2 in
+    let way = rw (c.neither_alone.ensures, next.stays.moves) at (c.has_way-good-in-Allowed.ensures.over pos a2) in
+    rw c.own_where.ensures (told_allowed c.args.plies c.args.turn (after pos c.args.board.now.moves)
+    (after pos c.make.new.board.moves) c.args.p c.args.asked c.has_way-good-in-Allowed.result.neither
+    (sym c.has_own-own.ensures ∙ c.make.ensures.own c.in-Allowed.is)
+    (rw c.in-Allowed.is at (c.make.ensures.over pos a1)) (way.each neither_may))
 
 -- a refused play looks near its candidate
 pub succeeds-returns-in-Not-clause-near : goal.succeeds-returns-in-Not-clause-near
 succeeds-returns-in-Not-clause-near g t c = λ pos a q root tree und candidate.
     let a0 = agrees_before c.make.ensures.grows a in
-    let node = ready_node c.requires.ready (g.met.L.Look.sized c.args.board.now.look) a0 tree
-    (und neither_may).stands in
+    let node = undecided_node c.requires.ready (g.met.L.Look.sized c.args.board.now.look) a0 tree und in
     near_play node c.args.p candidate (c.make.ensures.near pos a)
 
 -- a play that is made leads to nodes of the trees
 pub succeeds-returns-in-Legal-clause-near : goal.succeeds-returns-in-Legal-clause-near
 succeeds-returns-in-Legal-clause-near g t c = λ pos a q root tree und candidate.
+    let later = Stays-trans c.liberties_after-next.ensures.stays c.has_way-good.ensures.stays in
     let a2 = rw c.back.ensures.moves at a in
-    let a1 = agrees_before c.liberties_after-next.ensures.stays.grows
-    (agrees_before c.has_way-good.ensures.stays.grows a2) in
-    let a0 = agrees_before c.make.ensures.grows a1 in
-    let node = ready_node c.requires.ready (g.met.L.Look.sized c.args.board.now.look) a0 tree
-    (und neither_may).stands in
-    let made = rw c.in-Legal.is at (c.make.ensures.over pos a1) in
-    let nodes : AreNodesOf q root c.args.plies (next_turn c.args.turn) c.args.asked (after pos c.make.new.board.moves) =
-    record {
-      each = λ ko h. by_play (tree.each ko h) (und ko) c.args.p candidate (under (next_turn c.args.turn) ko) _ (made ko);
-    } in
+    let a1 = agrees_before later.grows a2 in
+    let node = undecided_node c.requires.ready (g.met.L.Look.sized c.args.board.now.look)
+    (agrees_before c.make.ensures.grows a1) tree und in
+    let nodes = legal_nodes c.args.p tree und candidate (rw c.in-Legal.is at (c.make.ensures.over pos a1)) in
     let below = (rw c.liberties_after-next.ensures.stays.moves at (c.has_way-good.ensures.near pos a2 q root)) nodes in
     rw c.back.ensures.moves (AddsNear-trans (near_play node c.args.p candidate (c.make.ensures.near pos a1))
     (near_child node c.liberties_after-next.ensures.near below))
@@ -138,24 +126,18 @@ succeeds-returns-in-Legal-clause-near g t c = λ pos a q root tree und candidate
 -- one by the own allowance leads to a node under none
 pub succeeds-returns-in-Allowed-clause-near : goal.succeeds-returns-in-Allowed-clause-near
 succeeds-returns-in-Allowed-clause-near g t c = λ pos a q root tree und candidate.
+    let next = c.liberties_after-next-in-Allowed.ensures in
     let a2 = rw c.back-in-Allowed.ensures.moves at a in
-    let a1 = agrees_before c.liberties_after-next-in-Allowed.ensures.stays.grows
-    (agrees_before c.has_way-good-in-Allowed.ensures.stays.grows a2) in
-    let a0 = agrees_before c.make.ensures.grows a1 in
-    let node = ready_node c.requires.ready (g.met.L.Look.sized c.args.board.now.look) a0 tree
-    (und neither_may).stands in
-    let own = own_ko c.args.turn.attacker_to_play in
+    let a1 = agrees_before (Stays-trans next.stays c.has_way-good-in-Allowed.ensures.stays).grows a2 in
+    let node = undecided_node c.requires.ready (g.met.L.Look.sized c.args.board.now.look)
+    (agrees_before c.make.ensures.grows a1) tree und in
     let asked = sym c.has_own-own.ensures ∙ c.make.ensures.own c.in-Allowed.is in
-    let made = rw c.in-Allowed.is at (c.make.ensures.over pos a1) in
-    let child = by_play (tree.each own asked) (und own) c.args.p candidate
-    (under (next_turn c.args.turn) neither_may) (after pos c.make.new.board.moves) made.0 in
-    let below = (rw (
-      c.neither_alone.ensures,
-      c.liberties_after-next-in-Allowed.ensures.stays.moves,
-    ) at
-    (c.has_way-good-in-Allowed.ensures.near pos a2 q root)) (neither_nodes child) in
+    let nodes = allowed_nodes c.args.p tree und candidate asked
+    (rw c.in-Allowed.is at (c.make.ensures.over pos a1)).0 in
+    let below = (rw (c.neither_alone.ensures, next.stays.moves) at
+    (c.has_way-good-in-Allowed.ensures.near pos a2 q root)) nodes in
     rw c.back-in-Allowed.ensures.moves (AddsNear-trans (near_play node c.args.p candidate (c.make.ensures.near pos a1))
-    (near_child node c.liberties_after-next-in-Allowed.ensures.near below))
+    (near_child node next.near below))
 
 -- a target in atari is not saved by the pass
 pub pass_saves-returns-then-is_in_atari-clause-over : goal.pass_saves-returns-then-is_in_atari-clause-over
@@ -221,8 +203,7 @@ tried_near g t c = λ pos a q root tree und its.
     let a2 = agrees_before c.succeeds-good.ensures.stays.grows a in
     let a1 = agrees_before chosen.grows a2 in
     let a0 = agrees_before i.stays.grows a1 in
-    let node = ready_node c.requires.ready (g.met.L.Look.sized c.args.board.now.look) a0 tree
-    (und neither_may).stands in
+    let node = undecided_node c.requires.ready (g.met.L.Look.sized c.args.board.now.look) a0 tree und in
     AddsNear-trans (i.near pos a1 q root tree und its)
     (AddsNear-trans (near_sides node c.args.known.now (c.requires.ready.liberties pos a0)
     (c.next_to_try.ensures.near pos a2))
@@ -295,24 +276,20 @@ some_of-returns-clause-near g t c = λ pos a q root tree und its.
     let i = c.loop-p.invariant in
     let a1 = agrees_before c.next_to_try.ensures.stays.grows a in
     let a0 = agrees_before i.stays.grows a1 in
-    let node = ready_node c.requires.ready (g.met.L.Look.sized c.args.board.now.look) a0 tree
-    (und neither_may).stands in
+    let node = undecided_node c.requires.ready (g.met.L.Look.sized c.args.board.now.look) a0 tree und in
     AddsNear-trans (i.near pos a1 q root tree und its)
     (near_sides node c.args.known.now (c.requires.ready.liberties pos a0) (c.next_to_try.ensures.near pos a))
 
 -- the captures are on the board
 pub some_other-some_of-good-requires : goal.some_other-some_of-good-requires
 some_other-some_of-good-requires g t c κs within =
-    let stays = c.captures_of-captures.ensures.stays in
-    let ready = ready_after stays c.args.asked c.requires c.requires.some (table_more c.requires.table stays.grows) in
-    let shown = g.L.Look.shows c.args.board.now.look in
-    let agrees = subst (Agrees (g.L.Look.seen c.captures_of-captures.new.board.look)) stays.shown
-    (g.met.L.Look.holds c.captures_of-captures.new.board.look) in
-    let inside : (p : ℕ) → set.contains c.captures_of-captures.result p ≡ true
-    → IsPointOf g.L.Look.shows c.captures_of-captures.new.board p =
-    λ p h. point_after stays p (candidate_inside (under c.args.turn neither_may) shown c.args.board.now.moves p
-    (capture_is_candidate c.args.turn (after shown c.args.board.now.moves) p
-    (sym (c.captures_of-captures.ensures.over shown agrees p) ∙ h))) in
+    let captures = c.captures_of-captures.ensures in
+    let ready = ready_after captures.stays c.args.asked c.requires c.requires.some
+    (table_more c.requires.table captures.stays.grows) in
+    let inside = candidates_inside captures.stays c.args.turn c.captures_of-captures.result
+    (g.met.L.Look.holds c.captures_of-captures.new.board.look)
+    (λ pos a p h. capture_is_candidate c.args.turn (after pos c.args.board.now.moves) p
+    (sym (captures.over pos a p) ∙ h)) in
     search rules
 
 -- what the captures are is still known once they were tried
@@ -332,15 +309,11 @@ some_other-some_of-rest-requires g t c κs within =
     let stays = Stays-trans before others.stays in
     let ready = ready_after stays c.without-missing.result c.requires (sym c.has_some.ensures ∙ c.if-not-has_some.false)
     (table_more c.some_of-good.ensures.table (Grows-trans c.is_in_atari.ensures.stays.grows others.stays.grows)) in
-    let shown = g.L.Look.shows c.args.board.now.look in
-    let agrees = subst (Agrees (g.L.Look.seen c.others_of-others.new.board.look)) stays.shown
-    (g.met.L.Look.holds c.others_of-others.new.board.look) in
-    let inside : (p : ℕ) → set.contains c.others_of-others.result p ≡ true
-    → IsPointOf g.L.Look.shows c.others_of-others.new.board p =
-    λ p h. point_after stays p (candidate_inside (under c.args.turn neither_may) shown c.args.board.now.moves p
-    (other_is_candidate c.args.turn (after shown c.args.board.now.moves) p
+    let inside = candidates_inside stays c.args.turn c.others_of-others.result
+    (g.met.L.Look.holds c.others_of-others.new.board.look)
+    (λ pos a p h. other_is_candidate c.args.turn (after pos c.args.board.now.moves) p
     (lt-ltb 0 c.args.turn.wide (omega (arith, c.if-turn-eq0.false)))
-    (sym (rw before.moves at (others.over shown agrees p)) ∙ h))) in
+    (sym (rw before.moves at (others.over pos a p)) ∙ h)) in
     search rules
 
 -- too many liberties would be left
@@ -384,43 +357,50 @@ some_other-returns-then-not-has_some-clause-over g t c = λ pos a.
 -- a target in atari is saved by no others
 pub some_other-returns-then-is_in_atari-clause-over : goal.some_other-returns-then-is_in_atari-clause-over
 some_other-returns-then-is_in_atari-clause-over g t c = λ pos a.
+    let before = Stays-trans c.captures_of-captures.ensures.stays c.some_of-good.ensures.stays in
     let a2 = agrees_before c.is_in_atari.ensures.stays.grows a in
-    let a1 = agrees_before c.some_of-good.ensures.stays.grows a2 in
-    let a0 = agrees_before c.captures_of-captures.ensures.stays.grows a1 in
+    let a0 = agrees_before before.grows a2 in
     let here = after pos c.args.board.now.moves in
-    let turn = c.args.turn in
     let inside = on_after _ (g.met.L.Look.sized c.args.board.now.look) a0 c.args.board.now.moves c.requires.target in
-    let atari = rw (c.some_of-good.ensures.stays.moves ∙ c.captures_of-captures.ensures.stays.moves) at
-    (c.is_in_atari.ensures.over pos a c.if-is_in_atari.true) in
-    let its = c.captures_of-captures.ensures.over pos a1 in
-    by_more c.args.plies turn here (set.contains c.captures_of-captures.result) (is_off_liberties turn here)
-    c.args.asked c.some_of-good.result
+    let atari = rw before.moves at (c.is_in_atari.ensures.over pos a c.if-is_in_atari.true) in
+    let its = c.captures_of-captures.ensures.over pos (agrees_before c.some_of-good.ensures.stays.grows a2) in
+    by_more c.args.plies c.args.turn here (set.contains c.captures_of-captures.result)
+    (is_off_liberties c.args.turn here) c.args.asked c.some_of-good.result
     (rw c.captures_of-captures.ensures.stays.moves at (c.some_of-good.ensures.over pos a2))
-    (λ q h. capture_is_off turn here q (sym (its q) ∙ h))
-    (λ ko q off none. atari_fails c.args.plies turn here inside atari ko q off (sym (its q) ∙ none))
+    (λ q h. capture_is_off c.args.turn here q (sym (its q) ∙ h))
+    (λ ko q off none. atari_fails c.args.plies c.args.turn here inside atari ko q off (sym (its q) ∙ none))
+
+-- the candidates off the liberties are the captures and the others that were found
+off_found : (g : Over) (t : ℕ) (c : some_other-After-others_of-others g t) → OnEachAgreeing g.L.Look.seen
+    c.args.board.now c.others_of-others.new.board (λ here. (q : ℕ) → is_off_liberties c.args.turn here q
+    ≡ (set.contains c.captures_of-captures.result q || set.contains c.others_of-others.result q))
+off_found g t c = λ pos a q.
+    let turn = c.args.turn in
+    let here = after pos c.args.board.now.moves in
+    let others = c.others_of-others.ensures in
+    let good = Stays-trans c.some_of-good.ensures.stays c.is_in_atari.ensures.stays in
+    off_by_stages turn here q (lt-ltb 0 turn.wide (omega (arith, c.if-turn-eq0.false)))
+    ∙ ap (λ b. b || is_other turn here q) (sym (c.captures_of-captures.ensures.over pos
+    (agrees_before (Stays-trans good others.stays).grows a) q))
+    ∙ ap (λ b. set.contains c.captures_of-captures.result q || b)
+    (sym (rw (Stays-trans c.captures_of-captures.ensures.stays good).moves at (others.over pos a q)))
 
 -- what the captures left is asked of the others
 pub some_other-returns-clause-over : goal.some_other-returns-clause-over
 some_other-returns-clause-over g t c = λ pos a.
+    let d = (goal.at.some_other-returns-clause-over g t c).After-others_of-others in
+    let captures = c.captures_of-captures.ensures.stays in
+    let later = Stays-trans c.is_in_atari.ensures.stays c.others_of-others.ensures.stays in
     let a3 = agrees_before c.some_of-rest.ensures.stays.grows a in
-    let a4 = agrees_before c.others_of-others.ensures.stays.grows a3 in
-    let a2 = agrees_before c.is_in_atari.ensures.stays.grows a4 in
-    let a1 = agrees_before c.some_of-good.ensures.stays.grows a2 in
     let here = after pos c.args.board.now.moves in
-    let turn = c.args.turn in
-    let before = c.is_in_atari.ensures.stays.moves ∙ c.some_of-good.ensures.stays.moves
-    ∙ c.captures_of-captures.ensures.stays.moves in
-    let moves = c.others_of-others.ensures.stays.moves ∙ before in
     rw (c.without-2.ensures, c.without.ensures, c.without-missing.ensures)
-    (by_both c.args.plies turn here (set.contains c.captures_of-captures.result) (is_off_liberties turn here)
-    c.args.asked c.some_of-good.result
-    (rw c.captures_of-captures.ensures.stays.moves at (c.some_of-good.ensures.over pos a2))
-    (set.contains c.others_of-others.result) c.some_of-rest.result
-    (λ q. off_by_stages turn here q (lt-ltb 0 turn.wide (omega (arith, c.if-turn-eq0.false)))
-    ∙ ap (λ b. b || is_other turn here q) (sym (c.captures_of-captures.ensures.over pos a1 q))
-    ∙ ap (λ b. set.contains c.captures_of-captures.result q || b)
-    (sym (rw before at (c.others_of-others.ensures.over pos a3 q))))
-    (rw (moves, c.without-missing.ensures) at (c.some_of-rest.ensures.over pos a)))
+    (by_both c.args.plies c.args.turn here (set.contains c.captures_of-captures.result)
+    (is_off_liberties c.args.turn here) c.args.asked c.some_of-good.result
+    (rw captures.moves at (c.some_of-good.ensures.over pos (agrees_before later.grows a3)))
+    (set.contains c.others_of-others.result) c.some_of-rest.result (off_found g t d pos a3) (rw (
+      (Stays-trans captures (Stays-trans c.some_of-good.ensures.stays later)).moves,
+      c.without-missing.ensures,
+    ) at (c.some_of-rest.ensures.over pos a)))
 
 -- the looks for the captures and at their plays lie in the active area
 good_near : (g : Over) (t : ℕ) (c : some_other-After-some_of-good g t) → LooksNear g.L.Look.seen c.args.board.now
@@ -429,7 +409,7 @@ good_near g t c = λ pos a q root tree und.
     let captures = c.captures_of-captures.ensures in
     let a1 = agrees_before c.some_of-good.ensures.stays.grows a in
     let a0 = agrees_before captures.stays.grows a1 in
-    let node = ready_node c.requires (g.met.L.Look.sized c.args.board.now.look) a0 tree (und neither_may).stands in
+    let node = undecided_node c.requires (g.met.L.Look.sized c.args.board.now.look) a0 tree und in
     AddsNear-trans (near_captures node (captures.near pos a1))
     ((rw captures.stays.moves at (c.some_of-good.ensures.near pos a q root)) tree und
     (λ p h. capture_is_candidate c.args.turn (after pos c.args.board.now.moves) p
@@ -452,32 +432,36 @@ some_other-returns-then-is_in_atari-clause-near g t c = λ pos a q root tree und
     let a2 = agrees_before c.is_in_atari.ensures.stays.grows a in
     let a0 = agrees_before c.captures_of-captures.ensures.stays.grows
     (agrees_before c.some_of-good.ensures.stays.grows a2) in
-    let node = ready_node c.requires (g.met.L.Look.sized c.args.board.now.look) a0 tree
-    (und neither_may).stands in
+    let node = undecided_node c.requires (g.met.L.Look.sized c.args.board.now.look) a0 tree und in
     AddsNear-trans (good_near g t d pos a2 q root tree und) (near_target node c.is_in_atari.ensures.near)
 
--- and so do the looks for the others and at their plays
+-- and so do the looks for the others
+others_near : (g : Over) (t : ℕ) (c : some_other-After-others_of-others g t)
+    → LooksNear g.L.Look.seen c.args.board.now c.some_of-good.new.board (suc c.args.plies) c.args.turn c.args.asked
+    → LooksNear g.L.Look.seen c.args.board.now c.others_of-others.new.board (suc c.args.plies) c.args.turn c.args.asked
+others_near g t c good = λ pos a q root tree und.
+    let before = Stays-trans c.captures_of-captures.ensures.stays c.some_of-good.ensures.stays in
+    let a2 = agrees_before (Stays-trans c.is_in_atari.ensures.stays c.others_of-others.ensures.stays).grows a in
+    let node = undecided_node c.requires (g.met.L.Look.sized c.args.board.now.look)
+    (agrees_before before.grows a2) tree und in
+    AddsNear-trans (good pos a2 q root tree und) (AddsNear-trans (near_target node c.is_in_atari.ensures.near)
+    (near_wide node (rw (Stays-trans before c.is_in_atari.ensures.stays).moves at
+    (c.others_of-others.ensures.near pos a))))
+
+-- and those at their plays
 pub some_other-returns-clause-near : goal.some_other-returns-clause-near
 some_other-returns-clause-near g t c = λ pos a q root tree und.
-    let d = (goal.at.some_other-returns-clause-near g t c).After-some_of-good in
+    let goal_at = goal.at.some_other-returns-clause-near g t c in
+    let before = Stays-trans c.captures_of-captures.ensures.stays
+    (Stays-trans c.some_of-good.ensures.stays c.is_in_atari.ensures.stays) in
     let a3 = agrees_before c.some_of-rest.ensures.stays.grows a in
-    let a4 = agrees_before c.others_of-others.ensures.stays.grows a3 in
-    let a2 = agrees_before c.is_in_atari.ensures.stays.grows a4 in
-    let a0 = agrees_before c.captures_of-captures.ensures.stays.grows
-    (agrees_before c.some_of-good.ensures.stays.grows a2) in
-    let node = ready_node c.requires (g.met.L.Look.sized c.args.board.now.look) a0 tree
-    (und neither_may).stands in
-    let before = c.is_in_atari.ensures.stays.moves ∙ c.some_of-good.ensures.stays.moves
-    ∙ c.captures_of-captures.ensures.stays.moves in
-    let moves = c.others_of-others.ensures.stays.moves ∙ before in
-    AddsNear-trans (good_near g t d pos a2 q root tree und)
-    (AddsNear-trans (near_target node c.is_in_atari.ensures.near)
-    (AddsNear-trans (near_wide node (rw before at (c.others_of-others.ensures.near pos a3)))
-    ((rw moves at (c.some_of-rest.ensures.near pos a q root))
+    AddsNear-trans (others_near g t goal_at.After-others_of-others (good_near g t goal_at.After-some_of-good)
+    pos a3 q root tree und)
+    ((rw (Stays-trans before c.others_of-others.ensures.stays).moves at (c.some_of-rest.ensures.near pos a q root))
     (left_nodes c.some_of-good.result tree c.without-missing.ensures) und
     (λ p h. other_is_candidate c.args.turn (after pos c.args.board.now.moves) p
     (lt-ltb 0 c.args.turn.wide (omega (arith, c.if-turn-eq0.false)))
-    (sym (rw before at (c.others_of-others.ensures.over pos a3 p)) ∙ h)))))
+    (sym (rw before.moves at (c.others_of-others.ensures.over pos a3 p)) ∙ h)))
 
 -- a liberty is on the board
 pub some_success-some_of-good-requires : goal.some_success-some_of-good-requires
@@ -488,44 +472,46 @@ some_success-some_of-good-requires g t c κs within =
     (c.requires.liberties shown (g.met.L.Look.holds c.args.board.now.look)) h in
     search rules
 
+-- what the plays at the liberties give
+liberties_told : (g : Over) (t : ℕ) (c : some_success-After-some_of-good g t) → OnEachAgreeing g.L.Look.seen
+    c.args.board.now c.some_of-good.new.board (λ here. TellsBy c.args.plies c.args.turn here
+    (is_liberty here.size here.cells c.args.turn.target) c.args.asked c.some_of-good.result)
+liberties_told g t c = λ pos a.
+    let here = after pos c.args.board.now.moves in
+    by_same c.args.plies c.args.turn here (set.contains c.args.known.now)
+    (is_liberty here.size here.cells c.args.turn.target) c.args.asked c.some_of-good.result
+    (its_liberty pos.size here c.args.turn.target c.args.known.now (size-after pos c.args.board.now.moves)
+    (c.requires.liberties pos (agrees_before c.some_of-good.ensures.stays.grows a))) (c.some_of-good.ensures.over pos a)
+
+-- these plays are looked at in the active area
+liberties_near : (g : Over) (t : ℕ) (c : some_success-After-some_of-good g t) → LooksNear g.L.Look.seen
+    c.args.board.now c.some_of-good.new.board (suc c.args.plies) c.args.turn c.args.asked
+liberties_near g t c = λ pos a q root tree und.
+    let here = after pos c.args.board.now.moves in
+    c.some_of-good.ensures.near pos a q root tree und (λ p h. liberty_is_candidate c.args.turn here p
+    (sym (its_liberty pos.size here c.args.turn.target c.args.known.now (size-after pos c.args.board.now.moves)
+    (c.requires.liberties pos (agrees_before c.some_of-good.ensures.stays.grows a)) p) ∙ h))
+
 -- the liberties give all that was asked
 pub some_success-returns-then-not-has_some-clause-over : goal.some_success-returns-then-not-has_some-clause-over
 some_success-returns-then-not-has_some-clause-over g t c = λ pos a.
-    let a0 = agrees_before c.some_of-good.ensures.stays.grows a in
-    let here = after pos c.args.board.now.moves in
-    let turn = c.args.turn in
-    let its = its_liberty pos.size here turn.target c.args.known.now (size-after pos c.args.board.now.moves)
-    (c.requires.liberties pos a0) in
-    stage_done c.args.plies turn here c.args.asked c.some_of-good.result
-    (by_same c.args.plies turn here (set.contains c.args.known.now)
-    (is_liberty here.size here.cells turn.target) c.args.asked c.some_of-good.result its
-    (c.some_of-good.ensures.over pos a))
+    let d = (goal.at.some_success-returns-then-not-has_some-clause-over g t c).After-some_of-good in
+    stage_done c.args.plies c.args.turn (after pos c.args.board.now.moves) c.args.asked c.some_of-good.result
+    (liberties_told g t d pos a)
     (sym (c.has_some.ensures ∙ ap has_some c.without-missing.ensures) ∙ c.if-not-has_some.true)
 
 -- the plays at the liberties are looked at in the active area
 pub some_success-returns-then-not-has_some-clause-near : goal.some_success-returns-then-not-has_some-clause-near
-some_success-returns-then-not-has_some-clause-near g t c = λ pos a q root tree und.
-    let a0 = agrees_before c.some_of-good.ensures.stays.grows a in
-    let here = after pos c.args.board.now.moves in
-    let its = its_liberty pos.size here c.args.turn.target c.args.known.now (size-after pos c.args.board.now.moves)
-    (c.requires.liberties pos a0) in
-    c.some_of-good.ensures.near pos a q root tree und
-    (λ p h. liberty_is_candidate c.args.turn here p (sym (its p) ∙ h))
+some_success-returns-then-not-has_some-clause-near g t c =
+    liberties_near g t (goal.at.some_success-returns-then-not-has_some-clause-near g t c).After-some_of-good
 
 -- what they left is asked of the others
 pub some_success-returns-clause-over : goal.some_success-returns-clause-over
 some_success-returns-clause-over g t c = λ pos a.
-    let a1 = agrees_before c.some_other-rest.ensures.stays.grows a in
-    let a0 = agrees_before c.some_of-good.ensures.stays.grows a1 in
-    let here = after pos c.args.board.now.moves in
-    let turn = c.args.turn in
-    let its = its_liberty pos.size here turn.target c.args.known.now (size-after pos c.args.board.now.moves)
-    (c.requires.liberties pos a0) in
+    let d = (goal.at.some_success-returns-clause-over g t c).After-some_of-good in
     rw (c.without-2.ensures, c.without.ensures, c.without-missing.ensures)
-    (stage_over c.args.plies turn here c.args.asked c.some_of-good.result
-    (by_same c.args.plies turn here (set.contains c.args.known.now)
-    (is_liberty here.size here.cells turn.target) c.args.asked c.some_of-good.result its
-    (c.some_of-good.ensures.over pos a1))
+    (stage_over c.args.plies c.args.turn (after pos c.args.board.now.moves) c.args.asked c.some_of-good.result
+    (liberties_told g t d pos (agrees_before c.some_other-rest.ensures.stays.grows a))
     c.some_other-rest.result (rw (
       c.some_of-good.ensures.stays.moves,
       c.without-missing.ensures,
@@ -534,13 +520,8 @@ some_success-returns-clause-over g t c = λ pos a.
 -- the plays at the liberties and those elsewhere are looked at in the active area
 pub some_success-returns-clause-near : goal.some_success-returns-clause-near
 some_success-returns-clause-near g t c = λ pos a q root tree und.
-    let a1 = agrees_before c.some_other-rest.ensures.stays.grows a in
-    let a0 = agrees_before c.some_of-good.ensures.stays.grows a1 in
-    let here = after pos c.args.board.now.moves in
-    let its = its_liberty pos.size here c.args.turn.target c.args.known.now (size-after pos c.args.board.now.moves)
-    (c.requires.liberties pos a0) in
-    AddsNear-trans (c.some_of-good.ensures.near pos a1 q root tree und
-    (λ p h. liberty_is_candidate c.args.turn here p (sym (its p) ∙ h)))
+    let d = (goal.at.some_success-returns-clause-near g t c).After-some_of-good in
+    AddsNear-trans (liberties_near g t d pos (agrees_before c.some_other-rest.ensures.stays.grows a) q root tree und)
     ((rw c.some_of-good.ensures.stays.moves at (c.some_other-rest.ensures.near pos a q root))
     (left_nodes c.some_of-good.result tree c.without-missing.ensures) und)
 
@@ -580,8 +561,7 @@ has_good_move-returns-then-escapes-clause-over g t c = λ pos a und.
 pub has_good_move-returns-then-escapes-clause-near : goal.has_good_move-returns-then-escapes-clause-near
 has_good_move-returns-then-escapes-clause-near g t c = λ pos a q root tree und.
     let a0 = agrees_before c.escapes.ensures.stays.grows a in
-    let node = ready_node c.requires (g.met.L.Look.sized c.args.board.now.look) a0 tree
-    (und neither_may).stands in
+    let node = undecided_node c.requires (g.met.L.Look.sized c.args.board.now.look) a0 tree und in
     near_escape node c.args.known.now (c.requires.liberties pos a0) (c.escapes.ensures.near pos a)
 
 -- the looks for an escape and after the pass lie in the active area
@@ -623,7 +603,8 @@ has_good_move-returns-clause-near g t c = λ pos a q root tree und.
       c.pass_saves.ensures.stays.moves,
       c.escapes.ensures.stays.moves,
     ) at (c.some_success.ensures.near pos a q root))
-    (left_nodes c.pass_saves.result tree c.without-lost.ensures) (λ ko. undecided_defender (und neither_may).stands c.if-turn.false))
+    (left_nodes c.pass_saves.result tree c.without-lost.ensures)
+    (λ ko. undecided_defender (und neither_may).stands c.if-turn.false))
 
 -- the target is captured
 pub attacker_wins-returns-then-eq-clause-over : goal.attacker_wins-returns-then-eq-clause-over
@@ -645,15 +626,11 @@ attacker_wins-returns-then-plies-eq0-clause-over g t c = λ pos a.
 -- it has too many liberties
 pub attacker_wins-returns-in-Safe-clause-over : goal.attacker_wins-returns-in-Safe-clause-over
 attacker_wins-returns-in-Safe-clause-over g t c = λ pos a.
-    let stays = Stays-trans c.cell.ensures.stays
-    (Stays-trans c.liberties_known-known.ensures.stays c.outlook_of.ensures.stays) in
+    let before = Stays-trans c.cell.ensures.stays c.liberties_known-known.ensures.stays in
+    let a0 = agrees_before (Stays-trans before c.outlook_of.ensures.stays).grows a in
     let inside = target_on pos.size (g.L.Look.shows c.args.board.now.look).size c.args.turn.target
-    (same_size (g.met.L.Look.sized c.args.board.now.look) (agrees_before stays.grows a)) c.requires.target in
-    let many = (rw (
-      c.liberties_known-known.ensures.stays.moves,
-      c.cell.ensures.stays.moves,
-      c.in-Safe.is,
-    ) at c.outlook_of.ensures.over) pos a in
+    (same_size (g.met.L.Look.sized c.args.board.now.look) a0) c.requires.target in
+    let many = (rw (before.moves, c.in-Safe.is) at c.outlook_of.ensures.over) pos a in
     rw c.none-in-Safe.ensures (Tells-none c.args.asked _
     (bounded_at c.args.plies c.args.turn (after pos c.args.board.now.moves) pos.size
     (size-after pos c.args.board.now.moves) inside many))
@@ -680,6 +657,16 @@ outlook_near g t c = λ pos a q root tree.
     ((rw c.cell.ensures.stays.moves at c.liberties_known-known.ensures.near) pos a1)
     ((rw before.moves at c.outlook_of.ensures.near) pos a))
 
+-- and its node is undecided where it is not safe
+outlook_undecided : (g : Over) (t : ℕ) (c : attacker_wins-After-outlook_of g t) → is_safe c.outlook_of.result ≡ false
+    → OnEachAgreeing g.L.Look.seen c.args.board.now c.outlook_of.new.board (λ here. (ko : Ko)
+    → IsUndecided (under c.args.turn ko) here)
+outlook_undecided g t c told = λ pos a.
+    let before = Stays-trans c.cell.ensures.stays c.liberties_known-known.ensures.stays in
+    undecided_at c.args.plies c.args.turn (after pos c.args.board.now.moves) pos.size
+    (size-after pos c.args.board.now.moves) (outlook_stands g t c pos a)
+    ((rw before.moves at c.outlook_of.ensures.over) pos a ∙ told)
+
 -- it is taken by its only liberty
 pub attacker_wins-returns-in-Taken-clause-over : goal.attacker_wins-returns-in-Taken-clause-over
 attacker_wins-returns-in-Taken-clause-over g t c = λ pos a.
@@ -687,14 +674,12 @@ attacker_wins-returns-in-Taken-clause-over g t c = λ pos a.
     let here = after pos c.args.board.now.moves in
     let before = Stays-trans c.cell.ensures.stays c.liberties_known-known.ensures.stays in
     let a0 = agrees_before (Stays-trans before c.outlook_of.ensures.stays).grows a in
-    let few = (rw (before.moves, c.in-Taken.is) at c.outlook_of.ensures.over) pos a in
+    let inside = on_after _ (g.met.L.Look.sized c.args.board.now.look) a0 c.args.board.now.moves c.requires.target in
     let taken = (rw before.moves at c.outlook_of.ensures.taken) pos a c.in-Taken.is in
-    let und = undecided_at c.args.plies c.args.turn here pos.size (size-after pos c.args.board.now.moves)
-    (outlook_stands g t d pos a) few in
+    let und = outlook_undecided g t d (ap is_safe c.in-Taken.is) pos a in
     let more : c.args.plies ≡ suc (c.args.plies - 1) = omega (arith, c.if-plies-eq0.false) in
     Tells-all c.args.asked _ (λ ko. ap (λ m. attacker_wins m (under c.args.turn ko) here) more
-    ∙ take_wins (c.args.plies - 1) c.args.turn here (whole_after pos c.args.board.now.moves a.sound.cells)
-    (on_after _ (g.met.L.Look.sized c.args.board.now.look) a0 c.args.board.now.moves c.requires.target)
+    ∙ take_wins (c.args.plies - 1) c.args.turn here (whole_after pos c.args.board.now.moves a.sound.cells) inside
     ((und ko).few taken.attacks) taken ko)
 
 -- the looks at the target and its liberties
@@ -711,34 +696,28 @@ attacker_wins-returns-in-Taken-clause-near g t c =
 pub attacker_wins-returns-in-Open-clause-over : goal.attacker_wins-returns-in-Open-clause-over
 attacker_wins-returns-in-Open-clause-over g t c = λ pos a.
     let d = (goal.at.attacker_wins-returns-in-Open-clause-over g t c).After-outlook_of in
-    let a1 = agrees_before c.has_good_move-good.ensures.stays.grows a in
     let here = after pos c.args.board.now.moves in
     let before = Stays-trans c.cell.ensures.stays c.liberties_known-known.ensures.stays in
-    let stands = outlook_stands g t d pos a1 in
-    let und = undecided_at c.args.plies c.args.turn here pos.size (size-after pos c.args.board.now.moves) stands
-    ((rw (before.moves, c.in-Open.is) at c.outlook_of.ensures.over) pos a1) in
+    let a1 = agrees_before c.has_good_move-good.ensures.stays.grows a in
     rw c.attackers.ensures (Tells-attackers c.args.turn.attacker_to_play c.args.asked c.has_good_move-good.result
     (λ ko. is_some (good_move (c.args.plies - 1) (under c.args.turn ko) here))
     (λ ko. attacker_wins c.args.plies (under c.args.turn ko) here)
-    ((rw (Stays-trans before c.outlook_of.ensures.stays).moves at (c.has_good_move-good.ensures.over pos a)) und)
-    (λ ko. wins-by_move c.args.plies (under c.args.turn ko) here
-    (is_some (good_move (c.args.plies - 1) (under c.args.turn ko) here)) stands c.if-plies-eq0.false refl))
+    ((rw (Stays-trans before c.outlook_of.ensures.stays).moves at (c.has_good_move-good.ensures.over pos a))
+    (outlook_undecided g t d (ap is_safe c.in-Open.is) pos a1)) (λ ko. wins-by_move c.args.plies (under c.args.turn ko)
+    here _ (outlook_stands g t d pos a1) c.if-plies-eq0.false refl))
 
 -- the looks at the target, and the rest in the area
 pub attacker_wins-returns-in-Open-clause-near : goal.attacker_wins-returns-in-Open-clause-near
 attacker_wins-returns-in-Open-clause-near g t c = λ pos a q root tree.
     let d = (goal.at.attacker_wins-returns-in-Open-clause-near g t c).After-outlook_of in
-    let a1 = agrees_before c.has_good_move-good.ensures.stays.grows a in
-    let here = after pos c.args.board.now.moves in
     let before = Stays-trans c.cell.ensures.stays c.liberties_known-known.ensures.stays in
-    let und = undecided_at c.args.plies c.args.turn here pos.size (size-after pos c.args.board.now.moves)
-    (outlook_stands g t d pos a1) ((rw (before.moves, c.in-Open.is) at c.outlook_of.ensures.over) pos a1) in
-    let nodes : AreNodesOf q root (suc (c.args.plies - 1)) c.args.turn c.args.asked here =
+    let a1 = agrees_before c.has_good_move-good.ensures.stays.grows a in
+    let nodes : AreNodesOf q root (suc (c.args.plies - 1)) c.args.turn c.args.asked (after pos c.args.board.now.moves) =
     record { each = λ ko h. pred_tree c.args.plies c.if-plies-eq0.false (tree.each ko h) } in
-    let rest = rw (Stays-trans before c.outlook_of.ensures.stays).moves at
-    (c.has_good_move-good.ensures.near pos a q root) in
     AddsNear-trans (outlook_near g t d pos a1 q root tree)
-    (near_at c.args.turn.target (InActiveArea q root) (rest nodes und))
+    (near_at c.args.turn.target (InActiveArea q root)
+    ((rw (Stays-trans before c.outlook_of.ensures.stays).moves at (c.has_good_move-good.ensures.near pos a q root))
+    nodes (outlook_undecided g t d (ap is_safe c.in-Open.is) pos a1)))
 
 -- What the table tells stays true while more is seen: after a play that is not made,
 pub succeeds-returns-in-Not-clause-table : goal.succeeds-returns-in-Not-clause-table
@@ -812,39 +791,40 @@ some_by_table-returns-then-not-has_some-clause-over g t c = λ pos a.
     (c.in-Some.ensures.over pos a) c.without-missing.ensures (sym c.has_some.ensures ∙ c.if-not-has_some.true)
     c.both.ensures
 
--- what was found of the rest is remembered
+-- what was found of the rest makes the verdict true of the node
+verdict_true : (g : Over) (t : ℕ) (c : some_by_table-After-with-verdict g t) → let turn = c.args.turn in
+    IsTrueOf (g.L.Look.seen c.some_success-good.new.board.look) turn.tree turn.target turn.defender
+    (record { changes = c.in-Some.changes; plies = c.args.plies; wide = turn.wide }) c.with-verdict.result
+verdict_true g t c =
+    let turn = c.args.turn in
+    let found = c.some_success-good.ensures in
+    read_true turn (record { changes = c.in-Some.changes; plies = c.args.plies; wide = turn.wide }) c.find-before.result
+    c.with-verdict.result c.args.asked c.without-missing.result c.some_success-good.result c.args.board.now.moves
+    (c.find-before.ensures (g.L.Look.seen c.args.board.now.look) turn.tree turn.target turn.defender
+    c.requires.ready.table) found.stays.grows c.requires.attacker refl c.in-Some.ensures.over found.over
+    c.without-missing.ensures c.with-verdict.ensures
+
+-- so it is remembered
 pub some_by_table-returns-clause-table : goal.some_by_table-returns-clause-table
 some_by_table-returns-clause-table g t c =
+    let d = (goal.at.some_by_table-returns-clause-table g t c).After-with-verdict in
     let turn = c.args.turn in
-    let seen = g.L.Look.seen c.args.board.now.look in
-    let node : AttackerNode = record { changes = c.in-Some.changes; plies = c.args.plies; wide = turn.wide } in
-    let kept = read_true turn node c.find-before.result c.with-verdict.result c.args.asked c.without-missing.result
-    c.some_success-good.result c.args.board.now.moves
-    (c.find-before.ensures seen turn.tree turn.target turn.defender c.requires.ready.table)
-    c.some_success-good.ensures.stays.grows
-    c.requires.attacker refl c.in-Some.ensures.over c.some_success-good.ensures.over c.without-missing.ensures
-    c.with-verdict.ensures in
     c.keep.ensures (g.L.Look.seen c.some_success-good.new.board.look) turn.tree turn.target turn.defender
-    c.some_success-good.ensures.table kept
+    c.some_success-good.ensures.table (verdict_true g t d)
 
 -- and told with what was known
 pub some_by_table-returns-clause-over : goal.some_by_table-returns-clause-over
 some_by_table-returns-clause-over g t c = λ pos a.
+    let d = (goal.at.some_by_table-returns-clause-over g t c).After-with-verdict in
     let turn = c.args.turn in
-    let seen = g.L.Look.seen c.args.board.now.look in
-    let node : AttackerNode = record { changes = c.in-Some.changes; plies = c.args.plies; wide = turn.wide } in
-    let kept = read_true turn node c.find-before.result c.with-verdict.result c.args.asked c.without-missing.result
-    c.some_success-good.result c.args.board.now.moves
-    (c.find-before.ensures seen turn.tree turn.target turn.defender c.requires.ready.table)
-    c.some_success-good.ensures.stays.grows
-    c.requires.attacker refl c.in-Some.ensures.over c.some_success-good.ensures.over c.without-missing.ensures
-    c.with-verdict.ensures in
-    told_after turn node c.find-before.result c.with-verdict.result c.args.asked c.without-missing.result
-    c.some_success-good.result c.both-2.result pos (after pos c.args.board.now.moves) kept a c.requires.attacker refl
+    told_after turn (record { changes = c.in-Some.changes; plies = c.args.plies; wide = turn.wide })
+    c.find-before.result c.with-verdict.result c.args.asked c.without-missing.result c.some_success-good.result
+    c.both-2.result pos (after pos c.args.board.now.moves) (verdict_true g t d) a c.requires.attacker refl
     (c.in-Some.ensures.over pos (agrees_before c.some_success-good.ensures.stays.grows a)) c.without-missing.ensures
     c.with-verdict.ensures c.both-2.ensures
 
 -- the rest is read in the active area
 pub some_by_table-returns-clause-near : goal.some_by_table-returns-clause-near
 some_by_table-returns-clause-near g t c = λ pos a q root tree und.
-    c.some_success-good.ensures.near pos a q root (left_nodes c.find-before.result.known tree c.without-missing.ensures) und
+    c.some_success-good.ensures.near pos a q root
+    (left_nodes c.find-before.result.known tree c.without-missing.ensures) und

@@ -2,15 +2,13 @@ use Rattle.std.proofs.Common.{◌≡◌, ℕ, ◌+◌, ◌*◌, suc, true, not}
 use Rattle.std.specs.FinSet as set
 use Rattle.go_rules.specs.Below.{count_below}
 use Rattle.go_rules.specs.Board.{largest_points}
-use Rattle.go_rules.specs.Position.{BoardState}
-use Rattle.go_base.specs.Facts.{Agrees, Grows}
-use Rattle.trial_board.specs.Trials.{Stays, after}
-use Rattle.read_rules.specs.declared.question.ReadingQuestion.{ReadingQuestion}
-use Rattle.read_rules.specs.ActiveArea.{IsUndecided, InActiveArea, AddsNear}
-use Rattle.read_tree.specs.Allowances.{Ko, has_some, under}
+use Rattle.go_base.specs.Facts.{Grows}
+use Rattle.trial_board.specs.Trials.{Stays}
+use Rattle.read_tree.specs.Allowances.{has_some}
 use Rattle.read_tree.specs.Stages.{is_candidate_on}
-use Rattle.read_tree.specs.Steps.{AreNodesOf, IsLeft}
+use Rattle.read_tree.specs.Steps.{IsLeft}
 use Rattle.read_tree.specs.Table.{IsTrueTable}
+use Rattle.read_tree.specs.Walk.{OnEachAgreeing, LooksNearWhere}
 use Rattle.read_tree.proofs.tree.+read.Given as goal
 
 -- each step down the tree spends a ply, and within a node the order of the calls is fixed
@@ -56,15 +54,10 @@ invariant-some_of-loop-p g l = record {
   grows : Grows (g.L.Look.seen l.initial.board.look) (g.L.Look.seen l.board.look);
   some : has_some l.missing ≡ true;
   table : IsTrueTable (g.L.Look.seen l.board.look) l.turn.tree l.turn.target l.turn.defender l.memory.table.now;
-  near : (pos : BoardState) → Agrees (g.L.Look.seen l.board.look) pos → (q : ReadingQuestion) (root : BoardState)
-      → AreNodesOf q root (suc l.plies) l.turn l.asked (after pos l.fn.board.moves)
-      → ((ko : Ko) → IsUndecided (under l.turn ko) (after pos l.fn.board.moves))
-      → ((p : ℕ) → set.contains l.points p ≡ true
-      → is_candidate_on l.turn (after pos l.fn.board.moves) p ≡ true)
-      → AddsNear (g.L.Look.seen l.fn.board.look) (g.L.Look.seen l.board.look) (InActiveArea q root);
-  left : (pos : BoardState) → Agrees (g.L.Look.seen l.board.look) pos
-      → IsLeft l.plies l.turn (after pos l.fn.board.moves) (set.contains l.points) (set.contains l.tried) l.asked
-      l.missing;
+  near : LooksNearWhere g.L.Look.seen l.fn.board l.board (suc l.plies) l.turn l.asked (λ here. (p : ℕ)
+      → set.contains l.points p ≡ true → is_candidate_on l.turn here p ≡ true);
+  left : OnEachAgreeing g.L.Look.seen l.fn.board l.board (λ here. IsLeft l.plies l.turn here (set.contains l.points)
+      (set.contains l.tried) l.asked l.missing);
 }
 
 -- how many points are left

@@ -1,9 +1,8 @@
-use Rattle.std.proofs.Common.{◌≡◌, ◌∙◌, true, false, sym, subst, rules}
+use Rattle.std.proofs.Common.{◌≡◌, ◌∙◌, true, false, sym, subst}
 use Rattle.go_rules.specs.Position.{BoardState}
 use Rattle.trial_board.specs.Trials.{Stays-trans}
 use Rattle.read_rules.specs.GameTree.{pass_saves, first_success, at_point}
 use Rattle.read_tree.specs.Allowances.{under}
-use Rattle.read_tree.specs.Walk.{AreLibertiesOf}
 use Rattle.read_tree.proofs.NodeLemmas.{first_pass}
 use Rattle.read_tree.proofs.ReadyLemmas.{point_after, liberties_after}
 use Rattle.read_tree.proofs.TableLemmas.{table_more}
@@ -17,22 +16,27 @@ use Rattle.write_proof.proofs.alike.first_alike.Goals as goal
 pub pass_told-requires : goal.pass_told-requires
 pass_told-requires g c =
     let found = c.liberties-known.ensures in
-    let target = point_after found.stays c.args.turn.target c.requires.target in
-    let table = table_more c.requires.table found.stays.grows in
-    let known = c.liberties-known in
-    let liberties : AreLibertiesOf g.L.Look.seen known.new.self c.args.turn.target known.result =
-    λ pos a. rw found.stays.moves (found.over pos a) in
-    search rules
+    record {
+      room = rw found.stays.moves c.requires.room;
+      target = point_after found.stays c.args.turn.target c.requires.target;
+      some = c.requires.some;
+      liberties = λ pos a. rw found.stays.moves (found.over pos a);
+      table = table_more c.requires.table found.stays.grows;
+    }
 
 -- and are the same after the pass
 pub first_point-requires : goal.first_point-requires
 first_point-requires g c =
     let found = c.liberties-known.ensures in
-    let told = c.pass_told.ensures in
-    let target = point_after (Stays-trans found.stays told.stays) c.args.turn.target c.requires.target in
-    let liberties = liberties_after told.stays c.args.turn.target c.liberties-known.result
-    (λ pos a. rw found.stays.moves (found.over pos a)) in
-    search rules
+    let stays = Stays-trans found.stays c.pass_told.ensures.stays in
+    record {
+      room = rw stays.moves c.requires.room;
+      target = point_after stays c.args.turn.target c.requires.target;
+      some = c.requires.some;
+      liberties = liberties_after c.pass_told.ensures.stays c.args.turn.target c.liberties-known.result
+          (λ pos a. rw found.stays.moves (found.over pos a));
+      table = c.pass_told.ensures.table;
+    }
 
 -- the pass comes first
 pub returns-in-Always-clause-first : goal.returns-in-Always-clause-first

@@ -1,9 +1,8 @@
-use Rattle.std.proofs.Common.{◌≡◌, ◌∙◌, ◌&&◌, true, false, ap, sym, subst, inl, inr, arith, rules}
+use Rattle.std.proofs.Common.{◌≡◌, ◌∙◌, true, false, ap, sym, subst, arith, rules}
 use Rattle.std.specs.FinSet as set
-use Rattle.std.proofs.lemmas.Bool.{cases_eq}
 use Rattle.go_rules.specs.Position.{BoardState}
 use Rattle.read_rules.specs.GameTree.{succeeds}
-use Rattle.read_rules.proofs.WinLemmas.{none_before, first_success-found}
+use Rattle.read_rules.proofs.WinLemmas.{none_up_to, first_success-found}
 use Rattle.read_tree.specs.Allowances.{neither_may, under}
 use Rattle.read_tree.proofs.TableLemmas.{table_more}
 use Rattle.write_proof.specs.Printed.{position_on}
@@ -11,7 +10,7 @@ use Rattle.write_proof.proofs.WriteLemmas.{here_stays}
 use Rattle.trial_board.specs.Trials.{Stays-trans}
 use Rattle.read_rules.specs.GameTree.{at_point}
 use Rattle.read_rules.proofs.WinLemmas.{first_success-none}
-use Rattle.read_tree.proofs.ReadyLemmas.{candidate_inside, point_after, liberties_after}
+use Rattle.read_tree.proofs.ReadyLemmas.{candidate_inside, point_after, ready_after}
 use Rattle.write_proof.proofs.alike.first_point.Goals as goal
 
 -- no candidate was tried yet
@@ -22,39 +21,30 @@ plays-init g c = record {
   none = λ ko asked q below. absurd (omega (arith, below));
 }
 
--- the next candidate and the target are on the board, and the liberties of the target are those that are known
+-- the next candidate is on the board, and what the reader needs is as before
 pub play_told-requires : goal.play_told-requires
 play_told-requires g c =
     let i = c.plays.invariant in
-    let on = point_after i.stays c.in-Some.p (candidate_inside (under c.args.turn neither_may)
+    let ready = ready_after i.stays c.args.asked c.requires c.requires.some i.table in
+    let on_board = point_after i.stays c.in-Some.p (candidate_inside (under c.args.turn neither_may)
     (g.L.Look.shows c.args.board.now.look) c.args.board.now.moves c.in-Some.p
     (sym (c.candidates-candidates.ensures.answer c.in-Some.p) ∙ c.in-Some.ensures.some.2)) in
-    let target = point_after i.stays c.args.turn.target c.requires.target in
-    let liberties = liberties_after i.stays c.args.turn.target c.args.known.now c.requires.liberties in
     search rules
 
 -- it succeeds under none of the allowances, and none before it did
 pub plays-preserved : goal.plays-preserved
 plays-preserved g c =
     let i = c.plays.invariant in
-    let later = c.play_told.ensures.stays in
     let found = c.in-Some.ensures.some in
-    let here = position_on g.L.Look.shows c.args.board.now in
     let same = here_stays g.L.Look.shows g.L.Look.seen c.args.board.now c.plays.board i.stays in
     record {
-      stays = Stays-trans i.stays later;
+      stays = Stays-trans i.stays c.play_told.ensures.stays;
       table = c.play_told.ensures.table;
-      none = λ ko asked q below.
-          let node = under c.args.turn ko in
-          let fails = subst (λ (pos : BoardState). succeeds c.args.plies node pos c.in-Some.p ≡ false) same
-          ((rw c.in-Never.is at c.play_told.ensures.told) ko asked) in
-          elim (cases_eq q c.in-Some.p) [
-            | inl is ↦ ap (λ k. set.contains c.candidates-candidates.result k && succeeds c.args.plies node here k) is
-                ∙ ap (λ b. b && succeeds c.args.plies node here c.in-Some.p) found.2
-                ∙ fails
-            | inr ne ↦ none_before (set.contains c.candidates-candidates.result) (succeeds c.args.plies node here)
-                c.plays.next c.in-Some.p (i.none ko asked) found.3 q (omega (arith, below, ne))
-          ];
+      none = λ ko asked. none_up_to (set.contains c.candidates-candidates.result)
+          (succeeds c.args.plies (under c.args.turn ko) (position_on g.L.Look.shows c.args.board.now)) c.plays.next
+          c.in-Some.p (i.none ko asked) found.3 found.2
+          (subst (λ (pos : BoardState). succeeds c.args.plies (under c.args.turn ko) pos c.in-Some.p ≡ false) same
+          ((rw c.in-Never.is at c.play_told.ensures.told) ko asked));
     }
 
 -- it is the first that succeeds under each

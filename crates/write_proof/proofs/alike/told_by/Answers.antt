@@ -3,7 +3,8 @@ use Rattle.read_tree.specs.Allowances.{has, has_some}
 use Rattle.read_tree.proofs.AllowanceLemmas.{none_of, has-without}
 use Rattle.read_tree.proofs.TableLemmas.{has_both}
 use Rattle.read_tree.specs.Allowances.{without, both}
-use Rattle.write_proof.proofs.AlikeLemmas.{in_other, not_both, told_one}
+use Rattle.read_tree.proofs.AllowanceLemmas.{in_other}
+use Rattle.write_proof.proofs.AlikeLemmas.{not_both, told_one}
 use Rattle.write_proof.proofs.alike.told_by.Goals as goal
 
 -- none is left without those

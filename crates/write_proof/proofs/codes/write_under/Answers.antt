@@ -23,7 +23,7 @@ claim_put g c =
     let pos = position_on g.L.Look.shows c.args.board.now in
     let ko = ko_under (is_attack q.kind) c.args.more in
     let asked : c.allowance_under-asked.result ≡ only ko = c.allowance_under-asked.ensures
-    ∙ ap (λ (t : Turn). only (ko_under t.attacker_to_play c.args.more)) c.turn_of.ensures in
+    ∙ ap (λ (t : Turn). only (ko_under t.attacker_to_play c.args.more)) c.first_turn.ensures in
     rw (part_claim q pos c.args.code c.args.more)
     (subst (λ won. Puts c.args.out.now (behind_blanks (claim_words q pos won ko)) c.write_claim.new.out
     c.write_claim.result) c.claim_under-won.ensures

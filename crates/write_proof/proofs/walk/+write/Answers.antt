@@ -1,9 +1,7 @@
 -- What is written for the asked allowances at once is the first proof under each of them.
-use Rattle.std.proofs.Common.{◌≡◌, ◌∙◌, ◌+◌, ◌-◌, ◌*◌, ◌<◌, ◌≤◌, ◌++◌, length, Bool, not}
+use Rattle.std.proofs.Common.{◌≡◌, ◌∙◌, ℕ, ◌+◌, ◌-◌, ◌*◌, ◌<◌, ◌≤◌, List, ◌++◌, length, Bool, not, Result}
 use Rattle.std.proofs.Common.{[], ◌∷◌, ap, sym, refl, subst, inl, inr, codes, append_assoc, rules, Ok, Err}
 use Rattle.std.proofs.Common.{None, Some}
-use Rattle.std.specs.List.{filter_map, filter, range_with_len}
-use Rattle.std.specs.Option.{option_to_list}
 use Rattle.go_base.specs.Facts.{Agrees}
 use Rattle.go_rules.specs.Position.{BoardState}
 use Rattle.go_rules.specs.Play.{pass}
@@ -15,15 +13,14 @@ use Rattle.read_rules.specs.declared.question.Spot.{Spot}
 use Rattle.read_rules.specs.declared.question.Spot.TheVariants.{At, Pass}
 use Rattle.read_rules.specs.GameTree.{child_of, first_move}
 use Rattle.read_rules.specs.GoodMoves.{IsOnBoard}
-use Rattle.read_rules.proofs.CandidateLaws.{candidate_at_on}
 use Rattle.read_tree.specs.Allowances.{Ko, neither_may, under, next_turn}
 use Rattle.read_tree.proofs.AllowanceLemmas.{next_keeps}
 use Rattle.read_tree.proofs.TableLemmas.{table_more}
-use Rattle.read_proof.specs.Proves.{pass_children, play_children, is_wanted}
-use Rattle.read_proof.specs.FirstProof.{write_each, write_move, move_word, first_words}
+use Rattle.read_proof.specs.Proves.{is_wanted}
+use Rattle.write_proof.specs.declared.text.ProofError.{ProofError}
+use Rattle.read_proof.specs.FirstProof.{write_move, move_word, first_words}
 use Rattle.write_proof.specs.Printed.{behind_blanks, most_bytes, Puts, position_on}
-use Rattle.write_proof.proofs.PutLemmas.{puts_both, puts_up, puts_same, dot_words, move_words, each_words, walk_words}
-use Rattle.write_proof.proofs.PutLemmas.{walk_written}
+use Rattle.write_proof.proofs.PutLemmas.{puts_both, puts_up, puts_same, dot_words, move_words, each_words, walk_written}
 use Rattle.write_proof.proofs.WriteLemmas.{here_stays, nothing_put, no_move_written, play_written, refused_written}
 use Rattle.write_proof.proofs.WriteLemmas.{no_pass_written, pass_written, move_written, move_refused, play_child}
 use Rattle.write_proof.proofs.WriteLemmas.{pass_child, all_left}
@@ -36,6 +33,10 @@ use Rattle.read_tree.proofs.ReadyLemmas.{candidate_inside, point_after}
 use Rattle.write_proof.specs.declared.alike.Common.{Common}
 use Rattle.write_proof.specs.declared.alike.Common.TheVariants.{Move}
 use Rattle.write_proof.specs.Alike.{IsMoveOn}
+use Rattle.write_proof.proofs.WriteLemmas.{play_words, words_from, pass_words, plays_words, next_words}
+use Rattle.write_proof.proofs.walk.+write.Given.{Over}
+use Rattle.write_proof.proofs.walk.+write.Goals.{write_play-After-make, write_plays-After-write_play}
+use Rattle.write_proof.proofs.walk.+write.Goals.{write_move-After-size, write-After-put_word}
 use Rattle.write_proof.proofs.walk.+write.Goals as goal
 
 -- the attacker does not pass
@@ -54,19 +55,33 @@ write_pass-returns-clause-puts g t c = λ same ko asked.
     c.write-done.new.out c.write-done.result) (sym (next_keeps c.args.turn ko))
     (rw (c.pass.ensures, c.next.ensures) at (c.write-done.ensures.puts same ko asked)))
 
+-- the position shown agrees with what was seen at the play
+shown_agrees : (g : Over) (t : ℕ) (c : write_play-After-make g t)
+    → Agrees (g.L.Look.seen c.make.new.board.look) (g.L.Look.shows c.args.board.now.look)
+shown_agrees g t c = subst (Agrees (g.L.Look.seen c.make.new.board.look)) c.make.ensures.shown
+    (g.met.L.Look.holds c.make.new.board.look)
+
+-- what is written at the child to which a play leads that was made
+child_written : (g : Over) (t : ℕ) (c : write_play-After-make g t) (node next : Node) (out : List ℕ)
+    (r : Result Bool ProofError) → let here = position_on g.L.Look.shows c.args.board.now in
+    child_of node here c.args.p ≡ Some (next, after (g.L.Look.shows c.args.board.now.look) c.make.new.board.moves)
+    → Puts c.args.out.now (behind_blanks (first_words c.args.plies c.args.won next
+    (position_on g.L.Look.shows c.make.new.board))) out r
+    → Puts c.args.out.now (play_words c.args.plies c.args.won node here c.args.p) out r
+child_written g t c node next out r leads put =
+    play_written c.args.plies c.args.won node (position_on g.L.Look.shows c.args.board.now) c.args.p (Some next) next
+    (after (g.L.Look.shows c.args.board.now.look) c.make.new.board.moves) c.args.out.now out r leads refl
+    (subst (λ (p : BoardState). Puts c.args.out.now (behind_blanks (first_words c.args.plies c.args.won next
+    (after p c.make.new.board.moves))) out r) c.make.ensures.shown put)
+
 -- the play is legal, and the allowances stay
 pub write_play-returns-in-Legal-clause-puts : goal.write_play-returns-in-Legal-clause-puts
 write_play-returns-in-Legal-clause-puts g t c = λ same ko asked.
+    let d = (goal.at.write_play-returns-in-Legal-clause-puts g t c).After-make in
     let shown = g.L.Look.shows c.args.board.now.look in
-    let agrees = subst (Agrees (g.L.Look.seen c.make.new.board.look)) c.make.ensures.shown
-    (g.met.L.Look.holds c.make.new.board.look) in
-    let next = under (next_turn c.args.turn) ko in
-    play_written c.args.plies c.args.won (under c.args.turn ko) (position_on g.L.Look.shows c.args.board.now) c.args.p
-    (Some next) next (after shown c.make.new.board.moves) c.args.out.now c.write-done.new.out
-    c.write-done.result ((rw c.in-Legal.is at (c.make.ensures.over shown agrees)) ko) refl
-    (subst (λ (p : BoardState). Puts c.args.out.now (behind_blanks (first_words c.args.plies c.args.won next
-    (after p c.make.new.board.moves))) c.write-done.new.out c.write-done.result) c.make.ensures.shown
-    (rw c.next.ensures at (c.write-done.ensures.puts same ko asked)))
+    child_written g t d (under c.args.turn ko) (under (next_turn c.args.turn) ko) c.write-done.new.out
+    c.write-done.result ((rw c.in-Legal.is at (c.make.ensures.over shown (shown_agrees g t d))) ko)
+    (rw c.next.ensures at (c.write-done.ensures.puts same ko asked))
 
 -- the ban alone forbids it, and the allowances differ
 pub write_play-returns-then-not-is_own_alone-clause-puts : goal.write_play-returns-then-not-is_own_alone-clause-puts
@@ -82,31 +97,24 @@ write_play-returns-then-not-is_own_alone-clause-one g t c = λ one e.
 -- the own allowance alone is asked for, and it is spent
 pub write_play-returns-else-not-is_own_alone-clause-puts : goal.write_play-returns-else-not-is_own_alone-clause-puts
 write_play-returns-else-not-is_own_alone-clause-puts g t c = λ same ko asked.
+    let d = (goal.at.write_play-returns-else-not-is_own_alone-clause-puts g t c).After-make in
     let shown = g.L.Look.shows c.args.board.now.look in
-    let here = position_on g.L.Look.shows c.args.board.now in
-    let agrees = subst (Agrees (g.L.Look.seen c.make.new.board.look)) c.make.ensures.shown
-    (g.met.L.Look.holds c.make.new.board.look) in
     let turn = c.args.turn in
-    let next = under (next_turn turn) neither_may in
     let own = alone_own turn.attacker_to_play c.args.asked
     (not_false _ (sym c.is_own_alone.ensures ∙ c.if-not-is_own_alone.false)) ko asked in
     let done = c.write-done-in-Allowed in
     let there = ap (λ s. has s neither_may) c.neither_alone-neither.ensures in
-    subst (λ (k : Ko). Puts c.args.out.now (behind_blanks (write_each (first_words c.args.plies c.args.won)
-    (option_to_list (child_of (under turn k) here c.args.p)))) done.new.out done.result) (sym own)
-    (play_written c.args.plies c.args.won (under turn (own_ko turn.attacker_to_play)) here c.args.p (Some next) next
-    (after shown c.make.new.board.moves) c.args.out.now done.new.out done.result
-    (rw c.in-Allowed.is at (c.make.ensures.over shown agrees)).0 refl
-    (subst (λ (p : BoardState). Puts c.args.out.now (behind_blanks (first_words c.args.plies c.args.won next
-    (after p c.make.new.board.moves))) done.new.out done.result) c.make.ensures.shown
-    (rw c.next-in-Allowed.ensures at (done.ensures.puts same neither_may there))))
+    subst (λ (k : Ko). Puts c.args.out.now (play_words c.args.plies c.args.won (under turn k)
+    (position_on g.L.Look.shows c.args.board.now) c.args.p) done.new.out done.result) (sym own)
+    (child_written g t d (under turn (own_ko turn.attacker_to_play)) (under (next_turn turn) neither_may) done.new.out
+    done.result (rw c.in-Allowed.is at (c.make.ensures.over shown (shown_agrees g t d))).0
+    (rw c.next-in-Allowed.ensures at (done.ensures.puts same neither_may there)))
 
 -- it cannot be made
 pub write_play-returns-in-Not-clause-puts : goal.write_play-returns-in-Not-clause-puts
 write_play-returns-in-Not-clause-puts g t c = λ same ko asked.
     let shown = g.L.Look.shows c.args.board.now.look in
-    let agrees = subst (Agrees (g.L.Look.seen c.make.new.board.look)) c.make.ensures.shown
-    (g.met.L.Look.holds c.make.new.board.look) in
+    let agrees = shown_agrees g t (goal.at.write_play-returns-in-Not-clause-puts g t c).After-make in
     nothing_put c.args.out.now _ (refused_written c.args.plies c.args.won (under c.args.turn ko)
     (position_on g.L.Look.shows c.args.board.now) c.args.p None (after shown c.make.new.board.moves)
     ((rw c.in-Not.is at (c.make.ensures.over shown agrees)) ko
@@ -134,29 +142,32 @@ write_plays-write_play-requires g t c κs within =
     let target = point_after i.stays c.args.turn.target c.requires.target in
     search rules
 
+-- what is left to write from the next candidate on is what its play gives, and what is left behind it
+left_words : (g : Over) (t : ℕ) (c : write_plays-After-write_play g t) (ko : Ko)
+    → let here = position_on g.L.Look.shows c.args.board.now in
+    words_from c.args.plies c.args.won (under c.args.turn ko) here c.plays.from
+    ≡ play_words c.args.plies c.args.won (under c.args.turn ko) here c.in-Some.p
+    ++ words_from c.args.plies c.args.won (under c.args.turn ko) here (c.in-Some.p + 1)
+left_words g t c ko =
+    let found = c.in-Some.ensures.some in
+    next_words c.args.plies c.args.won (under c.args.turn ko) (position_on g.L.Look.shows c.args.board.now) c.plays.from
+    c.in-Some.p found.0 (sym (c.candidates-candidates.ensures.answer c.in-Some.p) ∙ found.2)
+    (λ k lo hi. sym (c.candidates-candidates.ensures.answer k) ∙ found.3 k lo hi)
+
 -- there is no room for the proof after the next play
 pub write_plays-returns-in_err-alike-clause-puts : goal.write_plays-returns-in_err-alike-clause-puts
 write_plays-returns-in_err-alike-clause-puts g t c = λ same ko asked.
+    let d = (goal.at.write_plays-returns-in_err-alike-clause-puts g t c).After-write_play in
     let here = position_on g.L.Look.shows c.args.board.now in
     let node = under c.args.turn ko in
-    let write = first_words c.args.plies c.args.won in
-    let found = c.in-Some.ensures.some in
-    let play = behind_blanks (write_each write (option_to_list (child_of node here c.in-Some.p))) in
-    let rest = behind_blanks (write_each write (filter_map (child_of node here)
-    (filter (is_candidate_on c.args.turn here)
-    (range_with_len (c.in-Some.p + 1) (here.size * here.size - (c.in-Some.p + 1)))))) in
+    let play = play_words c.args.plies c.args.won node here c.in-Some.p in
+    let rest = words_from c.args.plies c.args.won node here (c.in-Some.p + 1) in
     puts_same c.plays.out c.args.out.now c.write_play.new.out (play ++ rest) _ c.from_residual.result
-    (sym (ap (λ m. c.plays.out ++ m) (walk_words write (child_of node here)
-    (is_candidate_on c.args.turn here) (here.size * here.size) c.plays.from c.in-Some.p found.0
-    (candidate_at_on (under c.args.turn neither_may) here c.in-Some.p
-    (sym (c.candidates-candidates.ensures.answer c.in-Some.p) ∙ found.2))
-    (sym (c.candidates-candidates.ensures.answer c.in-Some.p) ∙ found.2)
-    (λ k lo hi. sym (c.candidates-candidates.ensures.answer k) ∙ found.3 k lo hi)))
-    ∙ c.plays.invariant.text ko asked)
+    (sym (ap (λ m. c.plays.out ++ m) (left_words g t d ko)) ∙ c.plays.invariant.text ko asked)
     (puts_up_told c.plays.out c.write_play.new.out c.write_play.new.out play rest c.in_err-alike.field-0.0
     c.from_residual.result c.from_residual.ensures.1
-    (subst (λ (p : BoardState). Puts {T = Bool} c.plays.out (behind_blanks (write_each write
-    (option_to_list (child_of node p c.in-Some.p)))) c.write_play.new.out (Err c.in_err-alike.field-0.0))
+    (subst (λ (pos : BoardState). Puts {T = Bool} c.plays.out (play_words c.args.plies c.args.won node pos c.in-Some.p)
+    c.write_play.new.out (Err c.in_err-alike.field-0.0))
     (here_stays g.L.Look.shows g.L.Look.seen c.args.board.now c.plays.board c.plays.invariant.stays)
     (c.in_err-alike.ensures.puts (λ e. cc) ko asked)))
 
@@ -172,33 +183,22 @@ write_plays-returns-then-not-alike-clause-one g t c = λ one e.
 -- what is written behind the next candidate, and what is left
 pub write_plays-plays-preserved : goal.write_plays-plays-preserved
 write_plays-plays-preserved g t c =
+    let d = (goal.at.write_plays-plays-preserved g t c).After-write_play in
     let here = position_on g.L.Look.shows c.args.board.now in
-    let write = first_words c.args.plies c.args.won in
     let i = c.plays.invariant in
-    let found = c.in-Some.ensures.some in
     let puts = c.in_ok-alike.ensures.puts (yes_told c.in_ok-alike.alike c.if-not-alike.false) in
     let one = some_of c.args.asked c.requires.some in
+    let same = here_stays g.L.Look.shows g.L.Look.seen c.args.board.now c.plays.board i.stays in
     record {
       stays = Stays-trans i.stays c.in_ok-alike.ensures.stays;
       table = c.in_ok-alike.ensures.table;
       text = λ ko asked.
           let node = under c.args.turn ko in
-          let play = behind_blanks (write_each write (option_to_list (child_of node here c.in-Some.p))) in
-          let rest = behind_blanks (write_each write (filter_map (child_of node here)
-          (filter (is_candidate_on c.args.turn here)
-          (range_with_len (c.in-Some.p + 1) (here.size * here.size - (c.in-Some.p + 1)))))) in
-          let put = subst (λ (p : BoardState). c.write_play.new.out ≡ c.plays.out ++ behind_blanks (write_each write
-          (option_to_list (child_of node p c.in-Some.p))))
-          (here_stays g.L.Look.shows g.L.Look.seen c.args.board.now c.plays.board i.stays) (puts ko asked).0 in
-          ap (λ m. m ++ rest) put
-          ∙ append_assoc c.plays.out play rest
-          ∙ sym (ap (λ m. c.plays.out ++ m) (walk_words write (child_of node here)
-          (is_candidate_on c.args.turn here) (here.size * here.size) c.plays.from c.in-Some.p
-          found.0 (candidate_at_on (under c.args.turn neither_may) here c.in-Some.p
-          (sym (c.candidates-candidates.ensures.answer c.in-Some.p) ∙ found.2))
-          (sym (c.candidates-candidates.ensures.answer c.in-Some.p) ∙ found.2)
-          (λ k lo hi. sym (c.candidates-candidates.ensures.answer k) ∙ found.3 k lo hi)))
-          ∙ i.text ko asked;
+          let rest = words_from c.args.plies c.args.won node here (c.in-Some.p + 1) in
+          ap (λ m. m ++ rest) (subst (λ (pos : BoardState). c.write_play.new.out
+          ≡ c.plays.out ++ play_words c.args.plies c.args.won node pos c.in-Some.p) same (puts ko asked).0)
+          ∙ append_assoc c.plays.out (play_words c.args.plies c.args.won node here c.in-Some.p) rest
+          ∙ sym (ap (λ m. c.plays.out ++ m) (left_words g t d ko)) ∙ i.text ko asked;
       bytes = (puts one.0 one.1).1;
     }
 
@@ -245,59 +245,53 @@ write_move-returns-in-Nothing-clause-puts g t c = λ same ko asked.
     (position_on g.L.Look.shows c.args.board.now) ((rw c.in-Nothing.is at c.first_alike.ensures.first) ko asked))
     c.requires.bytes
 
+-- the board's size is that of the position after the moves
+size_is : (g : Over) (t : ℕ) (c : write_move-After-size g t)
+    → c.size.result ≡ (position_on g.L.Look.shows c.args.board.now).size
+size_is g t c = c.size.ensures ∙ ap (λ (p : BoardState). p.size) c.first_alike.ensures.stays.shown
+    ∙ sym (size-after (g.L.Look.shows c.args.board.now.look) c.args.board.now.moves)
+
 -- there is no room for its word
 pub write_move-returns-in_err-put_move-in-Move-clause-puts : goal.write_move-returns-in_err-put_move-in-Move-clause-puts
 write_move-returns-in_err-put_move-in-Move-clause-puts g t c = λ same ko asked.
-    let here = position_on g.L.Look.shows c.args.board.now in
-    let first = (rw c.in-Move.is at c.first_alike.ensures.first) ko asked in
-    move_refused c.args.plies c.args.won (under c.args.turn ko) here c.size.result
-    c.in-Move.spot c.args.out.now c.put_move.new.out c.put_move.new.out c.in_err-put_move-in-Move.field-0.0
-    c.from_residual.result
-    (c.size.ensures ∙ ap (λ (p : BoardState). p.size) c.first_alike.ensures.stays.shown
-    ∙ sym (size-after (g.L.Look.shows c.args.board.now.look) c.args.board.now.moves))
-    first c.from_residual.ensures.1 c.in_err-put_move-in-Move.ensures
+    let d = (goal.at.write_move-returns-in_err-put_move-in-Move-clause-puts g t c).After-size in
+    move_refused c.args.plies c.args.won (under c.args.turn ko) (position_on g.L.Look.shows c.args.board.now)
+    c.size.result c.in-Move.spot c.args.out.now c.put_move.new.out c.put_move.new.out
+    c.in_err-put_move-in-Move.field-0.0 c.from_residual.result (size_is g t d)
+    ((rw c.in-Move.is at c.first_alike.ensures.first) ko asked) c.from_residual.ensures.1
+    c.in_err-put_move-in-Move.ensures
 
 -- it is a play
 pub write_move-returns-in-At-clause-puts : goal.write_move-returns-in-At-clause-puts
 write_move-returns-in-At-clause-puts g t c = λ same ko asked.
+    let d = (goal.at.write_move-returns-in-At-clause-puts g t c).After-size in
     let here = position_on g.L.Look.shows c.args.board.now in
     let node = under c.args.turn ko in
-    let write = first_words c.args.plies c.args.won in
-    let first = (rw c.in-Move.is at c.first_alike.ensures.first) ko asked in
-    let is = ap Some (sym c.in-At.is) ∙ first in
+    let is = ap Some (sym c.in-At.is) ∙ (rw c.in-Move.is at c.first_alike.ensures.first) ko asked in
     move_written c.args.plies c.args.won node here c.size.result (At c.in-At.p) c.args.out.now
-    c.put_move.new.out c.write_play.new.out
-    (behind_blanks (write_each write (option_to_list (child_of node here c.in-At.p)))) c.write_play.result
-    (c.size.ensures ∙ ap (λ (p : BoardState). p.size) c.first_alike.ensures.stays.shown
-    ∙ sym (size-after (g.L.Look.shows c.args.board.now.look) c.args.board.now.moves)) is
-    (c.in_ok-put_move-in-Move.ensures.0
+    c.put_move.new.out c.write_play.new.out (play_words c.args.plies c.args.won node here c.in-At.p)
+    c.write_play.result (size_is g t d) is (c.in_ok-put_move-in-Move.ensures.0
     ∙ ap (λ (s : Spot). c.args.out.now ++ behind_blanks (move_word c.size.result s ∷ [])) c.in-At.is)
     (play_child c.args.plies c.args.won node here c.in-At.p is)
-    (subst (λ (p : BoardState). Puts c.put_move.new.out (behind_blanks (write_each write
-    (option_to_list (child_of node p c.in-At.p)))) c.write_play.new.out c.write_play.result)
-    (here_stays g.L.Look.shows g.L.Look.seen c.args.board.now c.first_alike.new.board c.first_alike.ensures.stays)
-    (c.write_play.ensures.puts same ko asked))
+    (subst (λ (p : BoardState). Puts c.put_move.new.out (play_words c.args.plies c.args.won node p c.in-At.p)
+    c.write_play.new.out c.write_play.result) (here_stays g.L.Look.shows g.L.Look.seen c.args.board.now
+    c.first_alike.new.board c.first_alike.ensures.stays) (c.write_play.ensures.puts same ko asked))
 
 -- it is the pass
 pub write_move-returns-in-Pass-clause-puts : goal.write_move-returns-in-Pass-clause-puts
 write_move-returns-in-Pass-clause-puts g t c = λ same ko asked.
+    let d = (goal.at.write_move-returns-in-Pass-clause-puts g t c).After-size in
     let here = position_on g.L.Look.shows c.args.board.now in
     let node = under c.args.turn ko in
-    let write = first_words c.args.plies c.args.won in
-    let first = (rw c.in-Move.is at c.first_alike.ensures.first) ko asked in
-    let is = ap Some (sym c.in-Pass.is) ∙ first in
-    move_written c.args.plies c.args.won node here c.size.result Pass c.args.out.now
-    c.put_move.new.out c.write_pass.new.out
-    (behind_blanks (write_each write (pass_children node here))) c.write_pass.result
-    (c.size.ensures ∙ ap (λ (p : BoardState). p.size) c.first_alike.ensures.stays.shown
-    ∙ sym (size-after (g.L.Look.shows c.args.board.now.look) c.args.board.now.moves)) is
+    let is = ap Some (sym c.in-Pass.is) ∙ (rw c.in-Move.is at c.first_alike.ensures.first) ko asked in
+    move_written c.args.plies c.args.won node here c.size.result Pass c.args.out.now c.put_move.new.out
+    c.write_pass.new.out (pass_words c.args.plies c.args.won node here) c.write_pass.result (size_is g t d) is
     (c.in_ok-put_move-in-Move.ensures.0
     ∙ ap (λ (s : Spot). c.args.out.now ++ behind_blanks (move_word c.size.result s ∷ [])) c.in-Pass.is)
     (pass_child c.args.plies c.args.won node here)
-    (subst (λ (p : BoardState). Puts c.put_move.new.out (behind_blanks (write_each write
-    (pass_children node p))) c.write_pass.new.out c.write_pass.result)
-    (here_stays g.L.Look.shows g.L.Look.seen c.args.board.now c.first_alike.new.board c.first_alike.ensures.stays)
-    (c.write_pass.ensures.puts same ko asked))
+    (subst (λ (p : BoardState). Puts c.put_move.new.out (pass_words c.args.plies c.args.won node p)
+    c.write_pass.new.out c.write_pass.result) (here_stays g.L.Look.shows g.L.Look.seen c.args.board.now
+    c.first_alike.new.board c.first_alike.ensures.stays) (c.write_pass.ensures.puts same ko asked))
 
 -- no ply is left
 pub write-returns-then-plies-eq0-clause-puts : goal.write-returns-then-plies-eq0-clause-puts
@@ -335,20 +329,27 @@ write-returns-then-is_wanted-clause-puts g t c = λ same ko asked.
     (here_stays g.L.Look.shows g.L.Look.seen c.args.board.now c.is_settled.new.board c.is_settled.ensures.stays)
     (c.write_move.ensures.puts same ko asked))
 
+-- where the claim is neither settled nor wanted, its words are the star, those after the pass and those after the plays
+star_words : (g : Over) (t : ℕ) (c : write-After-put_word g t) (ko : Ko)
+    → let pos = position_on g.L.Look.shows c.args.board.now in
+    behind_blanks (first_words c.args.plies c.args.won (under c.args.turn ko) pos) ≡ behind_blanks (codes "*" ∷ [])
+    ++ (pass_words (c.args.plies - 1) c.args.won (under c.args.turn ko) pos
+    ++ plays_words (c.args.plies - 1) c.args.won (under c.args.turn ko) pos)
+star_words g t c ko =
+    let pos = position_on g.L.Look.shows c.args.board.now in
+    each_words c.args.plies c.args.won (under c.args.turn ko) pos c.if-plies-eq0.false
+    (sym (settled_alike c.args.plies c.args.won c.args.turn ko pos c.node_of-node.result c.node_of-node.ensures)
+    ∙ sym c.is_settled.ensures.answer ∙ c.if-is_settled.false)
+    (sym (ap (is_wanted c.args.won) c.node_of-node.ensures) ∙ sym c.is_wanted.ensures ∙ c.if-is_wanted.false)
+
 -- there is no room for the star
 pub write-returns-in_err-put_word-clause-puts : goal.write-returns-in_err-put_word-clause-puts
 write-returns-in_err-put_word-clause-puts g t c = λ same ko asked.
     let pos = position_on g.L.Look.shows c.args.board.now in
-    let node = under c.args.turn ko in
-    let write = first_words (c.args.plies - 1) c.args.won in
-    let star = behind_blanks (codes "*" ∷ []) in
-    let passed = behind_blanks (write_each write (pass_children node pos)) in
-    let played = behind_blanks (write_each write (play_children node pos)) in
-    rw (each_words c.args.plies c.args.won node pos c.if-plies-eq0.false
-    (sym (settled_alike c.args.plies c.args.won c.args.turn ko pos c.node_of-node.result c.node_of-node.ensures)
-    ∙ sym c.is_settled.ensures.answer ∙ c.if-is_settled.false)
-    (sym (ap (is_wanted c.args.won) c.node_of-node.ensures) ∙ sym c.is_wanted.ensures ∙ c.if-is_wanted.false))
-    (puts_up c.args.out.now c.put_word.new.out c.put_word.new.out star (passed ++ played)
+    let passed = pass_words (c.args.plies - 1) c.args.won (under c.args.turn ko) pos in
+    let played = plays_words (c.args.plies - 1) c.args.won (under c.args.turn ko) pos in
+    rw (star_words g t (goal.at.write-returns-in_err-put_word-clause-puts g t c).After-put_word ko)
+    (puts_up c.args.out.now c.put_word.new.out c.put_word.new.out (behind_blanks (codes "*" ∷ [])) (passed ++ played)
     c.in_err-put_word.field-0.0 c.from_residual.result c.from_residual.ensures.1 c.in_err-put_word.ensures)
 
 -- there is none for the proof after the pass
@@ -356,21 +357,15 @@ pub write-returns-in_err-alike-clause-puts : goal.write-returns-in_err-alike-cla
 write-returns-in_err-alike-clause-puts g t c = λ same ko asked.
     let pos = position_on g.L.Look.shows c.args.board.now in
     let node = under c.args.turn ko in
-    let write = first_words (c.args.plies - 1) c.args.won in
-    let star = behind_blanks (codes "*" ∷ []) in
-    let passed = behind_blanks (write_each write (pass_children node pos)) in
-    let played = behind_blanks (write_each write (play_children node pos)) in
-    rw (each_words c.args.plies c.args.won node pos c.if-plies-eq0.false
-    (sym (settled_alike c.args.plies c.args.won c.args.turn ko pos c.node_of-node.result c.node_of-node.ensures)
-    ∙ sym c.is_settled.ensures.answer ∙ c.if-is_settled.false)
-    (sym (ap (is_wanted c.args.won) c.node_of-node.ensures) ∙ sym c.is_wanted.ensures ∙ c.if-is_wanted.false))
-    (puts_both c.args.out.now c.put_word.new.out c.write_pass.new.out star (passed ++ played)
-    c.from_residual-in_err-alike.result c.in_ok-put_word.ensures.0
+    let passed = pass_words (c.args.plies - 1) c.args.won node pos in
+    let played = plays_words (c.args.plies - 1) c.args.won node pos in
+    rw (star_words g t (goal.at.write-returns-in_err-alike-clause-puts g t c).After-put_word ko)
+    (puts_both c.args.out.now c.put_word.new.out c.write_pass.new.out (behind_blanks (codes "*" ∷ []))
+    (passed ++ played) c.from_residual-in_err-alike.result c.in_ok-put_word.ensures.0
     (puts_up_told c.put_word.new.out c.write_pass.new.out c.write_pass.new.out passed played
-    c.in_err-alike.field-0.0 c.from_residual-in_err-alike.result
-    c.from_residual-in_err-alike.ensures.1
-    (subst (λ (p : BoardState). Puts {T = Bool} c.put_word.new.out (behind_blanks (write_each write
-    (pass_children node p))) c.write_pass.new.out (Err c.in_err-alike.field-0.0))
+    c.in_err-alike.field-0.0 c.from_residual-in_err-alike.result c.from_residual-in_err-alike.ensures.1
+    (subst (λ (p : BoardState). Puts {T = Bool} c.put_word.new.out (pass_words (c.args.plies - 1) c.args.won node p)
+    c.write_pass.new.out (Err c.in_err-alike.field-0.0))
     (here_stays g.L.Look.shows g.L.Look.seen c.args.board.now c.is_settled.new.board c.is_settled.ensures.stays)
     (c.in_err-alike.ensures.puts (λ e. cc) ko asked))))
 
@@ -395,25 +390,18 @@ pub write-returns-clause-puts : goal.write-returns-clause-puts
 write-returns-clause-puts g t c = λ same ko asked.
     let pos = position_on g.L.Look.shows c.args.board.now in
     let node = under c.args.turn ko in
-    let write = first_words (c.args.plies - 1) c.args.won in
-    let settled = here_stays g.L.Look.shows g.L.Look.seen c.args.board.now c.is_settled.new.board
+    let passed = pass_words (c.args.plies - 1) c.args.won node in
+    let played = plays_words (c.args.plies - 1) c.args.won node in
+    let looked = here_stays g.L.Look.shows g.L.Look.seen c.args.board.now c.is_settled.new.board
     c.is_settled.ensures.stays in
-    let passed = here_stays g.L.Look.shows g.L.Look.seen c.is_settled.new.board c.write_pass.new.board
-    c.write_pass.ensures.stays ∙ settled in
+    let walked = here_stays g.L.Look.shows g.L.Look.seen c.is_settled.new.board c.write_pass.new.board
+    c.write_pass.ensures.stays ∙ looked in
     let first = c.in_ok-alike.ensures.puts (yes_told c.in_ok-alike.alike c.if-not-alike.false) ko asked in
-    rw (each_words c.args.plies c.args.won node pos c.if-plies-eq0.false
-    (sym (settled_alike c.args.plies c.args.won c.args.turn ko pos c.node_of-node.result c.node_of-node.ensures)
-    ∙ sym c.is_settled.ensures.answer ∙ c.if-is_settled.false)
-    (sym (ap (is_wanted c.args.won) c.node_of-node.ensures) ∙ sym c.is_wanted.ensures ∙ c.if-is_wanted.false))
+    rw (star_words g t (goal.at.write-returns-clause-puts g t c).After-put_word ko)
     (puts_both c.args.out.now c.put_word.new.out c.write_plays.new.out (behind_blanks (codes "*" ∷ []))
-    (behind_blanks (write_each write (pass_children node pos))
-    ++ behind_blanks (write_each write (play_children node pos))) c.write_plays.result
-    c.in_ok-put_word.ensures.0
-    (puts_both c.put_word.new.out c.write_pass.new.out c.write_plays.new.out
-    (behind_blanks (write_each write (pass_children node pos)))
-    (behind_blanks (write_each write (play_children node pos))) c.write_plays.result
-    (subst (λ (p : BoardState). c.write_pass.new.out ≡ c.put_word.new.out ++ behind_blanks (write_each write
-    (pass_children node p))) settled first.0)
-    (subst (λ (p : BoardState). Puts c.write_pass.new.out (behind_blanks (write_each write
-    (play_children node p))) c.write_plays.new.out c.write_plays.result) passed
+    (passed pos ++ played pos) c.write_plays.result c.in_ok-put_word.ensures.0
+    (puts_both c.put_word.new.out c.write_pass.new.out c.write_plays.new.out (passed pos) (played pos)
+    c.write_plays.result
+    (subst (λ (p : BoardState). c.write_pass.new.out ≡ c.put_word.new.out ++ passed p) looked first.0)
+    (subst (λ (p : BoardState). Puts c.write_pass.new.out (played p) c.write_plays.new.out c.write_plays.result) walked
     (c.write_plays.ensures.puts same ko asked))))
