@@ -5,13 +5,13 @@ use Rattle.dfa_core.specs.Tables.{Flat, rows_in, IsFlat}
 use Rattle.dfa_core.specs.RowKinds.{kind_with, AreKinds}
 use Rattle.dfa_core.proofs.Tables.{flat_with, rows_in-grown, IsFlat-grown, length-rows}
 use Rattle.dfa_core.proofs.RowKinds.{AreKinds-more}
+use Rattle.dfa_core.proofs.ShownTables.{table_lists}
 use Rattle.dfa_core.proofs.table.Table.add_row.Goals.{After-push_reserved-3}
 use Rattle.dfa_core.proofs.table.Table.add_row.Goals as goal
 
 -- the lists before
 abbrev old_table : After-push_reserved-3 → Flat
-old_table c = flat_with c.self.inside.targets.items c.self.inside.starts.items c.self.inside.numbers.items
-    c.self.inside.depths.items
+old_table c = table_lists c.self.inside
 
 -- the lists with one row more
 abbrev new_table : After-push_reserved-3 → Flat
