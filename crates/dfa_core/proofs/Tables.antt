@@ -162,13 +162,13 @@ module _ (old new : Flat) (ts mid first second : List ℕ) (d n : ℕ) (good : I
       ap (λ k. old.starts ++ k ∷ []) (ap length all_numbers ∙ sym count) ∙ sym starts in
       λ i. record { targets = sym targets i; starts = begins i; numbers = all_numbers i; depths = sym depths i }
 
-  -- where each list has grown by one row, that row comes behind the others
-  pub rows_in-grown : rows_in new ≡ rows_in old ++ (record { targets = ts; numbers = first ++ second; depth = d }) ∷ []
-  rows_in-grown = ap rows_in (sym grown) ∙ rows_in-more old ts (first ++ second) d good four
-
-  -- where each list has grown by one row, the lists still belong together
-  pub IsFlat-grown : IsFlat new
-  IsFlat-grown = subst IsFlat grown (IsFlat-more old ts (first ++ second) d good four)
+  -- where each list has grown by one row, that row comes behind the others, and the lists still belong together
+  pub grown-rows : (rows_in new ≡ rows_in old ++ (record { targets = ts; numbers = first ++ second; depth = d }) ∷ [])
+      × IsFlat new
+  grown-rows = (
+    ap rows_in (sym grown) ∙ rows_in-more old ts (first ++ second) d good four,
+    subst IsFlat grown (IsFlat-more old ts (first ++ second) d good four),
+  )
 
 -- a table without rows
 pub rows_in-none : (t : Flat) → t.depths ≡ [] → rows_in t ≡ []
