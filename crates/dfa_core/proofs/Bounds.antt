@@ -1,10 +1,10 @@
 -- Drawn cells lie within the largest offset of the anchor, by rows and by columns.
 use Rattle.std.proofs.Common.{◌≡◌, ℕ, ◌+◌, ◌<◌, Bool, true, false, ◌&&◌, cond, eqb, ltb, Option, Some, None, position}
-use Rattle.std.proofs.Common.{ℤ, pos, negsuc, ◌-ℤ◌, ◌≤ℤ◌, neg_ℤ, refl, sym, ap, ◌∙◌, subst, arith, ◌⊎◌, inl, inr}
+use Rattle.std.proofs.Common.{ℤ, pos, negsuc, ◌-ℤ◌, ◌≤ℤ◌, neg_ℤ, refl, ap, arith}
 use Rattle.std.proofs.lemmas.Int.{ints}
 use Rattle.std.proofs.lemmas.Nat.{div_below}
 use Rattle.std.proofs.lemmas.List.Quantifiers.{position-Some}
-use Rattle.std.proofs.lemmas.Bool.{cases_Bool, false≢true, and_parts, eqb-true, ltb-true}
+use Rattle.std.proofs.lemmas.Bool.{false≢true, and_parts, eqb-true, ltb-true}
 use Rattle.go_rules.specs.Transform.{IsNear}
 use Rattle.pat_types.specs.declared.letter.Letter.TheVariants.{Friend}
 use Rattle.pat_types.specs.declared.cell.Strip.{Strip}
@@ -25,38 +25,30 @@ pub record IsAround (n : ℕ) (before after : Bool) (z : ℤ) : Type 0 where
   pub low : neg_ℤ (pos (drawn_strip before)) ≤ℤ z
   pub high : z ≤ℤ (pos (n + drawn_strip after) -ℤ pos 1)
 
+-- behind the letters there is no strip but an edge that is drawn there
+strip_behind : (n k : ℕ) (after within edge : Bool) → ltb k n ≡ within → (eqb k n && after) ≡ edge
+    → is_strip (cond within (Crosses k) (cond edge Edge Beyond)) ≡ true → k < n + drawn_strip after
+strip_behind n k after true edge low at e = omega (arith, ltb-true k n low)
+strip_behind n k after false true low at e =
+    let parts = and_parts (eqb k n) after at in omega (arith, eqb-true k n parts.0, ap drawn_strip parts.1)
+strip_behind n k after false false low at e = absurd (false≢true e)
+
+-- nor before them
+strip_before : (k : ℕ) (before edge : Bool) → (eqb k 0 && before) ≡ edge → is_strip (cond edge Edge Beyond) ≡ true
+    → (k ≡ 0) × (drawn_strip before ≡ 1)
+strip_before k before true at e =
+    let parts = and_parts (eqb k 0) before at in (eqb-true k 0 parts.0, ap drawn_strip parts.1)
+strip_before k before false at e = absurd (false≢true e)
+
 -- a strip that crosses the letters or is an edge is around them
 pub strip_around : (n : ℕ) (before after : Bool) (z : ℤ) → is_strip (strip_at n before after z) ≡ true
     → IsAround n before after z
 strip_around n before after (pos k) e =
-    elim (cases_Bool (ltb k n)) [
-      | inl low ↦ record { low = omega (arith, ints); high = omega (arith, ints, ltb-true k n low) }
-      | inr high ↦ at_end after (cases_Bool (eqb k n && after)) high
-    ]
-  where
-    at_end : (b : Bool) → ((eqb k n && after) ≡ true) ⊎ ((eqb k n && after) ≡ false) → ltb k n ≡ false
-        → IsAround n before after (pos k)
-    at_end b (inl edge) high =
-        let parts = and_parts (eqb k n) after edge in
-        let same = eqb-true k n parts.0 in
-        record {
-          low = omega (arith, ints);
-          high = subst (λ a. pos k ≤ℤ (pos (n + drawn_strip a) -ℤ pos 1)) (sym parts.1) (omega (arith, ints, same));
-        }
-    at_end b (inr none) high =
-        absurd (false≢true (sym (ap (λ t. is_strip (cond t (Crosses k) (cond (eqb k n && after) Edge Beyond))) high
-        ∙ ap (λ t. is_strip (cond t Edge Beyond)) none) ∙ e))
+    let behind = strip_behind n k after (ltb k n) (eqb k n && after) refl refl e in
+    record { low = omega (arith, ints); high = omega (arith, ints, behind) }
 strip_around n before after (negsuc k) e =
-    elim (cases_Bool (eqb k 0 && before)) [
-      | inl edge ↦
-          let parts = and_parts (eqb k 0) before edge in
-          let same = eqb-true k 0 parts.0 in
-          record {
-            low = subst (λ b. neg_ℤ (pos (drawn_strip b)) ≤ℤ negsuc k) (sym parts.1) (omega (arith, ints, same));
-            high = omega (arith, ints);
-          }
-      | inr none ↦ absurd (false≢true (sym (ap (λ t. is_strip (cond t Edge Beyond)) none) ∙ e))
-    ]
+    let edge = strip_before k before (eqb k 0 && before) refl e in
+    record { low = omega (arith, ints, edge.0, edge.1); high = omega (arith, ints) }
 
 -- both strips that meet at a drawn cell cross the letters or are edges
 pub drawn_strips : (p : Pattern) (row column : Strip) → is_drawn (drawn_by p row column) ≡ true

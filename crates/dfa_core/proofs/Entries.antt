@@ -80,7 +80,8 @@ entries_are t entries kinds has long good = record {
 }
 
 -- a list that was written whole over another is all that is left of both
-pub written_whole : (n : ℕ) (new old : List ℕ) → length new ≡ n → take n (new ++ drop (length new) old) ≡ new
+pub written_whole : {X : Type 0} (n : ℕ) (new old : List X) → length new ≡ n
+    → take n (new ++ drop (length new) old) ≡ new
 written_whole n new old long = ap (λ k. take k (new ++ drop (length new) old)) (sym long)
     ∙ take-append_seam new (drop (length new) old)
 

@@ -4,6 +4,7 @@ use Rattle.std.proofs.Common.{get_or, refl, sym, ap, ◌∙◌, subst, arith, in
 use Rattle.std.proofs.lemmas.Bool.{cases_lt}
 use Rattle.std.proofs.lemmas.List.{length_push, get_or_push, get_or_append_left, take-append-le, drop-append-le}
 use Rattle.std.proofs.lemmas.List.{take_all, append-nil, append_assoc, length-take-le, get_or-take, get_or-drop}
+use Rattle.std.proofs.lemmas.List.{take_more, take-append-drop}
 use Rattle.std.proofs.lemmas.Grind.{flat_map-append}
 use Rattle.std.proofs.Math.Seq.{drop-append_seam, take-add}
 use Rattle.dfa_core.specs.Automata.{Row, no_row, row_at, HaveFourTargets}
@@ -161,13 +162,13 @@ module _ (old new : Flat) (ts mid first second : List ℕ) (d n : ℕ) (good : I
       ap (λ k. old.starts ++ k ∷ []) (ap length all_numbers ∙ sym count) ∙ sym starts in
       λ i. record { targets = sym targets i; starts = begins i; numbers = all_numbers i; depths = sym depths i }
 
-  -- where each list has grown by one row, that row comes behind the others
-  pub rows_in-grown : rows_in new ≡ rows_in old ++ (record { targets = ts; numbers = first ++ second; depth = d }) ∷ []
-  rows_in-grown = ap rows_in (sym grown) ∙ rows_in-more old ts (first ++ second) d good four
-
-  -- where each list has grown by one row, the lists still belong together
-  pub IsFlat-grown : IsFlat new
-  IsFlat-grown = subst IsFlat grown (IsFlat-more old ts (first ++ second) d good four)
+  -- where each list has grown by one row, that row comes behind the others, and the lists still belong together
+  pub grown-rows : (rows_in new ≡ rows_in old ++ (record { targets = ts; numbers = first ++ second; depth = d }) ∷ [])
+      × IsFlat new
+  grown-rows = (
+    ap rows_in (sym grown) ∙ rows_in-more old ts (first ++ second) d good four,
+    subst IsFlat grown (IsFlat-more old ts (first ++ second) d good four),
+  )
 
 -- a table without rows
 pub rows_in-none : (t : Flat) → t.depths ≡ [] → rows_in t ≡ []
@@ -234,6 +235,49 @@ module _ (t : Flat) (good : IsFlat t) where
       let four : k < 4 * r + 4 - 4 * r = omega arith in
       sym (ap (λ row. get_or row.targets k 0) (row_at-rows t r low)
       ∙ get_or-take (4 * r + 4 - 4 * r) (drop (4 * r) t.targets) k 0 four ∙ get_or-drop (4 * r) t.targets k 0)
+
+-- how many numbers the rows before row r have
+abbrev pub begin_of : List Row → ℕ → ℕ
+begin_of rows r = length (numbers_of (take r rows))
+
+module _ (rows : List Row) (r : ℕ) (low : r < length rows) where
+  -- the numbers of a row come behind those of the rows before
+  numbers-next : numbers_of (take (r + 1) rows) ≡ numbers_of (take r rows) ++ (row_at rows r).numbers
+  numbers-next = ap numbers_of (take_more rows r no_row low)
+      ∙ flat_map-append (λ row. row.numbers) (take r rows) (row_at rows r ∷ [])
+      ∙ ap (λ ns. numbers_of (take r rows) ++ ns) (append-nil (row_at rows r).numbers)
+
+  -- and before those of the rows behind it
+  numbers-front : numbers_of rows ≡ numbers_of (take (r + 1) rows) ++ numbers_of (drop (r + 1) rows)
+  numbers-front = ap numbers_of (sym (take-append-drop (r + 1) rows))
+      ∙ flat_map-append (λ row. row.numbers) (take (r + 1) rows) (drop (r + 1) rows)
+
+  -- so they end where their count and the begin say
+  numbers-end : begin_of rows r + length (row_at rows r).numbers ≡ begin_of rows (r + 1)
+  numbers-end = sym (ap length numbers-next ∙ length-append (numbers_of (take r rows)) (row_at rows r).numbers)
+
+  -- no earlier than they begin
+  pub numbers-ordered : begin_of rows r ≤ begin_of rows (r + 1)
+  numbers-ordered = omega (arith, numbers-end)
+
+  -- and within those of all rows
+  pub numbers-within : begin_of rows (r + 1) ≤ length (numbers_of rows)
+  numbers-within = omega (
+    arith,
+    ap length numbers-front,
+    length-append (numbers_of (take (r + 1) rows)) (numbers_of (drop (r + 1) rows)),
+  )
+
+  -- the part of all numbers from where a row's begin to where they end is those of the row
+  pub numbers-part : part_of (numbers_of rows) (begin_of rows r) (begin_of rows (r + 1)) ≡ (row_at rows r).numbers
+  numbers-part =
+      let part : List ℕ → List ℕ = λ ns. part_of ns (begin_of rows r) (begin_of rows (r + 1)) in
+      ap part numbers-front
+      ∙ part-old (numbers_of (take (r + 1) rows)) (numbers_of (drop (r + 1) rows)) (begin_of rows r)
+      (begin_of rows (r + 1)) numbers-ordered (omega arith)
+      ∙ ap part numbers-next
+      ∙ part-new (numbers_of (take r rows)) (row_at rows r).numbers (begin_of rows r) (begin_of rows (r + 1)) refl
+      numbers-end
 
 -- a row of the table has a depth
 pub row_below : (t : Flat) (rows : List Row) (r : ℕ) → rows_in t ≡ rows → r < length rows → r < length t.depths

@@ -330,8 +330,7 @@ impl ClosedTable {
         requires { row < length self.now }
         ensures { result.now ≡ (row_at self.now row).numbers }
     {
-        let from = self.starts[row as usize];
-        let to = self.starts[row as usize + 1];
-        between(&self.numbers, from, to)
+        let (from, to) = self.range(row);
+        between(self.numbers(), from, to)
     }
 }

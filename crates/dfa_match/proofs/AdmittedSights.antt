@@ -17,56 +17,37 @@ use Rattle.dfa_core.specs.declared.automaton.Seen.TheVariants.{Off}
 use Rattle.dfa_core.specs.Fits.{letter_admits, drawn_admits, is_friend, is_enemy, is_empty, is_off}
 use Rattle.dfa_match.specs.Sights.{seen_of, seen_at_place}
 
--- a friend's stone is seen where one stands
-friend_seen : (cell : Cell) (friend : Colour) → same_cell cell (stone_of friend) ≡ is_friend (seen_of friend cell)
-friend_seen empty_cell black = refl
-friend_seen empty_cell white = refl
-friend_seen black_stone black = refl
-friend_seen black_stone white = refl
-friend_seen white_stone black = refl
-friend_seen white_stone white = refl
+-- what a friend sees of a cell: his stones and his enemy's where they stand, an empty point where nothing stands, and
+-- that it is on the board
+record IsSeen (cell : Cell) (friend : Colour) : Type 0 where
+  friends : same_cell cell (stone_of friend) ≡ is_friend (seen_of friend cell)
+  enemies : same_cell cell (stone_of (other friend)) ≡ is_enemy (seen_of friend cell)
+  empty : same_cell cell empty_cell ≡ is_empty (seen_of friend cell)
+  on_board : is_off (seen_of friend cell) ≡ false
 
--- an enemy's stone is seen where one stands
-enemy_seen : (cell : Cell) (friend : Colour) → same_cell cell (stone_of (other friend)) ≡ is_enemy (seen_of friend cell)
-enemy_seen empty_cell black = refl
-enemy_seen empty_cell white = refl
-enemy_seen black_stone black = refl
-enemy_seen black_stone white = refl
-enemy_seen white_stone black = refl
-enemy_seen white_stone white = refl
-
--- an empty point is seen where nothing stands
-empty_seen : (cell : Cell) (friend : Colour) → same_cell cell empty_cell ≡ is_empty (seen_of friend cell)
-empty_seen empty_cell black = refl
-empty_seen empty_cell white = refl
-empty_seen black_stone black = refl
-empty_seen black_stone white = refl
-empty_seen white_stone black = refl
-empty_seen white_stone white = refl
-
--- what stands on the board is never off it
-never_off : (cell : Cell) (friend : Colour) → is_off (seen_of friend cell) ≡ false
-never_off empty_cell black = refl
-never_off empty_cell white = refl
-never_off black_stone black = refl
-never_off black_stone white = refl
-never_off white_stone black = refl
-never_off white_stone white = refl
+-- each cell is seen so
+is_seen : (cell : Cell) (friend : Colour) → IsSeen cell friend
+is_seen empty_cell black = record { friends = refl; enemies = refl; empty = refl; on_board = refl }
+is_seen empty_cell white = record { friends = refl; enemies = refl; empty = refl; on_board = refl }
+is_seen black_stone black = record { friends = refl; enemies = refl; empty = refl; on_board = refl }
+is_seen black_stone white = record { friends = refl; enemies = refl; empty = refl; on_board = refl }
+is_seen white_stone black = record { friends = refl; enemies = refl; empty = refl; on_board = refl }
+is_seen white_stone white = record { friends = refl; enemies = refl; empty = refl; on_board = refl }
 
 -- a letter admits a cell where it admits what is seen there
 admits_seen : (l : Letter) (cell : Cell) (friend : Colour)
     → admits l cell friend ≡ letter_admits l (seen_of friend cell)
-admits_seen Friend cell friend = friend_seen cell friend
-admits_seen Enemy cell friend = enemy_seen cell friend
-admits_seen Empty cell friend = empty_seen cell friend
+admits_seen Friend cell friend = (is_seen cell friend).friends
+admits_seen Enemy cell friend = (is_seen cell friend).enemies
+admits_seen Empty cell friend = (is_seen cell friend).empty
 admits_seen FriendOrEmpty cell friend =
-    ap (λ b. b || same_cell cell empty_cell) (friend_seen cell friend)
-    ∙ ap (λ b. is_friend (seen_of friend cell) || b) (empty_seen cell friend)
+    ap (λ b. b || same_cell cell empty_cell) (is_seen cell friend).friends
+    ∙ ap (λ b. is_friend (seen_of friend cell) || b) (is_seen cell friend).empty
 admits_seen EnemyOrEmpty cell friend =
-    ap (λ b. b || same_cell cell empty_cell) (enemy_seen cell friend)
-    ∙ ap (λ b. is_enemy (seen_of friend cell) || b) (empty_seen cell friend)
-admits_seen Any cell friend = sym (ap not (never_off cell friend))
-admits_seen Star cell friend = empty_seen cell friend
+    ap (λ b. b || same_cell cell empty_cell) (is_seen cell friend).enemies
+    ∙ ap (λ b. is_enemy (seen_of friend cell) || b) (is_seen cell friend).empty
+admits_seen Any cell friend = sym (ap not (is_seen cell friend).on_board)
+admits_seen Star cell friend = (is_seen cell friend).empty
 
 -- no letter admits what is off the board
 off_refused : (l : Letter) → letter_admits l Off ≡ false
@@ -83,6 +64,6 @@ pub fits_seen : (d : Drawn) (board : BoardState) (friend : Colour) (o : Option �
     → drawn_fits d board friend o ≡ drawn_admits d (seen_at_place board friend o)
 fits_seen Nothing board friend o = refl
 fits_seen OffBoard board friend None = refl
-fits_seen OffBoard board friend (Some q) = sym (never_off (cell_at board.cells q) friend)
+fits_seen OffBoard board friend (Some q) = sym (is_seen (cell_at board.cells q) friend).on_board
 fits_seen (Shows l) board friend None = sym (off_refused l)
 fits_seen (Shows l) board friend (Some q) = admits_seen l (cell_at board.cells q) friend

@@ -20,6 +20,10 @@ anchor_of_corner s m few on =
     ap (λ n. n * s + corner_at s m % padded_side) (div-mul-add (m / s) padded_side (m % s) column)
     ∙ ap (λ n. m / s * s + n) (mod-mul-add (m / s) padded_side (m % s) column) ∙ div-add-mod' m s
 
+-- the square around a point begins no later than that around the last point of the largest board
+pub corner_low : (s m : ℕ) → 0 < s → s ≤ largest_size → m < s * s → corner_at s m ≤ last_corner
+corner_low s m some few on = omega (arith, div_below m s s some on, mod_below m s some)
+
 module _ (s m : ℕ) (at : Cursor) (is : at ≡ cursor_at s m) where
   -- the column of the point
   column_is : at.column ≡ m % s
@@ -58,6 +62,6 @@ module _ (s m : ℕ) (at : Cursor) (is : at ≡ cursor_at s m) where
       ≡ (m / s + largest_offset) * padded_side + (m % s + largest_offset)
   cursor_place = omega (arith, corner_is)
 
-  -- the square around a point begins no later than that around the last point of the largest board
+  -- its square begins no later than the last
   pub cursor_corner : 0 < s → s ≤ largest_size → m < s * s → at.corner ≤ last_corner
-  cursor_corner some few on = omega (arith, corner_is, div_below m s s some on, mod_below m s some)
+  cursor_corner some few on = omega (arith, corner_is, corner_low s m some few on)

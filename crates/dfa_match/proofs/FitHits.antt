@@ -1,7 +1,7 @@
 -- The hits of the automaton of a list of patterns.
-use Rattle.std.proofs.Common.{◌≡◌, ℕ, zero, suc, ◌+◌, ◌-◌, ◌≤◌, true, false, not, cond, eqb, List, [], ◌∷◌, length}
-use Rattle.std.proofs.Common.{Contains, Some, slice_get, sym, ap, ◌∙◌, subst, arith, ◌⊎◌, inl, inr}
-use Rattle.std.proofs.lemmas.Bool.{cases_Bool, and_parts, eqb-true}
+use Rattle.std.proofs.Common.{◌≡◌, ℕ, zero, suc, ◌+◌, ◌-◌, ◌≤◌, Bool, true, false, not, cond, eqb, List, [], ◌∷◌, length}
+use Rattle.std.proofs.Common.{Contains, Some, slice_get, refl, sym, ap, ◌∙◌, subst, arith, inl, inr}
+use Rattle.std.proofs.lemmas.Bool.{and_parts, eqb-true}
 use Rattle.std.proofs.lemmas.List.Elements.{Contains-append_cases, Contains-append_left, Contains-append_right}
 use Rattle.go_rules.specs.declared.Colour.{Colour}
 use Rattle.go_rules.specs.Position.{BoardState}
@@ -25,35 +25,35 @@ pub record IsNumbered (k : ℕ) (ps : List Pattern) (w : Word) (n : ℕ) : Type 
   pub number : slice_get ps (n - k) ≡ Some pattern
   pub matched : is_matched w pattern ≡ true
 
+-- one from k + 1 on among the others is one from k on among all
+numbered_later : (k : ℕ) (p : Pattern) (ps : List Pattern) (w : Word) (n : ℕ) → IsNumbered (suc k) ps w n
+    → IsNumbered k (p ∷ ps) w n
+numbered_later k p ps w n there =
+    let next : n - k ≡ suc (n - suc k) = omega (arith, there.from) in
+    record {
+      pattern = there.pattern;
+      from = omega (arith, there.from);
+      number = ap (slice_get (p ∷ ps)) next ∙ there.number;
+      matched = there.matched;
+    }
+
+-- k itself is a number only where the first pattern matches
+numbered_first : (k : ℕ) (p : Pattern) (ps : List Pattern) (w : Word) (n : ℕ) (b : Bool) → is_matched w p ≡ b
+    → Contains (cond b (k ∷ []) []) n → IsNumbered k (p ∷ ps) w n
+numbered_first k p ps w n true hit (zero, l, e) =
+    let none : n - k ≡ 0 = omega (arith, e) in
+    record { pattern = p; from = omega (arith, e); number = ap (slice_get (p ∷ ps)) none; matched = hit }
+numbered_first k p ps w n true hit (suc i, l, e) = absurd (omega (arith, l))
+numbered_first k p ps w n false miss at = absurd (omega (arith, at.1))
+
 -- each of these numbers is that of a pattern that matches
 numbered : (k : ℕ) (ps : List Pattern) (w : Word) (n : ℕ) → Contains (matched_from k ps w) n → IsNumbered k ps w n
 numbered k [] w n here = absurd (omega (arith, here.1))
 numbered k (p ∷ ps) w n here =
     elim (Contains-append_cases (cond (is_matched w p) (k ∷ []) []) (matched_from (suc k) ps w) n here) [
-      | inl first ↦ now (cases_Bool (is_matched w p)) first
-      | inr later ↦
-          let there = numbered (suc k) ps w n later in
-          let next : n - k ≡ suc (n - suc k) = omega (arith, there.from) in
-          record {
-            pattern = there.pattern;
-            from = omega (arith, there.from);
-            number = ap (slice_get (p ∷ ps)) next ∙ there.number;
-            matched = there.matched;
-          }
+      | inl first ↦ numbered_first k p ps w n (is_matched w p) refl first
+      | inr later ↦ numbered_later k p ps w n (numbered (suc k) ps w n later)
     ]
-  where
-    one : Contains (k ∷ []) n → n ≡ k
-    one (zero, l, e) = sym e
-    one (suc i, l, e) = absurd (omega (arith, l))
-
-    now : (is_matched w p ≡ true) ⊎ (is_matched w p ≡ false) → Contains (cond (is_matched w p) (k ∷ []) []) n
-        → IsNumbered k (p ∷ ps) w n
-    now (inl hit) at =
-        let same = one (subst (λ b. Contains (cond b (k ∷ []) []) n) hit at) in
-        let none : n - k ≡ 0 = omega (arith, same) in
-        record { pattern = p; from = omega (arith, same); number = ap (slice_get (p ∷ ps)) none; matched = hit }
-    now (inr miss) at = let none : Contains [] n = subst (λ b. Contains (cond b (k ∷ []) []) n) miss at in
-        absurd (omega (arith, none.1))
 
 -- and each pattern that matches has its number among them
 number_of : (k : ℕ) (ps : List Pattern) (w : Word) (i : ℕ) (p : Pattern) → slice_get ps i ≡ Some p

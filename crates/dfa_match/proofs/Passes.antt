@@ -19,8 +19,8 @@ use Rattle.dfa_match.specs.Sights.{word_at, AreSights}
 use Rattle.dfa_match.specs.Hits.{AreHitsBefore, nothing_read}
 use Rattle.dfa_match.specs.Steps.{AreSteps}
 use Rattle.go_rules.specs.Board.{largest_size}
-use Rattle.dfa_match.specs.Walks.{anchor_of, first_walks_of, second_walks_of, after_anchor, goes_on, after_opening, after_letters}
-use Rattle.dfa_match.specs.Walks.{IsStanding, hits_of, AreWalks}
+use Rattle.dfa_match.specs.Walks.{anchor_of, first_walks_of, second_walks_of, after_anchor, goes_on, after_opening}
+use Rattle.dfa_match.specs.Walks.{after_letters, IsStanding, hits_of, AreWalks}
 use Rattle.dfa_match.proofs.StandingWalks.{letters_left}
 use Rattle.dfa_match.proofs.WalkRows.{ended_cases, opening_corner, opening_more, opened_standing}
 use Rattle.dfa_match.proofs.WordRows.{dead_ends}

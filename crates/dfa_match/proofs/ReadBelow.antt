@@ -1,5 +1,5 @@
 -- Below how many letters the words of each point have been read.
-use Rattle.std.proofs.Common.{◌≡◌, ℕ, ◌+◌, ◌<◌, ◌⊎◌, inl, inr, ◌==◌, cond, List}
+use Rattle.std.proofs.Common.{◌≡◌, ℕ, ◌+◌, ◌<◌, ◌⊎◌, inl, inr, false, ◌==◌, cond, List}
 use Rattle.std.proofs.Common.{[], ◌∷◌, if◌then◌else◌, map, Contains, refl, ap, ◌∙◌}
 use Rattle.std.proofs.Common.{arith}
 use Rattle.std.specs.List.{AllPairs}
@@ -25,10 +25,31 @@ before_giving w = w.letters
 abbrev pub after_giving : Walk → ℕ
 after_giving w = w.letters + 1
 
--- a point has a walk, or none
-pub read_cases : (s : ℕ) (f : Walk → ℕ) (walks : List Walk) (m : ℕ)
-    → ((w : Walk) × Contains walks w × (anchor_of s w ≡ m) × (read_below s f walks m ≡ f w))
+-- the point m has a walk, as whose its words have been read, or it has none
+abbrev pub HasWalkOrNone : ℕ → (Walk → ℕ) → List Walk → ℕ → Type 0
+HasWalkOrNone s f walks m =
+    ((w : Walk) × Contains walks w × (anchor_of s w ≡ m) × (read_below s f walks m ≡ f w))
     ⊎ (((w : Walk) → Contains walks w → anchor_of s w ≡ m → ⊥) × (read_below s f walks m ≡ offset_count + 1))
+
+-- so it is with a walk of another point before these
+another_walk : (s : ℕ) (f : Walk → ℕ) (w : Walk) (walks : List Walk) (m : ℕ) → (anchor_of s w == m) ≡ false
+    → HasWalkOrNone s f walks m → HasWalkOrNone s f (w ∷ walks) m
+another_walk s f w walks m other (inl later) = inl (
+  later.0,
+  Contains-rest w walks later.0 later.1,
+  later.2,
+  ap (λ b. cond b (f w) (read_below s f walks m)) other ∙ later.3,
+)
+another_walk s f w walks m other (inr none) = inr (
+  (λ v there same. elim (Contains-cons_cases w walks v there) [
+    | inl first ↦ eqb-false (anchor_of s w) m other (ap (anchor_of s) first ∙ same)
+    | inr later ↦ none.0 v later same
+  ]),
+  ap (λ b. cond b (f w) (read_below s f walks m)) other ∙ none.1,
+)
+
+-- a point has a walk, or none
+pub read_cases : (s : ℕ) (f : Walk → ℕ) (walks : List Walk) (m : ℕ) → HasWalkOrNone s f walks m
 read_cases s f [] m = inr ((λ w there same. Contains-nil w there), refl)
 read_cases s f (w ∷ walks) m = elim (cases_Bool (anchor_of s w == m)) [
   | inl here ↦ inl (
@@ -37,21 +58,7 @@ read_cases s f (w ∷ walks) m = elim (cases_Bool (anchor_of s w == m)) [
     eqb-true (anchor_of s w) m here,
     ap (λ b. cond b (f w) (read_below s f walks m)) here,
   )
-  | inr other ↦ elim (read_cases s f walks m) [
-    | inl later ↦ inl (
-      later.0,
-      Contains-rest w walks later.0 later.1,
-      later.2,
-      ap (λ b. cond b (f w) (read_below s f walks m)) other ∙ later.3,
-    )
-    | inr none ↦ inr (
-      (λ v there same. elim (Contains-cons_cases w walks v there) [
-        | inl first ↦ eqb-false (anchor_of s w) m other (ap (anchor_of s) first ∙ same)
-        | inr later ↦ none.0 v later same
-      ]),
-      ap (λ b. cond b (f w) (read_below s f walks m)) other ∙ none.1,
-    )
-  ]
+  | inr other ↦ another_walk s f w walks m other (read_cases s f walks m)
 ]
 
 -- where anchors rise the point of a walk has that one

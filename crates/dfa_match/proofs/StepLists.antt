@@ -16,35 +16,37 @@ steps_none t old = record {
   past = λ i low. absurd (omega (arith, low));
 }
 
--- one step more
-pub steps_more : (t n : ℕ) (old steps more : List ℕ) (step : ℕ) → AreStepsBehind t n old steps
-    → more ≡ steps ++ step ∷ [] → (n < offset_count → step ≡ step_by (transformed t (offset_at n))) → step ≤ last_step
-    → AreStepsBehind t (n + 1) old more
-steps_more t n old steps more step before added is low_step = record {
-  all = ap length added ∙ length_push steps step ∙ omega (arith, before.all);
-  before = λ k low. ap (λ ss. get_or ss k 0) added
-      ∙ get_or_append_left steps (step ∷ []) 0 k (omega (arith, before.all)) ∙ before.before k low;
-  each = λ i low few. elim (cases_lt i n) [
-    | inl old_one ↦ stands i old_one ∙ before.each i old_one few
-    | inr last ↦
-        let same : n ≡ i = omega arith in
-        pushed i same ∙ is (omega (arith, same)) ∙ ap (λ j. step_by (transformed t (offset_at j))) same
-  ];
-  past = λ i low. elim (cases_lt i n) [
-    | inl old_one ↦ omega (arith, stands i old_one, before.past i old_one)
-    | inr last ↦
-        let same : n ≡ i = omega arith in
-        omega (arith, pushed i same, low_step)
-  ];
-}
-  where
-    stands : (i : ℕ) → i < n → get_or more (length old + i) 0 ≡ get_or steps (length old + i) 0
-    stands i low = ap (λ ss. get_or ss (length old + i) 0) added
-        ∙ get_or_append_left steps (step ∷ []) 0 (length old + i) (omega (arith, before.all, low))
+module _ (t n : ℕ) (old steps more : List ℕ) (step : ℕ) (before : AreStepsBehind t n old steps)
+    (added : more ≡ steps ++ step ∷ []) where
+  -- the steps before stand where they stood
+  stands : (i : ℕ) → i < n → get_or more (length old + i) 0 ≡ get_or steps (length old + i) 0
+  stands i low = ap (λ ss. get_or ss (length old + i) 0) added
+      ∙ get_or_append_left steps (step ∷ []) 0 (length old + i) (omega (arith, before.all, low))
 
-    pushed : (i : ℕ) → n ≡ i → get_or more (length old + i) 0 ≡ step
-    pushed i same = ap (λ ss. get_or ss (length old + i) 0) added
-        ∙ get_or_push steps step 0 (length old + i) (omega (arith, before.all, same))
+  -- and the new one behind them
+  pushed : get_or more (length old + n) 0 ≡ step
+  pushed = ap (λ ss. get_or ss (length old + n) 0) added
+      ∙ get_or_push steps step 0 (length old + n) (omega (arith, before.all))
+
+  -- one step more
+  pub steps_more : (n < offset_count → step ≡ step_by (transformed t (offset_at n))) → step ≤ last_step
+      → AreStepsBehind t (n + 1) old more
+  steps_more is low_step = record {
+    all = ap length added ∙ length_push steps step ∙ omega (arith, before.all);
+    before = λ k low. ap (λ ss. get_or ss k 0) added
+        ∙ get_or_append_left steps (step ∷ []) 0 k (omega (arith, before.all)) ∙ before.before k low;
+    each = λ i low few. elim (cases_lt i n) [
+      | inl old_one ↦ stands i old_one ∙ before.each i old_one few
+      | inr last ↦ let same : n ≡ i = omega arith in
+          subst (λ j. get_or more (length old + j) 0 ≡ step_by (transformed t (offset_at j))) same
+          (pushed ∙ is (omega (arith, same)))
+    ];
+    past = λ i low. elim (cases_lt i n) [
+      | inl old_one ↦ omega (arith, stands i old_one, before.past i old_one)
+      | inr last ↦ let same : n ≡ i = omega arith in
+          subst (λ j. get_or more (length old + j) 0 ≤ last_step) same (omega (arith, pushed, low_step))
+    ];
+  }
 
 -- the list has the steps of the first n transformations, one after the other
 pub record AreStepsBelow (n : ℕ) (steps : List ℕ) : Type 0 where
@@ -53,12 +55,12 @@ pub record AreStepsBelow (n : ℕ) (steps : List ℕ) : Type 0 where
       → get_or steps (t * step_count + i) 0 ≡ step_by (transformed t (offset_at i))
   pub past : (k : ℕ) → k < n * step_count → get_or steps k 0 ≤ last_step
 
--- those of one transformation more
-pub steps_below_more : (n t : ℕ) (old new : List ℕ) → AreStepsBelow n old → t ≡ n → AreStepsBehind t step_count old new
-    → AreStepsBelow (n + 1) new
-steps_below_more n t old new below same behind = record {
-  all = omega (arith, behind.all, below.all);
-  each = λ u i low few. elim (cases_lt u n) [
+module _ (n t : ℕ) (old new : List ℕ) (below : AreStepsBelow n old) (same : t ≡ n)
+    (behind : AreStepsBehind t step_count old new) where
+  -- with the steps of one transformation more, each has its own
+  each_below : (u i : ℕ) → u < n + 1 → i < offset_count
+      → get_or new (u * step_count + i) 0 ≡ step_by (transformed u (offset_at i))
+  each_below u i low few = elim (cases_lt u n) [
     | inl old_one ↦ behind.before (u * step_count + i) (omega (arith, below.all, old_one, few))
         ∙ below.each u i old_one few
     | inr last ↦
@@ -66,17 +68,23 @@ steps_below_more n t old new below same behind = record {
         let place : u * step_count + i ≡ length old + i = omega (arith, below.all, is, same) in
         ap (λ k. get_or new k 0) place ∙ behind.each i (omega (arith, few)) few
         ∙ ap (λ v. step_by (transformed v (offset_at i))) (sym is)
-  ];
-  past = λ k low. elim (cases_lt k (length old)) [
+  ]
+
+  -- and none of them leads too far
+  past_below : (k : ℕ) → k < (n + 1) * step_count → get_or new k 0 ≤ last_step
+  past_below k low = elim (cases_lt k (length old)) [
     | inl old_one ↦
         let on : k < n * step_count = omega (arith, old_one, below.all) in
         omega (arith, behind.before k old_one, below.past k on)
     | inr last ↦
-        let i : ℕ = k - length old in
-        let place : length old + i ≡ k = omega (arith, last) in
-        subst (λ j. get_or new j 0 ≤ last_step) place (behind.past i (omega (arith, low, last, below.all)))
-  ];
-}
+        let place : length old + (k - length old) ≡ k = omega (arith, last) in
+        subst (λ j. get_or new j 0 ≤ last_step) place
+        (behind.past (k - length old) (omega (arith, low, last, below.all)))
+  ]
+
+  -- so they are those of one transformation more
+  pub steps_below_more : AreStepsBelow (n + 1) new
+  steps_below_more = record { all = omega (arith, behind.all, below.all); each = each_below; past = past_below }
 
 -- the first offset leads nowhere
 pub offset_at-zero : offset_at 0 ≡ (plus 0, plus 0)

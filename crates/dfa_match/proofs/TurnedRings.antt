@@ -60,66 +60,34 @@ module _ (letters : List Seen) (corner : ℕ) where
   places t i = seen_by (transformed t (offset_at i))
 
   -- where the letters under u are those under t from two places on, the number is turned
-  turned_from : (t u : ℕ) → eight (places u) ≡ two_on (places t)
-      → turned_number (word_number (letters_around letters t corner)) ≡ word_number (letters_around letters u corner)
-  turned_from t u on =
+  turned_from : {n : ℕ} (t u : ℕ) → eight (places u) ≡ two_on (places t)
+      → n ≡ word_number (letters_around letters t corner)
+      → turned_number n ≡ word_number (letters_around letters u corner)
+  turned_from t u on is =
       let seen : ℕ → Seen = places t in
-      ap (λ w. turned_number (word_number w)) (word-eight seen)
+      ap turned_number is ∙ ap (λ w. turned_number (word_number w)) (word-eight seen)
       ∙ sym (number_turns (seen 1) (seen 2) (seen 3) (seen 4) (seen 5) (seen 6) (seen 7) (seen 8))
       ∙ ap word_number (sym on) ∙ ap word_number (sym (word-eight (places u)))
 
-  -- transformation 1 turns the ring
-  turned-one : turned_number (word_number (letters_around letters 0 corner))
-      ≡ word_number (letters_around letters 1 corner)
-  unfolding offset_at
-  turned-one = turned_from 0 1 refl
-
-  -- transformation 2 turns it once more
-  turned-two : turned_number (word_number (letters_around letters 1 corner))
-      ≡ word_number (letters_around letters 2 corner)
-  unfolding offset_at
-  turned-two = turned_from 1 2 refl
-
-  -- and so does transformation 3
-  turned-three : turned_number (word_number (letters_around letters 2 corner))
-      ≡ word_number (letters_around letters 3 corner)
-  unfolding offset_at
-  turned-three = turned_from 2 3 refl
-
-  -- transformation 7 turns the mirrored ring
-  turned-seven : turned_number (word_number (letters_around letters 4 corner))
-      ≡ word_number (letters_around letters 7 corner)
-  unfolding offset_at
-  turned-seven = turned_from 4 7 refl
-
-  -- transformation 6 turns it once more
-  turned-six : turned_number (word_number (letters_around letters 7 corner))
-      ≡ word_number (letters_around letters 6 corner)
-  unfolding offset_at
-  turned-six = turned_from 7 6 refl
-
-  -- and so does transformation 5
-  turned-five : turned_number (word_number (letters_around letters 6 corner))
-      ≡ word_number (letters_around letters 5 corner)
-  unfolding offset_at
-  turned-five = turned_from 6 5 refl
-
--- the number of a ring under t is that of the letters that are read around the anchor
+-- the number of a ring under t is that of the letters that are read around the anchor: transformations 1, 2 and 3 turn
+-- it once more each, and 7, 6 and 5 so the mirrored ring of transformation 4
 ring_read : (letters : List Seen) (w : Walk) (t : ℕ) → t < transformations
     → ring_under t (ring_of letters w) ≡ word_number (letters_around letters t w.corner)
+unfolding offset_at
 ring_read letters w zero low = refl
-ring_read letters w (suc zero) low = turned-one letters w.corner
-ring_read letters w (suc (suc zero)) low = ap turned_number (turned-one letters w.corner) ∙ turned-two letters w.corner
+ring_read letters w (suc zero) low = turned_from letters w.corner 0 1 refl refl
+ring_read letters w (suc (suc zero)) low =
+    turned_from letters w.corner 1 2 refl (turned_from letters w.corner 0 1 refl refl)
 ring_read letters w (suc (suc (suc zero))) low =
-    ap turned_number (ap turned_number (turned-one letters w.corner) ∙ turned-two letters w.corner)
-    ∙ turned-three letters w.corner
+    turned_from letters w.corner 2 3 refl
+    (turned_from letters w.corner 1 2 refl (turned_from letters w.corner 0 1 refl refl))
 ring_read letters w (suc (suc (suc (suc zero)))) low = refl
 ring_read letters w (suc (suc (suc (suc (suc zero))))) low =
-    ap turned_number (ap turned_number (turned-seven letters w.corner) ∙ turned-six letters w.corner)
-    ∙ turned-five letters w.corner
+    turned_from letters w.corner 6 5 refl
+    (turned_from letters w.corner 7 6 refl (turned_from letters w.corner 4 7 refl refl))
 ring_read letters w (suc (suc (suc (suc (suc (suc zero)))))) low =
-    ap turned_number (turned-seven letters w.corner) ∙ turned-six letters w.corner
-ring_read letters w (suc (suc (suc (suc (suc (suc (suc zero))))))) low = turned-seven letters w.corner
+    turned_from letters w.corner 7 6 refl (turned_from letters w.corner 4 7 refl refl)
+ring_read letters w (suc (suc (suc (suc (suc (suc (suc zero))))))) low = turned_from letters w.corner 4 7 refl refl
 ring_read letters w (suc (suc (suc (suc (suc (suc (suc (suc t)))))))) low = absurd (omega (arith, low))
 
 module _ (letters : List Seen) (steps : List ℕ) (t corner : ℕ) (are : AreSteps t steps) where

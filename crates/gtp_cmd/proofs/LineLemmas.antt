@@ -2,6 +2,7 @@
 use Rattle.std.proofs.Common.{◌≡◌, ℕ, ◌+◌, ◌≤◌, List, [], ◌∷◌, Option, Some, None, IfSome, length, take, drop, eqb}
 use Rattle.std.proofs.Common.{sym, subst, arith, length-take}
 use Rattle.std.specs.List.{before_first, position_or_len}
+use Rattle.std.specs.Option.{option_map}
 use Rattle.gtp_cmd.specs.Words.{number_of, hash}
 use Rattle.gtp_cmd.specs.Vertices.{vertex_of}
 use Rattle.gtp_cmd.specs.Colours.{colour_of}
@@ -34,6 +35,13 @@ whole_span-within line (span ∷ spans) within =
     let last = InOrder-last span.to (length line) spans within.2 in
     let later = last.0 in
     (omega (arith, order, later), last.1)
+
+-- a command of the first span after its name is within the line where that span is
+of_first_span : (line : List ℕ) (spans : List Span) (make : Span → Command) → InOrder 0 (length line) spans
+    → ((span : Span) → IsSpanOf line span → IsWithinLine line (make span))
+    → IfSome (option_map make (first_span spans)) (IsWithinLine line)
+of_first_span line spans make lie keeps =
+    if_some-map make (IsSpanOf line) (IsWithinLine line) (first_span spans) keeps (first_span-within line spans lie)
 
 -- the arguments of a command lie in the line in which the words behind its name lie
 command_of-within_line : (line : List ℕ) (n : CommandName) (s : ℕ) (words : List (List ℕ)) (spans : List Span)
@@ -75,8 +83,7 @@ command_of-within_line line name.MatchPatterns s words spans lie =
     if_some-any command.MatchPatterns (IsWithinLine line) (first_argument colour_of words) (λ x. tt)
 command_of-within_line line name.ListPatterns s words spans lie = tt
 command_of-within_line line name.LoadSgf s words spans lie =
-    if_some-map command.LoadSgf (IsSpanOf line) (IsWithinLine line) (first_span spans) (λ span lies. lies)
-    (first_span-within line spans lie)
+    of_first_span line spans command.LoadSgf lie (λ span lies. lies)
 command_of-within_line line name.AttackProof s words spans lie =
     if_some-any command.AttackProof (IsWithinLine line) (first_argument (vertex_of s) words) (λ x. tt)
 command_of-within_line line name.DefendProof s words spans lie =
@@ -94,14 +101,11 @@ command_of-within_line line name.GenMove s words spans lie =
 command_of-within_line line name.RegGenMove s words spans lie =
     if_some-any command.RegGenMove (IsWithinLine line) (first_argument colour_of words) (λ x. tt)
 command_of-within_line line name.HelperOff s words spans lie =
-    if_some-map command.HelperOff (IsSpanOf line) (IsWithinLine line) (first_span spans) (λ span lies. lies)
-    (first_span-within line spans lie)
+    of_first_span line spans command.HelperOff lie (λ span lies. lies)
 command_of-within_line line name.HelperCalls s words spans lie =
-    if_some-map command.HelperCalls (IsSpanOf line) (IsWithinLine line) (first_span spans) (λ span lies. lies)
-    (first_span-within line spans lie)
+    of_first_span line spans command.HelperCalls lie (λ span lies. lies)
 command_of-within_line line name.HelperDrop s words spans lie =
-    if_some-map command.HelperDrop (IsSpanOf line) (IsWithinLine line) (first_span spans) (λ span lies. lies)
-    (first_span-within line spans lie)
+    of_first_span line spans command.HelperDrop lie (λ span lies. lies)
 
 -- a command whose spans lie in the line is said by it
 asked-within_line : (line : List ℕ) (id : Option ℕ) (o : Option Command) → IfSome o (IsWithinLine line)

@@ -58,12 +58,8 @@ written-named rows word command plain written =
         let keeps : kept r.word.now ≡ r.word.now = (bytes_eq-Decides (kept r.word.now) r.word.now).0 found.1 in
         ap kept same ∙ keeps ∙ sym same
 
--- this holds of each of the rows
-abbrev pub HoldsOfRows : (Row → Type 0) → List Row → Type 0
-HoldsOfRows P [] = Unit {0}
-HoldsOfRows P (row ∷ rows) = P row × HoldsOfRows P rows
-
--- what holds of each row holds of all
-pub all-rows : (P : Row → Type 0) (rows : List Row) → HoldsOfRows P rows → All P rows
-all-rows P [] holds = All-nil P
-all-rows P (row ∷ rows) holds = All-cons P row rows holds.0 (all-rows P rows holds.1)
+-- two questions about rows that have the same answers along all of them agree on each
+pub agree-each : (f g : Row → Option CommandName) (rows : List Row) → map f rows ≡ map g rows
+    → All (λ row. f row ≡ g row) rows
+agree-each f g [] same = All-nil (λ row. f row ≡ g row)
+agree-each f g (row ∷ rows) same = All-cons (λ r. f r ≡ g r) row rows (cc) (agree-each f g rows (cc))

@@ -1,6 +1,6 @@
 -- Where the words of a text stand, byte by byte.
-use Rattle.std.proofs.Common.{◌≡◌, ℕ, ◌+◌, ◌<◌, ◌≤◌, Bool, true, false, cond, not, List, [], ◌∷◌, length, drop, get_or, refl, subst}
-use Rattle.std.proofs.Common.{sym, ap, ◌∙◌, arith}
+use Rattle.std.proofs.Common.{◌≡◌, ℕ, ◌+◌, ◌<◌, ◌≤◌, Bool, true, false, cond, not, List, [], ◌∷◌, length, drop, get_or}
+use Rattle.std.proofs.Common.{refl, subst, sym, ap, ◌∙◌, arith}
 use Rattle.std.proofs.lemmas.List.{drop_more, drop_all}
 use Rattle.gtp_cmd.specs.Words.{is_kept}
 use Rattle.vertices.specs.RawWords.{is_parting, is_skipped}
@@ -232,27 +232,36 @@ ReadsWords-first text start inside word = record {
   reach = omega arith;
 }
 
+-- a byte of no word is read
+ReadsWords-skipped : (text : List ℕ) (start end place : ℕ) → place < length text
+    → is_skipped (get_or text place 0) ≡ true → ReadsWords text start end place
+    → ReadsWords text start end (place + 1)
+ReadsWords-skipped text start end place inside skipped so_far = record {
+  span = so_far.span ∙ ap (λ spans. span_between start (last_end end spans)) (at-skipped text place inside skipped);
+  order = so_far.order;
+  reach = omega (arith, so_far.reach);
+}
+
+-- a byte of a word is read, and is their last
+ReadsWords-more : (text : List ℕ) (start end place : ℕ) → place < length text
+    → is_skipped (get_or text place 0) ≡ false → ReadsWords text start end place
+    → ReadsWords text start (place + 1) (place + 1)
+ReadsWords-more text start end place inside word so_far = record {
+  span = so_far.span ∙ ap (λ spans. span_between start (last_end end spans)) (at-word text place inside word)
+      ∙ ap (span_between start)
+      (last_end-with end place (place + 1) (goes_on (drop (place + 1) text)) (spans_at text (place + 1)));
+  order = omega (arith, so_far.order, so_far.reach);
+  reach = omega arith;
+}
+
 -- one more byte is read, and is the last of a word or none of one
 pub ReadsWords-step : (text : List ℕ) (start end place : ℕ) → place < length text → ReadsWords text start end place
     → ReadsWords text start (end_with (not (is_skipped (get_or text place 0))) place end) (place + 1)
 ReadsWords-step text start end place inside so_far =
-    let order = so_far.order in
-    let reach = so_far.reach in
     (elim (is_skipped (get_or text place 0))
     as (λ t. is_skipped (get_or text place 0) ≡ t → ReadsWords text start (end_with (not t) place end) (place + 1)) [
-      | true ↦ λ skipped. record {
-        span = so_far.span ∙ ap (λ spans. span_between start (last_end end spans))
-            (at-skipped text place inside skipped);
-        order = order;
-        reach = omega (arith, reach);
-      }
-      | false ↦ λ word. record {
-        span = so_far.span ∙ ap (λ spans. span_between start (last_end end spans)) (at-word text place inside word)
-            ∙ ap (span_between start)
-            (last_end-with end place (place + 1) (goes_on (drop (place + 1) text)) (spans_at text (place + 1)));
-        order = omega (arith, order, reach);
-        reach = omega arith;
-      }
+      | true ↦ λ skipped. ReadsWords-skipped text start end place inside skipped so_far
+      | false ↦ λ word. ReadsWords-more text start end place inside word so_far
     ]) refl
 
 -- behind the text no word ends

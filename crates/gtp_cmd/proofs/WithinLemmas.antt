@@ -17,8 +17,8 @@ use Rattle.gtp_cmd.specs.declared.arguments.Claim.{Claim}
 use Rattle.gtp_cmd.specs.Spans.{first_span, whole_span}
 use Rattle.gtp_cmd.specs.declared.spans.Span.{Span}
 use Rattle.gtp_cmd.specs.Commands.{first_argument, known_of, size_of, move_of, number_between}
-use Rattle.gtp_cmd.specs.Commands.{depths_of, command_of, named, asked, called, said, is_attack_of, code_of, claim_of, greatest_code}
-use Rattle.gtp_cmd.specs.Commands.{points_of}
+use Rattle.gtp_cmd.specs.Commands.{depths_of, command_of, named, asked, called, said, is_attack_of, code_of, claim_of}
+use Rattle.gtp_cmd.specs.Commands.{greatest_code, points_of}
 use Rattle.gtp_cmd.specs.declared.commands.CommandName.{CommandName}
 use Rattle.gtp_cmd.specs.declared.commands.CommandName.TheVariants as name
 use Rattle.gtp_cmd.specs.declared.commands.Command.{Command}
@@ -26,8 +26,8 @@ use Rattle.gtp_cmd.specs.declared.commands.Command.TheVariants as command
 use Rattle.gtp_cmd.specs.Within.{IsPointOf, IsWithin, SaysWithin}
 
 -- where a fact of a value gives one of what is made of it, it does so too where the value may be missing
-pub if_some-map : {X Y : Type 0} (f : X → Y) (P : X → Type 0) (Q : Y → Type 0) (o : Option X) → ((x : X) → P x → Q (f x))
-    → IfSome o P → IfSome (option_map f o) Q
+pub if_some-map : {X Y : Type 0} (f : X → Y) (P : X → Type 0) (Q : Y → Type 0) (o : Option X)
+    → ((x : X) → P x → Q (f x)) → IfSome o P → IfSome (option_map f o) Q
 if_some-map f P Q None keeps h = tt
 if_some-map f P Q (Some x) keeps h = keeps x h
 
@@ -179,6 +179,29 @@ points_of-within s (first ∷ []) = tt
 points_of-within s (first ∷ second ∷ more) =
     points-within s (vertex_of s first) (vertex_of s second) (vertex_of-within s first) (vertex_of-within s second)
 
+-- a command of one point is within where its point is on the board
+of_point : (s : ℕ) (words : List (List ℕ)) (make : ℕ → Command) → ((p : ℕ) → p < s * s → IsWithin s (make p))
+    → IfSome (option_map make (first_argument (vertex_of s) words)) (IsWithin s)
+of_point s words make keeps =
+    if_some-map make (λ p. p < s * s) (IsWithin s) (first_argument (vertex_of s) words)
+    keeps (first_vertex-within s words)
+
+-- a command of a move is within where the move's point is on the board
+of_move : (s : ℕ) (words : List (List ℕ)) (make : Colour × Option ℕ → Command)
+    → ((m : Colour × Option ℕ) → IsPointOf s m.1 → IsWithin s (make m))
+    → IfSome (option_map make (move_of s words)) (IsWithin s)
+of_move s words make keeps =
+    if_some-map make (λ m. IsPointOf s m.1) (IsWithin s) (move_of s words) keeps
+    (move_of-within s words)
+
+-- a command of two points is within where both are on the board
+of_points : (s : ℕ) (words : List (List ℕ)) (make : ℕ × ℕ → Command)
+    → ((m : ℕ × ℕ) → (m.0 < s * s) × (m.1 < s * s) → IsWithin s (make m))
+    → IfSome (option_map make (points_of s words)) (IsWithin s)
+of_points s words make keeps =
+    if_some-map make (λ m. (m.0 < s * s) × (m.1 < s * s)) (IsWithin s) (points_of s words)
+    keeps (points_of-within s words)
+
 -- the arguments of a command name points of the board, and depths in their ranges
 command_of-within : (n : CommandName) (s : ℕ) (words : List (List ℕ)) (spans : List Span)
     → IfSome (command_of n s words spans) (IsWithin s)
@@ -192,32 +215,23 @@ command_of-within name.Quit s words spans = tt
 command_of-within name.BoardSize s words spans =
     if_some-any (λ n. command.BoardSize (size_of n)) (IsWithin s) (first_argument number_of words) (λ n. tt)
 command_of-within name.ClearBoard s words spans = tt
-command_of-within name.Komi s words spans = if_some-any command.Komi (IsWithin s) (first_argument komi_of words) (λ text. tt)
+command_of-within name.Komi s words spans =
+    if_some-any command.Komi (IsWithin s) (first_argument komi_of words) (λ text. tt)
 command_of-within name.GetKomi s words spans = tt
 command_of-within name.Play s words spans =
-    if_some-map (λ m. command.Play m.0 m.1) (λ m. IsPointOf s m.1) (IsWithin s) (move_of s words) (λ m below. below)
-    (move_of-within s words)
+    of_move s words (λ m. command.Play m.0 m.1) (λ m below. below)
 command_of-within name.Undo s words spans = tt
 command_of-within name.ShowBoard s words spans = tt
 command_of-within name.IsLegal s words spans =
-    if_some-map (λ m. command.IsLegal m.0 m.1) (λ m. IsPointOf s m.1) (IsWithin s) (move_of s words) (λ m below. below)
-    (move_of-within s words)
+    of_move s words (λ m. command.IsLegal m.0 m.1) (λ m below. below)
 command_of-within name.AllLegal s words spans =
     if_some-any command.AllLegal (IsWithin s) (first_argument colour_of words) (λ c. tt)
-command_of-within name.CountLib s words spans =
-    if_some-map command.CountLib (λ p. p < s * s) (IsWithin s) (first_argument (vertex_of s) words) (λ p below. below)
-    (first_vertex-within s words)
-command_of-within name.FindLib s words spans =
-    if_some-map command.FindLib (λ p. p < s * s) (IsWithin s) (first_argument (vertex_of s) words) (λ p below. below)
-    (first_vertex-within s words)
+command_of-within name.CountLib s words spans = of_point s words command.CountLib (λ p below. below)
+command_of-within name.FindLib s words spans = of_point s words command.FindLib (λ p below. below)
 command_of-within name.Captures s words spans =
     if_some-any command.Captures (IsWithin s) (first_argument colour_of words) (λ c. tt)
-command_of-within name.Attack s words spans =
-    if_some-map command.Attack (λ p. p < s * s) (IsWithin s) (first_argument (vertex_of s) words) (λ p below. below)
-    (first_vertex-within s words)
-command_of-within name.Defend s words spans =
-    if_some-map command.Defend (λ p. p < s * s) (IsWithin s) (first_argument (vertex_of s) words) (λ p below. below)
-    (first_vertex-within s words)
+command_of-within name.Attack s words spans = of_point s words command.Attack (λ p below. below)
+command_of-within name.Defend s words spans = of_point s words command.Defend (λ p below. below)
 command_of-within name.Depths s words spans =
     if_some-map (λ d. command.Depths d.0 d.1) (λ d. AreDepths d.0 d.1) (IsWithin s) (depths_of words)
     (λ d within. within) (depths_of-within words)
@@ -225,28 +239,25 @@ command_of-within name.MatchPatterns s words spans =
     if_some-any command.MatchPatterns (IsWithin s) (first_argument colour_of words) (λ c. tt)
 command_of-within name.ListPatterns s words spans = tt
 command_of-within name.LoadSgf s words spans = if_some-any command.LoadSgf (IsWithin s) (first_span spans) (λ span. tt)
-command_of-within name.AttackProof s words spans =
-    if_some-map command.AttackProof (λ p. p < s * s) (IsWithin s) (first_argument (vertex_of s) words)
-    (λ p below. below) (first_vertex-within s words)
-command_of-within name.DefendProof s words spans =
-    if_some-map command.DefendProof (λ p. p < s * s) (IsWithin s) (first_argument (vertex_of s) words)
-    (λ p below. below) (first_vertex-within s words)
+command_of-within name.AttackProof s words spans = of_point s words command.AttackProof (λ p below. below)
+command_of-within name.DefendProof s words spans = of_point s words command.DefendProof (λ p below. below)
 command_of-within name.CheckProof s words spans =
     if_some-map (λ q. command.CheckProof q.attack q.target q.code (whole_span (drop 3 spans))) (ClaimWithin s)
     (IsWithin s) (claim_of s words) (λ q within. within) (claim_of-within s words)
 command_of-within name.Connect s words spans =
-    if_some-map (λ m. command.Connect m.0 m.1) (λ m. (m.0 < s * s) × (m.1 < s * s)) (IsWithin s) (points_of s words)
-    (λ m below. below) (points_of-within s words)
+    of_points s words (λ m. command.Connect m.0 m.1) (λ m below. below)
 command_of-within name.Disconnect s words spans =
-    if_some-map (λ m. command.Disconnect m.0 m.1) (λ m. (m.0 < s * s) × (m.1 < s * s)) (IsWithin s) (points_of s words)
-    (λ m below. below) (points_of-within s words)
+    of_points s words (λ m. command.Disconnect m.0 m.1) (λ m below. below)
 command_of-within name.GenMove s words spans =
     if_some-any command.GenMove (IsWithin s) (first_argument colour_of words) (λ c. tt)
 command_of-within name.RegGenMove s words spans =
     if_some-any command.RegGenMove (IsWithin s) (first_argument colour_of words) (λ c. tt)
-command_of-within name.HelperOff s words spans = if_some-any command.HelperOff (IsWithin s) (first_span spans) (λ span. tt)
-command_of-within name.HelperCalls s words spans = if_some-any command.HelperCalls (IsWithin s) (first_span spans) (λ span. tt)
-command_of-within name.HelperDrop s words spans = if_some-any command.HelperDrop (IsWithin s) (first_span spans) (λ span. tt)
+command_of-within name.HelperOff s words spans =
+    if_some-any command.HelperOff (IsWithin s) (first_span spans) (λ span. tt)
+command_of-within name.HelperCalls s words spans =
+    if_some-any command.HelperCalls (IsWithin s) (first_span spans) (λ span. tt)
+command_of-within name.HelperDrop s words spans =
+    if_some-any command.HelperDrop (IsWithin s) (first_span spans) (λ span. tt)
 
 -- a line whose command is within says nothing off the board
 asked-within : (id : Option ℕ) (s : ℕ) (o : Option Command) → IfSome o (IsWithin s) → SaysWithin s (asked id o)

@@ -22,10 +22,6 @@ same_key-is p q e = search rules
 abbrev pub meaning_of : LinkKey → BoardState → Linkage
 meaning_of key pos = linkage_of key.question pos
 
--- equal questions have the same answers
-pub same_meaning : (p q : LinkKey) → same_key p q ≡ true → (pos : BoardState) → meaning_of p pos ≡ meaning_of q pos
-same_meaning p q e pos = ap (λ (key : LinkKey). meaning_of key pos) (same_key-is p q e)
-
 -- the number of a kind
 abbrev pub number_of_kind : LinkKind → ℕ
 number_of_kind kind.Connect = 0

@@ -19,13 +19,13 @@ pub struct LinkKey {
 }
 
 impl Question for LinkKey {
-    ghost use Rattle.link_readings.specs.Keys.{meaning_of, same_meaning};
+    ghost use Rattle.link_readings.specs.Keys.{meaning_of, same_key-is};
 
     type Answer = Linkage;
 
     ghost meaning = { meaning_of };
 
-    ghost same = { same_meaning };
+    ghost same = { same_key-is };
 }
 
 /// A question is hashed as one number, so that its place is found by one step of the hasher.

@@ -1,16 +1,16 @@
 -- A reading that was kept, and one that was fresh.
-use Rattle.std.proofs.Common.{◌≡◌, ℕ, ◌≤◌, IsTrue, ◌∙◌, inl, inr, sym, subst, IfSome}
+use Rattle.std.proofs.Common.{◌≡◌, ℕ, ◌≤◌, IsTrue, ◌∙◌, inl, inr, sym, subst, IfSome, Some}
 use Rattle.go_rules.specs.Position.{BoardState}
 use Rattle.read_rules.specs.declared.question.Answer.{Answer}
 use Rattle.read_rules.specs.declared.question.ReadingQuestion.{ReadingQuestion}
 use Rattle.read_rules.specs.GoodMoves.{IsOnBoard}
 use Rattle.read_cache.specs.declared.variants.Variant.{Variant}
 use Rattle.read_cache.specs.Kept.{Kept, HoldsOfEach, IsFound}
-use Rattle.read_cache.specs.Keeping.{WasAsked}
+use Rattle.read_cache.specs.Keeping.{WasAsked, WasFresh, raised}
 use Rattle.read_cache.proofs.Each.{found_holds, HoldsOfEach-found}
 use Rattle.match_engine.specs.declared.keys.Key.{Key}
 use Rattle.match_engine.specs.Keys.{same_key, same_key-is}
-use Rattle.match_engine.specs.Readings.{ReadingsView, Rests, Answers, is_untried, HasRead}
+use Rattle.match_engine.specs.Readings.{ReadingsView, Rests, Answers, ReadAfresh, is_untried, HasRead}
 
 module _ (key : Key) (pos : BoardState) (old new : Kept Key Answer) (answer : Answer) (rest : HoldsOfEach Rests old)
     (found : IsFound same_key key pos old new answer) where
@@ -48,3 +48,13 @@ pub untried_as_asked : (key : Key) (asked : ReadingQuestion) (pos : BoardState) 
     → (IsTrue (is_untried asked pos) → trials ≡ 0) → IsTrue (is_untried key.question pos) → trials ≡ 0
 untried_as_asked key asked pos trials is none =
     subst (λ (q : ReadingQuestion). IsTrue (is_untried q pos) → trials ≡ 0) (sym is) none
+
+-- a reading that was made where no kept answer stands, and was counted with its trial plays and kept or refused, was
+-- read afresh
+pub ReadAfresh-counted : {key : Key} {pos : BoardState} {answer : Answer} {old seen new : ReadingsView} (trials : ℕ)
+    → new ≡ seen → WasFresh same_key key Rests pos answer old.answers seen.answers → seen.last ≡ Some trials
+    → seen.trials ≡ raised old.trials trials → (IsTrue (is_untried key.question pos) → trials ≡ 0)
+    → ReadAfresh key pos answer old new
+ReadAfresh-counted {key} {pos} {answer} {old} trials is fresh last counted untried =
+    subst (ReadAfresh key pos answer old) (sym is)
+    (record { fresh = fresh; trials_of_last = trials; last = last; trials = counted; untried = untried })

@@ -169,46 +169,57 @@ some_row s p h = elim (cases_eq s 0) [
   | inr ne ↦ omega arith
 ]
 
+-- by the offset (0, 0) a strip leads to itself
+same_strip : (n : ℕ) (z : ℤ) → z ≡ pos 0 → pos n +ℤ z ≡ pos n
+same_strip n z none = omega (arith, ints, none)
+
 -- the offset (0, 0) leads from a point to itself
 pub place_at-none : (s t m : ℕ) → t < transformations → m < s * s → place_at s t m (pos 0, pos 0) ≡ Some m
 place_at-none s t m low on =
     let still : transformed t (pos 0, pos 0) ≡ (pos 0, pos 0) = keeps_none t low in
-    let row : pos (m / s) +ℤ (transformed t (pos 0, pos 0)).0 ≡ pos (m / s) =
-    ap (λ (d : Offset). pos (m / s) +ℤ d.0) still ∙ at_zero (m / s) in
-    let column : pos (m % s) +ℤ (transformed t (pos 0, pos 0)).1 ≡ pos (m % s) =
-    ap (λ (d : Offset). pos (m % s) +ℤ d.1) still ∙ at_zero (m % s) in
     place_at-at s t m (pos 0, pos 0) m (record {
       row = m / s;
       column = m % s;
-      row_is = row;
-      column_is = column;
+      row_is = same_strip (m / s) _ (ap (λ (d : Offset). d.0) still);
+      column_is = same_strip (m % s) _ (ap (λ (d : Offset). d.1) still);
       row_on = div_below m s s (some_row s m on) on;
       column_on = mod_below m s (some_row s m on);
       point = div-add-mod' m s;
     })
-  where
-    at_zero : (n : ℕ) → pos n +ℤ pos 0 ≡ pos n
-    at_zero n = omega (arith, ints)
+
+-- z is the number of one of the first s strips
+abbrev IsStrip : ℕ → ℤ → Type 0
+IsStrip s z = (n : ℕ) × (z ≡ pos n) × (n < s)
+
+-- what is neither below 0 nor as great as s is one
+strip_within : (s : ℕ) (z : ℤ) → pos 0 ≤ℤ z → (z +ℤ pos 1) ≤ℤ pos s → IsStrip s z
+strip_within s (pos n) low high = (n, refl, omega (arith, ints, high))
+strip_within s (negsuc n) low high = absurd (omega (arith, ints, low))
 
 -- a strip between two strips of the board is one
 strip_between : (s h b c : ℕ) (x y z : ℤ) → pos h +ℤ x ≡ pos b → b < s → pos h +ℤ z ≡ pos c → c < s → IsBetween x y z
-    → (n : ℕ) × (pos h +ℤ y ≡ pos n) × (n < s)
-strip_between s h b c x y z e k f l between =
-    let low : pos 0 ≤ℤ (pos h +ℤ y) =
-    elim between [
-      | inl up ↦ omega (arith, ints, e, f, up.0, up.1)
-      | inr down ↦ omega (arith, ints, e, f, down.0, down.1)
-    ] in
-    let high : (pos h +ℤ y +ℤ pos 1) ≤ℤ pos s =
-    elim between [
-      | inl up ↦ omega (arith, ints, e, f, k, l, up.0, up.1)
-      | inr down ↦ omega (arith, ints, e, f, k, l, down.0, down.1)
-    ] in
-    by (pos h +ℤ y) low high
-  where
-    by : (w : ℤ) → pos 0 ≤ℤ w → (w +ℤ pos 1) ≤ℤ pos s → (n : ℕ) × (w ≡ pos n) × (n < s)
-    by (pos n) low high = (n, refl, omega (arith, ints, high))
-    by (negsuc n) low high = absurd (omega (arith, ints, low))
+    → IsStrip s (pos h +ℤ y)
+strip_between s h b c x y z e k f l (inl up) =
+    strip_within s (pos h +ℤ y) (omega (arith, ints, e, f, up.0, up.1)) (omega (arith, ints, e, f, k, l, up.0, up.1))
+strip_between s h b c x y z e k f l (inr down) =
+    strip_within s (pos h +ℤ y) (omega (arith, ints, e, f, down.0, down.1))
+    (omega (arith, ints, e, f, k, l, down.0, down.1))
+
+-- an offset that leads to a row and a column of the board leads to a point
+placed : (s t m : ℕ) (e : Offset) → IsStrip s (pos (m / s) +ℤ (transformed t e).0)
+    → IsStrip s (pos (m % s) +ℤ (transformed t e).1) → (q : ℕ) × (place_at s t m e ≡ Some q)
+placed s t m e row column = (
+  row.0 * s + column.0,
+  place_at-at s t m e (row.0 * s + column.0) (record {
+    row = row.0;
+    column = column.0;
+    row_is = row.1;
+    column_is = column.1;
+    row_on = row.2;
+    column_on = column.2;
+    point = refl;
+  }),
+)
 
 -- what lies between two offsets that lead to points leads to a point
 pub placed_between : (s t m a b : ℕ) (d e f : Offset) → t < transformations → place_at s t m d ≡ Some a
@@ -217,18 +228,6 @@ placed_between s t m a b d e f low first last within =
     let p = placed-Some s t m d a first in
     let q = placed-Some s t m f b last in
     let moved = keeps_within t low d e f within in
-    let row = strip_between s (m / s) p.row q.row (transformed t d).0 (transformed t e).0
-    (transformed t f).0 p.row_is p.row_on q.row_is q.row_on moved.0 in
-    let column = strip_between s (m % s) p.column q.column (transformed t d).1 (transformed t e).1
-    (transformed t f).1 p.column_is p.column_on q.column_is q.column_on moved.1 in (
-      row.0 * s + column.0,
-      place_at-at s t m e (row.0 * s + column.0) (record {
-        row = row.0;
-        column = column.0;
-        row_is = row.1;
-        column_is = column.1;
-        row_on = row.2;
-        column_on = column.2;
-        point = refl;
-      }),
-    )
+    placed s t m e
+    (strip_between s (m / s) p.row q.row _ _ _ p.row_is p.row_on q.row_is q.row_on moved.0)
+    (strip_between s (m % s) p.column q.column _ _ _ p.column_is p.column_on q.column_is q.column_on moved.1)

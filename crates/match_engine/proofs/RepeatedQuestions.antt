@@ -1,12 +1,12 @@
 -- A question that was read is found again while the facts of its answer hold and few other questions were read.
-use Rattle.std.proofs.Common.{◌≡◌, ◌∙◌, ℕ, suc, ◌≤◌, arith, inl, inr, sym, ap, subst, None, true, rules}
+use Rattle.std.proofs.Common.{◌≡◌, ◌∙◌, ℕ, suc, ◌≤◌, ◌⊎◌, arith, inl, inr, sym, ap, subst, None, true, rules}
 use Rattle.go_rules.specs.Position.{BoardState, IsPosition}
 use Rattle.go_base.specs.Facts.{Fact, SizeIs, CellIs, BanIs, IsFactOf}
 use Rattle.read_rules.specs.declared.question.Answer.{Answer}
 use Rattle.read_rules.specs.ActiveArea.{InActiveArea, AgreeOn, IsAboutOne}
 use Rattle.read_cache.specs.Variants.{Stands}
 use Rattle.read_cache.specs.Kept.{Kept, HoldsOfEach}
-use Rattle.read_cache.specs.Keeping.{raised}
+use Rattle.read_cache.specs.Keeping.{Keeping, IsKeptFirst, WasKept, raised}
 use Rattle.read_cache.specs.declared.variants.Variant.{Variant}
 use Rattle.read_cache.proofs.LastingVariants.{IsAmongFirst, of_first, IsAmongFirst-stands, IsAmongFirst-kept}
 use Rattle.read_cache.proofs.LastingVariants.{IsAmongFirst-found, IsAmongFirst-first, IsAmongFirst-again}
@@ -48,32 +48,52 @@ pub record IsAtHand (key : Key) (pos : BoardState) (n : ℕ) (kept : Kept Key An
 raised-some : (count : ℕ) → raised count 1 ≡ 0 → ⊥
 raised-some count none = omega (arith, none)
 
+-- where no keeping was refused, an answer was kept first, or it had been kept
+kept_cases : (key : Key) (pos : BoardState) (answer : Answer) (old new : ReadingsView) → HasRead key pos answer old new
+    → new.answers.refused ≡ 0
+    → IsKeptFirst same_key key Rests pos answer old.answers new.answers
+    ⊎ WasKept same_key key pos answer old.answers new.answers
+kept_cases key pos answer old new has none = elim (WasAsked-read key pos answer old new has) [
+  | inl fresh ↦ elim fresh.keeping [
+    | inl first ↦ inl first
+    | inr refused ↦ absurd (raised-some old.answers.refused (sym refused.refused ∙ none))
+  ]
+  | inr kept ↦ inr kept
+]
+
+-- an answer that is kept first is at hand
+IsAtHand-fresh : (key : Key) (pos : BoardState) (answer : Answer) (old new : Keeping Key Answer)
+    → IsKeptFirst same_key key Rests pos answer old new → IsAtHand key pos 1 new.kept
+IsAtHand-fresh key pos answer old new first =
+    let variant : Variant Answer = record { facts = first.facts; answer = answer } in
+    record {
+      variant = variant;
+      rests = first.rests;
+      stands = first.holds;
+      among = subst (IsAmongFirst same_key key variant 1) (sym first.kept)
+          (IsAmongFirst-first same_key same_key-is same_key-self key variant old.kept);
+    }
+
+-- so is one that was found
+IsAtHand-again : (key : Key) (pos : BoardState) (answer : Answer) (old new : Keeping Key Answer)
+    → HoldsOfEach Rests new.kept → WasKept same_key key pos answer old new → IsAtHand key pos 1 new.kept
+IsAtHand-again key pos answer old new rest kept =
+    let found = kept.found.brought.first.found in
+    let among = IsAmongFirst-again same_key same_key-is same_key-self key pos old.kept new.kept answer kept.found in
+    record {
+      variant = found;
+      rests = of_first same_key Rests same_key-is key found 1 new.kept rest among;
+      stands = kept.found.brought.first.stands;
+      among = among;
+    }
+
 -- where no keeping was refused, the question that was read is the first, and its answer the first of its answers
 pub IsAtHand-first : (key : Key) (pos : BoardState) (answer : Answer) (old new : ReadingsView)
     → HasRead key pos answer old new → HoldsOfEach Rests new.answers.kept
     → new.answers.refused ≡ 0 → IsAtHand key pos 1 new.answers.kept
-IsAtHand-first key pos answer old new has rest none = elim (WasAsked-read key pos answer old new has) [
-  | inl fresh ↦ elim fresh.keeping [
-    | inl first ↦ record {
-      variant = record { facts = first.facts; answer = answer };
-      rests = first.rests;
-      stands = first.holds;
-      among = subst (IsAmongFirst same_key key (record { facts = first.facts; answer = answer }) 1) (sym first.kept)
-          (IsAmongFirst-first same_key same_key-is same_key-self key
-          (record { facts = first.facts; answer = answer }) old.answers.kept);
-    }
-    | inr refused ↦ absurd (raised-some old.answers.refused (sym refused.refused ∙ none))
-  ]
-  | inr kept ↦
-      let found = kept.found.brought.first.found in
-      let among = IsAmongFirst-again same_key same_key-is same_key-self key pos old.answers.kept new.answers.kept
-      answer kept.found in
-      record {
-        variant = found;
-        rests = of_first same_key Rests same_key-is key found 1 new.answers.kept rest among;
-        stands = kept.found.brought.first.stands;
-        among = among;
-      }
+IsAtHand-first key pos answer old new has rest none = elim (kept_cases key pos answer old new has none) [
+  | inl first ↦ IsAtHand-fresh key pos answer old.answers new.answers first
+  | inr kept ↦ IsAtHand-again key pos answer old.answers new.answers rest kept
 ]
 
 -- another reading moves it back by one place at most
@@ -82,28 +102,20 @@ pub IsAtHand-later : (key : Key) (pos : BoardState) (n : ℕ) (other : Key) (the
     → HasRead other there answer old new → new.answers.refused ≡ 0 → n ≤ 3 → 8 ≤ old.answers.kept.1
     → IsAtHand key pos n old.answers.kept
     → IsAtHand key pos (suc n) new.answers.kept
-IsAtHand-later key pos n other there answer old new has none few room hand =
-    elim (WasAsked-read other there answer old new has) [
-      | inl fresh ↦ elim fresh.keeping [
-        | inl first ↦ record {
-          variant = hand.variant;
-          rests = hand.rests;
-          stands = hand.stands;
-          among = subst (IsAmongFirst same_key key hand.variant (suc n)) (sym first.kept)
-              (IsAmongFirst-kept same_key same_key-is same_key-self other key
-              (record { facts = first.facts; answer = answer }) hand.variant old.answers.kept n few
-              (omega (arith, few, room)) hand.among);
-        }
-        | inr refused ↦ absurd (raised-some old.answers.refused (sym refused.refused ∙ none))
-      ]
-      | inr kept ↦ record {
-        variant = hand.variant;
-        rests = hand.rests;
-        stands = hand.stands;
-        among = IsAmongFirst-found same_key same_key-is same_key-self other key there old.answers.kept
-            new.answers.kept answer hand.variant n (omega (arith, few, room)) hand.among kept.found;
-      }
-    ]
+IsAtHand-later key pos n other there answer old new has none few room hand = record {
+  variant = hand.variant;
+  rests = hand.rests;
+  stands = hand.stands;
+  among = elim (kept_cases other there answer old new has none) [
+    | inl first ↦ subst (IsAmongFirst same_key key hand.variant (suc n)) (sym first.kept)
+        (IsAmongFirst-kept same_key same_key-is same_key-self other key (record {
+          facts = first.facts;
+          answer = answer;
+        }) hand.variant old.answers.kept n few (omega (arith, few, room)) hand.among)
+    | inr kept ↦ IsAmongFirst-found same_key same_key-is same_key-self other key there old.answers.kept
+        new.answers.kept answer hand.variant n (omega (arith, few, room)) hand.among kept.found
+  ];
+}
 
 -- where the active area is the same, a reading of the question is not fresh
 pub IsAtHand-kept : (key : Key) (pos : BoardState) (n : ℕ) (here : BoardState) (answer : Answer)
@@ -132,10 +144,7 @@ HasRead-capacity key pos answer old new has = elim (WasAsked-read key pos answer
 pub HasRead-refused : (key : Key) (pos : BoardState) (answer : Answer) (old new : ReadingsView)
     → HasRead key pos answer old new
     → new.answers.refused ≡ 0 → old.answers.refused ≡ 0
-HasRead-refused key pos answer old new has none = elim (WasAsked-read key pos answer old new has) [
-  | inl fresh ↦ elim fresh.keeping [
-    | inl first ↦ sym first.refused ∙ none
-    | inr refused ↦ absurd (raised-some old.answers.refused (sym refused.refused ∙ none))
-  ]
+HasRead-refused key pos answer old new has none = elim (kept_cases key pos answer old new has none) [
+  | inl first ↦ sym first.refused ∙ none
   | inr kept ↦ sym kept.refused ∙ none
 ]

@@ -22,10 +22,6 @@ same_key-is p q e = search rules
 abbrev pub meaning_of : Key → BoardState → Answer
 meaning_of key pos = answer_of key.question pos
 
--- equal questions have the same answers
-pub same_meaning : (p q : Key) → same_key p q ≡ true → (pos : BoardState) → meaning_of p pos ≡ meaning_of q pos
-same_meaning p q e pos = ap (λ (key : Key). meaning_of key pos) (same_key-is p q e)
-
 -- the number of a kind
 abbrev pub number_of_kind : Kind → ℕ
 number_of_kind kind.Attack = 0

@@ -18,13 +18,13 @@ pub struct Key {
 }
 
 impl Question for Key {
-    ghost use Rattle.match_engine.specs.Keys.{meaning_of, same_meaning};
+    ghost use Rattle.match_engine.specs.Keys.{meaning_of, same_key-is};
 
     type Answer = Answer;
 
     ghost meaning = { meaning_of };
 
-    ghost same = { same_meaning };
+    ghost same = { same_key-is };
 }
 
 /// A question is hashed as one number, so that its place is found by one step of the hasher.

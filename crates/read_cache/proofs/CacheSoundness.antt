@@ -11,45 +11,35 @@ use Rattle.go_rules.specs.Position.{BoardState}
 use Rattle.read_cache.specs.Kept.{Kept, IsRight, AreVariants, IsSound, put_first}
 use Rattle.read_cache.specs.declared.variants.Variant.{Variant}
 
-module _ {Q A : Type 0} (meaning : Q → BoardState → A) (eq : Q → Q → Bool) (same : (p q : Q) → eq p q ≡ true
-    → (pos : BoardState) → meaning p pos ≡ meaning q pos) where
-  -- what is right for a question is right for each equal one
-  IsRight-same : (p q : Q) (v : Variant A) → eq p q ≡ true → IsRight (meaning p) v → IsRight (meaning q) v
-  IsRight-same p q v e r = record { right = λ pos a. r.right pos a ∙ same p q e pos }
+module _ {Q A : Type 0} (meaning : Q → BoardState → A) (eq : Q → Q → Bool) (same : (p q : Q) → eq p q ≡ true → p ≡ q)
+  where
+    -- variants of a question are those of each equal one
+    AreVariants-same : (p q : Q) (vs : List (Variant A)) → eq p q ≡ true → AreVariants (meaning p) vs
+        → AreVariants (meaning q) vs
+    AreVariants-same p q vs e are = subst (λ (x : Q). AreVariants (meaning x) vs) (same p q e) are
 
-  -- so are variants
-  AreVariants-same : (p q : Q) (vs : List (Variant A)) → eq p q ≡ true → AreVariants (meaning p) vs
-      → AreVariants (meaning q) vs
-  AreVariants-same p q vs e are =
-      record { right = λ v i. IsRight-same p q v e (are.right v i); some = are.some; few = are.few }
+    -- those that are found under an equal question are variants of this one
+    pub found_are : (qs : List (Q × List (Variant A))) (q : Q) (vs : List (Variant A)) → IsSound meaning qs
+        → lookup (eq q) qs ≡ Some vs → AreVariants (meaning q) vs
+    found_are qs q vs s at_key =
+        let kept = Contains-lookup (eq q) qs vs at_key in
+        subst (λ (x : Q). AreVariants (meaning x) vs) (sym (same q kept.0 kept.2)) (s.each kept.0 vs kept.1)
 
-  -- those that are found under an equal question are variants of this one
-  pub found_are : (qs : List (Q × List (Variant A))) (q : Q) (vs : List (Variant A)) → IsSound meaning qs
-      → lookup (eq q) qs ≡ Some vs → AreVariants (meaning q) vs
-  found_are qs q vs s at_key =
-      let kept = Contains-lookup (eq q) qs vs at_key in
-      let are = s.each kept.0 vs kept.1 in
-      record {
-        right = λ v i. record { right = λ pos a. (are.right v i).right pos a ∙ sym (same q kept.0 kept.2 pos) };
-        some = are.some;
-        few = are.few;
-      }
+    -- what is put first keeps the rest right
+    pub IsSound-put_first : (kept : Kept Q A) (q : Q) (vs : List (Variant A)) → IsSound meaning kept.0
+        → AreVariants (meaning q) vs → IsSound meaning (put_first eq q vs kept).0
+    IsSound-put_first kept q vs s are = record { each = each }
+      where
+        at_key : (p : Q) → (p ≡ q) ⊎ ((w : List (Variant A)) × Contains kept.0 (p, w) × (eq q p ≡ true))
+            → AreVariants (meaning p) vs
+        at_key p (inl e) = subst (λ (x : Q). AreVariants (meaning x) vs) (sym e) are
+        at_key p (inr e) = AreVariants-same q p vs e.2 are
 
-  -- what is put first keeps the rest right
-  pub IsSound-put_first : (kept : Kept Q A) (q : Q) (vs : List (Variant A)) → IsSound meaning kept.0
-      → AreVariants (meaning q) vs → IsSound meaning (put_first eq q vs kept).0
-  IsSound-put_first kept q vs s are = record { each = each }
-    where
-      at_key : (p : Q) → (p ≡ q) ⊎ ((w : List (Variant A)) × Contains kept.0 (p, w) × (eq q p ≡ true))
-          → AreVariants (meaning p) vs
-      at_key p (inl e) = subst (λ (x : Q). AreVariants (meaning x) vs) (sym e) are
-      at_key p (inr e) = AreVariants-same q p vs e.2 are
-
-      each : (p : Q) (ws : List (Variant A)) → Contains (put_first eq q vs kept).0 (p, ws) → AreVariants (meaning p) ws
-      each p ws i = elim (Contains-put_entries eq (lru_cache kept.0 kept.1) q vs (p, ws) i) [
-        | inl old ↦ s.each p ws old
-        | inr new ↦ subst (λ (xs : List (Variant A)). AreVariants (meaning p) xs) (sym new.0) (at_key p new.1)
-      ]
+        each : (p : Q) (ws : List (Variant A)) → Contains (put_first eq q vs kept).0 (p, ws) → AreVariants (meaning p) ws
+        each p ws i = elim (Contains-put_entries eq (lru_cache kept.0 kept.1) q vs (p, ws) i) [
+          | inl old ↦ s.each p ws old
+          | inr new ↦ subst (λ (xs : List (Variant A)). AreVariants (meaning p) xs) (sym new.0) (at_key p new.1)
+        ]
 
 module _ {A : Type 0} (meaning : BoardState → A) where
   module _ (vs front : List (Variant A)) (i : ℕ) (found : Variant A) (at : vs ≡ take i vs ++ found ∷ drop (i + 1) vs)

@@ -46,8 +46,7 @@ module _ {Q A : Type 0} (eq : Q → Q → Bool) (k : Q) (es : List (Q × List (V
       ap (λ entries. (entries, cap)) (written_first (eq k) es ((k, ws) ∷ take (cap - 1) es) vs ws there)
       ∙ ap (put_first eq k ws) is
 
-  module _ (meaning : Q → BoardState → A)
-      (same : (p q : Q) → eq p q ≡ true → (pos : BoardState) → meaning p pos ≡ meaning q pos)
+  module _ (meaning : Q → BoardState → A) (same : (p q : Q) → eq p q ≡ true → p ≡ q)
       (sound : IsSound meaning es) (vs : List (Variant A)) (there : lookup (eq k) es ≡ Some vs) where
     -- they are right for it
     pub variants_are : AreVariants (meaning k) vs

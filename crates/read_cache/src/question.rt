@@ -13,6 +13,6 @@ pub trait Question: Copy + Eq + Hash {
     /// The answer on a position.
     ghost meaning: { Self → BoardState → Self.Answer };
 
-    /// Equal questions have the same answer on each position.
-    ghost same: { (p q : Self) → IsTrue (Self.eq p q) → (pos : BoardState) → meaning p pos ≡ meaning q pos };
+    /// Equal questions are one, so they have the same answer on each position.
+    ghost same: { (p q : Self) → IsTrue (Self.eq p q) → p ≡ q };
 }

@@ -17,7 +17,7 @@ impl Question for Number {
 
     ghost meaning = { λ q pos. q.n };
 
-    ghost same = { λ p q e pos. Prim.search rules };
+    ghost same = { λ p q e. Prim.search rules };
 }
 
 /// The empty board of so many rows.

@@ -1,7 +1,9 @@
 use Rattle.std.proofs.Common.{◌++◌, max, ◌∙◌, ap, sym, subst, length}
 use Rattle.std.proofs.lemmas.List.{length_push}
+use Rattle.dfa_core.specs.Automata.{Row}
 use Rattle.dfa_join.specs.Pairs.{IsReached, AreRowsOf, IsRowOf}
 use Rattle.dfa_join.proofs.Products.{AreRowsOf-push}
+use Rattle.dfa_join.proofs.product.add_row_of.Goals.{In-Ok}
 use Rattle.dfa_join.proofs.product.add_row_of.Goals as goal
 
 -- some word reaches the pair
@@ -14,29 +16,31 @@ expand-requires-clause-reached c =
 pub expand-requires-clause-work : goal.expand-requires-clause-work
 expand-requires-clause-work c = c.requires.made.work
 
--- the row is that of the pair
+-- the row that is added
+abbrev row_of : In-Ok → Row
+row_of c = record {
+  targets = c.in_ok-targets.targets;
+  numbers = c.accepts.result.now ++ c.accepts-2.result.now;
+  depth = c.max-depth.result;
+}
+
+-- it is that of the pair
+is_row : (c : In-Ok) → IsRowOf c.args.a.now c.args.b.now c.expand.new.pairs.keys c.args.pair (row_of c)
+is_row c = record {
+  leads = c.in_ok-targets.ensures.leads;
+  numbers = λ i. c.accepts.ensures i ++ c.accepts-2.ensures i;
+  depth = c.max-depth.ensures ∙ (λ i. max (c.depth.ensures i) (c.depth-2.ensures i));
+}
+
+-- so the rows are those of the pairs still
 pub returns-in-Ok-clause-made : goal.returns-in-Ok-clause-made
 returns-in-Ok-clause-made c =
-    subst (AreRowsOf c.args.a.now c.args.b.now c.args.limit c.expand.new.pairs.keys) (sym c.in-Ok.ensures.added)
-    (AreRowsOf-push c.args.a.now c.args.b.now c.args.limit c.args.pairs.now.keys c.expand.new.pairs.keys c.args.rows.now
-    (record {
-      targets = c.in_ok-targets.targets;
-      numbers = c.accepts.result.now ++ c.accepts-2.result.now;
-      depth = c.max-depth.result;
-    })
-    c.requires.made c.requires.next
-    c.in_ok-targets.ensures.keeps c.in_ok-targets.ensures.work
-    (subst (λ q. IsRowOf c.args.a.now c.args.b.now c.expand.new.pairs.keys q
-    (record {
-      targets = c.in_ok-targets.targets;
-      numbers = c.accepts.result.now ++ c.accepts-2.result.now;
-      depth = c.max-depth.result;
-    })) (sym c.requires.pair)
-    (record {
-      leads = c.in_ok-targets.ensures.leads;
-      numbers = λ i. c.accepts.ensures i ++ c.accepts-2.ensures i;
-      depth = c.max-depth.ensures ∙ (λ i. max (c.depth.ensures i) (c.depth-2.ensures i));
-    }))
+    let a = c.args.a.now in
+    let b = c.args.b.now in
+    subst (AreRowsOf a b c.args.limit c.expand.new.pairs.keys) (sym c.in-Ok.ensures.added)
+    (AreRowsOf-push a b c.args.limit c.args.pairs.now.keys c.expand.new.pairs.keys c.args.rows.now (row_of c)
+    c.requires.made c.requires.next c.in_ok-targets.ensures.keeps c.in_ok-targets.ensures.work
+    (subst (λ q. IsRowOf a b c.expand.new.pairs.keys q (row_of c)) (sym c.requires.pair) (is_row c))
     c.in_ok-targets.ensures.order)
 
 -- there is one row more

@@ -5,7 +5,7 @@ use Rattle.std.proofs.lemmas.List.FromFn.{map-range_with_len_more}
 use Rattle.dfa_match.specs.declared.walks.Walk.{Walk}
 use Rattle.dfa_match.specs.Steps.{corner_at, last_corner}
 use Rattle.dfa_match.specs.Walks.{IsStanding}
-use Rattle.dfa_match.proofs.Cursors.{cursor_corner, corner_is}
+use Rattle.dfa_match.proofs.Cursors.{corner_low}
 use Rattle.dfa_match.proofs.StandingWalks.{first_walk, first_walk-is, first_standing}
 use Rattle.dfa_match.proofs.walks.first_walks.Goals as goal
 
@@ -18,9 +18,7 @@ points-preserved c =
     let on : c.points.anchor < c.args.size * c.args.size =
     subst (λ n. c.points.anchor < n) c.points-anchor-end.ensures.value c.points-test.true in
     let low : corner_at c.args.size c.points.anchor ≤ last_corner =
-    subst (λ n. n ≤ last_corner) (corner_is c.args.size c.points.anchor c.points.at c.points.invariant.at)
-    (cursor_corner c.args.size c.points.anchor c.points.at c.points.invariant.at
-    (omega (arith, c.get.ensures.at_least)) c.get.ensures.at_most on) in
+    corner_low c.args.size c.points.anchor (omega (arith, c.get.ensures.at_least)) c.get.ensures.at_most on in
     let items = c.in_ok-push.ensures.items ∙ ap (λ w. c.points.walks.items ++ w ∷ []) is in
     record {
       value = items ∙ ap (λ ws. ws ++ walk ∷ []) c.points.invariant.value

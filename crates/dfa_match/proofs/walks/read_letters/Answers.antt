@@ -3,18 +3,13 @@ use Rattle.std.proofs.Common.{ap, sym, ◌∙◌, subst}
 use Rattle.std.specs.List.{All}
 use Rattle.std.proofs.lemmas.List.{append-nil, length-map}
 use Rattle.std.proofs.lemmas.List.Elements.{All-map}
-use Rattle.std.proofs.Math.Seq.{take-append_seam}
+use Rattle.dfa_core.proofs.Entries.{written_whole}
 use Rattle.dfa_shortcuts.specs.Shortcuts.{is_accepting_entry}
 use Rattle.dfa_match.specs.declared.walks.Walk.{Walk}
 use Rattle.dfa_match.specs.Walks.{after_letters, IsStanding}
 use Rattle.dfa_match.proofs.StandingWalks.{standing_after, silent_standing, hits_of-silent}
 use Rattle.dfa_match.proofs.walks.read_letters.Goals.{After-read_on-met}
 use Rattle.dfa_match.proofs.walks.read_letters.Goals as goal
-
--- the whole list was written
-whole : (n : ℕ) (new old : List Walk) → length new ≡ n → take n (new ++ drop (length new) old) ≡ new
-whole n new old long = ap (λ k. take k (new ++ drop (length new) old)) (sym long)
-    ∙ take-append_seam new (drop (length new) old)
 
 -- what a walk is behind its next letter
 abbrev next : (c : After-read_on-met) → Walk → Walk
@@ -31,7 +26,7 @@ read c = c.read_on-met.ensures.value
 written : (c : After-read_on-met)
     → take c.args.walks.now.len (c.read_on-met.new.walks ++ drop (length c.read_on-met.new.walks)
     c.args.walks.now.items) ≡ c.read_on-met.new.walks
-written c = whole c.args.walks.now.len c.read_on-met.new.walks c.args.walks.now.items
+written c = written_whole c.args.walks.now.len c.read_on-met.new.walks c.args.walks.now.items
     (ap length (read c) ∙ length-map c.args.walks.now.items (next c) ∙ sym c.args.walks.now.ok.0)
 
 -- none of them has passed over more than 255 letters

@@ -1,13 +1,14 @@
 use Rattle.std.proofs.Common.{◌≡◌, ℕ, ◌+◌, ◌*◌, ◌<◌, ◌%◌, ◌++◌, bit_or, max, false, List, length, map, take}
-use Rattle.std.proofs.Common.{drop, get_or, arith, ap, sym, ◌∙◌, subst, inl, inr, get_or-set_same, get_or-set_other}
+use Rattle.std.proofs.Common.{drop, get_or, arith, ap, sym, ◌∙◌, subst}
 use Rattle.std.specs.Int.{bit_at}
-use Rattle.std.specs.List.{AllWithin}
+use Rattle.std.specs.List.{All}
 use Rattle.std.proofs.Math.ListN.{set}
-use Rattle.std.proofs.lemmas.Bool.{cases_lt, ne_eqb}
+use Rattle.std.proofs.lemmas.Bool.{ne_eqb}
 use Rattle.std.proofs.lemmas.List.{get_or_default, length-map, length-take, drop_more, get_or_at}
 use Rattle.std.proofs.lemmas.List.Elements.{AllWithin-more_set}
 use Rattle.std.proofs.lemmas.List.Edits.{map_over_more}
 use Rattle.std.proofs.lemmas.Nat.Bits.{bit_at_or, bit_at_lowest}
+use Rattle.dfa_core.specs.declared.automaton.Seen.{Seen}
 use Rattle.dfa_core.specs.Words.{letter_number}
 use Rattle.dfa_shortcuts.specs.Shortcuts.{is_accepting_entry}
 use Rattle.dfa_match.specs.declared.walks.Walk.{Walk}
@@ -26,20 +27,6 @@ or_even a b even =
 even_silent : (entry : ℕ) → entry % 2 ≡ 0 → is_accepting_entry entry ≡ false
 even_silent entry even = ne_eqb (entry % 4) 1 (λ same. omega (arith, same, even))
 
--- one walk more at a row that accepts nothing
-silent_more : (walks : List Walk) (i : ℕ) (w : Walk) → i < length walks
-    → AllWithin (λ v. is_accepting_entry v.entry ≡ false) walks 0 i → is_accepting_entry w.entry ≡ false
-    → AllWithin (λ v. is_accepting_entry v.entry ≡ false) (set walks i w) 0 (i + 1)
-silent_more walks i w on before now k d low high =
-    elim (cases_lt k i) [
-      | inl old ↦ subst (λ v. is_accepting_entry v.entry ≡ false)
-          (sym (get_or-set_other walks i k w d (λ same. omega (arith, same)))) (before k d low old)
-      | inr last ↦
-          let same : k ≡ i = omega arith in
-          subst (λ v. is_accepting_entry v.entry ≡ false)
-          (sym (ap (λ j. get_or (set walks i w) j d) same ∙ get_or-set_same walks i w d on)) now
-    ]
-
 -- the next walk is as it was
 next_same : (f : Walk → Walk) (xs ys : List Walk) (i : ℕ) (x : Walk) → i < length xs
     → ys ≡ map f (take i xs) ++ drop i xs → get_or ys i x ≡ get_or xs i x
@@ -48,45 +35,56 @@ next_same f xs ys i x low is =
     ∙ get_or_at (map f (take i xs)) (get_or xs i x) (drop (i + 1) xs) x i
     (length-map (take i xs) f ∙ omega (arith, length-take i xs))
 
+-- what is read past the end of a list
+abbrev none : Walk
+none = record { entry = 0; letters = 0; corner = 0 }
+
+-- it has read as few letters as it had at first
+next_few : (f : Walk → Walk) (xs ys : List Walk) (i n : ℕ) → i < length xs → ys ≡ map f (take i xs) ++ drop i xs
+    → All (λ w. w.letters < n) xs → (get_or ys i none).letters < n
+next_few f xs ys i n low is read =
+    subst (λ (w : Walk). w.letters < n) (sym (next_same f xs ys i none low is)) (read i none low)
+
+-- a walk at this row that has passed over so many letters behind the next one
+abbrev moved : Walk → ℕ → ℕ → Walk
+moved w entry more = record { entry = entry; letters = w.letters + (1 + more); corner = w.corner }
+
+-- where row and letters are those of its shortcut, it is the walk behind its next letter
+moved_is : (entries passed steps : List ℕ) (letters : List Seen) (w : Walk) (place entry more : ℕ)
+    → place ≡ place_of steps letters w → entry ≡ get_or entries place 0 → more ≡ get_or passed place 0
+    → moved w entry more ≡ after_letters entries passed steps letters w
+moved_is entries passed steps letters w place entry more at row count =
+    let entry_is = row ∙ ap (λ n. get_or entries n 0) at in
+    let more_is = count ∙ ap (λ n. get_or passed n 0) at in
+    let letters_are : w.letters + (1 + more) ≡ (after_letters entries passed steps letters w).letters =
+    omega (arith, more_is) in
+    λ i. record { entry = entry_is i; letters = letters_are i; corner = w.corner }
+
 -- one walk more has read its letter
 pub walks-preserved : goal.walks-preserved
 walks-preserved c =
-    let entries : List ℕ = c.args.entries.now in
-    let passed : List ℕ = c.args.passed.now in
     let steps : List ℕ = c.args.steps.now in
     let letters = c.args.sights.now.letters in
-    let none : Walk = record { entry = 0; letters = 0; corner = 0 } in
-    let walk : Walk = get_or c.walks.walks c.walks.walk-index none in
-    let on : c.walks.walk-index < length c.walks.walks = omega (arith, c.walks.auto.walks) in
+    let step : Walk → Walk = after_letters c.args.entries.now c.args.passed.now steps letters in
+    let index : ℕ = c.walks.walk-index in
+    let walk : Walk = get_or c.walks.walks index none in
+    let next : Walk = moved walk c.shortcut-entry.result.0 c.shortcut-entry.result.1 in
+    let on : index < length c.walks.walks = omega (arith, c.walks.auto.walks) in
     let place : 4 * c.row_in.result + letter_number c.letter-letter.result ≡ place_of steps letters walk =
     omega (arith, c.row_in.ensures, ap letter_number c.letter-letter.ensures) in
-    let entry : c.shortcut-entry.result.0 ≡ get_or entries (place_of steps letters walk) 0 =
-    c.shortcut-entry.ensures.entry ∙ ap (λ n. get_or entries n 0) place in
-    let more : c.shortcut-entry.result.1 ≡ get_or passed (place_of steps letters walk) 0 =
-    c.shortcut-entry.ensures.passed ∙ ap (λ n. get_or passed n 0) place in
-    let next : Walk = record {
-      entry = c.shortcut-entry.result.0;
-      letters = walk.letters + (1 + c.shortcut-entry.result.1);
-      corner = walk.corner;
-    } in
-    let count : next.letters ≡ (after_letters entries passed steps letters walk).letters = omega (arith, more) in
-    let is : next ≡ after_letters entries passed steps letters walk =
-    λ i. record { entry = entry i; letters = count i; corner = walk.corner } in
     record {
-      value = ap (set c.walks.walks c.walks.walk-index) is
-          ∙ map_over_more (after_letters entries passed steps letters) c.args.walks.now c.walks.walks
-          c.walks.walk-index walk c.walks-test.true c.walks.invariant.value
-          (get_or_default c.walks.walks c.walks.walk-index _ walk on);
+      value = ap (set c.walks.walks index) (moved_is c.args.entries.now c.args.passed.now steps letters walk _ _ _ place
+          c.shortcut-entry.ensures.entry c.shortcut-entry.ensures.passed)
+          ∙ map_over_more step c.args.walks.now c.walks.walks index walk c.walks-test.true c.walks.invariant.value
+          (get_or_default c.walks.walks index _ walk on);
       few = λ n read.
-          let before = read c.walks.walk-index none c.walks-test.true in
-          let same = ap (λ (w : Walk). w.letters) (next_same (after_letters entries passed steps letters)
-          c.args.walks.now c.walks.walks c.walks.walk-index none c.walks-test.true c.walks.invariant.value) in
-          AllWithin-more_set c.walks.walks c.walks.walk-index next on (λ w. w.letters < n + 256)
-          (c.walks.invariant.few n read) (omega (arith, before, same, c.shortcut-entry.type_inv));
-      silent = λ even.
-          let parts = or_even c.walks.met c.shortcut-entry.result.0 even in
-          silent_more c.walks.walks c.walks.walk-index next on (c.walks.invariant.silent parts.0)
-          (even_silent c.shortcut-entry.result.0 parts.1);
+          let before = next_few step c.args.walks.now c.walks.walks index n c.walks-test.true
+          c.walks.invariant.value read in
+          AllWithin-more_set c.walks.walks index next on (λ w. w.letters < n + 256)
+          (c.walks.invariant.few n read) (omega (arith, before, c.shortcut-entry.type_inv));
+      silent = λ even. let parts = or_even c.walks.met c.shortcut-entry.result.0 even in
+          AllWithin-more_set c.walks.walks index next on (λ w. is_accepting_entry w.entry ≡ false)
+          (c.walks.invariant.silent parts.0) (even_silent c.shortcut-entry.result.0 parts.1);
     }
 
 -- each walk has read its letter

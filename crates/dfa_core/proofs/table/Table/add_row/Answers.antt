@@ -3,15 +3,15 @@ use Rattle.std.proofs.lemmas.List.{length_push}
 use Rattle.dfa_core.specs.Automata.{Row}
 use Rattle.dfa_core.specs.Tables.{Flat, rows_in, IsFlat}
 use Rattle.dfa_core.specs.RowKinds.{kind_with, AreKinds}
-use Rattle.dfa_core.proofs.Tables.{flat_with, rows_in-grown, IsFlat-grown, length-rows}
+use Rattle.dfa_core.proofs.Tables.{flat_with, grown-rows, length-rows}
 use Rattle.dfa_core.proofs.RowKinds.{AreKinds-more}
+use Rattle.dfa_core.proofs.ShownTables.{table_lists}
 use Rattle.dfa_core.proofs.table.Table.add_row.Goals.{After-push_reserved-3}
 use Rattle.dfa_core.proofs.table.Table.add_row.Goals as goal
 
 -- the lists before
 abbrev old_table : After-push_reserved-3 → Flat
-old_table c = flat_with c.self.inside.targets.items c.self.inside.starts.items c.self.inside.numbers.items
-    c.self.inside.depths.items
+old_table c = table_lists c.self.inside
 
 -- the lists with one row more
 abbrev new_table : After-push_reserved-3 → Flat
@@ -32,22 +32,11 @@ one_depth : (c : After-push_reserved-3)
 one_depth c = c.push_reserved-2.ensures.items
     ∙ ap (λ xs. xs ++ c.args.depth ∷ []) c.in_ok-make_room.ensures.depths
 
--- it comes behind the others
-one_more : (c : After-push_reserved-3) → rows_in (new_table c) ≡ rows_in (old_table c) ++ row_of c ∷ []
-one_more c =
-    rows_in-grown (old_table c) (new_table c)
-    c.args.targets_of_row c.append.new.numbers.items c.args.first.now c.args.second.now c.args.depth c.len-3.result
-    c.self.invariant.flat (omega arith)
-    (c.append_targets.ensures ∙ ap (λ xs. xs ++ c.args.targets_of_row) c.in_ok-make_room.ensures.targets)
-    (c.push_reserved.ensures.items ∙ ap (λ xs. xs ++ c.len-3.result ∷ []) c.in_ok-make_room.ensures.starts)
-    (c.len-3.ensures ∙ c.append-2.new.numbers.ok.0)
-    (c.append.ensures.items ∙ ap (λ xs. xs ++ c.args.first.now) c.in_ok-make_room.ensures.numbers)
-    c.append-2.ensures.items (one_depth c)
-
--- the lists belong together still
-flat : (c : After-push_reserved-3) → IsFlat (new_table c)
-flat c =
-    IsFlat-grown (old_table c) (new_table c)
+-- it comes behind the others, and the lists belong together still
+grown : (c : After-push_reserved-3)
+    → (rows_in (new_table c) ≡ rows_in (old_table c) ++ row_of c ∷ []) × IsFlat (new_table c)
+grown c =
+    grown-rows (old_table c) (new_table c)
     c.args.targets_of_row c.append.new.numbers.items c.args.first.now c.args.second.now c.args.depth c.len-3.result
     c.self.invariant.flat (omega arith)
     (c.append_targets.ensures ∙ ap (λ xs. xs ++ c.args.targets_of_row) c.in_ok-make_room.ensures.targets)
@@ -61,7 +50,7 @@ kinds : (c : After-push_reserved-3) → AreKinds (rows_in (new_table c)) c.push_
 kinds c =
     let kind = c.kind_of-kind.result in
     AreKinds-more (rows_in (old_table c)) (rows_in (new_table c)) (row_of c) c.self.inside.kinds.items
-    c.push_reserved-3.new.self.items kind c.self.invariant.of_rows (one_more c)
+    c.push_reserved-3.new.self.items kind c.self.invariant.of_rows (grown c).0
     (c.push_reserved-3.ensures.items ∙ ap (λ xs. xs ++ kind ∷ []) c.in_ok-make_room.ensures.kinds)
     (c.kind_of-kind.ensures ∙ ap (λ n. kind_with n c.args.targets_of_row (c.args.first.now ++ c.args.second.now))
     (c.len-2.ensures ∙ c.self.inside.depths.ok.0 ∙ sym (length-rows (old_table c))))
@@ -70,14 +59,14 @@ kinds c =
 pub returns-clause-added : goal.returns-clause-added
 returns-clause-added c =
     let at = (goal.at.returns-clause-added c).After-push_reserved-3 in
-    one_more at ∙ ap (λ rows. rows ++ row_of at ∷ []) c.self.view_is
+    (grown at).0 ∙ ap (λ rows. rows ++ row_of at ∷ []) c.self.view_is
 
 -- the lists belong together, each row has its kind, and there are not too many
 pub invariant_of-self-2 : goal.invariant_of-self-2
 invariant_of-self-2 c =
     let at = (goal.at.invariant_of-self-2 c).After-push_reserved-3 in
     record {
-      flat = flat at;
+      flat = (grown at).1;
       of_rows = kinds at;
       few = omega (
         arith,

@@ -1,11 +1,9 @@
 use Rattle.std.proofs.Common.{◌∙◌, sym, ap, length}
-use Rattle.dfa_core.specs.Tables.{Flat}
-use Rattle.dfa_core.proofs.Tables.{flat_with, length-rows}
+use Rattle.dfa_core.proofs.Tables.{length-rows}
+use Rattle.dfa_core.proofs.ShownTables.{table_lists}
 use Rattle.dfa_core.proofs.table.Table.rows.Goals as goal
 
 -- there is a row for each depth
 pub returns : goal.returns
 returns c =
-    let t : Flat = flat_with c.self.inside.targets.items c.self.inside.starts.items c.self.inside.numbers.items
-    c.self.inside.depths.items in
-    c.len.ensures ∙ c.self.inside.depths.ok.0 ∙ sym (length-rows t) ∙ ap length c.self.view_is
+    c.len.ensures ∙ c.self.inside.depths.ok.0 ∙ sym (length-rows (table_lists c.self.inside)) ∙ ap length c.self.view_is
