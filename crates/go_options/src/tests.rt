@@ -35,13 +35,13 @@ fn names_of(alloc: Global, options: &Options) -> Result<String, Fail> {
 #[test]
 fn no_words_give_the_defaults(rt: HostRuntime) -> Result<(), Fail> {
     let options = options_of(rt.alloc(), &[])?;
-    assert_eq!(rt; options.depth, 10);
-    assert_eq!(rt; options.branch, 2);
-    assert_eq!(rt; options.cache, 4096);
-    assert_eq!(rt; options.states, 100_000);
+    assert!(rt; options.depth == 10);
+    assert!(rt; options.branch == 2);
+    assert!(rt; options.cache == 4096);
+    assert!(rt; options.states == 100_000);
     assert!(rt; !options.stats);
     assert!(rt; options.generate.is_none());
-    assert_eq!(rt; options.files.as_slice().len(), 0);
+    assert!(rt; options.files.as_slice().len() == 0);
     Ok(())
 }
 
@@ -58,10 +58,10 @@ fn values_stand_behind_an_equals_sign_or_in_the_next_word(rt: HostRuntime) -> Re
         "--generate=100000",
     ];
     let options = options_of(rt.alloc(), words.as_slice())?;
-    assert_eq!(rt; options.depth, 3);
-    assert_eq!(rt; options.branch, 0);
-    assert_eq!(rt; options.cache, 8);
-    assert_eq!(rt; options.states, 1);
+    assert!(rt; options.depth == 3);
+    assert!(rt; options.branch == 0);
+    assert!(rt; options.cache == 8);
+    assert!(rt; options.states == 1);
     assert!(rt; options.stats);
     assert!(rt; options.generate == Some(100_000));
     Ok(())
@@ -72,7 +72,7 @@ fn files_stand_anywhere_and_keep_their_order(rt: HostRuntime) -> Result<(), Fail
     let alloc = rt.alloc();
     let options = options_of(alloc, &["b", "--stats", "a", "-", "--depth", "4", "", "b"])?;
     assert!(rt; names_of(alloc, &options)?.as_str() == "b a -  b ");
-    assert_eq!(rt; options.depth, 4);
+    assert!(rt; options.depth == 4);
     Ok(())
 }
 
@@ -82,9 +82,9 @@ fn two_hyphens_end_the_options(rt: HostRuntime) -> Result<(), Fail> {
     let options = options_of(alloc, &["--depth=4", "--", "--stats", "-x", "--"])?;
     assert!(rt; names_of(alloc, &options)?.as_str() == "--stats -x -- ");
     assert!(rt; !options.stats);
-    assert_eq!(rt; options.files.as_slice().len(), 3);
+    assert!(rt; options.files.as_slice().len() == 3);
     let none = options_of(alloc, &["--"])?;
-    assert_eq!(rt; none.files.as_slice().len(), 0);
+    assert!(rt; none.files.as_slice().len() == 0);
     Ok(())
 }
 
@@ -94,9 +94,9 @@ fn numbers_may_have_a_sign_and_zeros_in_front(rt: HostRuntime) -> Result<(), Fai
         rt.alloc(),
         &["--depth=+007", "--branch=-0", "--cache", "+8"],
     )?;
-    assert_eq!(rt; options.depth, 7);
-    assert_eq!(rt; options.branch, 0);
-    assert_eq!(rt; options.cache, 8);
+    assert!(rt; options.depth == 7);
+    assert!(rt; options.branch == 0);
+    assert!(rt; options.cache == 8);
     Ok(())
 }
 
@@ -187,6 +187,6 @@ fn files_are_taken_one_by_one(rt: HostRuntime) -> Result<(), Fail> {
     let alloc = rt.alloc();
     let mut files = crate::Files::new(alloc);
     files.push(String::from_str(alloc, "a")?)?;
-    assert_eq!(rt; files.as_slice().len(), 1);
+    assert!(rt; files.as_slice().len() == 1);
     Ok(())
 }

@@ -116,8 +116,11 @@ mod tests {
             ("one more", "abcde", false),
         ] {
             let mut into = Vec::from_slice(alloc, b"# ")?;
-            assert_eq!(rt; read_up_to(text.as_bytes(), 4, &mut into)?, want, "{file}");
-            assert_eq!(rt; into.len(), 2 + text.len(), "{file}");
+            assert!(rt;
+                read_up_to(text.as_bytes(), 4, &mut into)? == want,
+                "{file}"
+            );
+            assert!(rt; into.len() == 2 + text.len(), "{file}");
         }
         Ok(())
     }

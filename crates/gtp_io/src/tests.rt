@@ -82,11 +82,11 @@ fn feed_gives_pieces_and_fails_where_told(rt: HostRuntime) -> Result<(), Fail> {
         ("the end", Ok(0)),
     ];
     for (call, want) in calls {
-        assert_eq!(rt; feed.next(&mut buf), want, "{call}");
+        assert!(rt; feed.next(&mut buf) == want, "{call}");
     }
-    assert_eq!(rt; feed.left(), b"".as_slice());
+    assert!(rt; feed.left() == b"".as_slice());
     let mut sure = SureFeed::new(Vec::from_slice(alloc, b"name\n")?, 4);
-    assert_eq!(rt; sure.next(&mut buf), Ok(4));
+    assert!(rt; sure.next(&mut buf) == Ok(4));
     Ok(())
 }
 
@@ -101,10 +101,10 @@ fn page_keeps_what_it_took(rt: HostRuntime) -> Result<(), Fail> {
         ("no room left", Err(Failed)),
     ];
     for (call, want) in calls {
-        assert_eq!(rt; page.put(b"name"), want, "{call}");
+        assert!(rt; page.put(b"name") == want, "{call}");
     }
-    assert_eq!(rt; page.bytes(), b"namna".as_slice());
-    assert_eq!(rt; SurePage::new().put(b"name"), Ok(4));
+    assert!(rt; page.bytes() == b"namna".as_slice());
+    assert!(rt; SurePage::new().put(b"name") == Ok(4));
     Ok(())
 }
 
@@ -113,10 +113,10 @@ fn shelf_gives_the_first_of_equal_names(rt: HostRuntime) -> Result<(), Fail> {
     let alloc = rt.alloc();
     let titles = names(alloc, &["a", "b", "a"])?;
     let texts = contents(alloc, &["one", "two", "three"])?;
-    assert_eq!(rt; titles.len(), texts.len());
+    assert!(rt; titles.len() == texts.len());
     let mut shelf = Shelf::new(titles, texts, Vec::from_slice(alloc, &[3])?);
     let joined = shelf.load("a", Vec::from_slice(alloc, b"zero ")?)?;
-    assert_eq!(rt; joined.as_slice(), b"zero one".as_slice());
+    assert!(rt; joined.as_slice() == b"zero one".as_slice());
     let missed = [
         ("a name that is not there", "c"),
         ("the call that is listed", "b"),
@@ -129,13 +129,10 @@ fn shelf_gives_the_first_of_equal_names(rt: HostRuntime) -> Result<(), Fail> {
     }
     let titles = names(alloc, &["a"])?;
     let texts = contents(alloc, &["one"])?;
-    assert_eq!(rt; titles.len(), texts.len());
+    assert!(rt; titles.len() == texts.len());
     let mut sure = SureShelf::new(titles, texts);
-    assert_eq!(rt;
-        sure.load("a", Vec::new(alloc))?.as_slice(),
-        b"one".as_slice()
-    );
-    assert_eq!(rt; sure.load("c", Vec::new(alloc))?.as_slice(), b"".as_slice());
+    assert!(rt; sure.load("a", Vec::new(alloc))?.as_slice() == b"one".as_slice());
+    assert!(rt; sure.load("c", Vec::new(alloc))?.as_slice() == b"".as_slice());
     Ok(())
 }
 
@@ -144,12 +141,12 @@ fn standard_streams_pass_bytes_on(rt: HostRuntime) -> Result<(), Fail> {
     let alloc = rt.alloc();
     let mut buf = [0u8; 8];
     let mut source = StdSource::new(b"name".as_slice());
-    assert_eq!(rt; source.next(&mut buf), Ok(4));
-    assert_eq!(rt; source.next(&mut buf), Ok(0));
-    assert_eq!(rt; StdSource::new(Broken).next(&mut buf), Err(Failed));
+    assert!(rt; source.next(&mut buf) == Ok(4));
+    assert!(rt; source.next(&mut buf) == Ok(0));
+    assert!(rt; StdSource::new(Broken).next(&mut buf) == Err(Failed));
     let mut sink = StdSink::new(Vec::new(alloc));
-    assert_eq!(rt; sink.put(b"name"), Ok(4));
-    assert_eq!(rt; StdSink::new(Broken).put(b"name"), Err(Failed));
+    assert!(rt; sink.put(b"name") == Ok(4));
+    assert!(rt; StdSink::new(Broken).put(b"name") == Err(Failed));
     Ok(())
 }
 
@@ -162,10 +159,10 @@ fn a_sink_tells_how_many_bytes_were_taken_and_flushes_each_time(
         flushes: 0,
     };
     let mut sink = StdSink::new(&mut writer);
-    assert_eq!(rt; sink.put(b"name"), Ok(1));
-    assert_eq!(rt; sink.put(b"ame"), Ok(1));
-    assert_eq!(rt; writer.bytes.as_slice(), b"na".as_slice());
-    assert_eq!(rt; writer.flushes, 2);
+    assert!(rt; sink.put(b"name") == Ok(1));
+    assert!(rt; sink.put(b"ame") == Ok(1));
+    assert!(rt; writer.bytes.as_slice() == b"na".as_slice());
+    assert!(rt; writer.flushes == 2);
     Ok(())
 }
 
@@ -175,7 +172,7 @@ fn files_are_loaded_by_their_paths(rt: HostRuntime) -> Result<(), Fail> {
     fs::write(&rt, "gtp_io_sample.txt", "text")?;
     let mut files = FileLoader::new(alloc, &rt);
     let joined = files.load("gtp_io_sample.txt", Vec::from_slice(alloc, b"some ")?)?;
-    assert_eq!(rt; joined.as_slice(), b"some text".as_slice());
+    assert!(rt; joined.as_slice() == b"some text".as_slice());
     assert!(rt; files.load("no_such_file", Vec::new(alloc)) == Err(LoadError::Failed));
     assert!(rt;
         FileLoader::up_to(alloc, &rt, 4)

@@ -46,16 +46,15 @@ fn longest_line_and_one_byte_more(rt: HostRuntime) -> Result<(), Fail> {
         let mut lines = Lines::new(alloc)?;
         assert!(rt; case.piece > 0);
         for piece in letters.chunks(case.piece) {
-            assert_eq!(rt; lines.feed(piece), piece.len(), "{what}");
-            assert_eq!(rt; lines.take(), None, "{what}");
+            assert!(rt; lines.feed(piece) == piece.len(), "{what}");
+            assert!(rt; lines.take().is_none(), "{what}");
         }
-        assert_eq!(rt; lines.feed(b"\nname\n"), 1, "{what}");
-        assert_eq!(rt; lines.feed(b"name\n"), 0, "{what}: the line feed waits");
-        assert_eq!(rt; lines.take(), Some(case.want), "{what}");
-        assert_eq!(rt; lines.feed(b"name\n"), 5, "{what}");
-        assert_eq!(rt;
-            lines.take(),
-            Some(Taken::Line),
+        assert!(rt; lines.feed(b"\nname\n") == 1, "{what}");
+        assert!(rt; lines.feed(b"name\n") == 0, "{what}: the line feed waits");
+        assert!(rt; lines.take() == Some(case.want), "{what}");
+        assert!(rt; lines.feed(b"name\n") == 5, "{what}");
+        assert!(rt;
+            lines.take() == Some(Taken::Line),
             "{what}: the next line is whole"
         );
     }
@@ -65,11 +64,11 @@ fn longest_line_and_one_byte_more(rt: HostRuntime) -> Result<(), Fail> {
 #[test]
 fn unended_line_is_the_last(rt: HostRuntime) -> Result<(), Fail> {
     let mut lines = Lines::new(rt.alloc())?;
-    assert_eq!(rt; lines.feed(b"na"), 2);
-    assert_eq!(rt; lines.feed(b"me"), 2);
-    assert_eq!(rt; lines.take(), None);
-    assert_eq!(rt; lines.finish(), Some(Taken::Line));
-    assert_eq!(rt; lines.bytes(), b"name".as_slice());
-    assert_eq!(rt; lines.finish(), None, "the line was given");
+    assert!(rt; lines.feed(b"na") == 2);
+    assert!(rt; lines.feed(b"me") == 2);
+    assert!(rt; lines.take().is_none());
+    assert!(rt; lines.finish() == Some(Taken::Line));
+    assert!(rt; lines.bytes() == b"name".as_slice());
+    assert!(rt; lines.finish().is_none(), "the line was given");
     Ok(())
 }

@@ -32,7 +32,7 @@ fn helper_of_the_caller_is_asked(rt: HostRuntime) -> Result<(), Fail> {
     let names = only(alloc, "patterns")?;
     let mut contents = Vec::new(alloc);
     contents.push(Vec::from_slice(alloc, PATTERNS)?)?;
-    assert_eq!(rt; names.len(), contents.len());
+    assert!(rt; names.len() == contents.len());
     let mut shelf = Shelf::new(names, contents, Vec::new(alloc));
     let mut feed = Feed::new(Vec::from_slice(alloc, LINES)?, ROOM, Vec::new(alloc));
     let mut output = Page::new(alloc, ROOM, ROOM, Vec::new(alloc))?;
@@ -48,8 +48,8 @@ fn helper_of_the_caller_is_asked(rt: HostRuntime) -> Result<(), Fail> {
         &mut notes,
         helpers,
     );
-    assert_eq!(rt; outcome, Outcome::Done);
-    assert_eq!(rt; output.bytes(), REPLIES);
-    assert_eq!(rt; notes.bytes(), b"".as_slice());
+    assert!(rt; outcome == Outcome::Done);
+    assert!(rt; output.bytes() == REPLIES);
+    assert!(rt; notes.bytes() == b"".as_slice());
     Ok(())
 }

@@ -74,7 +74,7 @@ fn worth_is_the_first_number_that_an_item_says(rt: HostRuntime) -> Result<(), Fa
     ];
     for (written, want) in rows {
         let pattern = pattern(&rt, written)?;
-        assert_eq!(rt; worth_of(&pattern), want, "{written}");
+        assert!(rt; worth_of(&pattern) == want, "{written}");
     }
     Ok(())
 }
@@ -134,7 +134,7 @@ fn first_match_of_the_greatest_worth_is_chosen(rt: HostRuntime) -> Result<(), Fa
         ("none has a worth", &[(2, 7), (5, 4), (2, 1)], Some(7)),
     ];
     for (what, found, want) in rows {
-        assert_eq!(rt; chosen(&rt, &patterns, found)?, want, "{what}");
+        assert!(rt; chosen(&rt, &patterns, found)? == want, "{what}");
     }
     Ok(())
 }

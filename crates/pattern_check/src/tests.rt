@@ -44,10 +44,10 @@ fn an_entry_adds_what_the_list_without_it_lacks(rt: HostRuntime) -> Result<(), F
     let patterns = patterns_without(&rt, ENTRIES.len())?;
     let automaton = automaton_of(&rt, patterns.as_slice())?;
     let added = added_by_each(alloc, &automaton, patterns.len())?;
-    assert_eq!(rt; added.len(), ENTRIES.len());
+    assert!(rt; added.len() == ENTRIES.len());
     for (index, states) in added.iter().enumerate() {
         let others = automaton_of(&rt, patterns_without(&rt, index)?.as_slice())?;
-        assert_eq!(rt; automaton.rows().checked_sub(*states), Some(others.rows()));
+        assert!(rt; automaton.rows().checked_sub(*states) == Some(others.rows()));
     }
     Ok(())
 }

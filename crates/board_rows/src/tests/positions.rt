@@ -60,10 +60,10 @@ fn the_transformations_are_the_table(rt: HostRuntime) -> Result<(), Fail> {
     ];
     for (number, want) in rows {
         let t = Transform::new(number).ok_or("a number below 8")?;
-        assert_eq!(rt; t.get(), number);
-        assert_eq!(rt; t.apply(1, 2), want, "transformation {number} of (1, 2)");
+        assert!(rt; t.get() == number);
+        assert!(rt; t.apply(1, 2) == want, "transformation {number} of (1, 2)");
     }
-    assert_eq!(rt; Transform::new(8), None);
+    assert!(rt; Transform::new(8).is_none());
     Ok(())
 }
 
@@ -142,8 +142,8 @@ fn captures_take_whole_strings_and_leave_no_ban(rt: HostRuntime) -> Result<(), F
     for (what, size, plays, want) in CAPTURES {
         let position = after(size, plays).ok_or("each play is legal")?;
         let got = drawn(rt.alloc(), &position)?;
-        assert_eq!(rt; got.as_str(), want, "{what}");
-        assert_eq!(rt; position.ban(), None, "{what}");
+        assert!(rt; got.as_str() == want, "{what}");
+        assert!(rt; position.ban().is_none(), "{what}");
     }
     Ok(())
 }
@@ -167,15 +167,14 @@ fn a_snapback_leaves_no_ban(rt: HostRuntime) -> Result<(), Fail> {
         (White, 0, 0),
     ];
     let taken = after(5, &plays).ok_or("each play is legal")?;
-    assert_eq!(rt;
-        taken.ban(),
-        None,
+    assert!(rt;
+        taken.ban().is_none(),
         "the stone that took belongs to a string"
     );
     let back = played(&taken, (Black, 0, 1)).ok_or("on the board")?;
     let back = back.ok().ok_or("the point is not banned")?;
     let got = drawn(rt.alloc(), &back)?;
-    assert_eq!(rt; got.as_str(), ".X.X....X.XXX............");
+    assert!(rt; got.as_str() == ".X.X....X.XXX............");
     Ok(())
 }
 
@@ -203,9 +202,8 @@ fn suicide_is_refused(rt: HostRuntime) -> Result<(), Fail> {
     ];
     for (what, size, plays, last) in rows {
         let position = after(size, plays).ok_or("each play is legal")?;
-        assert_eq!(rt;
-            played(&position, last),
-            Some(Err(Illegal::Suicide)),
+        assert!(rt;
+            played(&position, last) == Some(Err(Illegal::Suicide)),
             "{what}"
         );
     }
@@ -229,12 +227,9 @@ fn a_ban_ends_with_a_pass_or_a_play_elsewhere(rt: HostRuntime) -> Result<(), Fai
     ];
     let position = after(4, &plays).ok_or("each play is legal")?;
     let retake = (White, 1, 1);
-    assert_eq!(rt; position.ban(), Some((5, White)));
-    assert_eq!(rt;
-        played(&position, (White, 1, 2)),
-        Some(Err(Illegal::Occupied))
-    );
-    assert_eq!(rt; played(&position, retake), Some(Err(Illegal::Ko)));
+    assert!(rt; position.ban() == Some((5, White)));
+    assert!(rt; played(&position, (White, 1, 2)) == Some(Err(Illegal::Occupied)));
+    assert!(rt; played(&position, retake) == Some(Err(Illegal::Ko)));
     assert!(rt; 5 < position.size().points());
     assert!(rt; position.play_free(White, 5).is_ok(), "the ban dropped");
     assert!(rt;
@@ -267,12 +262,12 @@ fn strings_and_liberties_are_told(rt: HostRuntime) -> Result<(), Fail> {
     .ok_or("each play is legal")?;
     assert!(rt; 5 < position.size().points());
     let string = position.string(5);
-    assert_eq!(rt; string.count(), 3);
-    assert_eq!(rt; string.first_from(1), Some(1));
-    assert_eq!(rt; string.first_from(2), Some(5));
-    assert_eq!(rt; string.first_from(6), None);
-    assert_eq!(rt; position.liberties(5), 3);
-    assert_eq!(rt; position.liberties(3), 0, "an empty point has none");
+    assert!(rt; string.count() == 3);
+    assert!(rt; string.first_from(1) == Some(1));
+    assert!(rt; string.first_from(2) == Some(5));
+    assert!(rt; string.first_from(6).is_none());
+    assert!(rt; position.liberties(5) == 3);
+    assert!(rt; position.liberties(3) == 0, "an empty point has none");
     Ok(())
 }
 
@@ -283,11 +278,11 @@ fn a_watch_records_what_it_was_asked(rt: HostRuntime) -> Result<(), Fail> {
     assert!(rt; 4 < watch.size().points());
     let seen = watch.cell(0);
     let banned = watch.ko(4, White);
-    assert_eq!(rt; seen, Cell::Black);
-    assert_eq!(rt; banned, false);
+    assert!(rt; seen == Cell::Black);
+    assert!(rt; !banned);
     let facts: Facts = watch.facts();
     assert!(rt; facts.stands(&before));
-    assert_eq!(rt; facts.points().count(), 2);
+    assert!(rt; facts.points().count() == 2);
     let elsewhere = after(3, &[(Black, 0, 0), (White, 2, 2)]).ok_or("each play is legal")?;
     let moved = after(3, &[(Black, 0, 1)]).ok_or("each play is legal")?;
     let larger = after(4, &[(Black, 0, 0)]).ok_or("each play is legal")?;
@@ -303,26 +298,26 @@ fn a_watch_records_what_it_was_asked(rt: HostRuntime) -> Result<(), Fail> {
 #[test]
 fn bytes_and_sets_grow(rt: HostRuntime) -> Result<(), Fail> {
     let mut bytes = Bytes::new(rt.alloc());
-    assert_eq!(rt; bytes.push(b'D'), Ok(()));
-    assert_eq!(rt; bytes.extend(b"4 E5"), Ok(()));
-    assert_eq!(rt; bytes.as_slice(), b"D4 E5".as_slice());
+    assert!(rt; bytes.push(b'D').is_ok());
+    assert!(rt; bytes.extend(b"4 E5").is_ok());
+    assert!(rt; bytes.as_slice() == b"D4 E5".as_slice());
     let mut points = PointSet::new();
     points.add(624);
     points.add(64);
     points.add(64);
-    assert_eq!(rt; points.count(), 2);
-    assert_eq!(rt; points.has(63), false);
-    assert_eq!(rt; points.first_from(0), Some(64));
-    assert_eq!(rt; points.first_from(65), Some(624));
+    assert!(rt; points.count() == 2);
+    assert!(rt; !points.has(63));
+    assert!(rt; points.first_from(0) == Some(64));
+    assert!(rt; points.first_from(65) == Some(624));
     let mut others = PointSet::new();
     others.add(64);
     others.add(65);
     let shared = points.intersection(&others);
-    assert_eq!(rt; shared.count(), 1);
-    assert_eq!(rt; shared.first_from(0), Some(64));
+    assert!(rt; shared.count() == 1);
+    assert!(rt; shared.first_from(0) == Some(64));
     let left = points.difference(&others);
-    assert_eq!(rt; left.count(), 1);
-    assert_eq!(rt; left.first_from(0), Some(624));
+    assert!(rt; left.count() == 1);
+    assert!(rt; left.first_from(0) == Some(624));
     Ok(())
 }
 
@@ -346,15 +341,14 @@ fn legal_points_are_those_that_can_be_played(rt: HostRuntime) -> Result<(), Fail
     for c in [Black, White] {
         let legal = position.legal_points(c);
         for p in 0..size.points() {
-            assert_eq!(rt; legal.has(p), position.play(c, p).is_ok(), "{c:?} at {p}");
+            assert!(rt; legal.has(p) == position.play(c, p).is_ok(), "{c:?} at {p}");
         }
     }
-    assert_eq!(rt; position.legal_points(Black).count(), 9);
-    assert_eq!(rt; position.legal_points(White).count(), 7);
+    assert!(rt; position.legal_points(Black).count() == 9);
+    assert!(rt; position.legal_points(White).count() == 7);
     let smallest = Position::new(Size::new(2).ok_or("the size is one of a board")?);
-    assert_eq!(rt;
-        smallest.legal_points(White).count(),
-        4,
+    assert!(rt;
+        smallest.legal_points(White).count() == 4,
         "each point of an empty board"
     );
     Ok(())

@@ -49,11 +49,11 @@ fn played(
     }
     match (now.play(c, p), board.play(c, p)) {
         (Ok(then), Ok(taken)) => {
-            assert_eq!(rt; gone(now, &then), taken);
+            assert!(rt; gone(now, &then) == taken);
             Ok(Some(then))
         }
         (Err(e), Err(PlayError::Illegal(f))) => {
-            assert_eq!(rt; e, f);
+            assert!(rt; e == f);
             Ok(None)
         }
         _ => Err(Fail::from("one side plays and the other does not")),

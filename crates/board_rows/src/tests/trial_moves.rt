@@ -32,12 +32,11 @@ fn compare<L: Look>(rt: &impl Abort, board: &mut Trial<L>, position: &Position)
 {
     let size = position.size();
     for p in 0..size.points() {
-        assert_eq!(rt; board.cell(p), position.cell(p), "at {p}");
+        assert!(rt; board.cell(p) == position.cell(p), "at {p}");
         let liberties = position.liberties(p);
-        assert_eq!(rt; board.liberties(p).count(), liberties, "at {p}");
-        assert_eq!(rt;
-            board.some_liberties(p, 2).count().min(3),
-            liberties.min(3),
+        assert!(rt; board.liberties(p).count() == liberties, "at {p}");
+        assert!(rt;
+            board.some_liberties(p, 2).count().min(3) == liberties.min(3),
             "at {p}"
         );
     }
@@ -72,7 +71,7 @@ fn step<L: Look>(rt: &impl Abort, board: &mut Trial<L>, position: &Position, see
     let allow = seed / 8192 % 2 == 0;
     let (want, next) = by_position(position, c, p, allow);
     let tried = board.play(c, p, allow);
-    assert_eq!(rt; tried, want, "{c:?} at {p}");
+    assert!(rt; tried == want, "{c:?} at {p}");
     match tried {
         Tried::Done => {
             compare(rt, board, &next);
@@ -146,45 +145,39 @@ fn a_ban_refuses_its_colour_and_can_be_dropped(rt: HostRuntime) -> Result<(), Fa
     let d3 = on(&position, 2, 3).ok_or("the point is on the board")?;
     let c3 = on(&position, 2, 2).ok_or("the point is on the board")?;
     let mut board = Trial::new(Watch::new(&position));
-    assert_eq!(rt;
-        board.play(Colour::Black, d3, false),
-        Tried::Banned,
+    assert!(rt;
+        board.play(Colour::Black, d3, false) == Tried::Banned,
         "the ban refuses black"
     );
-    assert_eq!(rt;
-        board.play(Colour::White, d3, false),
-        Tried::Done,
+    assert!(rt;
+        board.play(Colour::White, d3, false) == Tried::Done,
         "and not white"
     );
     board.back();
-    assert_eq!(rt;
-        board.play(Colour::Black, d3, true),
-        Tried::Done,
+    assert!(rt;
+        board.play(Colour::Black, d3, true) == Tried::Done,
         "it is dropped with leave"
     );
-    assert_eq!(rt; board.cell(c3), Cell::Empty, "the stone at C3 is taken");
-    assert_eq!(rt;
-        board.play(Colour::White, c3, false),
-        Tried::Banned,
+    assert!(rt; board.cell(c3) == Cell::Empty, "the stone at C3 is taken");
+    assert!(rt;
+        board.play(Colour::White, c3, false) == Tried::Banned,
         "a trial move leaves a ban too"
     );
     board.pass();
-    assert_eq!(rt;
-        board.play(Colour::White, c3, false),
-        Tried::Done,
+    assert!(rt;
+        board.play(Colour::White, c3, false) == Tried::Done,
         "a pass lifts it"
     );
     board.back();
     board.back();
     board.back();
-    assert_eq!(rt; board.cell(c3), Cell::White, "the stone at C3 is back");
-    assert_eq!(rt;
-        board.play(Colour::Black, d3, false),
-        Tried::Banned,
+    assert!(rt; board.cell(c3) == Cell::White, "the stone at C3 is back");
+    assert!(rt;
+        board.play(Colour::Black, d3, false) == Tried::Banned,
         "and so is the first ban"
     );
     assert!(rt; !board.back(), "no trial move is left");
-    assert_eq!(rt; board.trials(), 6, "refused plays count too");
+    assert!(rt; board.trials() == 6, "refused plays count too");
     let _look = board.finish();
     Ok(())
 }
@@ -202,19 +195,16 @@ fn changes_by(rt: &impl Abort, size: Size, first: u8, second: u8, third: u8) -> 
     let position = Position::new(size);
     let mut board = Trial::new(Watch::new(&position));
     assert!(rt; board.changes().is_none(), "no move stands");
-    assert_eq!(rt;
-        board.play(Colour::Black, numbered(size, first), false),
-        Tried::Done,
+    assert!(rt;
+        board.play(Colour::Black, numbered(size, first), false) == Tried::Done,
         "each play is legal"
     );
-    assert_eq!(rt;
-        board.play(Colour::White, numbered(size, second), false),
-        Tried::Done,
+    assert!(rt;
+        board.play(Colour::White, numbered(size, second), false) == Tried::Done,
         "each play is legal"
     );
-    assert_eq!(rt;
-        board.play(Colour::Black, numbered(size, third), false),
-        Tried::Done,
+    assert!(rt;
+        board.play(Colour::Black, numbered(size, third), false) == Tried::Done,
         "each play is legal"
     );
     let changes = board.changes();
@@ -227,9 +217,8 @@ fn other_orders_of_the_same_plays_change_the_same(rt: HostRuntime) -> Result<(),
     let size = Size::new(5).ok_or("the size is one of a board")?;
     let taken = changes_by(&rt, size, 1, 0, 5);
     assert!(rt; taken.is_some(), "moves stand");
-    assert_eq!(rt;
-        taken,
-        changes_by(&rt, size, 5, 0, 1),
+    assert!(rt;
+        taken == changes_by(&rt, size, 5, 0, 1),
         "the order of the plays is left out"
     );
     assert!(rt;
@@ -249,14 +238,12 @@ fn another_ban_is_another_change(rt: HostRuntime) -> Result<(), Fail> {
     let d3 = on(&position, 2, 3).ok_or("the point is on the board")?;
     let far = on(&position, 4, 0).ok_or("the point is on the board")?;
     let mut board = Trial::new(Watch::new(&position));
-    assert_eq!(rt;
-        board.play(Colour::White, far, false),
-        Tried::Done,
+    assert!(rt;
+        board.play(Colour::White, far, false) == Tried::Done,
         "the far play is legal"
     );
-    assert_eq!(rt;
-        board.play(Colour::Black, d3, true),
-        Tried::Done,
+    assert!(rt;
+        board.play(Colour::Black, d3, true) == Tried::Done,
         "the ban is dropped"
     );
     let banned = board.changes();
@@ -264,9 +251,8 @@ fn another_ban_is_another_change(rt: HostRuntime) -> Result<(), Fail> {
     let free = board.changes();
     board.back();
     assert!(rt; banned != free, "the pass lifts the ban");
-    assert_eq!(rt;
-        board.changes(),
-        banned,
+    assert!(rt;
+        board.changes() == banned,
         "and taking it back brings the ban back"
     );
     board.back();

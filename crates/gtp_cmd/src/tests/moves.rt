@@ -49,7 +49,7 @@ fn colours_and_vertices(rt: HostRuntime) -> Result<(), Fail> {
         ("a pass where none may be", "findlib pass", malformed()),
     ] {
         assert!(rt; line.len() <= LONGEST_LINE);
-        assert_eq!(rt; parse(line.as_bytes(), size), want, "{row}");
+        assert!(rt; parse(line.as_bytes(), size) == want, "{row}");
     }
     Ok(())
 }
@@ -77,10 +77,10 @@ fn vertices_of_the_largest_board(rt: HostRuntime) -> Result<(), Fail> {
         ("a row past the board", "countlib A26", malformed()),
     ] {
         assert!(rt; line.len() <= LONGEST_LINE);
-        assert_eq!(rt; parse(line.as_bytes(), size), want, "{row}");
+        assert!(rt; parse(line.as_bytes(), size) == want, "{row}");
     }
-    assert_eq!(rt; vertex_text(size, 24).as_slice(), b"Z25".as_slice());
-    assert_eq!(rt; vertex_text(size, 624).as_slice(), b"Z1".as_slice());
+    assert!(rt; vertex_text(size, 24).as_slice() == b"Z25".as_slice());
+    assert!(rt; vertex_text(size, 624).as_slice() == b"Z1".as_slice());
     Ok(())
 }
 
@@ -131,7 +131,7 @@ fn two_points_to_connect(rt: HostRuntime) -> Result<(), Fail> {
         ("no point", "disconnect", small, malformed()),
     ] {
         assert!(rt; line.len() <= LONGEST_LINE);
-        assert_eq!(rt; parse(line.as_bytes(), size), want, "{row}");
+        assert!(rt; parse(line.as_bytes(), size) == want, "{row}");
     }
     Ok(())
 }
@@ -159,7 +159,7 @@ fn moves_that_are_chosen(rt: HostRuntime) -> Result<(), Fail> {
         ("a word that is no colour", "reg_genmove green", malformed()),
     ] {
         assert!(rt; line.len() <= LONGEST_LINE);
-        assert_eq!(rt; parse(line.as_bytes(), size), want, "{row}");
+        assert!(rt; parse(line.as_bytes(), size) == want, "{row}");
     }
     Ok(())
 }

@@ -93,7 +93,7 @@ fn proofs_and_their_claims(rt: HostRuntime) -> Result<(), Fail> {
         ("no digit", "check_proof attack D4 W", malformed()),
     ] {
         assert!(rt; line.len() <= LONGEST_LINE);
-        assert_eq!(rt; parse(line.as_bytes(), size), want, "{row}");
+        assert!(rt; parse(line.as_bytes(), size) == want, "{row}");
     }
     Ok(())
 }
@@ -108,6 +108,6 @@ fn proofs_may_be_long(rt: HostRuntime) -> Result<(), Fail> {
     }
     let text = line.as_slice();
     assert!(rt; text.len() <= LONGEST_LINE);
-    assert_eq!(rt; parse(text, size), claimed(true, 3, 24, 65_023));
+    assert!(rt; parse(text, size) == claimed(true, 3, 24, 65_023));
     Ok(())
 }

@@ -252,11 +252,11 @@ fn counted(found: &[Match], number: usize) -> [usize; 8] {
 fn only_a_large_automaton_has_a_table_of_openings(rt: HostRuntime) -> Result<(), Fail> {
     let patterns = long_list(&rt)?;
     let (rows, shortcuts) = rows_and_shortcuts(&rt, &patterns)?;
-    assert_eq!(rt; rows, 4923, "the whole list");
-    assert_eq!(rt; known_openings(&shortcuts), 256_808);
+    assert!(rt; rows == 4923, "the whole list");
+    assert!(rt; known_openings(&shortcuts) == 256_808);
     for (number, shape) in SHAPES.iter().enumerate() {
         let (rows, shortcuts) = rows_and_shortcuts(&rt, one_of(&patterns, number)?)?;
-        assert_eq!(rt; rows, shape.rows, "pattern {number} alone");
+        assert!(rt; rows == shape.rows, "pattern {number} alone");
         assert!(rt; shortcuts.openings.is_empty(), "pattern {number} alone");
     }
     Ok(())
@@ -269,9 +269,8 @@ fn openings_lead_to_what_each_pattern_finds_alone(rt: HostRuntime) -> Result<(),
     for friend in [Colour::Black, Colour::White] {
         let found = matches_in(&rt, &patterns, &patterns, &position, friend)?;
         let alone = found_alone(&rt, &patterns, &position, friend)?;
-        assert_eq!(rt;
-            told(&rt, &found)?.as_slice(),
-            alone.as_slice(),
+        assert!(rt;
+            told(&rt, &found)?.as_slice() == alone.as_slice(),
             "{friend:?}"
         );
     }
@@ -285,14 +284,12 @@ fn openings_lead_to_the_matches_of_a_plain_program(rt: HostRuntime) -> Result<()
     let black = matches_in(&rt, &patterns, &patterns, &position, Colour::Black)?;
     let white = matches_in(&rt, &patterns, &patterns, &position, Colour::White)?;
     for (number, shape) in SHAPES.iter().enumerate() {
-        assert_eq!(rt;
-            counted(&black, number),
-            shape.black,
+        assert!(rt;
+            counted(&black, number) == shape.black,
             "black, pattern {number}"
         );
-        assert_eq!(rt;
-            counted(&white, number),
-            shape.white,
+        assert!(rt;
+            counted(&white, number) == shape.white,
             "white, pattern {number}"
         );
     }

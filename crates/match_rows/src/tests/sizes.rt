@@ -17,9 +17,9 @@ fn each_of_many_patterns_matches(rt: HostRuntime) -> Result<(), Fail> {
     }
     let position = with_stones(9, &[40])?;
     let found = found_of(&rt, &text, &position, Colour::Black)?;
-    assert_eq!(rt; found.len(), usize::from(MANY));
+    assert!(rt; found.len() == usize::from(MANY));
     for (number, z) in (0..MANY).zip(found.iter()) {
-        assert_eq!(rt; *z, (number, 0, 41));
+        assert!(rt; *z == (number, 0, 41));
     }
     Ok(())
 }
@@ -32,6 +32,6 @@ fn text_above_a_megabyte_is_read(rt: HostRuntime) -> Result<(), Fail> {
     }
     text.extend_from_slice(SMALLEST)?;
     assert!(rt; text.len() > 1 << 20, "the text is long");
-    assert_eq!(rt; patterns_of(&rt, &text)?.len(), 1);
+    assert!(rt; patterns_of(&rt, &text)?.len() == 1);
     Ok(())
 }

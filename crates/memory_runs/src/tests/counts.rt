@@ -10,7 +10,7 @@ fn readings_are_counted(rt: HostRuntime) -> Result<(), Fail> {
     let input =
         b"boardsize 9\ndepths 3 2\nplay b D4\nplay w C4\nplay w E4\nplay w D5\nattack D4\nattack E5\nattack D4\n";
     let ran = go_with(&rt, rt.alloc(), &["--stats"], &[], input, WHOLE)?;
-    assert_eq!(rt; ran.outcome, Outcome::Done);
+    assert!(rt; ran.outcome == Outcome::Done);
     assert!(rt; ran.notes.bytes().starts_with(b"readings 2 fresh 1 trials "));
     assert!(rt;
         !ran.notes
@@ -53,7 +53,7 @@ fn plays_of_fresh_readings_are_counted(rt: HostRuntime) -> Result<(), Fail> {
         input.extend_from_slice(b"boardsize 9\nplay b D4\nplay w C4\nplay w E4\nplay w D5\n")?;
         input.extend_from_slice(questions.as_bytes())?;
         let ran = go_with(&rt, rt.alloc(), &["--stats"], &[], &input, WHOLE)?;
-        assert_eq!(rt; ran.notes.bytes(), notes, "{questions}");
+        assert!(rt; ran.notes.bytes() == notes, "{questions}");
     }
     Ok(())
 }
@@ -116,7 +116,7 @@ const KEPT_READINGS: [(&str, &[u8], &[u8], &[u8]); 4] = [
 fn no_keeping_is_refused_with_ample_memory(rt: HostRuntime) -> Result<(), Fail> {
     for (what, input, output, counts) in KEPT_READINGS {
         let ran = go_with(&rt, rt.alloc(), &["--stats"], &[], input, WHOLE)?;
-        assert_eq!(rt; ran.output.bytes(), output, "{what}");
+        assert!(rt; ran.output.bytes() == output, "{what}");
         assert!(rt; ran.notes.bytes().starts_with(counts), "{what}");
         assert!(rt; ran.notes.bytes().ends_with(b" refused 0\n"), "{what}");
     }
@@ -181,11 +181,11 @@ const KEPT_CONNECTIONS: [(&str, &[u8], &[u8], &[u8]); 7] = [
 fn connections_are_kept_and_counted(rt: HostRuntime) -> Result<(), Fail> {
     for (what, input, output, notes) in KEPT_CONNECTIONS {
         let ran = go_with(&rt, rt.alloc(), &["--stats"], &[], input, WHOLE)?;
-        assert_eq!(rt; ran.output.bytes(), output, "{what}");
-        assert_eq!(rt; ran.notes.bytes(), notes, "{what}");
+        assert!(rt; ran.output.bytes() == output, "{what}");
+        assert!(rt; ran.notes.bytes() == notes, "{what}");
         let silent = go_with(&rt, rt.alloc(), &[], &[], input, WHOLE)?;
-        assert_eq!(rt; silent.output.bytes(), output, "{what}");
-        assert_eq!(rt; silent.notes.bytes().len(), 0, "{what}");
+        assert!(rt; silent.output.bytes() == output, "{what}");
+        assert!(rt; silent.notes.bytes().len() == 0, "{what}");
     }
     Ok(())
 }

@@ -12,18 +12,18 @@ fn failing_source_and_sink(rt: HostRuntime) -> Result<(), Fail> {
         ..WHOLE
     };
     let ran = go(&rt, rt.alloc(), &[], b"name\nversion\nname\n", source)?;
-    assert_eq!(rt; ran.output.bytes(), b"= gopat\n\n".as_slice());
-    assert_eq!(rt; ran.notes.bytes(), b"input failed\n".as_slice());
-    assert_eq!(rt; ran.outcome.code(), 4);
+    assert!(rt; ran.output.bytes() == b"= gopat\n\n".as_slice());
+    assert!(rt; ran.notes.bytes() == b"input failed\n".as_slice());
+    assert!(rt; ran.outcome.code() == 4);
     let sink = Way {
         piece: 5,
         sink_fails: 2,
         ..WHOLE
     };
     let ran = go(&rt, rt.alloc(), &[], b"name\n", sink)?;
-    assert_eq!(rt; ran.output.bytes(), b"= gop".as_slice());
-    assert_eq!(rt; ran.notes.bytes(), b"output failed\n".as_slice());
-    assert_eq!(rt; ran.outcome.code(), 5);
+    assert!(rt; ran.output.bytes() == b"= gop".as_slice());
+    assert!(rt; ran.notes.bytes() == b"output failed\n".as_slice());
+    assert!(rt; ran.outcome.code() == 5);
     Ok(())
 }
 
@@ -36,9 +36,9 @@ fn reads_no_further_than_it_answers(rt: HostRuntime) -> Result<(), Fail> {
         ..WHOLE
     };
     let ran = go(&rt, rt.alloc(), &[], b"name\nversion\n", way)?;
-    assert_eq!(rt; ran.output.bytes(), b"".as_slice());
-    assert_eq!(rt; ran.left, 8);
-    assert_eq!(rt; ran.outcome, Outcome::OutputFault);
+    assert!(rt; ran.output.bytes() == b"".as_slice());
+    assert!(rt; ran.left == 8);
+    assert!(rt; ran.outcome == Outcome::OutputFault);
     Ok(())
 }
 
@@ -158,8 +158,8 @@ const UNMADE_CALLS: [(&str, &[File<'static>], &[u8], Way, u8, usize); 9] = [
 fn no_call_is_made_that_is_not_needed(rt: HostRuntime) -> Result<(), Fail> {
     for (what, files, input, way, status, left) in UNMADE_CALLS {
         let ran = go(&rt, rt.alloc(), files, input, way)?;
-        assert_eq!(rt; ran.outcome.code(), status, "{what}");
-        assert_eq!(rt; ran.left, left, "{what}");
+        assert!(rt; ran.outcome.code() == status, "{what}");
+        assert!(rt; ran.left == left, "{what}");
     }
     Ok(())
 }
@@ -196,12 +196,14 @@ fn each_call_fails_in_turn(rt: HostRuntime) -> Result<(), Fail> {
                     "{name}, {object} call {call}"
                 );
                 if ran.outcome != fault {
-                    assert_eq!(rt;
-                        ran.output.bytes(),
-                        session.output,
+                    assert!(rt;
+                        ran.output.bytes() == session.output,
                         "{name}, {object} call {call}"
                     );
-                    assert_eq!(rt; ran.outcome, Outcome::Done, "{name}, {object} call {call}");
+                    assert!(rt;
+                        ran.outcome == Outcome::Done,
+                        "{name}, {object} call {call}"
+                    );
                     break;
                 }
             }
@@ -218,8 +220,8 @@ fn notes_that_fail_change_no_outcome(rt: HostRuntime) -> Result<(), Fail> {
         ..WHOLE
     };
     let ran = go(&rt, rt.alloc(), &[], b"name\n", way)?;
-    assert_eq!(rt; ran.notes.bytes(), b"".as_slice());
-    assert_eq!(rt; ran.outcome, Outcome::InputFault);
+    assert!(rt; ran.notes.bytes() == b"".as_slice());
+    assert!(rt; ran.outcome == Outcome::InputFault);
     Ok(())
 }
 
@@ -235,8 +237,8 @@ fn each_call_of_the_notes_fails_in_turn(rt: HostRuntime) -> Result<(), Fail> {
             ..way
         };
         let ran = go_with(&rt, rt.alloc(), &options, &[], b"", fails)?;
-        assert_eq!(rt; ran.outcome, Outcome::Done, "call {call}");
-        assert_eq!(rt; ran.output.bytes(), whole.output.bytes(), "call {call}");
+        assert!(rt; ran.outcome == Outcome::Done, "call {call}");
+        assert!(rt; ran.output.bytes() == whole.output.bytes(), "call {call}");
         assert!(rt;
             whole.notes.bytes().starts_with(ran.notes.bytes()),
             "call {call}"

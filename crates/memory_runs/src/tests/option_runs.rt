@@ -186,10 +186,10 @@ const OPTION_RUNS: [(
 fn options_have_their_effect(rt: HostRuntime) -> Result<(), Fail> {
     for (what, options, files, input, way, status, output, notes, left) in OPTION_RUNS {
         let ran = go_with(&rt, rt.alloc(), options, files, input, way)?;
-        assert_eq!(rt; ran.outcome.code(), status, "{what}");
-        assert_eq!(rt; ran.output.bytes(), output, "{what}");
-        assert_eq!(rt; ran.notes.bytes(), notes, "{what}");
-        assert_eq!(rt; ran.left, left, "{what}");
+        assert!(rt; ran.outcome.code() == status, "{what}");
+        assert!(rt; ran.output.bytes() == output, "{what}");
+        assert!(rt; ran.notes.bytes() == notes, "{what}");
+        assert!(rt; ran.left == left, "{what}");
     }
     Ok(())
 }

@@ -18,17 +18,15 @@ fn sessions_whole_and_in_pieces(rt: HostRuntime) -> Result<(), Fail> {
                 session.input,
                 Way { piece, ..WHOLE },
             )?;
-            assert_eq!(rt;
-                ran.output.bytes(),
-                session.output,
+            assert!(rt;
+                ran.output.bytes() == session.output,
                 "{name}, pieces of {piece}"
             );
-            assert_eq!(rt;
-                ran.notes.bytes(),
-                b"".as_slice(),
+            assert!(rt;
+                ran.notes.bytes() == b"".as_slice(),
                 "{name}, pieces of {piece}"
             );
-            assert_eq!(rt; ran.outcome, Outcome::Done, "{name}, pieces of {piece}");
+            assert!(rt; ran.outcome == Outcome::Done, "{name}, pieces of {piece}");
         }
     }
     Ok(())
@@ -62,8 +60,8 @@ fn longest_line_and_one_byte_more(rt: HostRuntime) -> Result<(), Fail> {
             &mut page,
             Vec::new(rt.alloc()),
         );
-        assert_eq!(rt; page.bytes(), output, "{what}");
-        assert_eq!(rt; outcome, Outcome::Done, "{what}");
+        assert!(rt; page.bytes() == output, "{what}");
+        assert!(rt; outcome == Outcome::Done, "{what}");
     }
     Ok(())
 }
@@ -73,9 +71,9 @@ fn long_generated_run_repeats(rt: HostRuntime) -> Result<(), Fail> {
     let options = ["--stats", "--generate", "2000"];
     let first = go_with(&rt, rt.alloc(), &options, &[], b"", WHOLE)?;
     let second = go_with(&rt, rt.alloc(), &options, &[], b"", WHOLE)?;
-    assert_eq!(rt; first.outcome, Outcome::Done);
-    assert_eq!(rt; second.outcome, Outcome::Done);
-    assert_eq!(rt; first.output.bytes(), second.output.bytes());
-    assert_eq!(rt; first.notes.bytes(), second.notes.bytes());
+    assert!(rt; first.outcome == Outcome::Done);
+    assert!(rt; second.outcome == Outcome::Done);
+    assert!(rt; first.output.bytes() == second.output.bytes());
+    assert!(rt; first.notes.bytes() == second.notes.bytes());
     Ok(())
 }

@@ -68,7 +68,7 @@ fn records_are_loaded_by_their_names(rt: HostRuntime) -> Result<(), Fail> {
     for load in &LOADS {
         let ran = go_over(&rt, rt.alloc(), &[], RECORDS, load.input, WHOLE)?;
         let name = load.name;
-        assert_eq!(rt; ran.output.bytes(), load.output, "{name}");
+        assert!(rt; ran.output.bytes() == load.output, "{name}");
     }
     Ok(())
 }

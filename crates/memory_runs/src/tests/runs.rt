@@ -95,7 +95,7 @@ pub(super) fn shelf(
     for file in files {
         contents.push(Vec::from_slice(alloc, file.text)?)?;
     }
-    assert_eq!(rt; names.len(), contents.len());
+    assert!(rt; names.len() == contents.len());
     Ok(Shelf::new(names, contents, once(alloc, fails)?))
 }
 

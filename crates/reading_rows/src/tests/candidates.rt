@@ -46,7 +46,7 @@ fn the_empty_sides_of_a_point_are_counted(rt: HostRuntime) -> Result<(), Fail> {
         ("a stone beside no other", "C4", 4),
     ];
     for (special, name, want) in rows {
-        assert_eq!(rt; sides(&position, name), Some(want), "{special}");
+        assert!(rt; sides(&position, name) == Some(want), "{special}");
     }
     Ok(())
 }
@@ -106,7 +106,7 @@ fn liberties_their_neighbours_and_captures_are_tried(rt: HostRuntime) -> Result<
         let found = found(&position, target, wide).ok_or("the target is on the board")?;
         let wanted = points_of(size, names).ok_or("the vertices are on the board")?;
         for p in 0..MAX_POINTS as u16 {
-            assert_eq!(rt; found.has(p), wanted.has(p), "{what}, at {p}");
+            assert!(rt; found.has(p) == wanted.has(p), "{what}, at {p}");
         }
     }
     Ok(())
@@ -146,7 +146,7 @@ fn wide_candidates_stand_for_themselves(rt: HostRuntime) -> Result<(), Fail> {
         let found = wide(&position, target).ok_or("the target is on the board")?;
         let wanted = points_of(size, names).ok_or("the vertices are on the board")?;
         for p in 0..MAX_POINTS as u16 {
-            assert_eq!(rt; found.has(p), wanted.has(p), "{what}, at {p}");
+            assert!(rt; found.has(p) == wanted.has(p), "{what}, at {p}");
         }
     }
     Ok(())

@@ -69,7 +69,7 @@ fn check(rt: &impl Abort, stones: Stones, rows: &[Row]) -> Result<(), Fail> {
     for (special, question, want) in rows {
         let found = read(&position, question).ok_or("the question is about one colour")?;
         let want = answer(position.size(), want).ok_or("the answer is one")?;
-        assert_eq!(rt; found, want, "{special}: {question}");
+        assert!(rt; found == want, "{special}: {question}");
     }
     Ok(())
 }

@@ -11,9 +11,8 @@ fn depths_have_their_ranges(rt: HostRuntime) {
         (201, 0, false),
         (10, 13, false),
     ] {
-        assert_eq!(rt;
-            Depths::new(plies, wide).is_some(),
-            valid,
+        assert!(rt;
+            Depths::new(plies, wide).is_some() == valid,
             "{plies} and {wide}"
         );
     }

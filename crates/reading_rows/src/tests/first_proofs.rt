@@ -67,8 +67,11 @@ fn check_in(
             .ok_or("the question is about a stone")?
             .ok()
             .ok_or("the proof is short")?;
-        assert_eq!(rt; proof.code, *code, "{question}");
-        assert_eq!(rt; proof.text.as_slice(), text.as_bytes(), "{question} {text}");
+        assert!(rt; proof.code == *code, "{question}");
+        assert!(rt;
+            proof.text.as_slice() == text.as_bytes(),
+            "{question} {text}"
+        );
     }
     Ok(())
 }

@@ -85,7 +85,7 @@ fn one_point_jump_connects(rt: HostRuntime) -> Result<(), Fail> {
     let mut links = Connections::new(rt.alloc(), 3, 8)?;
     for kind in [LinkKind::Connect, LinkKind::Disconnect] {
         let answer = ask(&mut links, kind, &jump()?, C5, E5)?;
-        assert_eq!(rt; answer, by(LinkSpot::At(D5)), "the point between decides");
+        assert!(rt; answer == by(LinkSpot::At(D5)), "the point between decides");
     }
     Ok(())
 }
@@ -95,9 +95,9 @@ fn cut_jump_does_not_connect(rt: HostRuntime) -> Result<(), Fail> {
     let mut links = Connections::new(rt.alloc(), 3, 8)?;
     let cut = with_stone(&jump()?, Colour::White, D5)?;
     let joined = ask(&mut links, LinkKind::Connect, &cut, C5, E5)?;
-    assert_eq!(rt; joined, NO, "no move is left");
+    assert!(rt; joined == NO, "no move is left");
     let parted = ask(&mut links, LinkKind::Disconnect, &cut, C5, E5)?;
-    assert_eq!(rt; parted, by(LinkSpot::Pass), "no stone is needed");
+    assert!(rt; parted == by(LinkSpot::Pass), "no stone is needed");
     Ok(())
 }
 
@@ -116,10 +116,10 @@ fn connection_is_kept(rt: HostRuntime) -> Result<(), Fail> {
     ];
     for (when, position, want, fresh) in &rows {
         let answer = ask(&mut links, LinkKind::Connect, position, C5, E5)?;
-        assert_eq!(rt; answer, *want, "{when}");
-        assert_eq!(rt; links.fresh(), *fresh, "{when}");
+        assert!(rt; answer == *want, "{when}");
+        assert!(rt; links.fresh() == *fresh, "{when}");
     }
-    assert_eq!(rt; links.refused(), 0, "memory was ample");
+    assert!(rt; links.refused() == 0, "memory was ample");
     Ok(())
 }
 
@@ -138,7 +138,7 @@ fn each_question_is_kept_for_itself(rt: HostRuntime) -> Result<(), Fail> {
     for (question, plies, kind, a, b, fresh) in rows {
         links.set(plies);
         let _ = ask(&mut links, kind, &jump, a, b)?;
-        assert_eq!(rt; links.fresh(), fresh, "{question}");
+        assert!(rt; links.fresh() == fresh, "{question}");
     }
     Ok(())
 }
@@ -148,24 +148,24 @@ fn only_what_stands_is_found_kept(rt: HostRuntime) -> Result<(), Fail> {
     let mut links = Connections::new(rt.alloc(), 3, 8)?;
     let jump = jump()?;
     let cut = with_stone(&jump, Colour::White, D5)?;
-    assert_eq!(rt; find_kept(&mut links, &jump)?, None, "nothing was asked");
+    assert!(rt;
+        find_kept(&mut links, &jump)?.is_none(),
+        "nothing was asked"
+    );
     let _ = ask(&mut links, LinkKind::Connect, &jump, C5, E5)?;
-    assert_eq!(rt;
-        find_kept(&mut links, &jump)?,
-        Some(by(LinkSpot::At(D5))),
+    assert!(rt;
+        find_kept(&mut links, &jump)? == Some(by(LinkSpot::At(D5))),
         "it was asked"
     );
-    assert_eq!(rt;
-        find_kept(&mut links, &cut)?,
-        None,
+    assert!(rt;
+        find_kept(&mut links, &cut)?.is_none(),
         "a stone was played in the area"
     );
     links.set(2);
-    assert_eq!(rt;
-        find_kept(&mut links, &jump)?,
-        None,
+    assert!(rt;
+        find_kept(&mut links, &jump)?.is_none(),
         "it was asked at other plies"
     );
-    assert_eq!(rt; links.fresh(), 1, "nothing more was read");
+    assert!(rt; links.fresh() == 1, "nothing more was read");
     Ok(())
 }

@@ -57,7 +57,7 @@ fn texts_without_a_fault(rt: HostRuntime) -> Result<(), Fail> {
         ("a class that asks for readings", b"Pattern P\nO*\n:8,sn"),
     ];
     for (what, text) in rows {
-        assert_eq!(rt; fault_of(&rt, text), (0, 0), "{what}");
+        assert!(rt; fault_of(&rt, text) == (0, 0), "{what}");
     }
     Ok(())
 }
@@ -109,7 +109,7 @@ fn first_fault_of_each_kind(rt: HostRuntime) -> Result<(), Fail> {
         ),
     ];
     for (what, text, want) in rows {
-        assert_eq!(rt; fault_of(&rt, text), want, "{what}");
+        assert!(rt; fault_of(&rt, text) == want, "{what}");
     }
     Ok(())
 }
@@ -134,7 +134,7 @@ fn faults_of_constraint_expressions(rt: HostRuntime) -> Result<(), Fail> {
         let mut text = Vec::new(rt.alloc());
         text.extend_from_slice(b"Pattern P\nO*\n:8,s\nA*\n")?;
         text.extend_from_slice(lines)?;
-        assert_eq!(rt; fault_of(&rt, &text), want, "{what}");
+        assert!(rt; fault_of(&rt, &text) == want, "{what}");
     }
     Ok(())
 }
@@ -145,9 +145,9 @@ fn entries_beyond_4096_are_refused(rt: HostRuntime) -> Result<(), Fail> {
     for _ in 0..4096 {
         text.extend_from_slice(b"Pattern P\nO*\n:8,s\n")?;
     }
-    assert_eq!(rt; fault_of(&rt, &text), (0, 0), "as many as there may be");
+    assert!(rt; fault_of(&rt, &text) == (0, 0), "as many as there may be");
     text.extend_from_slice(b"Pattern P")?;
-    assert_eq!(rt; fault_of(&rt, &text), (12289, 18), "one more");
+    assert!(rt; fault_of(&rt, &text) == (12289, 18), "one more");
     Ok(())
 }
 
@@ -179,19 +179,20 @@ fn a_pattern_is_read_as_it_is_written(rt: HostRuntime) -> Result<(), Fail> {
         b"Pattern Edge1 a comment\n+--\n|O*  side\n|..\n:-,Ds-,NULL,value(3, 4)\n+--\n|OA\n|B.\n> action";
     let p = only_pattern(&rt, text)?;
     let name = b"Edge1".as_slice();
-    assert_eq!(rt;
-        p.name.as_slice(),
-        name,
+    assert!(rt;
+        p.name.as_slice() == name,
         "the first word of the rest is the name"
     );
     let outline = ((2, 2), (0, 1), (true, false, true, false), Mark::Dash);
-    assert_eq!(rt; outline_of(&p), outline, "size, star, edges and mark");
+    assert!(rt; outline_of(&p) == outline, "size, star, edges and mark");
     let classes = b"Ds".as_slice();
-    assert_eq!(rt; p.classes.as_slice(), classes, "a dash is no class letter");
+    assert!(rt;
+        p.classes.as_slice() == classes,
+        "a dash is no class letter"
+    );
     let letters = [Letter::Friend, Letter::Star, Letter::Empty, Letter::Empty];
-    assert_eq!(rt;
-        p.letters.as_slice(),
-        letters.as_slice(),
+    assert!(rt;
+        p.letters.as_slice() == letters.as_slice(),
         "letters in reading order"
     );
     Ok(())
@@ -206,12 +207,11 @@ fn labels_items_and_constraint_are_read_as_they_are_written(rt: HostRuntime) -> 
     let more_than = matches!(&p.constraint, Some(Expr::Bin(Op::Gt, _, _)));
     assert!(rt; more_than, "the constraint is what the expression says");
     let labels = [(b'A', 0, 1), (b'B', 1, 0)];
-    assert_eq!(rt; p.labels.as_slice().len(), labels.len(), "as many labels");
+    assert!(rt; p.labels.as_slice().len() == labels.len(), "as many labels");
     for (label, want) in p.labels.as_slice().iter().zip(labels) {
         let read = (label.letter, label.row, label.col);
-        assert_eq!(rt;
-            read,
-            want,
+        assert!(rt;
+            read == want,
             "a letter over a cell of the diagram, edges apart"
         );
     }
@@ -219,18 +219,17 @@ fn labels_items_and_constraint_are_read_as_they_are_written(rt: HostRuntime) -> 
         (b"NULL".as_slice(), b"no text".as_slice()),
         (b"value", b"3, 4"),
     ];
-    assert_eq!(rt;
-        p.items.as_slice().len(),
-        items.len(),
+    assert!(rt;
+        p.items.as_slice().len() == items.len(),
         "as many further fields"
     );
     for (item, (name, text)) in p.items.as_slice().iter().zip(items) {
-        assert_eq!(rt; item.name.as_slice(), name, "the name of a further field");
+        assert!(rt; item.name.as_slice() == name, "the name of a further field");
         let read = match &item.text {
             Some(text) => text.as_slice(),
             None => b"no text".as_slice(),
         };
-        assert_eq!(rt; read, text, "the text between its parentheses");
+        assert!(rt; read == text, "the text between its parentheses");
     }
     Ok(())
 }

@@ -131,7 +131,10 @@ fn operators_group_by_level_and_from_the_left(rt: HostRuntime) -> Result<(), Fai
             "OSomewhere.65.98.65.98.65.98.65.98",
         ),
     ] {
-        assert_eq!(rt; told(rt.alloc(), text.as_bytes())?.as_str(), want, "{text}");
+        assert!(rt;
+            told(rt.alloc(), text.as_bytes())?.as_str() == want,
+            "{text}"
+        );
     }
     Ok(())
 }
@@ -183,7 +186,10 @@ fn faults_of_constraint_expressions(rt: HostRuntime) -> Result<(), Fail> {
         ("lib(A)+lib(B)", "UnknownLabel"),
         ("oplay_attack(?,Z)", "UnknownLabel"),
     ] {
-        assert_eq!(rt; told(rt.alloc(), text.as_bytes())?.as_str(), want, "{text}");
+        assert!(rt;
+            told(rt.alloc(), text.as_bytes())?.as_str() == want,
+            "{text}"
+        );
     }
     Ok(())
 }
@@ -236,9 +242,8 @@ fn nesting_limit_of_expressions(rt: HostRuntime) -> Result<(), Fail> {
             m,
             back.as_bytes(),
         )?;
-        assert_eq!(rt;
-            told(rt.alloc(), text.as_slice())?.as_str(),
-            want,
+        assert!(rt;
+            told(rt.alloc(), text.as_slice())?.as_str() == want,
             "{n} {front} {middle} {m} {back}"
         );
     }

@@ -32,7 +32,7 @@ fn other_encodings(rt: HostRuntime) -> Result<(), Fail> {
         ),
     ];
     for (what, record, kind) in rows {
-        assert_eq!(rt; fault_in(record), kind, "{what}");
+        assert!(rt; fault_in(record) == kind, "{what}");
     }
     Ok(())
 }

@@ -41,7 +41,7 @@ fn faulty_records_by_kind(rt: HostRuntime) -> Result<(), Fail> {
         ("kind 1 in a second subtree", "(;SZ[9](;)(;B))", 1),
     ];
     for (what, record, kind) in rows {
-        assert_eq!(rt; fault_of(record), kind, "{what}");
+        assert!(rt; fault_of(record) == kind, "{what}");
     }
     Ok(())
 }
@@ -76,7 +76,7 @@ fn first_of_several_faults_is_told(rt: HostRuntime) -> Result<(), Fail> {
         ),
     ];
     for (what, record, kind) in rows {
-        assert_eq!(rt; fault_of(record), kind, "{what}");
+        assert!(rt; fault_of(record) == kind, "{what}");
     }
     Ok(())
 }

@@ -138,7 +138,7 @@ fn main_line_of_a_worked_record(rt: HostRuntime) -> Result<(), Fail> {
     assert!(rt; is_drawn(&pos, &drawing));
     let size = pos.size();
     let stone = size.point(4, 4).ok_or("E5 is on the board")?;
-    assert_eq!(rt; pos.liberties(stone), 8);
+    assert!(rt; pos.liberties(stone) == 8);
     let corner = size.point(0, 0).ok_or("A9 is on the board")?;
     assert!(rt; pos.play(Colour::White, corner).is_err());
     Ok(())

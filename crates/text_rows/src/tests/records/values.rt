@@ -37,7 +37,7 @@ fn sizes_are_digits_from_2_to_25(rt: HostRuntime) -> Result<(), Fail> {
         ("a size behind the points of its node", "(;AB[ss]SZ[9])", 3),
     ];
     for (what, record, kind) in rows {
-        assert_eq!(rt; fault_of(record), kind, "{what}");
+        assert!(rt; fault_of(record) == kind, "{what}");
     }
     Ok(())
 }
@@ -65,7 +65,7 @@ fn points_are_two_letters_on_the_board(rt: HostRuntime) -> Result<(), Fail> {
         ("a rectangle as a move", "(;B[cc:dd])", 3),
     ];
     for (what, record, kind) in rows {
-        assert_eq!(rt; fault_of(record), kind, "{what}");
+        assert!(rt; fault_of(record) == kind, "{what}");
     }
     Ok(())
 }
@@ -81,7 +81,7 @@ fn tt_is_a_pass_up_to_19_lines(rt: HostRuntime) -> Result<(), Fail> {
         ("ts", "(;SZ[9];B[ts])", 3),
     ];
     for (what, record, kind) in rows {
-        assert_eq!(rt; fault_of(record), kind, "{what}");
+        assert!(rt; fault_of(record) == kind, "{what}");
     }
     Ok(())
 }
