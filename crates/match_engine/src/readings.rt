@@ -128,6 +128,7 @@ impl Readings {
 
     /// The answer to a question about a stone of the position, at the present depths, where a kept variant of the
     /// question stands on the position. Else nothing changes.
+    #[inline(always)]
     pub fn find_kept(&mut self, kind: Kind, position: &Position, target: Point) -> Option<Answer>
         requires on_board { target < position.now.size * position.now.size }
         requires stone { cell_at position.now.cells target ≢ Cell.Empty }
@@ -149,6 +150,7 @@ impl Readings {
     }
 
     /// The answer of a kept variant of the question that stands on the position.
+    #[inline(always)]
     fn find(&mut self, key: &Key, position: &Position) -> Option<Answer>
         ensures found { IfSome result (λ answer. FoundKept key.now position.now answer self.old self.new) }
         ensures missing { IfNone result (IsMissing same_key key.now position.now self.old.answers.kept) }

@@ -64,6 +64,7 @@ impl Engine {
     }
 
     /// Answers the same question, which this work is, unless it has to be read afresh. Then nothing is done.
+    #[inline(always)]
     pub(crate) fn recall(&mut self, kind: Kind, p: Point, work: Work) -> Result<Answer, Work>
         requires { p < self.old.base.size * self.old.base.size }
         ensures answer { (helpers : List SlotState) → IfOk result (λ answer. IsAnswer
