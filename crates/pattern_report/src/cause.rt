@@ -1,5 +1,6 @@
 //! The cause of a fault, in words.
 
+use crate::gap::{around, around_two};
 use crate::shown::{Shown, ShownByte};
 use std::fmt::{self, Display, Formatter, Write};
 
@@ -147,7 +148,7 @@ impl Cause<'_> {
     /// The words of a cause of a line, a name, or a diagram.
     fn drawn<W: Write>(&self, f: &mut Formatter<W>) -> fmt::Result {
         match self {
-            Cause::BadByte(byte) => write!(f, "byte {byte} may stand in no line"),
+            Cause::BadByte(byte) => around(f, "byte ", byte, " may stand in no line"),
             Cause::BeforeEntries => f.write_str(
                 "before the first entry only lines that begin with a letter may stand; an entry begins with a \
                  Pattern line",
@@ -162,32 +163,42 @@ impl Cause<'_> {
                  a Pattern line",
             ),
             Cause::NoName => f.write_str("a name is missing behind Pattern"),
-            Cause::LongName(bytes) => write!(f, "the name has {bytes} bytes, and may have 80"),
-            Cause::NameByte(byte) => write!(f, "'{}' may not stand in a name", ShownByte(*byte)),
+            Cause::LongName(bytes) => around(f, "the name has ", bytes, " bytes, and may have 80"),
+            Cause::NameByte(byte) => around(f, "'", &ShownByte(*byte), "' may not stand in a name"),
             Cause::NoRow => f.write_str("no row of letters stands above the colon line"),
             Cause::Width { points, first } => {
-                write!(f, "the line is {points} wide, and the first {first}")
+                around_two(
+                    f,
+                    "the line is ",
+                    points,
+                    " wide, and the first ",
+                    first,
+                    "",
+                )
             }
-            Cause::Letter(byte) => write!(
+            Cause::Letter(byte) => around(
                 f,
-                "'{}' is no letter of a diagram (O X o x . ? *)",
-                ShownByte(*byte)
+                "'",
+                &ShownByte(*byte),
+                "' is no letter of a diagram (O X o x . ? *)",
             ),
-            Cause::LabelInDiagram(byte) => write!(
+            Cause::LabelInDiagram(byte) => around(
                 f,
-                "'{}' is no letter of a diagram (O X o x . ? *); is the colon line above a constraint diagram missing?",
-                ShownByte(*byte)
+                "'",
+                &ShownByte(*byte),
+                "' is no letter of a diagram (O X o x . ? *); is the colon line above a constraint diagram missing?",
             ),
-            Cause::EdgeWithin(byte) => write!(
+            Cause::EdgeWithin(byte) => around(
                 f,
-                "'{}' is part of an edge, and may not stand within a row",
-                ShownByte(*byte)
+                "'",
+                &ShownByte(*byte),
+                "' is part of an edge, and may not stand within a row",
             ),
             Cause::NoLine => f.write_str(
                 "the line is neither a row of letters (O X o x . ? *), with or without '|' at its ends, nor an \
                  edge line of '-'",
             ),
-            Cause::Stars(stars) => write!(f, "the diagram has {stars} '*', and needs one"),
+            Cause::Stars(stars) => around(f, "the diagram has ", stars, " '*', and needs one"),
             Cause::EdgeBetween => {
                 f.write_str("an edge line stands above all rows or below all of them")
             }
@@ -198,7 +209,7 @@ impl Cause<'_> {
                 "an edge at a side is drawn beside every row, with '+' where it meets another; the first line has it \
                  otherwise",
             ),
-            Cause::LongLine(bytes) => write!(f, "the line has {bytes} bytes, and may have 25"),
+            Cause::LongLine(bytes) => around(f, "the line has ", bytes, " bytes, and may have 25"),
             Cause::ManyLines => f.write_str("a diagram has at most 25 lines"),
             Cause::NoColonLine => f.write_str("no colon line, as ':8,s', stands below the diagram"),
             _ => self.named(f),
@@ -208,55 +219,78 @@ impl Cause<'_> {
     /// The words of a cause of a colon line or a constraint diagram.
     fn named<W: Write>(&self, f: &mut Formatter<W>) -> fmt::Result {
         match self {
-            Cause::Mark(mark) => write!(f, "'{}' is no mark (8 | - / \\ + X O)", Shown(mark)),
-            Cause::ClassLetter(byte) => write!(f, "'{}' is no class letter", ShownByte(*byte)),
+            Cause::Mark(mark) => around(f, "'", &Shown(mark), "' is no mark (8 | - / \\ + X O)"),
+            Cause::ClassLetter(byte) => around(f, "'", &ShownByte(*byte), "' is no class letter"),
             Cause::ManyClassLetters(letters) => {
-                write!(f, "{letters} class letters, and at most 32 may stand here")
+                around(
+                    f,
+                    "",
+                    letters,
+                    " class letters, and at most 32 may stand here",
+                )
             }
-            Cause::Item(item) => write!(
+            Cause::Item(item) => around(
                 f,
-                "'{}' is no item: a name, or a name and a text in one pair of parentheses",
-                Shown(item)
+                "'",
+                &Shown(item),
+                "' is no item: a name, or a name and a text in one pair of parentheses",
             ),
-            Cause::ManyItems(items) => { write!(f, "{items} items, and at most 16 may stand here") }
-            Cause::Helper(name) => write!(
+            Cause::ManyItems(items) => {
+                around(f, "", items, " items, and at most 16 may stand here")
+            }
+            Cause::Helper(name) => around_two(
                 f,
-                "no helper has the name '{}'; with a text, as in {}(), it tests nothing",
-                Shown(name),
-                Shown(name)
+                "no helper has the name '",
+                &Shown(name),
+                "'; with a text, as in ",
+                &Shown(name),
+                "(), it tests nothing",
             ),
-            Cause::ConstraintEnds(lines) => write!(
+            Cause::ConstraintEnds(lines) => around(
                 f,
-                "a constraint diagram has as many lines as its diagram, here {lines}"
+                "a constraint diagram has as many lines as its diagram, here ",
+                lines,
+                "",
             ),
             Cause::NoSemicolon => {
                 f.write_str("no line of a constraint diagram; is it an expression without its ';'?")
             }
             Cause::ConstraintWidth { bytes, diagram } => {
-                write!(
+                around_two(
                     f,
-                    "the line is {bytes} wide, and its line of the diagram {diagram}"
+                    "the line is ",
+                    bytes,
+                    " wide, and its line of the diagram ",
+                    diagram,
+                    "",
                 )
             }
-            Cause::NoLabel { byte, diagram } => write!(
+            Cause::NoLabel { byte, diagram } => around_two(
                 f,
-                "'{}' is neither the diagram's '{}' nor a label, a letter other than O X o x",
-                ShownByte(*byte),
-                ShownByte(*diagram)
+                "'",
+                &ShownByte(*byte),
+                "' is neither the diagram's '",
+                &ShownByte(*diagram),
+                "' nor a label, a letter other than O X o x",
             ),
             Cause::LabelOnEdge(byte) => {
-                write!(f, "the label '{}' stands on an edge", ShownByte(*byte))
+                around(f, "the label '", &ShownByte(*byte), "' stands on an edge")
             }
             Cause::LabelAgain(byte) => {
-                write!(
+                around(
                     f,
-                    "the label '{}' stands in the diagram already",
-                    ShownByte(*byte)
+                    "the label '",
+                    &ShownByte(*byte),
+                    "' stands in the diagram already",
                 )
             }
-            Cause::ConstraintShort { lines, diagram } => write!(
+            Cause::ConstraintShort { lines, diagram } => around_two(
                 f,
-                "the constraint diagram stops after {lines} of {diagram} lines"
+                "the constraint diagram stops after ",
+                lines,
+                " of ",
+                diagram,
+                " lines",
             ),
             _ => self.said(f),
         }
@@ -266,34 +300,44 @@ impl Cause<'_> {
     fn said<W: Write>(&self, f: &mut Formatter<W>) -> fmt::Result {
         match self {
             Cause::ExpressionByte(byte) => {
-                write!(f, "'{}' may not stand in an expression", ShownByte(*byte))
+                around(
+                    f,
+                    "'",
+                    &ShownByte(*byte),
+                    "' may not stand in an expression",
+                )
             }
             Cause::LongNumber => f.write_str("a number has at most six digits"),
             Cause::LongExpression => f.write_str("an expression has at most 4096 bytes"),
-            Cause::NoOperand(word) => write!(
+            Cause::NoOperand(word) => around(
                 f,
-                "a number, a call, '!', '-' or '(' is wanted here, and '{}' stands here",
-                Shown(word)
+                "a number, a call, '!', '-' or '(' is wanted here, and '",
+                &Shown(word),
+                "' stands here",
             ),
-            Cause::NoOperator(word) => write!(
+            Cause::NoOperator(word) => around(
                 f,
-                "the expression may end here or go on with an operator, and '{}' stands here",
-                Shown(word)
+                "the expression may end here or go on with an operator, and '",
+                &Shown(word),
+                "' stands here",
             ),
-            Cause::NoArguments(word) => write!(
+            Cause::NoArguments(word) => around(
                 f,
-                "'{}' is the name of no number; a function has its arguments in parentheses behind its name",
-                Shown(word)
+                "'",
+                &Shown(word),
+                "' is the name of no number; a function has its arguments in parentheses behind its name",
             ),
-            Cause::NoArgument(word) => write!(
+            Cause::NoArgument(word) => around(
                 f,
-                "an argument is one letter, '*' or '?', and '{}' stands here",
-                Shown(word)
+                "an argument is one letter, '*' or '?', and '",
+                &Shown(word),
+                "' stands here",
             ),
-            Cause::NoComma(word) => write!(
+            Cause::NoComma(word) => around(
                 f,
-                "',' or ')' is wanted behind an argument, and '{}' stands here",
-                Shown(word)
+                "',' or ')' is wanted behind an argument, and '",
+                &Shown(word),
+                "' stands here",
             ),
             Cause::Unopened => f.write_str("no '(' belongs to this ')'"),
             Cause::EndsEarly => {
@@ -301,7 +345,7 @@ impl Cause<'_> {
             }
             Cause::Unclosed => f.write_str("the expression ends before a ')'"),
             Cause::Deep => f.write_str("parentheses and signs stand more than 32 deep"),
-            Cause::Function(name) => write!(f, "no function has the name '{}'", Shown(name)),
+            Cause::Function(name) => around(f, "no function has the name '", &Shown(name), "'"),
             _ => self.called(f),
         }
     }
@@ -315,32 +359,33 @@ impl Cause<'_> {
                 least,
                 most,
             } => {
-                if least == most {
-                    write!(
-                        f,
-                        "the number of arguments of {} is {least}, and here {arguments}",
-                        Shown(name)
-                    )
-                } else {
-                    write!(
-                        f,
-                        "the number of arguments of {} is {least} to {most}, and here {arguments}",
-                        Shown(name)
-                    )
+                around_two(
+                    f,
+                    "the number of arguments of ",
+                    &Shown(name),
+                    " is ",
+                    least,
+                    "",
+                )?;
+                if least != most {
+                    around(f, " to ", most, "")?;
                 }
+                around(f, ", and here ", arguments, "")
             }
-            Cause::Pass(name) => write!(
+            Cause::Pass(name) => around(
                 f,
-                "'?' is a pass, and {} takes none here: it may stand for a move of oplay_.. and xplay_.. alone",
-                Shown(name)
+                "'?' is a pass, and ",
+                &Shown(name),
+                " takes none here: it may stand for a move of oplay_.. and xplay_.. alone",
             ),
-            Cause::Label(letter) => write!(
+            Cause::Label(letter) => around(
                 f,
-                "the label '{}' does not stand in the constraint diagram",
-                ShownByte(*letter)
+                "the label '",
+                &ShownByte(*letter),
+                "' does not stand in the constraint diagram",
             ),
             Cause::ManyEntries => f.write_str("a text has at most 4096 entries"),
-            Cause::Kind(kind) => write!(f, "a fault of kind {kind}"),
+            Cause::Kind(kind) => around(f, "a fault of kind ", kind, ""),
             _ => f.write_str("a fault"),
         }
     }

@@ -1,5 +1,6 @@
 //! What is told of a text that is no fault, in words.
 
+use crate::gap::{around, around_two};
 use crate::shown::{Shown, ShownByte};
 use std::fmt::{self, Display, Formatter, Write};
 
@@ -38,31 +39,37 @@ pub enum Caution<'a> {
 impl Display for Caution<'_> {
     fn fmt<W: Write>(&self, f: &mut Formatter<W>) -> fmt::Result {
         match self {
-            Caution::BehindRow(rest) => write!(
+            Caution::BehindRow(rest) => around(
                 f,
-                "a row ends at its first blank; '{}' is passed over",
-                Shown(rest)
+                "a row ends at its first blank; '",
+                &Shown(rest),
+                "' is passed over",
             ),
-            Caution::NearPattern(word) => write!(
+            Caution::NearPattern(word) => around(
                 f,
-                "a line before the first entry is passed over; is Pattern meant by '{}'?",
-                Shown(word)
+                "a line before the first entry is passed over; is Pattern meant by '",
+                &Shown(word),
+                "'?",
             ),
             Caution::UnusedLabel(label) => {
-                write!(f, "no expression uses the label '{}'", ShownByte(*label))
+                around(f, "no expression uses the label '", &ShownByte(*label), "'")
             }
-            Caution::ClassCase { letter, other } => write!(
+            Caution::ClassCase { letter, other } => around_two(
                 f,
-                "the class letter '{}' tests nothing; is '{}' meant?",
-                ShownByte(*letter),
-                ShownByte(*other)
+                "the class letter '",
+                &ShownByte(*letter),
+                "' tests nothing; is '",
+                &ShownByte(*other),
+                "' meant?",
             ),
             Caution::SameName { line } => {
-                write!(f, "the entry of line {line} has the same name")
+                around(f, "the entry of line ", line, " has the same name")
             }
-            Caution::NeverAlone { line } => write!(
+            Caution::NeverAlone { line } => around(
                 f,
-                "wherever this entry matches, that of line {line} matches at the same point"
+                "wherever this entry matches, that of line ",
+                line,
+                " matches at the same point",
             ),
             Caution::LineEnds => {
                 f.write_str(

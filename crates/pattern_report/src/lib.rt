@@ -12,6 +12,7 @@ mod cause;
 mod caution;
 mod explain;
 mod fault;
+mod gap;
 mod part;
 mod port;
 mod report;

@@ -2,6 +2,7 @@
 
 use crate::cause::Cause;
 use crate::fault::{Fault, Place};
+use crate::gap::around;
 use crate::part::Part;
 use crate::shown::{Shown, ShownByte};
 use crate::tokens::{Sort, tokens};
@@ -161,57 +162,66 @@ pub enum Port<'a> {
 impl Display for Port<'_> {
     fn fmt<W: Write>(&self, f: &mut Formatter<W>) -> fmt::Result {
         match self {
-            Port::Letter(letter) => write!(
+            Port::Letter(letter) => around(
                 f,
-                "GNU Go has the letter '{}' in diagrams; gopat has not",
-                ShownByte(*letter)
+                "GNU Go has the letter '",
+                &ShownByte(*letter),
+                "' in diagrams; gopat has not",
             ),
-            Port::EyeLetter(letter) => write!(
+            Port::EyeLetter(letter) => around(
                 f,
-                "GNU Go has the letter '{}' in eye shapes; gopat has no eye shapes",
-                ShownByte(*letter)
+                "GNU Go has the letter '",
+                &ShownByte(*letter),
+                "' in eye shapes; gopat has no eye shapes",
             ),
             Port::EyeStars => f.write_str(
                 "in GNU Go's eye shapes '*' is a vital point, of which there may be none or several; gopat has no eye \
                  shapes",
             ),
-            Port::EyeValue(value) => write!(
+            Port::EyeValue(value) => around(
                 f,
-                "GNU Go has the eyes of an eye shape, as {}, in place of a mark; gopat has no eye shapes",
-                Shown(value)
+                "GNU Go has the eyes of an eye shape, as ",
+                &Shown(value),
+                ", in place of a mark; gopat has no eye shapes",
             ),
-            Port::Weight(weight) => write!(
+            Port::Weight(weight) => around(
                 f,
-                "GNU Go has a weight of its playouts, as {}, in place of a mark; gopat has no weights",
-                Shown(weight)
+                "GNU Go has a weight of its playouts, as ",
+                &Shown(weight),
+                ", in place of a mark; gopat has no weights",
             ),
             Port::NoMove => f.write_str(
                 "GNU Go has patterns without a move, as those of connections and of influence; gopat has not",
             ),
-            Port::LabelAgain(label) => write!(
+            Port::LabelAgain(label) => around(
                 f,
-                "in GNU Go the first '{}' counts where several stand; here a label stands once",
-                ShownByte(*label)
+                "in GNU Go the first '",
+                &ShownByte(*label),
+                "' counts where several stand; here a label stands once",
             ),
-            Port::Function(name) => write!(
+            Port::Function(name) => around(
                 f,
-                "GNU Go has the function {}; gopat has not",
-                Shown(name)
+                "GNU Go has the function ",
+                &Shown(name),
+                "; gopat has not",
             ),
-            Port::Word(word) => write!(
+            Port::Word(word) => around(
                 f,
-                "GNU Go compares with words such as {}; gopat has numbers alone",
-                Shown(word)
+                "GNU Go compares with words such as ",
+                &Shown(word),
+                "; gopat has numbers alone",
             ),
-            Port::Helper(name) => write!(
+            Port::Helper(name) => around(
                 f,
-                "GNU Go calls its function {} here; a helper of this name can be handed to gopat's library",
-                Shown(name)
+                "GNU Go calls its function ",
+                &Shown(name),
+                " here; a helper of this name can be handed to gopat's library",
             ),
-            Port::TakenTarget(name) => write!(
+            Port::TakenTarget(name) => around(
                 f,
-                "where the moves take the last argument, {} is 3 in GNU Go and 0 here",
-                Shown(name)
+                "where the moves take the last argument, ",
+                &Shown(name),
+                " is 3 in GNU Go and 0 here",
             ),
             Port::DoesAttack => f.write_str(
                 "does_attack is 0 in GNU Go where the target is lost anyway, and looks at its best defence too; here \

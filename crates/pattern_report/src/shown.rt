@@ -14,7 +14,7 @@ impl Display for ShownByte {
     fn fmt<W: Write>(&self, f: &mut Formatter<W>) -> fmt::Result {
         let byte = self.0;
         if byte == b' ' || byte.is_ascii_graphic() {
-            write!(f, "{}", char::from(byte))
+            char::from(byte).fmt(f)
         } else {
             write!(f, "\\x{byte:02x}")
         }
@@ -24,7 +24,7 @@ impl Display for ShownByte {
 impl Display for Shown<'_> {
     fn fmt<W: Write>(&self, f: &mut Formatter<W>) -> fmt::Result {
         for byte in self.0 {
-            write!(f, "{}", ShownByte(*byte))?;
+            ShownByte(*byte).fmt(f)?;
         }
         Ok(())
     }
