@@ -109,21 +109,24 @@ module _ (automaton : List Row) (pos : BoardState) (friend : Colour) (t : ℕ) (
   now_accepts w k there = elim (cases_Bool (nat_le w.letters offset_count)) [
     | inl few ↦ (
       leb-true w.letters offset_count few,
-      subst (λ b. Contains (cond b (accepted automaton (word_at pos friend t (anchor_of pos.size w) w.letters)) []) k) few there,
+      subst (λ b. Contains (cond b (accepted automaton (word_at pos friend t (anchor_of pos.size w) w.letters)) []) k)
+          few there,
     )
     | inr past ↦ absurd (Contains-nil k
-        (subst (λ b. Contains (cond b (accepted automaton (word_at pos friend t (anchor_of pos.size w) w.letters)) []) k) past
-        there))
+        (subst (λ b. Contains (cond b (accepted automaton (word_at pos friend t (anchor_of pos.size w) w.letters)) []) k)
+        past there))
   ]
 
   -- no number is accepted there twice
   now_distinct : (w : Walk) → AreDistinct (accepted_now w)
   now_distinct w = elim (cases_Bool (nat_le w.letters offset_count)) [
     | inl few ↦
-        subst (λ b. AreDistinct (cond b (accepted automaton (word_at pos friend t (anchor_of pos.size w) w.letters)) []))
+        subst
+        (λ b. AreDistinct (cond b (accepted automaton (word_at pos friend t (anchor_of pos.size w) w.letters)) []))
         (sym few) (good.distinct (word_at pos friend t (anchor_of pos.size w) w.letters))
     | inr past ↦
-        subst (λ b. AreDistinct (cond b (accepted automaton (word_at pos friend t (anchor_of pos.size w) w.letters)) []))
+        subst
+        (λ b. AreDistinct (cond b (accepted automaton (word_at pos friend t (anchor_of pos.size w) w.letters)) []))
         (sym past) (λ i j d low low' e. absurd (omega (arith, low)))
   ]
 
@@ -174,7 +177,8 @@ module _ (automaton : List Row) (pos : BoardState) (friend : Colour) (t : ℕ) (
     | inl some ↦
         let w : Walk = some.0 in
         let read : is.letters ≡ w.letters = letters ∙ some.3 in
-        let accepts : Contains (accepted automaton (word_at pos friend t (anchor_of pos.size w) w.letters)) hit.pattern =
+        let accepts : Contains
+        (accepted automaton (word_at pos friend t (anchor_of pos.size w) w.letters)) hit.pattern =
         subst (λ m. Contains (accepted automaton (word_at pos friend t m w.letters)) hit.pattern) (sym some.2)
         (subst (λ n. Contains (accepted automaton (word_at pos friend t hit.anchor n)) hit.pattern) read
         (accepts_now automaton pos friend t hit is transform)) in
@@ -195,7 +199,8 @@ module _ (automaton : List Row) (pos : BoardState) (friend : Colour) (t : ℕ) (
   now_once =
       AreDistinct-from_pairs (flat_map now_at walks)
       (AllPairs-flat_map (λ x y. x ≡ y → ⊥) (λ v w. anchor_of pos.size v < anchor_of pos.size w) now_at walks are.rising
-      (λ w. pairs_from_distinct (now_at w) (hits_at-distinct t (anchor_of pos.size w) (accepted_now w) (now_distinct w)))
+      (λ w. pairs_from_distinct (now_at w)
+      (hits_at-distinct t (anchor_of pos.size w) (accepted_now w) (now_distinct w)))
       (λ v w y z less in_v in_w same.
       let of_v : y.anchor ≡ anchor_of pos.size v =
       ap (λ (h : Hit). h.anchor) (hits_at-contains t (anchor_of pos.size v) (accepted_now v) y in_v).0 in

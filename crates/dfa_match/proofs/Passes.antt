@@ -68,7 +68,8 @@ module _ (automaton : List Row) (good : IsAutomaton automaton) (pos : BoardState
 
   -- the walks whose hits were given out and that do not go on are dropped
   pub hits_dropped : (walks : List Walk) (hits : List Hit) → AreWalks automaton pos friend t walks
-      → All (IsStanding automaton) walks → AreHitsBefore automaton pos friend t (read_below pos.size after_giving walks) hits
+      → All (IsStanding automaton) walks
+      → AreHitsBefore automaton pos friend t (read_below pos.size after_giving walks) hits
       → AreHitsBefore automaton pos friend t (read_below pos.size after_giving (filter goes_on walks)) hits
   hits_dropped walks hits are standing before =
       hits_kept automaton pos friend t walks are goes_on after_giving hits before
@@ -91,7 +92,8 @@ module _ (automaton : List Row) (good : IsAutomaton automaton) (pos : BoardState
         let are_first = small_walks automaton pos friend t size letters sights in
         let are_read = walks_begun automaton pos friend t size letters sights in
         let from_start = hits_more automaton pos friend t first are_first good old begun low
-        (hits_begun automaton pos friend t old (subst (λ s. s ≤ largest_size) sights.same_size sights.few) before) add_first in
+        (hits_begun automaton pos friend t old (subst (λ s. s ≤ largest_size) sights.same_size sights.few) before)
+        add_first in
         let from_anchors = hits_changed automaton pos friend t first are_first (after_anchor automaton letters)
         after_giving before_giving begun (λ w. refl) from_start
         (λ w there. omega (arith, first_letters automaton pos.size w there))

@@ -69,9 +69,12 @@ module _ (automaton : List Row) (pos : BoardState) (friend : Colour) where
     }
 
     -- from each point a walk begins
-    pub hits_begun : (hits : List Hit) → pos.size ≤ largest_size → AreHitsBefore automaton pos friend t nothing_read hits
-        → AreHitsBefore automaton pos friend t (read_below pos.size before_giving (first_walks_of automaton pos.size)) hits
-    hits_begun hits small before = hits_past nothing_read (read_below pos.size before_giving (first_walks_of automaton pos.size)) hits
+    pub hits_begun : (hits : List Hit) → pos.size ≤ largest_size
+        → AreHitsBefore automaton pos friend t nothing_read hits
+        → AreHitsBefore automaton pos friend t
+        (read_below pos.size before_giving (first_walks_of automaton pos.size)) hits
+    hits_begun hits small before =
+        hits_past nothing_read (read_below pos.size before_giving (first_walks_of automaton pos.size)) hits
         before (λ m n on few less. absurd (omega (arith, less)))
         (λ m n on few low less. elim (read_cases pos.size before_giving (first_walks_of automaton pos.size) m) [
           | inl some ↦ absurd (omega (arith, less, some.3, first_letters automaton pos.size some.0 some.1))
@@ -113,7 +116,8 @@ module _ (automaton : List Row) (pos : BoardState) (friend : Colour) where
     module _ (walks : List Walk) (are : AreWalks automaton pos friend t walks) where
       -- walks that are changed go on from where they were, where nothing is accepted between
       pub hits_changed : (f : Walk → Walk) (g h : Walk → ℕ) (hits : List Hit)
-          → ((w : Walk) → (f w).corner ≡ w.corner) → AreHitsBefore automaton pos friend t (read_below pos.size g walks) hits
+          → ((w : Walk) → (f w).corner ≡ w.corner)
+          → AreHitsBefore automaton pos friend t (read_below pos.size g walks) hits
           → ((w : Walk) → Contains walks w → g w ≤ h (f w))
           → ((w : Walk) (n : ℕ) → Contains walks w → n ≤ offset_count → g w ≤ n → n < h (f w)
           → accepted automaton (word_at pos friend t (anchor_of pos.size w) n) ≡ [])
@@ -130,16 +134,19 @@ module _ (automaton : List Row) (pos : BoardState) (friend : Colour) where
             | inr none ↦ absurd (omega (arith, few, low, none.0))
           ])
         where
-          both : (m : ℕ) → ((w : Walk) × Contains walks w × (anchor_of pos.size w ≡ m) × (read_below pos.size g walks m ≡ g w)
+          both : (m : ℕ) → ((w : Walk) × Contains walks w × (anchor_of pos.size w ≡ m)
+              × (read_below pos.size g walks m ≡ g w)
               × (read_below pos.size h (map f walks) m ≡ h (f w)))
-              ⊎ ((read_below pos.size g walks m ≡ offset_count + 1) × (read_below pos.size h (map f walks) m ≡ offset_count + 1))
+              ⊎ ((read_below pos.size g walks m ≡ offset_count + 1)
+              × (read_below pos.size h (map f walks) m ≡ offset_count + 1))
           both m = elim (read_cases pos.size g walks m) [
             | inl some ↦ inl (
               some.0,
               some.1,
               some.2,
               some.3,
-              read_changed pos.size f h walks m keeps ∙ subst (λ k. read_below pos.size (λ w. h (f w)) walks k ≡ h (f some.0)) some.2
+              read_changed pos.size f h walks m keeps
+                  ∙ subst (λ k. read_below pos.size (λ w. h (f w)) walks k ≡ h (f some.0)) some.2
                   (read_there pos.size (λ w. h (f w)) walks some.0 are.rising some.1),
             )
             | inr none ↦ inr (
@@ -172,6 +179,7 @@ module _ (automaton : List Row) (pos : BoardState) (friend : Colour) where
             ]
           ])
         where
-          same : (m : ℕ) (w : Walk) → Contains (filter test walks) w → anchor_of pos.size w ≡ m → read_below pos.size f walks m ≡ f w
+          same : (m : ℕ) (w : Walk) → Contains (filter test walks) w → anchor_of pos.size w ≡ m
+              → read_below pos.size f walks m ≡ f w
           same m w there at = subst (λ k. read_below pos.size f walks k ≡ f w) at
               (read_there pos.size f walks w are.rising (Contains-filter test walks w there).0)

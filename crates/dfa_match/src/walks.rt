@@ -131,8 +131,8 @@ fn behind_opening(
     }
 }
 
-/// Takes each walk behind its opening under one transformation, and moves those that go on to the front. Answers how many
-/// these are. `rings` are the rings around their anchors.
+/// Takes each walk behind its opening under one transformation, and moves those that go on to the front. Answers how
+/// many these are. `rings` are the rings around their anchors.
 #[inline(never)]
 fn open_all(
     shortcuts: &Shortcuts,
@@ -178,8 +178,8 @@ pub fn opened_walks(
     Ok(walks)
 }
 
-/// Adds the hits of the row where a walk stands, as long as its letters are those of the spiral. Few walks come to a row
-/// that accepts something; apart from their loop this leaves them the registers.
+/// Adds the hits of the row where a walk stands, as long as its letters are those of the spiral. Few walks come to a
+/// row that accepts something; apart from their loop this leaves them the registers.
 #[inline(never)]
 fn give_accepted(
     automaton: &Automaton,
@@ -256,8 +256,8 @@ pub fn give_start(
 }
 
 /// Reads a letter on each walk, and answers a number that is even only where no walk came to a row that accepts
-/// something. Apart from its caller it has the registers for itself, and nothing is decided for a walk: what it reads is
-/// far away in memory, and a choice that is foretold wrongly would wait for it.
+/// something. Apart from its caller it has the registers for itself, and nothing is decided for a walk: what it reads
+/// is far away in memory, and a choice that is foretold wrongly would wait for it.
 #[inline(never)]
 fn read_on(
     entries: &[u32],

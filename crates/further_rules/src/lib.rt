@@ -1,5 +1,5 @@
-//! Five further sets of points, as definitions: the wider tree tries them where a wide ply is left. The laws say in Go's
-//! own words what the computing definitions mean.
+//! Five further sets of points, as definitions: the wider tree tries them where a wide ply is left. The laws say in
+//! Go's own words what the computing definitions mean.
 //!
 //! - *Net*, for the attacker: the empty neighbours of the liberties of a target with exactly three.
 //! - *Beside*, for both: the liberties of the attacker's strings next to the target that have few.

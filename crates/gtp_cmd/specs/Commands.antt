@@ -1,6 +1,6 @@
 -- The commands, the words that each takes, and what a line says.
-use Rattle.std.specs.Prelude.{ℕ, ◌==◌, length, true, false, ◌&&◌, nat_le, Bool, List, [], ◌∷◌, map, Option, None, Some, is_some, if◌then◌else◌}
-use Rattle.std.specs.Prelude.{codes, drop}
+use Rattle.std.specs.Prelude.{ℕ, ◌==◌, length, true, false, ◌&&◌, nat_le, Bool, List, [], ◌∷◌, map, Option, None, Some}
+use Rattle.std.specs.Prelude.{is_some, if◌then◌else◌, codes, drop}
 use Rattle.std.specs.List.{find, join_with_byte}
 use Rattle.std.specs.Option.{option_map, option_and_then}
 use Rattle.std.specs.Str.{bytes_eq}

@@ -1,6 +1,6 @@
 -- What may be written for a list of lines, by any machine M. It is a relation: another answer may stand in place of a
--- reply, and what a line gives may rest on a file, which may hold one text now and another later. So a step is a relation
--- too, between a machine, a line and what is given for it.
+-- reply, and what a line gives may rest on a file, which may hold one text now and another later. So a step is a
+-- relation too, between a machine, a line and what is given for it.
 use Rattle.std.specs.Prelude.{◌≡◌, ◌⊎◌, ℕ, ◌<◌, Bool, true, false, MatchBool, List, [], ◌∷◌, ◌++◌, length}
 use Rattle.gtp_rules.specs.Lines.{RawLine}
 use Rattle.gtp_rules.specs.Steps.{Fallback, Step}
@@ -10,8 +10,8 @@ abbrev pub IsOneOf : {M : Type 0} → List (Fallback M) → List ℕ → M → T
 IsOneOf [] out new = ⊥
 IsOneOf (answer ∷ answers) out new = ((out ≡ answer.reply) × (new ≡ answer.next)) ⊎ IsOneOf answers out new
 
--- out may be given where a step gives this, with new the machine after it: it is the step's reply, or one that may stand
--- in its place, which never ends the session
+-- out may be given where a step gives this, with new the machine after it: it is the step's reply, or one that may
+-- stand in its place, which never ends the session
 abbrev pub MayGive : {M : Type 0} → Step M → List ℕ → M → Bool → Type 0
 MayGive given out new ends =
     ((out ≡ given.reply) × (new ≡ given.next) × (ends ≡ given.ends))

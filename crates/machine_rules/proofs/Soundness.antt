@@ -1,7 +1,7 @@
--- What every step keeps: a refused line keeps the machine, what may stand in place of a reply is a refusal that keeps it
--- but for the calls of helpers, and only a success ends the session.
-use Rattle.std.proofs.Common.{◌≡◌, ℕ, Bool, true, false, cond, List, [], ◌∷◌, map, Option, None, Some, Result, Ok, Err, get_or, arith}
-use Rattle.std.proofs.Common.{refl, sym, ap, subst, ◌∙◌, ◌&&◌}
+-- What every step keeps: a refused line keeps the machine, what may stand in place of a reply is a refusal that keeps
+-- it but for the calls of helpers, and only a success ends the session.
+use Rattle.std.proofs.Common.{◌≡◌, ℕ, Bool, true, false, cond, List, [], ◌∷◌, map, Option, None, Some, Result, Ok, Err}
+use Rattle.std.proofs.Common.{get_or, arith, refl, sym, ap, subst, ◌∙◌, ◌&&◌}
 use Rattle.gtp_rules.specs.Lines.{RawLine, Line, TooLong}
 use Rattle.gtp_rules.specs.Steps.{Step}
 use Rattle.gtp_rules.specs.Transcript.{IsTotal}

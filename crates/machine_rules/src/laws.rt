@@ -12,8 +12,8 @@ ghost use Rattle.machine_rules.specs.Turns.{Turn};
 ghost use Rattle.machine_rules.specs.CertainHit.{AsksFor, IsCertainHit};
 ghost use Rattle.read_rules.specs.declared.question.ReadingQuestion.{ReadingQuestion};
 
-/// A refused line keeps the machine; what may stand in place of a reply is a refusal, which keeps it but for the calls of
-/// helpers; and only a success ends the session, which keeps the machine. Something is given for each line.
+/// A refused line keeps the machine; what may stand in place of a reply is a refusal, which keeps it but for the calls
+/// of helpers; and only a success ends the session, which keeps the machine. Something is given for each line.
 pub fn replies_are_sound()
     ensures sound { (matcher : Matcher) (contents : Contents) (machine : Machine) (line : RawLine) (given : Step Machine)
         → step matcher contents machine line given → IsSound machine given }

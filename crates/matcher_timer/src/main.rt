@@ -1,5 +1,5 @@
-//! A program that finds the matches of patterns on drawn boards again and again and tells only how many they are, so that
-//! what one call takes can be measured. `tools/time_matches.py` starts it.
+//! A program that finds the matches of patterns on drawn boards again and again and tells only how many they are, so
+//! that what one call takes can be measured. `tools/time_matches.py` starts it.
 //!
 //! Its words are a file of patterns, a file of boards and how often each board is asked for each colour. A board is a
 //! line with a mark for each point in reading order: `X` for black, `O` for white, and any other one for no stone.

@@ -36,8 +36,8 @@ module _ (input : List ℕ) (last hurt : ℕ) (old : List ℕ) (torn : ℕ) (res
       (cc, cc)
 
   -- the lines were served, those of the feed or generated ones
-  either : {M : Type 0} (step : M → RawLine → Step M → Type 0) (first : M) (generate : Option ℕ) (end : End) (tally : Tally M)
-      → ServesLines generate step first (telling input last hurt old torn)
+  either : {M : Type 0} (step : M → RawLine → Step M → Type 0) (first : M) (generate : Option ℕ) (end : End)
+      (tally : Tally M) → ServesLines generate step first (telling input last hurt old torn)
       (telling rest piece fault new cut) end tally
       → ServesEither generate step first input rest old new piece end
   either step first None end tally serves = record {

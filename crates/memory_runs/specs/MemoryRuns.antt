@@ -22,8 +22,8 @@ use Rattle.session.specs.declared.outcome.End.{End}
 
 -- a front of the input was taken, so that rest is left and piece bytes came last, and bytes were put behind the old
 -- ones, as the end says
-pub record ServesBytes {M : Type 0} (step : M → RawLine → Step M → Type 0) (first : M) (input rest old new : List ℕ) (piece : ℕ)
-    (end : End) : Type 0 where
+pub record ServesBytes {M : Type 0} (step : M → RawLine → Step M → Type 0) (first : M) (input rest old new : List ℕ)
+    (piece : ℕ) (end : End) : Type 0 where
   pub taken : List ℕ
   pub put : List ℕ
   pub reads : input ≡ taken ++ rest
@@ -32,8 +32,8 @@ pub record ServesBytes {M : Type 0} (step : M → RawLine → Step M → Type 0)
 
 -- the bytes of the feed were served, or where so many lines are to be generated, the bytes of these, and the feed was
 -- left alone
-abbrev pub ServesEither : {M : Type 0} → Option ℕ → (M → RawLine → Step M → Type 0) → M → List ℕ → List ℕ → List ℕ → List ℕ
-    → ℕ → End → Type 0
+abbrev pub ServesEither : {M : Type 0} → Option ℕ → (M → RawLine → Step M → Type 0) → M → List ℕ → List ℕ → List ℕ
+    → List ℕ → ℕ → End → Type 0
 ServesEither None step first input rest old new piece end = ServesBytes step first input rest old new piece end
 ServesEither (Some n) step first input rest old new piece end =
     (rest ≡ input) × ((unread : List ℕ) × (last : ℕ) × ServesBytes step first

@@ -35,7 +35,8 @@ module _ {Q A : Type 0} (meaning : Q → BoardState → A) (eq : Q → Q → Boo
         at_key p (inl e) = subst (λ (x : Q). AreVariants (meaning x) vs) (sym e) are
         at_key p (inr e) = AreVariants-same q p vs e.2 are
 
-        each : (p : Q) (ws : List (Variant A)) → Contains (put_first eq q vs kept).0 (p, ws) → AreVariants (meaning p) ws
+        each : (p : Q) (ws : List (Variant A)) → Contains (put_first eq q vs kept).0 (p, ws)
+            → AreVariants (meaning p) ws
         each p ws i = elim (Contains-put_entries eq (lru_cache kept.0 kept.1) q vs (p, ws) i) [
           | inl old ↦ s.each p ws old
           | inr new ↦ subst (λ (xs : List (Variant A)). AreVariants (meaning p) xs) (sym new.0) (at_key p new.1)

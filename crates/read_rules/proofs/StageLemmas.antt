@@ -29,8 +29,8 @@ or_false : (a : Bool) → a ≡ (a || false)
 or_false true = refl
 or_false false = refl
 
--- a liberty, a neighbour with a wide ply, a last liberty, a backfilling move or a further candidate with a wide ply: the
--- three with a wide ply come last
+-- a liberty, a neighbour with a wide ply, a last liberty, a backfilling move or a further candidate with a wide ply:
+-- the three with a wide ply come last
 wide_last : (l w f e t b x : Bool)
     → ((((l || ((w && f) && e)) || t) || (w && b)) || (w && x)) ≡ ((l || t) || (w && (((f && e) || b) || x)))
 wide_last true w f e t b x = refl

@@ -38,8 +38,8 @@ pub fn the_last_value_sets_a_point()
 {}
 
 /// A record has the fault of the first kind that applies: the grammar's exactly where it begins with no tree, the
-/// size's exactly where its main line says none, and else that of the first node that has one. A node's is a value that says
-/// nothing, and else a string without a liberty after its setup.
+/// size's exactly where its main line says none, and else that of the first node that has one. A node's is a value that
+/// says nothing, and else a string without a liberty after its setup.
 pub fn faults_are_by_kind()
     ensures grammar { (text : List ℕ) → (game_of text ≡ Err Grammar) ↔ ((t : Tree) → IsFirstTree text t → ⊥) }
     ensures size { (text : List ℕ) (nodes : List Node) → IsMainLine text nodes

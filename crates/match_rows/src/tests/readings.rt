@@ -7,8 +7,8 @@ use std::test::Fail;
 /// Black D4, which has one liberty, D3.
 const IN_ATARI: Point = 48;
 
-/// How many plays are tried for an attack on it three plies deep, two of them wide: D3, which captures it, and C3, which
-/// comes before D3 in reading order and does not.
+/// How many plays are tried for an attack on it three plies deep, two of them wide: D3, which captures it, and C3,
+/// which comes before D3 in reading order and does not.
 const TRIED: u64 = 2;
 
 #[test]

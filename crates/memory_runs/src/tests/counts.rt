@@ -29,8 +29,8 @@ fn readings_are_counted(rt: HostRuntime) -> Result<(), Fail> {
 /// . . . . .
 /// ```
 ///
-/// Without a wide ply the attacker tries D3 alone. With one he tries C3 before it, in reading order: black then gets out
-/// at D3, to more liberties than the last ply can fill, which is seen without a play.
+/// Without a wide ply the attacker tries D3 alone. With one he tries C3 before it, in reading order: black then gets
+/// out at D3, to more liberties than the last ply can fill, which is seen without a play.
 const COUNTED_PLAYS: [(&str, &[u8]); 3] = [
     (
         "depths 1 0\nattack D4\n",
@@ -196,8 +196,8 @@ const MOST_CONNECTIONS: [(&str, &[u8]); 2] = [
     ("9", b"connections 10 fresh 9\n"),
 ];
 
-// Nine stones that stand apart are each asked about with themselves, and then the first again. The nine readings between
-// them push no connection out.
+// Nine stones that stand apart are each asked about with themselves, and then the first again. The nine readings
+// between them push no connection out.
 #[test]
 fn as_many_connections_are_kept_as_the_option_says(rt: HostRuntime) -> Result<(), Fail> {
     let input =

@@ -79,7 +79,8 @@ fn check(rt: &impl Abort, stones: Stones, rows: &[Row]) -> Result<(), Fail> {
     check_on(rt, &position(stones).ok_or("the stones can be put")?, rows)
 }
 
-/// How many plays are tried for a question on the position of these stones in the stated tree, where it has this answer.
+/// How many plays are tried for a question on the position of these stones in the stated tree, where it has this
+/// answer.
 fn trials(rt: &impl Abort, stones: Stones, (question, want): Row) -> Result<u64, Fail> {
     let position = position(stones).ok_or("the stones can be put")?;
     check_on(rt, &position, &[(question, want)])?;

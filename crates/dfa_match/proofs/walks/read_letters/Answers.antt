@@ -67,6 +67,7 @@ returns-clause-hits c =
     let silent : All (λ w. is_accepting_entry w.entry ≡ false) walks =
     subst (All (λ w. is_accepting_entry w.entry ≡ false)) (read at_read)
     (c.read_on-met.ensures.silent (omega (arith, c.if-met-ne0.false))) in
-    sym (ap (λ hs. c.args.out.now.items ++ hs) (hits_of-silent c.args.automaton.now c.args.sights.now.size c.args.t walks
+    sym (ap (λ hs. c.args.out.now.items ++ hs)
+    (hits_of-silent c.args.automaton.now c.args.sights.now.size c.args.t walks
     (λ k d low. silent_standing c.args.automaton.now (get_or walks k d) (standing at_read k d low) (silent k d low)))
     ∙ append-nil c.args.out.now.items)
