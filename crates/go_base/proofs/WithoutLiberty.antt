@@ -16,7 +16,7 @@ use Rattle.go_base.specs.Floods.{Searches}
 use Rattle.go_base.specs.declared.flood.Found.{Found}
 use Rattle.go_base.specs.WithoutLiberty.{has_empty_neighbour, stones_without_liberty}
 use Rattle.go_base.proofs.SidesOfPoints.{neighbour_at-all, neighbour_at-near}
-use Rattle.go_base.proofs.EachSide.{each_next}
+use Rattle.go_base.proofs.EachSide.{each_with, each_off}
 use Rattle.go_base.proofs.BoundedSearches.{none_seen}
 
 -- the first n sides of q were looked at, and none of them is empty
@@ -24,10 +24,15 @@ abbrev pub NoneEmpty : ℕ → List Cell → ℕ → ℕ → Type 0
 NoneEmpty s cells q n = (k : ℕ) → k < n → (r : ℕ) → neighbour_at s q k ≡ Some r
     → same_cell (cell_at cells r) Empty ≡ false
 
--- the next side is off the board, or not empty
-pub NoneEmpty-next : (s : ℕ) (cells : List Cell) (q n : ℕ) → NoneEmpty s cells q n
-    → ((r : ℕ) → neighbour_at s q n ≡ Some r → same_cell (cell_at cells r) Empty ≡ false) → NoneEmpty s cells q (n + 1)
-NoneEmpty-next s cells q n h next = each_next s q n (λ r. same_cell (cell_at cells r) Empty ≡ false) h next
+-- the next side gives a point that is not empty
+pub NoneEmpty-full : (s : ℕ) (cells : List Cell) (q n r : ℕ) → NoneEmpty s cells q n → neighbour_at s q n ≡ Some r
+    → same_cell (cell_at cells r) Empty ≡ false → NoneEmpty s cells q (n + 1)
+NoneEmpty-full s cells q n r h is full = each_with s q n (λ x. same_cell (cell_at cells x) Empty ≡ false) h r is full
+
+-- the next side is off the board
+pub NoneEmpty-off : (s : ℕ) (cells : List Cell) (q n : ℕ) → NoneEmpty s cells q n
+    → ((r : ℕ) → neighbour_at s q n ≡ Some r → ⊥) → NoneEmpty s cells q (n + 1)
+NoneEmpty-off s cells q n h off = each_off s q n (λ x. same_cell (cell_at cells x) Empty ≡ false) h off
 
 -- the side gives an empty neighbour
 pub empty_found : (s : ℕ) (cells : List Cell) (q side r : ℕ) → q < s * s → neighbour_at s q side ≡ Some r

@@ -1,10 +1,8 @@
-use Rattle.std.proofs.Common.{◌≡◌, ◌*◌, ◌<◌, ap, sym, subst, ◌∙◌, arith, Some, false}
-use Rattle.go_rules.specs.declared.Cell.TheVariants.{Empty}
-use Rattle.go_rules.specs.Strings.{cell_at, same_cell}
+use Rattle.std.proofs.Common.{◌≡◌, ◌*◌, ◌<◌, ap, sym, subst, ◌∙◌, arith, Some}
 use Rattle.go_base.specs.Sides.{neighbour_at}
 use Rattle.go_base.proofs.FloodResults.{at_side}
 use Rattle.go_base.proofs.LookSequences.{Looks-none, Looks-more, Looks-within}
-use Rattle.go_base.proofs.WithoutLiberty.{NoneEmpty-next, NoneEmpty-all, empty_found}
+use Rattle.go_base.proofs.WithoutLiberty.{NoneEmpty-full, NoneEmpty-off, NoneEmpty-all, empty_found}
 use Rattle.go_base.proofs.without_liberty.has_empty_side.Given.{Over}
 use Rattle.go_base.proofs.without_liberty.has_empty_side.Goals as goal
 use Rattle.go_base.proofs.without_liberty.has_empty_side.Goals.{Then-is_empty_at, in-Some+else-is_empty_at, in_default}
@@ -48,28 +46,24 @@ loop-side-preserved g c =
     let p = c.args.p in
     let side = c.loop-side.side in
     let i = c.loop-side.invariant in
-    let here = ap (λ n. neighbour_at n p side) (sym c.size-size.ensures) in
+    let here = ap (λ n. neighbour_at n p side) (sym c.size-size.ensures) ∙ sym c.neighbour.ensures.value in
     elim c.match-neighbour.branch [
       | in-Some+else-is_empty_at w ↦
-          let at : neighbour_at s p side ≡ Some w.in-Some.r = here ∙ sym c.neighbour.ensures.value ∙ w.in-Some.is in
           let one = Looks-within g.met.V.View.asks_within w.is_empty_at.ensures.looks
-          (at_side s p side w.in-Some.r c.requires at) in
+          (at_side s p side w.in-Some.r c.requires (here ∙ w.in-Some.is)) in
           record {
             looks = rw w.board-is (Looks-more g.met.V.View.asks_more i.looks one);
             over = λ pos a.
-                let a2 = rw w.board-is at a in
-                let a1 = g.met.V.View.asks_agrees _ _ _ one.asked pos a2 in
-                let seen = rw (i.looks.same pos) at (w.is_empty_at.ensures.over pos a2) in
-                NoneEmpty-next s (g.V.View.cells c.args.board.now pos) p side (i.over pos a1) (λ r e.
-                let same : w.in-Some.r ≡ r = (let k : Some w.in-Some.r ≡ Some r = sym at ∙ e in cc) in
-                subst (λ x. same_cell (cell_at (g.V.View.cells c.args.board.now pos) x) Empty ≡ false) same
-                (sym seen ∙ w.if-is_empty_at.false));
+                let seen = rw w.board-is at a in
+                NoneEmpty-full s (g.V.View.cells c.args.board.now pos) p side w.in-Some.r
+                (i.over pos (g.met.V.View.asks_agrees _ _ _ one.asked pos seen)) (here ∙ w.in-Some.is)
+                (sym ((rw (i.looks.same pos) at (w.is_empty_at.ensures.over pos seen))) ∙ w.if-is_empty_at.false);
           }
       | in_default w ↦ record {
         looks = rw w.board-is i.looks;
         over = λ pos a.
-            NoneEmpty-next s (g.V.View.cells c.args.board.now pos) p side (i.over pos (rw w.board-is at a))
-            (λ r e. absurd (w.in_default.not-Some r (c.neighbour.ensures.value ∙ sym here ∙ e)));
+            NoneEmpty-off s (g.V.View.cells c.args.board.now pos) p side (i.over pos (rw w.board-is at a))
+            (λ r e. w.in_default.not-Some r (sym here ∙ e));
       }
     ]
 
