@@ -34,34 +34,36 @@ record IsOnly (n : ℕ) (test : ℕ → Bool) (k : ℕ) : Type 0 where
   passes : test k ≡ true
   others : (j : ℕ) → j < n → test j ≡ true → j ≡ k
 
+-- the last number passes and none before it
+only_last : (n : ℕ) (test : ℕ → Bool) → test n ≡ true → count_below n test ≡ 0 → IsOnly (suc n) test n
+only_last n test t none = record {
+  below = omega arith;
+  passes = t;
+  others = λ j l h. elim (cases_eq j n) [
+    | inl same ↦ same
+    | inr ne ↦ absurd (both_ways (test j) (none_pass n test none j (omega arith)) h)
+  ];
+}
+
+-- the last number does not pass, and one before it is the only one
+only_before : (n : ℕ) (test : ℕ → Bool) (k : ℕ) → test n ≡ false → IsOnly n test k → IsOnly (suc n) test k
+only_before n test k f rest = record {
+  below = omega (arith, rest.below);
+  passes = rest.passes;
+  others = λ j l h. elim (cases_eq j n) [
+    | inl same ↦ absurd (both_ways (test j) (ap test same ∙ f) h)
+    | inr ne ↦ rest.others j (omega arith) h
+  ];
+}
+
 -- where one number passes, it is the only one
 only_one : (n : ℕ) (test : ℕ → Bool) → count_below n test ≡ 1 → (k : ℕ) × IsOnly n test k
 only_one zero test e = absurd (omega arith)
 only_one (suc n) test e = elim (cases_Bool (test n)) [
-  | inl t ↦
-      let none : count_below n test ≡ 0 = (let g : 1 + count_below n test ≡ 1 = rw t at e in omega arith) in (
-        n,
-        record {
-          below = omega arith;
-          passes = t;
-          others = λ j l h. elim (cases_eq j n) [
-            | inl same ↦ same
-            | inr ne ↦ absurd (both_ways (test j) (none_pass n test none j (omega arith)) h)
-          ];
-        },
-      )
+  | inl t ↦ (n, only_last n test t (let g : 1 + count_below n test ≡ 1 = rw t at e in omega arith))
   | inr f ↦
-      let rest = only_one n test (let g : 0 + count_below n test ≡ 1 = rw f at e in omega arith) in (
-        rest.0,
-        record {
-          below = omega (arith, rest.1.below);
-          passes = rest.1.passes;
-          others = λ j l h. elim (cases_eq j n) [
-            | inl same ↦ absurd (both_ways (test j) (ap test same ∙ f) h)
-            | inr ne ↦ rest.1.others j (omega arith) h
-          ];
-        },
-      )
+      let rest = only_one n test (let g : 0 + count_below n test ≡ 1 = rw f at e in omega arith) in
+      (rest.0, only_before n test rest.0 f rest.1)
 ]
 
 -- the count of a test that no number passes

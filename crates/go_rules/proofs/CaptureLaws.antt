@@ -1,6 +1,6 @@
 -- What a colour took, by the stones that are gone after its moves.
 use Rattle.std.proofs.Common.{◌≡◌, ℕ, ◌+◌, ◌*◌, ◌<◌, ◌&&◌, Bool, true, false, not, cond, Option, Some, None, IfSome}
-use Rattle.std.proofs.Common.{List, [], ◌∷◌, ◌++◌, Ok, refl, sym, ap, arith, inl, inr, ◌∙◌}
+use Rattle.std.proofs.Common.{◌≢◌, List, [], ◌∷◌, ◌++◌, Ok, refl, sym, ap, arith, inl, inr, ◌∙◌}
 use Rattle.std.proofs.lemmas.Bool.{cases_Bool, cases_eq}
 use Rattle.go_rules.specs.declared.Cell.TheVariants.{Empty}
 use Rattle.go_rules.specs.declared.Colour.{Colour}
@@ -23,39 +23,58 @@ none_gone : (b : Bool) → (b && not b) ≡ false
 none_gone true = refl
 none_gone false = refl
 
+-- A play without regard to the ban, and a point of its board.
+module _ (pos : BoardState) (c : Colour) (p : ℕ) (new : BoardState) (good : IsPosition pos)
+    (on : p < pos.size * pos.size) (played : play_free pos c p ≡ Ok new) (q : ℕ) (q_on : q < pos.size * pos.size) where
+  -- the stone that was there, and is there no more
+  abbrev is_gone : Bool
+  is_gone = is_stone (cell_at pos.cells q) && not (is_stone (cell_at new.cells q))
+
+  -- a taken point is empty after the play, and another holds what it held with the stone put
+  now : cell_at new.cells q
+      ≡ cond (is_taken pos.size (put_on pos c p) c q) Empty (cell_at (put_on pos c p) q)
+  now = ap (λ (x : BoardState). cell_at x.cells q) (done_state pos c p new played).1
+      ∙ at_after pos.size (put_on pos c p) c q q_on
+
+  -- the point of the play is not taken, and it was empty
+  own_stays : q ≡ p → is_taken pos.size (put_on pos c p) c q ≡ is_gone
+  own_stays same =
+      own_not_taken pos.size (put_on pos c p) c q (ap (cell_at (put_on pos c p)) same
+      ∙ at_put_same pos.cells p (stone_of c) (omega (arith, good.cells, on)))
+      ∙ sym (ap (λ b. b && not (is_stone (cell_at new.cells q)))
+      (ap is_stone (ap (cell_at pos.cells) same ∙ (done_state pos c p new played).0)))
+
+  -- what is taken stood before, and is gone
+  taken_goes : q ≢ p → is_taken pos.size (put_on pos c p) c q ≡ true
+      → is_taken pos.size (put_on pos c p) c q ≡ is_gone
+  taken_goes ne t =
+      let stood : is_stone (cell_at pos.cells q) ≡ true =
+      ap is_stone (sym (at_put_other pos.cells p q (stone_of c) ne) ∙ (taken_parts pos.size (put_on pos c p) c q t).0)
+      ∙ stone_is (other c) in
+      let gone : cell_at new.cells q ≡ Empty = now ∙ ap (λ b. cond b Empty (cell_at (put_on pos c p) q)) t in
+      t ∙ sym (ap (λ b. b && not (is_stone (cell_at new.cells q))) stood ∙ ap (λ k. not (is_stone k)) gone)
+
+  -- what is not taken stays as it was
+  other_stays : q ≢ p → is_taken pos.size (put_on pos c p) c q ≡ false
+      → is_taken pos.size (put_on pos c p) c q ≡ is_gone
+  other_stays ne f =
+      let stays : cell_at new.cells q ≡ cell_at pos.cells q =
+      now ∙ ap (λ b. cond b Empty (cell_at (put_on pos c p) q)) f ∙ at_put_other pos.cells p q (stone_of c) ne in
+      f ∙ sym (ap (λ k. is_stone (cell_at pos.cells q) && not (is_stone k)) stays
+      ∙ none_gone (is_stone (cell_at pos.cells q)))
+
 -- after a play without regard to the ban, a stone is taken exactly where it stood before and does not after
 taken_is_gone : (pos : BoardState) (c : Colour) (p : ℕ) (new : BoardState) → IsPosition pos → p < pos.size * pos.size
     → play_free pos c p ≡ Ok new
     → (q : ℕ) → q < pos.size * pos.size
     → is_taken pos.size (put_on pos c p) c q ≡ (is_stone (cell_at pos.cells q) && not (is_stone (cell_at new.cells q)))
-taken_is_gone pos c p new good on e q q_on =
-    let s = pos.size in
-    let put = put_on pos c p in
-    let done = done_state pos c p new e in
-    let now : cell_at new.cells q ≡ cond (is_taken s put c q) Empty (cell_at put q) =
-    ap (λ (x : BoardState). cell_at x.cells q) done.1 ∙ at_after s put c q q_on in
-    elim (cases_eq q p) [
-      | inl same ↦
-          let own : is_taken s put c q ≡ false =
-          own_not_taken s put c q (ap (cell_at put) same
-          ∙ at_put_same pos.cells p (stone_of c) (omega (arith, good.cells, on))) in
-          own ∙ sym (ap (λ b. b && not (is_stone (cell_at new.cells q)))
-          (ap is_stone (ap (cell_at pos.cells) same ∙ done.0)))
-      | inr ne ↦
-          let before : cell_at put q ≡ cell_at pos.cells q = at_put_other pos.cells p q (stone_of c) ne in
-          elim (cases_Bool (is_taken s put c q)) [
-            | inl t ↦
-                let stood : is_stone (cell_at pos.cells q) ≡ true =
-                ap is_stone (sym before ∙ (taken_parts s put c q t).0) ∙ stone_is (other c) in
-                let gone : cell_at new.cells q ≡ Empty = now ∙ ap (λ b. cond b Empty (cell_at put q)) t in
-                t ∙ sym (ap (λ b. b && not (is_stone (cell_at new.cells q))) stood ∙ ap (λ k. not (is_stone k)) gone)
-            | inr f ↦
-                let stays : cell_at new.cells q ≡ cell_at pos.cells q =
-                now ∙ ap (λ b. cond b Empty (cell_at put q)) f ∙ before in
-                f ∙ sym (ap (λ k. is_stone (cell_at pos.cells q) && not (is_stone k)) stays
-                ∙ none_gone (is_stone (cell_at pos.cells q)))
-          ]
-    ]
+taken_is_gone pos c p new good on e q q_on = elim (cases_eq q p) [
+  | inl same ↦ own_stays pos c p new good on e q q_on same
+  | inr ne ↦ elim (cases_Bool (is_taken pos.size (put_on pos c p) c q)) [
+    | inl t ↦ taken_goes pos c p new good on e q q_on ne t
+    | inr f ↦ other_stays pos c p new good on e q q_on ne f
+  ]
+]
 
 -- a legal move takes the stones that are gone after it
 taken_by_move : (pos : BoardState) (c : Colour) (at : Option ℕ) (next : BoardState) → IsPosition pos

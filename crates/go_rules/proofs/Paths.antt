@@ -107,6 +107,27 @@ reached_from_path s cells p k h stable (step {q} {r} path on near same) =
     (any_below_from (s * s) _ q (path_on_board s cells p h path)
     (and_from _ _ (reached_from_path s cells p k h stable path) near))))
 
+-- the points that one more step reaches and n steps do not
+abbrev new_at : ℕ → List Cell → ℕ → ℕ → ℕ → Bool
+new_at s cells p n q = reached s cells p (suc n) q && not (reached s cells p n q)
+
+-- where there is none of these, one more step reaches nothing new
+stable_at : (s : ℕ) (cells : List Cell) (p n : ℕ) → any_below (s * s) (new_at s cells p n) ≡ false
+    → IsStable s cells p n
+stable_at s cells p n none q l now = elim (cases_Bool (reached s cells p n q)) [
+  | inl t ↦ t
+  | inr g ↦ absurd (both_ways _ (any_below_none (s * s) _ q none l) (and_from _ _ now (not_from_false _ g)))
+]
+
+-- where there is one, more are reached
+more_at : (s : ℕ) (cells : List Cell) (p n : ℕ) → any_below (s * s) (new_at s cells p n) ≡ true
+    → count_below (s * s) (reached s cells p n) < count_below (s * s) (reached s cells p (suc n))
+more_at s cells p n some =
+    let found = any_below_gives (s * s) _ some in
+    let both = and_parts _ _ found.2 in
+    count_below_less (s * s) (reached s cells p n) (reached s cells p (suc n))
+    (λ k l e. reached_more s cells p n k e) found.0 found.1 (not-true _ both.1) both.0
+
 -- after n steps either nothing new came at some step, or more than n points are reached
 stable_or_many : (s : ℕ) (cells : List Cell) (p : ℕ) → p < s * s → (n : ℕ)
     → ((k : ℕ) × (k ≤ n) × IsStable s cells p k) ⊎ (n < count_below (s * s) (reached s cells p n))
@@ -116,29 +137,13 @@ stable_or_many s cells p h zero =
       count_below_less (s * s) (λ _. false) (reached s cells p zero)
           (λ k l f. absurd (both_ways false refl f)) p h refl (reached_start s cells p zero),
     ))
-stable_or_many s cells p h (suc n) =
-    elim (stable_or_many s cells p h n) [
-      | inl found ↦ inl (found.0, omega (arith, found.1), found.2)
-      | inr many ↦
-          elim (cases_Bool (any_below (s * s) (λ q. reached s cells p (suc n) q && not (reached s cells p n q)))) [
-            | inl t ↦
-                let found = any_below_gives (s * s) _ t in
-                let both = and_parts _ _ found.2 in
-                let more = count_below_less (s * s) (reached s cells p n) (reached s cells p (suc n))
-                (λ k l e. reached_more s cells p n k e) found.0 found.1 (not-true _ both.1) both.0 in
-                inr (omega (arith, more, many))
-            | inr f ↦ inl (
-              n,
-              omega arith,
-              λ q l now.
-                  elim (cases_Bool (reached s cells p n q)) [
-                    | inl t ↦ t
-                    | inr g ↦ absurd (both_ways _ (any_below_none (s * s) _ q f l)
-                        (and_from _ _ now (not_from_false _ g)))
-                  ],
-            )
-          ]
-    ]
+stable_or_many s cells p h (suc n) = elim (stable_or_many s cells p h n) [
+  | inl found ↦ inl (found.0, omega (arith, found.1), found.2)
+  | inr many ↦ elim (cases_Bool (any_below (s * s) (new_at s cells p n))) [
+    | inl some ↦ inr (omega (arith, more_at s cells p n some, many))
+    | inr none ↦ inl (n, omega arith, stable_at s cells p n none)
+  ]
+]
 
 -- each point that a path leads to is reached
 pub reached_all : (s : ℕ) (cells : List Cell) (p : ℕ) → p < s * s → {q : ℕ} → Path s cells p q

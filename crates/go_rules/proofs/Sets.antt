@@ -1,6 +1,6 @@
 -- What the set of the numbers below n that pass has.
 use Rattle.std.proofs.Common.{◌≡◌, ℕ, zero, suc, ◌+◌, ◌||◌, ◌&&◌, Bool, true, eqb, ltb, refl, sym, ap, arith}
-use Rattle.std.proofs.Common.{inl, inr, ◌∙◌, add-one}
+use Rattle.std.proofs.Common.{◌≢◌, inl, inr, ◌∙◌, add-one}
 use Rattle.std.proofs.lemmas.Bool.{cases_Bool, cases_eq, cases_lt, lt-ltb, le-ltb, eq-eqb, ne_eqb}
 use Rattle.std.specs.Ordering.{nat_cmp, eq_by_cmp}
 use Rattle.std.specs.Cmp.{nat_cmp_total, unsigned_tied}
@@ -21,29 +21,29 @@ contains-insert_nat s k q =
 pub same_nat_set : (s t : set.FinSet nat_cmp) → ((q : ℕ) → set.contains s q ≡ set.contains t q) → s ≡ t
 same_nat_set s t h = set.same_set nat_cmp_total set.nat_cmp-IsAntisymmetric s t h
 
+-- another number than n is below n + 1 exactly where it is below n
+ltb-other : (q n : ℕ) → q ≢ n → ltb q (suc n) ≡ ltb q n
+ltb-other q n ne = elim (cases_lt q n) [
+  | inl l ↦ rw (lt-ltb q n l, lt-ltb q (suc n) (omega arith)) refl
+  | inr g ↦ rw (le-ltb q n g, le-ltb q (suc n) (omega arith)) refl
+]
+
 -- the members of the set are the numbers below n that pass
 pub contains-set_below : (n : ℕ) (test : ℕ → Bool) (q : ℕ) → set.contains (set_below n test) q ≡ (ltb q n && test q)
 unfolding set_below
 contains-set_below zero test q = rw (le-ltb q 0 (omega arith)) (set.contains-empty nat_cmp q)
-contains-set_below (suc n) test q =
-    elim (cases_Bool (test n)) [
-      | inl t ↦ rw (t, contains-insert_nat (set_below n test) n q, contains-set_below n test q)
-          (elim (cases_eq q n) [
-            | inl e ↦ rw (e, eq-eqb n n refl, lt-ltb n (suc n) (omega arith), t) refl
-            | inr ne ↦ rw (ne_eqb q n ne) (elim (cases_lt q n) [
-              | inl l ↦ rw (lt-ltb q n l, lt-ltb q (suc n) (omega arith)) refl
-              | inr g ↦ rw (le-ltb q n g, le-ltb q (suc n) (omega arith)) refl
-            ])
-          ])
-      | inr f ↦ rw (f, contains-set_below n test q)
-          (elim (cases_eq q n) [
-            | inl e ↦ rw (e, le-ltb n n (omega arith), lt-ltb n (suc n) (omega arith), f) refl
-            | inr ne ↦ elim (cases_lt q n) [
-              | inl l ↦ rw (lt-ltb q n l, lt-ltb q (suc n) (omega arith)) refl
-              | inr g ↦ rw (le-ltb q n g, le-ltb q (suc n) (omega arith)) refl
-            ]
-          ])
-    ]
+contains-set_below (suc n) test q = elim (cases_Bool (test n)) [
+  | inl t ↦ rw (t, contains-insert_nat (set_below n test) n q, contains-set_below n test q)
+      (elim (cases_eq q n) [
+        | inl e ↦ rw (e, eq-eqb n n refl, lt-ltb n (suc n) (omega arith), t) refl
+        | inr ne ↦ rw (ne_eqb q n ne, ltb-other q n ne) refl
+      ])
+  | inr f ↦ rw (f, contains-set_below n test q)
+      (elim (cases_eq q n) [
+        | inl e ↦ rw (e, le-ltb n n (omega arith), lt-ltb n (suc n) (omega arith), f) refl
+        | inr ne ↦ rw (ltb-other q n ne) refl
+      ])
+]
 
 -- the set has as many members as numbers pass
 pub len-set_below : (n : ℕ) (test : ℕ → Bool) → set.len (set_below n test) ≡ count_below n test
