@@ -1,4 +1,5 @@
 //! The boards, lowest first.
+mod games;
 mod positions;
 mod strings;
 mod trial_moves;

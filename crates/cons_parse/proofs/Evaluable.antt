@@ -10,6 +10,7 @@ use Rattle.pat_types.specs.declared.expr.Arg.TheVariants.{Label, Star, Nowhere}
 use Rattle.pat_types.specs.declared.expr.Function.{Function}
 use Rattle.pat_types.specs.declared.expr.Function.TheVariants.{OfPoint, OfPair, OfPoints, OfMoves}
 use Rattle.pat_types.specs.declared.expr.Expr.{Expr, Num, Call, Not', Neg', Bin'}
+use Rattle.pat_types.specs.declared.expr.Op.{Op}
 use Rattle.pat_types.specs.Labels.{names, arity_of, takes_moves, is_point, is_move, end_in_point, may_call}
 use Rattle.pat_types.specs.Labels.{can_evaluate, leaf_count}
 use Rattle.cons_parse.specs.declared.token.Name.{Name}
@@ -149,21 +150,29 @@ named_may labels (Letter c) args u h k = cc
 named_may labels (Known f) args u h k = call_may labels f args h k
 named_may labels Unknown args u h k = cc
 
+-- an expression in parentheses with small numbers has them inside
+small_inside : (e : Written) → list_all is_small_item (spelling (written.Parens e)) ≡ true
+    → list_all is_small_item (spelling e) ≡ true
+small_inside e s = (and_parts (list_all is_small_item (spelling e)) true
+    (sym (all_append is_small_item (spelling e) (item.Close ∷ [])) ∙ s)).0
+
+-- an operator with small numbers has them on both sides
+small_sides : (op : Op) (a b : Written) → list_all is_small_item (spelling (written.Bin op a b)) ≡ true
+    → (list_all is_small_item (spelling a) ≡ true) × (list_all is_small_item (spelling b) ≡ true)
+small_sides op a b s = and_parts (list_all is_small_item (spelling a)) (list_all is_small_item (spelling b))
+    (sym (all_append is_small_item (spelling a) (item.Operator op ∷ spelling b)) ∙ s)
+
 -- an expression with small numbers and no faults of its calls
 pub meaning_can : (labels : List LabelAt) (w : Written) → list_all is_small_item (spelling w) ≡ true
     → some_call is_unknown_call w ≡ false → some_call misses w ≡ false → some_call (is_unlabelled labels) w ≡ false
     → can_be labels (meaning_of w) ≡ true
 meaning_can labels (written.Num n) s u h k = (and_parts (nat_lt n 1000000) true s).0
 meaning_can labels (written.Call name args) s u h k = named_may labels name args u h k
-meaning_can labels (written.Parens e) s u h k =
-    meaning_can labels e
-    (and_parts (list_all is_small_item (spelling e)) true
-    (sym (all_append is_small_item (spelling e) (item.Close ∷ [])) ∙ s)).0 u h k
+meaning_can labels (written.Parens e) s u h k = meaning_can labels e (small_inside e s) u h k
 meaning_can labels (written.Not e) s u h k = meaning_can labels e s u h k
 meaning_can labels (written.Neg e) s u h k = meaning_can labels e s u h k
 meaning_can labels (written.Bin op a b) s u h k =
-    let t = and_parts (list_all is_small_item (spelling a)) (list_all is_small_item (spelling b))
-    (sym (all_append is_small_item (spelling a) (item.Operator op ∷ spelling b)) ∙ s) in
+    let t = small_sides op a b s in
     let v = or_parts (some_call is_unknown_call a) (some_call is_unknown_call b) u in
     let i = or_parts (some_call misses a) (some_call misses b) h in
     let l = or_parts (some_call (is_unlabelled labels) a) (some_call (is_unlabelled labels) b) k in

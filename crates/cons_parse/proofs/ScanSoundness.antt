@@ -147,34 +147,37 @@ base_settled (OpenNeg ∷ ps) b = absurd b
 base_settled (OpenParens ∷ ps) b = refl
 base_settled (OpenLeft op a ∷ ps) b = absurd b
 
+-- an operand closes the sign before it
+sign_closed : (ps : List (Pending Written)) (sign : Item) (e : Written)
+    → Settled (openers_of ps) (read_by ps ++ sign ∷ spelling e)
+    → Settled (Prefix ∷ openers_of ps) (read_by ps ++ sign ∷ [] ++ spelling e)
+sign_closed ps sign e = with_read (openers_of ps) (Prefix ∷ openers_of ps) (read_by ps ++ sign ∷ spelling e)
+    (read_by ps ++ sign ∷ [] ++ spelling e) refl (sym (append_assoc (read_by ps) (sign ∷ []) (spelling e)))
+
+-- an operand joins the left side before it
+left_joined : (ps : List (Pending Written)) (op : Op) (a e : Written) → IsGood (OpenLeft op a ∷ ps) → IsWell e
+    → 5 ≤ level_of e → Settled (openers_of (OpenLeft op a ∷ ps)) (read_by (OpenLeft op a ∷ ps) ++ spelling e)
+left_joined ps op a e g v l = record {
+  open_ps = ps;
+  now = extended a op e;
+  base = g.1;
+  good = g.2;
+  well = extended_well a op e g.0 v l;
+  openers = base_settled ps g.1;
+  read = ap (λ (is : List Item). read_by ps ++ is)
+      (extended_spelling a op e ∙ sym (append_assoc (spelling a) (item.Operator op ∷ []) (spelling e)))
+      ∙ sym (append_assoc (read_by ps) (spelling a ++ item.Operator op ∷ []) (spelling e));
+}
+
 -- an operand closes the signs before it and joins the left side
 settle : (ps : List (Pending Written)) (e : Written) → IsGood ps → IsWell e → 5 ≤ level_of e
     → Settled (openers_of ps) (read_by ps ++ spelling e)
 settle [] e g v l = record { open_ps = []; now = e; base = tt; good = tt; well = v; openers = refl; read = refl }
-settle (OpenNot ∷ ps) e g v l =
-    with_read (openers_of ps) (Prefix ∷ openers_of ps) (read_by ps ++ item.Bang ∷ spelling e)
-    (read_by ps ++ item.Bang ∷ [] ++ spelling e) refl
-    (sym (append_assoc (read_by ps) (item.Bang ∷ []) (spelling e)))
-    (settle ps (Not e) g (l, v) (omega arith))
-settle (OpenNeg ∷ ps) e g v l =
-    with_read (openers_of ps) (Prefix ∷ openers_of ps) (read_by ps ++ item.Operator Sub ∷ spelling e)
-    (read_by ps ++ item.Operator Sub ∷ [] ++ spelling e) refl
-    (sym (append_assoc (read_by ps) (item.Operator Sub ∷ []) (spelling e)))
-    (settle ps (Neg e) g (l, v) (omega arith))
+settle (OpenNot ∷ ps) e g v l = sign_closed ps item.Bang e (settle ps (Not e) g (l, v) (omega arith))
+settle (OpenNeg ∷ ps) e g v l = sign_closed ps (item.Operator Sub) e (settle ps (Neg e) g (l, v) (omega arith))
 settle (OpenParens ∷ ps) e g v l =
     record { open_ps = OpenParens ∷ ps; now = e; base = tt; good = g; well = v; openers = refl; read = refl }
-settle (OpenLeft op a ∷ ps) e g v l =
-    record {
-      open_ps = ps;
-      now = extended a op e;
-      base = g.1;
-      good = g.2;
-      well = extended_well a op e g.0 v l;
-      openers = base_settled ps g.1;
-      read = ap (λ (is : List Item). read_by ps ++ is)
-          (extended_spelling a op e ∙ sym (append_assoc (spelling a) (item.Operator op ∷ []) (spelling e)))
-          ∙ sym (append_assoc (read_by ps) (spelling a ++ item.Operator op ∷ []) (spelling e));
-    }
+settle (OpenLeft op a ∷ ps) e g v l = left_joined ps op a e g v l
 
 -- some expression is spelled by these items
 abbrev pub IsSpelled : List Item → Type 0

@@ -34,6 +34,23 @@ op_level Ge = omega arith
 op_level Add = omega arith
 op_level Sub = omega arith
 
+-- both sides of an operator are one operand, where each of them is one
+sides : (op : Op) (a b : Written) (ms : List Opener) (d : Bool) (is : List Item) → settled ms ≡ ms
+    → scanned_from (to_come ms d) (spelling a ++ item.Operator op ∷ (spelling b ++ is))
+    ≡ scanned_from (come (settled ms) (d || is_too_deep (length ms) a)) (item.Operator op ∷ (spelling b ++ is))
+    → scanned_from (to_come ms (d || is_too_deep (length ms) a)) (spelling b ++ is)
+    ≡ scanned_from (come (settled ms) (d || is_too_deep (length ms) a || is_too_deep (length ms) b)) is
+    → scanned_from (to_come ms d) (spelling (Bin op a b) ++ is)
+    ≡ scanned_from (come (settled ms) (d || is_too_deep (length ms) (Bin op a b))) is
+unfolding scanned_from
+sides op a b ms d is s left right =
+    ap (scanned_from (to_come ms d)) (append_assoc (spelling a) (item.Operator op ∷ spelling b) is)
+    ∙ (left
+    ∙ (ap (λ (m : List Opener). scanned_from (to_come m (d || is_too_deep (length ms) a)) (spelling b ++ is)) s
+    ∙ (right
+    ∙ ap (λ (q : Bool). scanned_from (come (settled ms) q) is)
+    (or_assoc d (is_too_deep (length ms) a) (is_too_deep (length ms) b)))))
+
 -- the items of an expression, in front of others
 pub operand : (w : Written) (ms : List Opener) (d : Bool) (is : List Item) → IsWell w
     → (level_of w < 5 → settled ms ≡ ms)
@@ -49,13 +66,8 @@ operand (Not e) ms d is v r = operand e (Prefix ∷ ms) d is v.1 (λ l. absurd (
 operand (Neg e) ms d is v r = operand e (Prefix ∷ ms) d is v.1 (λ l. absurd (omega arith))
 operand (Bin op a b) ms d is v r =
     let s : settled ms ≡ ms = r (omega (arith, op_level op)) in
-    let next = spelling b ++ is in
-    ap (scanned_from (to_come ms d)) (append_assoc (spelling a) (item.Operator op ∷ spelling b) is)
-    ∙ (operand a ms d (item.Operator op ∷ next) v.2 (λ _. s)
-    ∙ (ap (λ (m : List Opener). scanned_from (to_come m (d || is_too_deep (length ms) a)) next) s
-    ∙ (operand b ms (d || is_too_deep (length ms) a) is v.3 (λ _. s)
-    ∙ ap (λ (q : Bool). scanned_from (come (settled ms) q) is)
-    (or_assoc d (is_too_deep (length ms) a) (is_too_deep (length ms) b)))))
+    sides op a b ms d is s (operand a ms d (item.Operator op ∷ (spelling b ++ is)) v.2 (λ _. s))
+    (operand b ms (d || is_too_deep (length ms) a) is v.3 (λ _. s))
 
 -- the items of a whole expression
 pub scanned_spelling : (w : Written) → IsWell w → scanned (spelling w) ≡ Some (is_too_deep 0 w)

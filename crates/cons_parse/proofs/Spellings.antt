@@ -70,53 +70,92 @@ close_behind : {P : Type 0} (f : Forms P) (s : Standing P) (ps : List (Pending P
     → joins f 0 s ≡ (OpenParens ∷ ps, e) → closed_in f s.0 (Some s.1) ≡ standing (settled_in f ps (f.parens e))
 close_behind {P = P} f s ps e h = ap (λ (t : Standing P). standing (settled_in f (drop 1 t.0) (f.parens t.1))) h
 
+-- items that lead at once to an operand leave this one open
+reads_operand : {P : Type 0} (f : Forms P) (w : Written) (ps : List (Pending P))
+    → ((is : List Item) → run f (waiting ps) (spelling w ++ is) ≡ run f (standing (settled_in f ps (valued f w))) is)
+    → Reads f w ps
+reads_operand f w ps runs =
+    record { left = settled_in f ps (valued f w); runs = runs; joined_as = λ k l. refl; exact = λ l. refl }
+
+-- the closing parenthesis behind an expression leads to the expression in parentheses
+runs_parens : {P : Type 0} (f : Forms P) (e : Written) (ps : List (Pending P)) → Reads f e (OpenParens ∷ ps)
+    → (is : List Item)
+    → run f (waiting ps) (spelling (Parens e) ++ is) ≡ run f (standing (settled_in f ps (f.parens (valued f e)))) is
+unfolding run
+runs_parens {P = P} f e ps s is =
+    ap (run f (waiting (OpenParens ∷ ps))) (append_assoc (spelling e) (item.Close ∷ []) is)
+    ∙ (s.runs (item.Close ∷ is)
+    ∙ ap (λ (t : State P). run f t is) (close_behind f s.left ps (valued f e) (s.joined_as 0 (omega arith))))
+
+-- what an expression behind a sign leaves open, the sign with it leaves open, where an operand closes the sign
+reads_sign : {P : Type 0} (f : Forms P) (e w : Written) (p : Pending P) (ps : List (Pending P)) → 5 ≤ level_of e
+    → settled_in f (p ∷ ps) (valued f e) ≡ settled_in f ps (valued f w)
+    → ((is : List Item) → run f (waiting ps) (spelling w ++ is) ≡ run f (waiting (p ∷ ps)) (spelling e ++ is))
+    → Reads f e (p ∷ ps) → Reads f w ps
+reads_sign f e w p ps tight same signs s = record {
+  left = s.left;
+  runs = λ is. signs is ∙ s.runs is;
+  joined_as = λ k l. ap (joins f k) (s.exact tight ∙ same);
+  exact = λ l. s.exact tight ∙ same;
+}
+
+-- at the level of an operator what its left side leaves open is the left side, behind what was open
+left_side : {P : Type 0} (f : Forms P) (op : Op) (a : Written) (ps : List (Pending P)) → level_of_op op ≤ level_of a
+    → IsLoose (level_of_op op) ps → (s : Reads f a ps) → joins f (level_of_op op) s.left ≡ (ps, valued f a)
+left_side f op a ps room h s =
+    s.joined_as (level_of_op op) room
+    ∙ (ap (joins f (level_of_op op)) (loose_settled f (level_of_op op) ps (valued f a) h)
+    ∙ loose_joined f (level_of_op op) ps (valued f a) h)
+
+-- the items of both sides with the operator between them lead to what the right side leaves open
+runs_sides : {P : Type 0} (f : Forms P) (op : Op) (a b : Written) (ps : List (Pending P)) (s : Reads f a ps)
+    (t : Reads f b (OpenLeft op (valued f a) ∷ ps)) → joins f (level_of_op op) s.left ≡ (ps, valued f a)
+    → (is : List Item) → run f (waiting ps) (spelling (Bin op a b) ++ is) ≡ run f (standing t.left) is
+unfolding run
+runs_sides {P = P} f op a b ps s t left_is is =
+    ap (run f (waiting ps)) (append_assoc (spelling a) (item.Operator op ∷ spelling b) is)
+    ∙ (s.runs (item.Operator op ∷ (spelling b ++ is))
+    ∙ (ap (λ (u : State P). run f u (spelling b ++ is)) (operator_behind f op s.left ps (valued f a) left_is)
+    ∙ t.runs is))
+
+-- at each level up to that of an operator, what its right side leaves open is both sides joined, behind what was open
+joined_sides : {P : Type 0} (f : Forms P) (op : Op) (a b : Written) (ps : List (Pending P))
+    → IsLoose (level_of_op op) ps → level_of_op op < level_of b → (t : Reads f b (OpenLeft op (valued f a) ∷ ps))
+    → (k : ℕ) → k ≤ level_of_op op
+    → joins f k t.left ≡ joins f k (settled_in f ps (f.joined op (valued f a) (valued f b)))
+joined_sides f op a b ps h tighter t k l =
+    t.joined_as k (omega (arith, tighter))
+    ∙ (ap (λ (q : Bool). cond q (joined_in f k ps (f.joined op (valued f a) (valued f b)))
+    (OpenLeft op (valued f a) ∷ ps, valued f b)) (le-leb k (level_of_op op) l)
+    ∙ sym (ap (joins f k) (loose_settled f (level_of_op op) ps (f.joined op (valued f a) (valued f b)) h)))
+
+-- both sides of an operator lead to what they leave open together
+reads_sides : {P : Type 0} (f : Forms P) (op : Op) (a b : Written) (ps : List (Pending P)) → IsWell (Bin op a b)
+    → IsLoose (level_of_op op) ps → Reads f a ps → Reads f b (OpenLeft op (valued f a) ∷ ps)
+    → Reads f (Bin op a b) ps
+reads_sides f op a b ps v h s t = record {
+  left = t.left;
+  runs = runs_sides f op a b ps s t (left_side f op a ps v.0 h s);
+  joined_as = joined_sides f op a b ps h v.1 t;
+  exact = λ l. absurd (omega (arith, op_level op));
+}
+
 -- the items of an expression lead to what it leaves open
 pub reads : {P : Type 0} (f : Forms P) (w : Written) (ps : List (Pending P)) → IsWell w
     → (level_of w < 5 → IsLoose (level_of w) ps) → Reads f w ps
 unfolding run
-reads f (Num n) ps v r =
-    record { left = settled_in f ps (f.num n); runs = λ is. refl; joined_as = λ k l. refl; exact = λ l. refl }
-reads f (Call name args) ps v r =
-    record { left = settled_in f ps (f.call name args); runs = λ is. refl; joined_as = λ k l. refl; exact = λ l. refl }
-reads {P = P} f (Parens e) ps v r =
-    let s = reads f e (OpenParens ∷ ps) v (λ l. tt) in
-    record {
-      left = settled_in f ps (f.parens (valued f e));
-      runs = λ is.
-          ap (run f (waiting (OpenParens ∷ ps))) (append_assoc (spelling e) (item.Close ∷ []) is)
-          ∙ (s.runs (item.Close ∷ is)
-          ∙ ap (λ (t : State P). run f t is) (close_behind f s.left ps (valued f e) (s.joined_as 0 (omega arith))));
-      joined_as = λ k l. refl;
-      exact = λ l. refl;
-    }
-reads f (Not e) ps v r =
-    let s = reads f e (OpenNot ∷ ps) v.1 (λ l. absurd (omega (arith, v.0))) in
-    record { left = s.left; runs = s.runs; joined_as = λ k l. ap (joins f k) (s.exact v.0); exact = λ l. s.exact v.0 }
-reads f (Neg e) ps v r =
-    let s = reads f e (OpenNeg ∷ ps) v.1 (λ l. absurd (omega (arith, v.0))) in
-    record { left = s.left; runs = s.runs; joined_as = λ k l. ap (joins f k) (s.exact v.0); exact = λ l. s.exact v.0 }
-reads {P = P} f (Bin op a b) ps v r =
+reads f (Num n) ps v r = reads_operand f (Num n) ps (λ is. refl)
+reads f (Call name args) ps v r = reads_operand f (Call name args) ps (λ is. refl)
+reads f (Parens e) ps v r =
+    reads_operand f (Parens e) ps (runs_parens f e ps (reads f e (OpenParens ∷ ps) v (λ l. tt)))
+reads f (Not e) ps v r = reads_sign f e (Not e) OpenNot ps v.0 refl (λ is. refl)
+    (reads f e (OpenNot ∷ ps) v.1 (λ l. absurd (omega (arith, v.0))))
+reads f (Neg e) ps v r = reads_sign f e (Neg e) OpenNeg ps v.0 refl (λ is. refl)
+    (reads f e (OpenNeg ∷ ps) v.1 (λ l. absurd (omega (arith, v.0))))
+reads f (Bin op a b) ps v r =
     let h : IsLoose (level_of_op op) ps = r (omega (arith, op_level op)) in
-    let s = reads f a ps v.2 (λ l. looser (level_of_op op) (level_of a) ps v.0 h) in
-    let left_side : joins f (level_of_op op) s.left ≡ (ps, valued f a) =
-    s.joined_as (level_of_op op) v.0
-    ∙ (ap (joins f (level_of_op op)) (loose_settled f (level_of_op op) ps (valued f a) h)
-    ∙ loose_joined f (level_of_op op) ps (valued f a) h) in
-    let t = reads f b (OpenLeft op (valued f a) ∷ ps) v.3 (λ l. v.1) in
-    record {
-      left = t.left;
-      runs = λ is.
-          ap (run f (waiting ps)) (append_assoc (spelling a) (item.Operator op ∷ spelling b) is)
-          ∙ (s.runs (item.Operator op ∷ (spelling b ++ is))
-          ∙ (ap (λ (u : State P). run f u (spelling b ++ is)) (operator_behind f op s.left ps (valued f a) left_side)
-          ∙ t.runs is));
-      joined_as = λ k l.
-          t.joined_as k (omega (arith, v.1))
-          ∙ (ap (λ (q : Bool). cond q (joined_in f k ps (f.joined op (valued f a) (valued f b)))
-          (OpenLeft op (valued f a) ∷ ps, valued f b)) (le-leb k (level_of_op op) l)
-          ∙ sym (ap (joins f k) (loose_settled f (level_of_op op) ps (f.joined op (valued f a) (valued f b)) h)));
-      exact = λ l. absurd (omega (arith, op_level op));
-    }
+    reads_sides f op a b ps v h (reads f a ps v.2 (λ l. looser (level_of_op op) (level_of a) ps v.0 h))
+    (reads f b (OpenLeft op (valued f a) ∷ ps) v.3 (λ l. v.1))
 
 -- the whole run
 pub built_spelling : {P : Type 0} (f : Forms P) (w : Written) → IsWell w → built f (spelling w) ≡ valued f w

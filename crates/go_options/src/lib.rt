@@ -13,6 +13,3 @@ mod options;
 pub use errors::{NoMemory, OptionsError};
 pub use files::Files;
 pub use options::{Options, read_options};
-
-#[cfg(test)]
-mod tests;

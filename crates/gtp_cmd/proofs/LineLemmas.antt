@@ -3,12 +3,9 @@ use Rattle.std.proofs.Common.{◌≡◌, ℕ, ◌+◌, ◌≤◌, List, [], ◌�
 use Rattle.std.proofs.Common.{sym, subst, arith, length-take}
 use Rattle.std.specs.List.{before_first, position_or_len}
 use Rattle.std.specs.Option.{option_map}
-use Rattle.gtp_cmd.specs.Words.{number_of, hash}
-use Rattle.gtp_cmd.specs.Vertices.{vertex_of}
-use Rattle.gtp_cmd.specs.Colours.{colour_of}
-use Rattle.gtp_cmd.specs.Komi.{komi_of}
-use Rattle.gtp_cmd.specs.Commands.{first_argument, known_of, size_of, move_of, depths_of, command_of, named, asked}
-use Rattle.gtp_cmd.specs.Commands.{called, said, claim_of, points_of}
+use Rattle.gtp_cmd.specs.Words.{hash}
+use Rattle.gtp_cmd.specs.Commands.{command_of, named, asked}
+use Rattle.gtp_cmd.specs.Commands.{called, said, claim_of}
 use Rattle.gtp_cmd.specs.declared.commands.CommandName.{CommandName}
 use Rattle.gtp_cmd.specs.declared.commands.CommandName.TheVariants as name
 use Rattle.gtp_cmd.specs.declared.commands.Command.{Command}
@@ -43,69 +40,28 @@ of_first_span : (line : List ℕ) (spans : List Span) (make : Span → Command) 
 of_first_span line spans make lie keeps =
     if_some-map make (IsSpanOf line) (IsWithinLine line) (first_span spans) keeps (first_span-within line spans lie)
 
--- the arguments of a command lie in the line in which the words behind its name lie
-command_of-within_line : (line : List ℕ) (n : CommandName) (s : ℕ) (words : List (List ℕ)) (spans : List Span)
-    → InOrder 0 (length line) spans → IfSome (command_of n s words spans) (IsWithinLine line)
-command_of-within_line line name.ProtocolVersion s words spans lie = tt
-command_of-within_line line name.Name s words spans lie = tt
-command_of-within_line line name.Version s words spans lie = tt
-command_of-within_line line name.KnownCommand s words spans lie =
-    if_some-any command.KnownCommand (IsWithinLine line) (known_of words) (λ x. tt)
-command_of-within_line line name.ListCommands s words spans lie = tt
-command_of-within_line line name.Quit s words spans lie = tt
-command_of-within_line line name.BoardSize s words spans lie =
-    if_some-any (λ n. command.BoardSize (size_of n)) (IsWithinLine line) (first_argument number_of words) (λ x. tt)
-command_of-within_line line name.ClearBoard s words spans lie = tt
-command_of-within_line line name.Komi s words spans lie =
-    if_some-any command.Komi (IsWithinLine line) (first_argument komi_of words) (λ x. tt)
-command_of-within_line line name.GetKomi s words spans lie = tt
-command_of-within_line line name.Play s words spans lie =
-    if_some-any (λ m. command.Play m.0 m.1) (IsWithinLine line) (move_of s words) (λ x. tt)
-command_of-within_line line name.Undo s words spans lie = tt
-command_of-within_line line name.ShowBoard s words spans lie = tt
-command_of-within_line line name.IsLegal s words spans lie =
-    if_some-any (λ m. command.IsLegal m.0 m.1) (IsWithinLine line) (move_of s words) (λ x. tt)
-command_of-within_line line name.AllLegal s words spans lie =
-    if_some-any command.AllLegal (IsWithinLine line) (first_argument colour_of words) (λ x. tt)
-command_of-within_line line name.CountLib s words spans lie =
-    if_some-any command.CountLib (IsWithinLine line) (first_argument (vertex_of s) words) (λ x. tt)
-command_of-within_line line name.FindLib s words spans lie =
-    if_some-any command.FindLib (IsWithinLine line) (first_argument (vertex_of s) words) (λ x. tt)
-command_of-within_line line name.Captures s words spans lie =
-    if_some-any command.Captures (IsWithinLine line) (first_argument colour_of words) (λ x. tt)
-command_of-within_line line name.Attack s words spans lie =
-    if_some-any command.Attack (IsWithinLine line) (first_argument (vertex_of s) words) (λ x. tt)
-command_of-within_line line name.Defend s words spans lie =
-    if_some-any command.Defend (IsWithinLine line) (first_argument (vertex_of s) words) (λ x. tt)
-command_of-within_line line name.Depths s words spans lie =
-    if_some-any (λ d. command.Depths d.0 d.1) (IsWithinLine line) (depths_of words) (λ x. tt)
-command_of-within_line line name.MatchPatterns s words spans lie =
-    if_some-any command.MatchPatterns (IsWithinLine line) (first_argument colour_of words) (λ x. tt)
-command_of-within_line line name.ListPatterns s words spans lie = tt
-command_of-within_line line name.LoadSgf s words spans lie =
-    of_first_span line spans command.LoadSgf lie (λ span lies. lies)
-command_of-within_line line name.AttackProof s words spans lie =
-    if_some-any command.AttackProof (IsWithinLine line) (first_argument (vertex_of s) words) (λ x. tt)
-command_of-within_line line name.DefendProof s words spans lie =
-    if_some-any command.DefendProof (IsWithinLine line) (first_argument (vertex_of s) words) (λ x. tt)
-command_of-within_line line name.CheckProof s words spans lie =
+-- a check of a proof is within the line where its words are
+of_tokens : (line : List ℕ) (s : ℕ) (words : List (List ℕ)) (spans : List Span) → InOrder 0 (length line) spans
+    → IfSome (command_of name.CheckProof s words spans) (IsWithinLine line)
+of_tokens line s words spans lie =
     if_some-any (λ q. command.CheckProof q.attack q.target q.code (whole_span (drop 3 spans))) (IsWithinLine line)
     (claim_of s words)
     (λ x. whole_span-within line (drop 3 spans) (InOrder-three 0 (length line) spans lie))
-command_of-within_line line name.Connect s words spans lie =
-    if_some-any (λ m. command.Connect m.0 m.1) (IsWithinLine line) (points_of s words) (λ x. tt)
-command_of-within_line line name.Disconnect s words spans lie =
-    if_some-any (λ m. command.Disconnect m.0 m.1) (IsWithinLine line) (points_of s words) (λ x. tt)
-command_of-within_line line name.GenMove s words spans lie =
-    if_some-any command.GenMove (IsWithinLine line) (first_argument colour_of words) (λ x. tt)
-command_of-within_line line name.RegGenMove s words spans lie =
-    if_some-any command.RegGenMove (IsWithinLine line) (first_argument colour_of words) (λ x. tt)
+
+-- the arguments of a command lie in the line in which the words behind its name lie: those that name spans by these,
+-- and all others since they name none
+command_of-within_line : (line : List ℕ) (n : CommandName) (s : ℕ) (words : List (List ℕ)) (spans : List Span)
+    → InOrder 0 (length line) spans → IfSome (command_of n s words spans) (IsWithinLine line)
+command_of-within_line line name.LoadSgf s words spans lie =
+    of_first_span line spans command.LoadSgf lie (λ span lies. lies)
 command_of-within_line line name.HelperOff s words spans lie =
     of_first_span line spans command.HelperOff lie (λ span lies. lies)
 command_of-within_line line name.HelperCalls s words spans lie =
     of_first_span line spans command.HelperCalls lie (λ span lies. lies)
 command_of-within_line line name.HelperDrop s words spans lie =
     of_first_span line spans command.HelperDrop lie (λ span lies. lies)
+command_of-within_line line name.CheckProof s words spans lie = of_tokens line s words spans lie
+command_of-within_line line _ s words spans lie = search if_some-any
 
 -- a command whose spans lie in the line is said by it
 asked-within_line : (line : List ℕ) (id : Option ℕ) (o : Option Command) → IfSome o (IsWithinLine line)

@@ -12,11 +12,10 @@ use Rattle.read_rules.specs.Ranges.{least_plies, most_plies, most_wide, AreDepth
 use Rattle.gtp_cmd.specs.Words.{number_of}
 use Rattle.gtp_cmd.specs.Vertices.{vertex_of, point_of, column_named, row_number_of, target_of}
 use Rattle.gtp_cmd.specs.Colours.{colour_of}
-use Rattle.gtp_cmd.specs.Komi.{komi_of}
 use Rattle.gtp_cmd.specs.declared.arguments.Claim.{Claim}
-use Rattle.gtp_cmd.specs.Spans.{first_span, whole_span}
+use Rattle.gtp_cmd.specs.Spans.{whole_span}
 use Rattle.gtp_cmd.specs.declared.spans.Span.{Span}
-use Rattle.gtp_cmd.specs.Commands.{first_argument, known_of, size_of, move_of, number_between}
+use Rattle.gtp_cmd.specs.Commands.{first_argument, move_of, number_between}
 use Rattle.gtp_cmd.specs.Commands.{depths_of, command_of, named, asked, called, said, is_attack_of, code_of, claim_of}
 use Rattle.gtp_cmd.specs.Commands.{greatest_code, points_of}
 use Rattle.gtp_cmd.specs.declared.commands.CommandName.{CommandName}
@@ -202,62 +201,27 @@ of_points s words make keeps =
     if_some-map make (λ m. (m.0 < s * s) × (m.1 < s * s)) (IsWithin s) (points_of s words)
     keeps (points_of-within s words)
 
+-- a command of depths is within where both are in their ranges
+of_depths : (s : ℕ) (words : List (List ℕ)) (make : ℕ × ℕ → Command)
+    → ((d : ℕ × ℕ) → AreDepths d.0 d.1 → IsWithin s (make d)) → IfSome (option_map make (depths_of words)) (IsWithin s)
+of_depths s words make keeps =
+    if_some-map make (λ d. AreDepths d.0 d.1) (IsWithin s) (depths_of words)
+    keeps (depths_of-within words)
+
+-- a command of a claim is within where its point is on the board and its code in its range
+of_claim : (s : ℕ) (words : List (List ℕ)) (make : Claim → Command)
+    → ((q : Claim) → ClaimWithin s q → IsWithin s (make q)) → IfSome (option_map make (claim_of s words)) (IsWithin s)
+of_claim s words make keeps =
+    if_some-map make (ClaimWithin s) (IsWithin s) (claim_of s words)
+    keeps (claim_of-within s words)
+
 -- the arguments of a command name points of the board, and depths in their ranges
 command_of-within : (n : CommandName) (s : ℕ) (words : List (List ℕ)) (spans : List Span)
     → IfSome (command_of n s words spans) (IsWithin s)
-command_of-within name.ProtocolVersion s words spans = tt
-command_of-within name.Name s words spans = tt
-command_of-within name.Version s words spans = tt
-command_of-within name.KnownCommand s words spans =
-    if_some-any command.KnownCommand (IsWithin s) (known_of words) (λ known. tt)
-command_of-within name.ListCommands s words spans = tt
-command_of-within name.Quit s words spans = tt
-command_of-within name.BoardSize s words spans =
-    if_some-any (λ n. command.BoardSize (size_of n)) (IsWithin s) (first_argument number_of words) (λ n. tt)
-command_of-within name.ClearBoard s words spans = tt
-command_of-within name.Komi s words spans =
-    if_some-any command.Komi (IsWithin s) (first_argument komi_of words) (λ text. tt)
-command_of-within name.GetKomi s words spans = tt
-command_of-within name.Play s words spans =
-    of_move s words (λ m. command.Play m.0 m.1) (λ m below. below)
-command_of-within name.Undo s words spans = tt
-command_of-within name.ShowBoard s words spans = tt
-command_of-within name.IsLegal s words spans =
-    of_move s words (λ m. command.IsLegal m.0 m.1) (λ m below. below)
-command_of-within name.AllLegal s words spans =
-    if_some-any command.AllLegal (IsWithin s) (first_argument colour_of words) (λ c. tt)
-command_of-within name.CountLib s words spans = of_point s words command.CountLib (λ p below. below)
-command_of-within name.FindLib s words spans = of_point s words command.FindLib (λ p below. below)
-command_of-within name.Captures s words spans =
-    if_some-any command.Captures (IsWithin s) (first_argument colour_of words) (λ c. tt)
-command_of-within name.Attack s words spans = of_point s words command.Attack (λ p below. below)
-command_of-within name.Defend s words spans = of_point s words command.Defend (λ p below. below)
-command_of-within name.Depths s words spans =
-    if_some-map (λ d. command.Depths d.0 d.1) (λ d. AreDepths d.0 d.1) (IsWithin s) (depths_of words)
-    (λ d within. within) (depths_of-within words)
-command_of-within name.MatchPatterns s words spans =
-    if_some-any command.MatchPatterns (IsWithin s) (first_argument colour_of words) (λ c. tt)
-command_of-within name.ListPatterns s words spans = tt
-command_of-within name.LoadSgf s words spans = if_some-any command.LoadSgf (IsWithin s) (first_span spans) (λ span. tt)
-command_of-within name.AttackProof s words spans = of_point s words command.AttackProof (λ p below. below)
-command_of-within name.DefendProof s words spans = of_point s words command.DefendProof (λ p below. below)
+command_of-within name.Depths s words spans = of_depths s words (λ d. command.Depths d.0 d.1) (λ d within. within)
 command_of-within name.CheckProof s words spans =
-    if_some-map (λ q. command.CheckProof q.attack q.target q.code (whole_span (drop 3 spans))) (ClaimWithin s)
-    (IsWithin s) (claim_of s words) (λ q within. within) (claim_of-within s words)
-command_of-within name.Connect s words spans =
-    of_points s words (λ m. command.Connect m.0 m.1) (λ m below. below)
-command_of-within name.Disconnect s words spans =
-    of_points s words (λ m. command.Disconnect m.0 m.1) (λ m below. below)
-command_of-within name.GenMove s words spans =
-    if_some-any command.GenMove (IsWithin s) (first_argument colour_of words) (λ c. tt)
-command_of-within name.RegGenMove s words spans =
-    if_some-any command.RegGenMove (IsWithin s) (first_argument colour_of words) (λ c. tt)
-command_of-within name.HelperOff s words spans =
-    if_some-any command.HelperOff (IsWithin s) (first_span spans) (λ span. tt)
-command_of-within name.HelperCalls s words spans =
-    if_some-any command.HelperCalls (IsWithin s) (first_span spans) (λ span. tt)
-command_of-within name.HelperDrop s words spans =
-    if_some-any command.HelperDrop (IsWithin s) (first_span spans) (λ span. tt)
+    of_claim s words (λ q. command.CheckProof q.attack q.target q.code (whole_span (drop 3 spans))) (λ q within. within)
+command_of-within _ s words spans = search (if_some-any, of_point, of_move, of_points)
 
 -- a line whose command is within says nothing off the board
 asked-within : (id : Option ℕ) (s : ℕ) (o : Option Command) → IfSome o (IsWithin s) → SaysWithin s (asked id o)

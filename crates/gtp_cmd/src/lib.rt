@@ -16,8 +16,6 @@ mod refusals;
 mod replies;
 mod rows;
 mod spans;
-#[cfg(test)]
-mod tests;
 mod word_spans;
 
 pub use commands::{Command, CommandName, Parsed};

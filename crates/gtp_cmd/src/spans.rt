@@ -40,25 +40,3 @@ pub fn text(line: &[u8], span: Span, mut out: Bytes) -> Result<Bytes, NoMemory>
     }
     Ok(out)
 }
-
-#[cfg(test)]
-mod tests {
-    use super::*;
-    use std::test::Fail;
-
-    #[test]
-    fn span_is_cleaned(rt: HostRuntime) -> Result<(), Fail> {
-        let line = b"check_proof attack D4 3 W\tD\x013 . # as read";
-        for (row, from, to, want) in [
-            ("some words", 24, 31, b"W D3 .".as_slice()),
-            ("a comment", 24, 41, b"W D3 . ".as_slice()),
-            ("no words", 0, 0, b"".as_slice()),
-        ] {
-            assert!(rt; from <= to);
-            assert!(rt; to as usize <= line.len());
-            let found = text(line, Span { from, to }, Bytes::new(rt.alloc()))?;
-            assert!(rt; found.as_slice() == want, "{row}");
-        }
-        Ok(())
-    }
-}

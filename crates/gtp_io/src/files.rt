@@ -101,27 +101,3 @@ impl<'a, R: Files> Loader for FileLoader<'a, R> {
         Err(LoadError::Failed)
     }
 }
-
-#[cfg(test)]
-mod tests {
-    use super::*;
-    use std::test::Fail;
-
-    #[test]
-    fn files_of_the_greatest_length_are_read(rt: HostRuntime) -> Result<(), Fail> {
-        let alloc = rt.alloc();
-        for (file, text, want) in [
-            ("a byte less", "abc", true),
-            ("all bytes", "abcd", true),
-            ("one more", "abcde", false),
-        ] {
-            let mut into = Vec::from_slice(alloc, b"# ")?;
-            assert!(rt;
-                read_up_to(text.as_bytes(), 4, &mut into)? == want,
-                "{file}"
-            );
-            assert!(rt; into.len() == 2 + text.len(), "{file}");
-        }
-        Ok(())
-    }
-}

@@ -12,6 +12,3 @@ mod raw;
 
 pub use lines::{Lines, Taken};
 pub use raw::Raw;
-
-#[cfg(test)]
-mod tests;

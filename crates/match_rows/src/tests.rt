@@ -1,10 +1,12 @@
 //! Rows worked by hand. A point is its number in reading order: of a board of 3, B3 is 1, A2 is 3, C2 is 5 and B1 is 7.
 mod automata;
+mod choices;
 mod conditions;
 mod diagrams;
 mod openings;
 mod readings;
 mod sizes;
+mod spirals;
 
 use db_read::{DbError, read};
 use dfa_join::{JoinError, compile};

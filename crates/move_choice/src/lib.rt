@@ -7,9 +7,8 @@
 
 mod choice;
 pub mod laws;
-#[cfg(test)]
-mod tests;
 mod worth;
 
 pub use choice::choose;
 pub use match_rules::Match;
+pub use worth::worth_of;

@@ -17,6 +17,3 @@ mod variants;
 pub use cache::Cache;
 pub use question::Question;
 pub use variants::Variant;
-
-#[cfg(test)]
-mod tests;

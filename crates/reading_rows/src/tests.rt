@@ -4,6 +4,7 @@ mod connections;
 mod depths;
 mod first_proofs;
 mod further;
+mod kept_answers;
 mod kept_connections;
 mod proofs;
 mod readings;

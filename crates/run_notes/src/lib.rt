@@ -8,6 +8,3 @@ mod notes;
 mod pieces;
 
 pub use notes::{Counts, Links, Sent, put_notes};
-
-#[cfg(test)]
-mod tests;

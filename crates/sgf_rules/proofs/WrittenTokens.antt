@@ -14,7 +14,7 @@ use Rattle.sgf_rules.specs.Tokens.{value_at, token_at, tokens_of}
 use Rattle.sgf_rules.specs.Written.{Says, IsName, IsBracketed, Writes}
 use Rattle.sgf_rules.proofs.CutTokens.{token_step, open_at, close_at, semicolon_at}
 use Rattle.sgf_rules.proofs.CutTokens.{bracket_at, letter_at, stray_at}
-use Rattle.sgf_rules.proofs.WrittenValues.{value_ends, value_said, value_begins}
+use Rattle.sgf_rules.proofs.WrittenValues.{BeginsWithValue, value_ends, value_said, value_begins}
 
 -- a letter comes late among the bytes
 letter_late : (b : ℕ) → is_letter b ≡ true → 65 ≤ b
@@ -149,31 +149,54 @@ letters_written b bs e h = by_capital (cases_Bool (list_any is_capital letters))
     by_capital (inr none) =
         let stray : is_stray (letters_token letters) ≡ true = rw none refl in absurd (cc (stray, h))
 
+-- the token and the bytes at the front of a text are those of the value with which it begins
+value_found : (bs : List ℕ) (v : BeginsWithValue bs) → value_at bs ≡ (Value v.value, length v.inner + 1)
+value_found bs v = ap value_at v.parts ∙ value_shown v.inner v.value v.rest v.says
+
+-- the bytes of a value and its `]`, behind a `[`, write it
+brackets_written : (bs : List ℕ) (v : BeginsWithValue bs)
+    → Writes (left_bracket ∷ take (length v.inner + 1) bs) (Value v.value)
+brackets_written bs v = record {
+  inner = v.inner;
+  brackets = ap (λ (xs : List ℕ). left_bracket ∷ xs)
+      (ap (take (length v.inner + 1)) v.parts ∙ take-append-add v.inner (right_bracket ∷ v.rest) 1);
+  says = v.says;
+}
+
 -- brackets and the bytes that say a value write it
 value_written : (bs : List ℕ) → is_stray (value_at bs).0 ≡ false
     → Writes (left_bracket ∷ take (value_at bs).1 bs) (value_at bs).0
-value_written bs h = by_end (cases_Bool (nat_lt (value_len false bs) (length bs)))
-  where
-    by_end : (nat_lt (value_len false bs) (length bs) ≡ true) ⊎ (nat_lt (value_len false bs) (length bs) ≡ false)
-        → Writes (left_bracket ∷ take (value_at bs).1 bs) (value_at bs).0
-    by_end (inl ended) =
-        let v = value_begins bs (ltb-true (value_len false bs) (length bs) ended) in
-        let shown : value_at bs ≡ (Value v.value, length v.inner + 1) =
-        ap value_at v.parts ∙ value_shown v.inner v.value v.rest v.says in
-        let front : take (length v.inner + 1) bs ≡ v.inner ++ right_bracket ∷ [] =
-        ap (take (length v.inner + 1)) v.parts ∙ take-append-add v.inner (right_bracket ∷ v.rest) 1 in
-        subst (λ (x : Token × ℕ). Writes (left_bracket ∷ take x.1 bs) x.0) (sym shown) (record {
-          inner = v.inner;
-          brackets = ap (λ (xs : List ℕ). left_bracket ∷ xs) front;
-          says = v.says;
-        })
-    by_end (inr open_end) =
-        let stray : is_stray (value_at bs).0 ≡ true = rw open_end refl in absurd (cc (stray, h))
+value_written bs h = elim (cases_Bool (nat_lt (value_len false bs) (length bs))) [
+  | inl ended ↦
+      let v = value_begins bs (ltb-true (value_len false bs) (length bs) ended) in
+      subst (λ (x : Token × ℕ). Writes (left_bracket ∷ take x.1 bs) x.0) (sym (value_found bs v)) (brackets_written bs v)
+  | inr open_end ↦ let stray : is_stray (value_at bs).0 ≡ true = rw open_end refl in absurd (cc (stray, h))
+]
 
 -- what the bytes from one on begin with is written by those that belong to it
 written_as : (b : ℕ) (bs : List ℕ) (x : Token × ℕ) → token_at b bs ≡ x → Writes (b ∷ take x.1 bs) x.0
     → Writes (b ∷ take (token_at b bs).1 bs) (token_at b bs).0
 written_as b bs x e w = subst (λ (x : Token × ℕ). Writes (b ∷ take x.1 bs) x.0) (sym e) w
+
+-- what `[` begins is written by it and the bytes of a value
+bracket_written : (b : ℕ) (bs : List ℕ) → b ≡ 91 → is_stray (token_at b bs).0 ≡ false
+    → Writes (b ∷ take (token_at b bs).1 bs) (token_at b bs).0
+bracket_written b bs e h =
+    let at = bracket_at b bs e in
+    written_as b bs (value_at bs) at
+    (subst (λ (x : ℕ). Writes (x ∷ take (value_at bs).1 bs) (value_at bs).0) (sym e)
+    (value_written bs (sym (ap (λ (x : Token × ℕ). is_stray x.0) at) ∙ h)))
+
+-- what none of the four signs begins is written by letters
+unsigned_written : (b : ℕ) (bs : List ℕ) → (b ≡ 40 → ⊥) → (b ≡ 41 → ⊥) → (b ≡ 59 → ⊥) → (b ≡ 91 → ⊥)
+    → is_stray (token_at b bs).0 ≡ false → Writes (b ∷ take (token_at b bs).1 bs) (token_at b bs).0
+unsigned_written b bs o c s v h = elim (cases_Bool (is_letter b)) [
+  | inl e ↦
+      let at = letter_at b bs o c s v e in
+      written_as b bs (letters_at b bs) at
+      (letters_written b bs e (sym (ap (λ (x : Token × ℕ). is_stray x.0) at) ∙ h))
+  | inr e ↦ let stray = ap (λ (x : Token × ℕ). is_stray x.0) (stray_at b bs o c s v e) in absurd (cc (stray, h))
+]
 
 -- a byte is one of the four signs, a letter, or none of them
 pub token_written : (b : ℕ) (bs : List ℕ) → is_stray (token_at b bs).0 ≡ false
@@ -184,21 +207,8 @@ token_written b bs h = elim (cases_eq b 40) [
     | inl e ↦ written_as b bs (Close, 0) (close_at b bs e) (ap (λ (x : ℕ). x ∷ []) e)
     | inr c ↦ elim (cases_eq b 59) [
       | inl e ↦ written_as b bs (Semicolon, 0) (semicolon_at b bs e) (ap (λ (x : ℕ). x ∷ []) e)
-      | inr s ↦ elim (cases_eq b 91) [
-        | inl e ↦
-            let at = bracket_at b bs e in
-            written_as b bs (value_at bs) at
-            (subst (λ (x : ℕ). Writes (x ∷ take (value_at bs).1 bs) (value_at bs).0) (sym e)
-            (value_written bs (sym (ap (λ (x : Token × ℕ). is_stray x.0) at) ∙ h)))
-        | inr v ↦ elim (cases_Bool (is_letter b)) [
-          | inl e ↦
-              let at = letter_at b bs o c s v e in
-              written_as b bs (letters_at b bs) at
-              (letters_written b bs e (sym (ap (λ (x : Token × ℕ). is_stray x.0) at) ∙ h))
-          | inr e ↦
-              let stray = ap (λ (x : Token × ℕ). is_stray x.0) (stray_at b bs o c s v e) in absurd (cc (stray, h))
-        ]
-      ]
+      | inr s ↦
+          elim (cases_eq b 91) [ inl e ↦ bracket_written b bs e h | inr v ↦ unsigned_written b bs o c s v h ]
     ]
   ]
 ]

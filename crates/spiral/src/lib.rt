@@ -14,6 +14,3 @@ mod ring;
 
 pub use moving::{place, place_beside, place_from};
 pub use numbering::{OFFSETS, following, index, offset};
-
-#[cfg(test)]
-mod tests;

@@ -10,6 +10,3 @@ mod rest;
 mod source;
 
 pub use source::Workload;
-
-#[cfg(test)]
-mod tests;

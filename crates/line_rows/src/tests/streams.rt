@@ -1,5 +1,5 @@
 //! What no contract tells: that the room for a line is found, and that the limit is the one that is meant.
-use crate::{Lines, Taken};
+use gtp_lex::{Lines, Taken};
 use std::test::Fail;
 
 // One line of letters, fed in pieces of some length, and then the line `name`.

@@ -1,5 +1,5 @@
 //! What no contract tells: that calls find memory, and what the objects over the system do.
-use crate::{
+use gtp_io::{
     Failed, Feed, FileLoader, LoadError, Loader, Page, Shelf, Sink, Source, StdSink, StdSource,
     SureFeed, SurePage, SureShelf,
 };
@@ -182,5 +182,30 @@ fn files_are_loaded_by_their_paths(rt: HostRuntime) -> Result<(), Fail> {
     let mut short = FileLoader::up_to(alloc, &rt, 3);
     assert!(rt; short.load("gtp_io_sample.txt", Vec::new(alloc)) == Err(LoadError::Failed));
     fs::remove_file(&rt, "gtp_io_sample.txt")?;
+    Ok(())
+}
+
+#[test]
+fn files_of_the_greatest_length_are_read(rt: HostRuntime) -> Result<(), Fail> {
+    let alloc = rt.alloc();
+    for (file, text, want) in [
+        ("a byte less", "abc", true),
+        ("all bytes", "abcd", true),
+        ("one more", "abcde", false),
+    ] {
+        fs::write(&rt, "gtp_io_longest.txt", text)?;
+        let mut files = FileLoader::up_to(alloc, &rt, 4);
+        match files.load("gtp_io_longest.txt", Vec::from_slice(alloc, b"# ")?) {
+            Ok(joined) => {
+                assert!(rt; want, "{file}");
+                assert!(rt; joined.len() == 2 + text.len(), "{file}");
+            }
+            Err(error) => {
+                assert!(rt; !want, "{file}");
+                assert!(rt; error == LoadError::Failed, "{file}");
+            }
+        }
+    }
+    fs::remove_file(&rt, "gtp_io_longest.txt")?;
     Ok(())
 }

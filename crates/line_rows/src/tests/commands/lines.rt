@@ -1,11 +1,8 @@
 //! Ids, blanks, comments, and commands of one word or number.
 
 use super::{LONGEST_LINE, asked, malformed, refused};
-use crate::commands::{Command, Parsed};
-use crate::komi::KomiText;
-use crate::parser::parse;
-use crate::refusals::RefuseText;
 use go_base::Size;
+use gtp_cmd::{Command, KomiText, Parsed, RefuseText, parse};
 use std::test::Fail;
 
 #[test]

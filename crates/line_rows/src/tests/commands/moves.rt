@@ -1,13 +1,10 @@
 //! Colours and vertices.
 
 use super::{LONGEST_LINE, asked, malformed, refused};
-use crate::commands::{Command, Parsed};
-use crate::parser::parse;
-use crate::refusals::RefuseText;
 use go_base::{Bytes, Colour, Size};
+use gtp_cmd::{Command, Parsed, RefuseText, parse, vertex_text};
 use std::alloc::Global;
 use std::test::Fail;
-use vertices::vertex_text;
 
 #[test]
 fn colours_and_vertices(rt: HostRuntime) -> Result<(), Fail> {

@@ -1,8 +1,8 @@
 //! The lines as they are printed.
 ghost use Rattle.std.specs.Prelude.{◌<◌};
 
-use crate::{Counts, Links, Sent, put_notes};
 use gtp_io::Page;
+use run_notes::{Counts, Links, Sent, put_notes};
 use std::alloc::Global;
 use std::test::Fail;
 use vertices::Short;

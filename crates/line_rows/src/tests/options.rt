@@ -1,5 +1,5 @@
 //! Words and what they give, as `clap` 4 takes them.
-use crate::{Options, OptionsError, read_options};
+use go_options::{Files, Options, OptionsError, read_options};
 use std::alloc::Global;
 use std::test::Fail;
 
@@ -185,7 +185,7 @@ fn unknown_names_are_refused(rt: HostRuntime) {
 #[test]
 fn files_are_taken_one_by_one(rt: HostRuntime) -> Result<(), Fail> {
     let alloc = rt.alloc();
-    let mut files = crate::Files::new(alloc);
+    let mut files = Files::new(alloc);
     files.push(String::from_str(alloc, "a")?)?;
     assert!(rt; files.as_slice().len() == 1);
     Ok(())

@@ -1,8 +1,8 @@
 //! The order of what is kept, and what is dropped, by a question whose answer is its own number.
 
-use super::*;
 use go_base::{Position, Size, Watch};
-use std::test::*;
+use read_cache::{Cache, Question};
+use std::test::Fail;
 
 /// A number, which is its own answer on each position.
 #[derive(Clone, Copy, Debug, PartialEq, Eq, Hash)]

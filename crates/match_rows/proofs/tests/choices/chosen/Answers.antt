@@ -1,7 +1,7 @@
 use Rattle.std.proofs.Common.{◌<◌, length, Contains, subst}
 use Rattle.std.proofs.lemmas.List.Elements.{All-contains}
 use Rattle.match_rules.specs.declared.found.Match.{Match}
-use Rattle.move_choice.proofs.tests.chosen.Goals as goal
+use Rattle.match_rows.proofs.tests.choices.chosen.Goals as goal
 
 -- each match names one of the patterns
 pub choose-requires : goal.choose-requires

@@ -1,11 +1,8 @@
 //! Proofs of readings, and what they claim.
 
 use super::{LONGEST_LINE, asked, malformed, refused};
-use crate::commands::{Command, Parsed};
-use crate::parser::parse;
-use crate::refusals::RefuseText;
-use crate::spans::Span;
 use go_base::{Bytes, Size};
+use gtp_cmd::{Command, Parsed, RefuseText, Span, parse};
 use std::alloc::Global;
 use std::test::Fail;
 

@@ -1,8 +1,8 @@
 //! The first generated lines, and the last ones for any cut into pieces.
-use crate::Workload;
 use gtp_io::{Failed, Source};
 use std::alloc::{AllocError, Global};
 use std::test::Fail;
+use workload::Workload;
 
 /// All bytes of a source, taken by a buffer of this many bytes.
 fn all_bytes(alloc: Global, source: &mut Workload, room: usize) -> Result<Vec<u8>, AllocError> {

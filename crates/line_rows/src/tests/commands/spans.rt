@@ -1,11 +1,8 @@
 //! Words that are told by their places in the line.
 
 use super::{LONGEST_LINE, asked, malformed, refused};
-use crate::commands::{Command, Parsed};
-use crate::parser::parse;
-use crate::refusals::RefuseText;
-use crate::spans::Span;
-use go_base::Size;
+use go_base::{Bytes, Size};
+use gtp_cmd::{Command, Parsed, RefuseText, Span, parse, text};
 use std::test::Fail;
 
 #[test]
@@ -76,6 +73,22 @@ fn helpers_that_are_named(rt: HostRuntime) -> Result<(), Fail> {
     ] {
         assert!(rt; line.len() <= LONGEST_LINE);
         assert!(rt; parse(line.as_bytes(), size) == want, "{row}");
+    }
+    Ok(())
+}
+
+#[test]
+fn span_is_cleaned(rt: HostRuntime) -> Result<(), Fail> {
+    let line = b"check_proof attack D4 3 W\tD\x013 . # as read";
+    for (row, from, to, want) in [
+        ("some words", 24, 31, b"W D3 .".as_slice()),
+        ("a comment", 24, 41, b"W D3 . ".as_slice()),
+        ("no words", 0, 0, b"".as_slice()),
+    ] {
+        assert!(rt; from <= to);
+        assert!(rt; to as usize <= line.len());
+        let found = text(line, Span { from, to }, Bytes::new(rt.alloc()))?;
+        assert!(rt; found.as_slice() == want, "{row}");
     }
     Ok(())
 }

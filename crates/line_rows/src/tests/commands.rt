@@ -1,12 +1,12 @@
-//! What lines say, row by row.
+//! What lines say, row by row, and the bytes of replies.
 
 mod lines;
 mod moves;
 mod proofs;
+mod replies;
 mod spans;
 
-use crate::commands::{Command, Parsed};
-use crate::refusals::RefuseText;
+use gtp_cmd::{Command, Parsed, RefuseText};
 
 /// How many bytes a line may have.
 pub const LONGEST_LINE: usize = 65_536;

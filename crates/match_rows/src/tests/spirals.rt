@@ -1,5 +1,5 @@
 //! The first and the last indices, worked by hand.
-use crate::{OFFSETS, index, offset};
+use spiral::{OFFSETS, index, offset};
 use std::test::Fail;
 
 #[test]

@@ -1,6 +1,6 @@
 use Rattle.std.proofs.Common.{◌<◌, length, All}
 use Rattle.match_rules.specs.declared.found.Match.{Match}
-use Rattle.move_choice.proofs.tests.chosen.Given as goal
+use Rattle.match_rows.proofs.tests.choices.chosen.Given as goal
 
 -- each match so far names one of the patterns
 abbrev pub invariant-matches : goal.invariant-matches

@@ -1,9 +1,7 @@
 //! Tables of worths and choices. A pattern here is a star alone with some items on its colon line.
 
-use crate::choice::choose;
-use crate::worth::worth_of;
 use go_base::{Bytes, NoMemory, Point, Transform};
-use match_rules::Match;
+use move_choice::{Match, choose, worth_of};
 use pat_types::{Item, Items, Labels, Letter, Letters, Mark, Pattern};
 use std::test::Fail;
 
