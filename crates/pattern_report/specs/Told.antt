@@ -1,6 +1,6 @@
 -- What a told fault says of the text.
 use Rattle.db_rules.specs.declared.fault.Fault.{Fault}
-use Rattle.pattern_report.specs.declared.fault.Fault.{Fault as Told}
+use Rattle.pattern_faults.specs.declared.fault.Fault.{Fault as Told}
 
 -- the line and the kind of a fault that is told
 abbrev pub line_and_kind : Told → Fault

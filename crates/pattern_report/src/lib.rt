@@ -4,30 +4,16 @@
 //! in words and the name of its entry, and after a fault the reading goes on at the next Pattern line. The first fault
 //! told is the first fault of the text.
 //!
-//! The words of a cause and its place are found by looking at the entry again; no clause speaks of them.
+//! What a text consists of stands in `pattern_lines`, the words of a fault in `pattern_faults`, and what is told beside
+//! faults in `pattern_hints`; no clause speaks of these words.
 #![tactic(auto)]
 
-mod alone;
-mod cause;
-mod caution;
-mod explain;
-mod fault;
-mod gap;
-mod part;
-mod port;
+mod hints;
 mod report;
-mod shown;
-mod tokens;
-mod warning;
-mod written;
 
-pub use cause::Cause;
-pub use caution::Caution;
-pub use fault::{Fault, Place};
-pub use part::{Part, parts};
+pub use hints::warnings;
 pub use pat_types::NoMemory;
-pub use port::{Port, PortNote, port_notes, port_of};
+pub use pattern_faults::{Cause, Fault, Shown, ShownByte};
+pub use pattern_hints::{Caution, Port, PortNote, Warning, port_notes, port_of};
+pub use pattern_lines::{Part, Place, name_of, parts};
 pub use report::{Report, report_on};
-pub use shown::{Shown, ShownByte};
-pub use warning::{Warning, warnings};
-pub use written::name_of;

@@ -6,12 +6,11 @@ ghost use Rattle.db_rules.specs.Entries.{entry_of};
 ghost use Rattle.db_rules.specs.Faults.{first_fault, entries};
 ghost use Rattle.pattern_report.specs.Told.{line_and_kind};
 
-use crate::explain::explain;
-use crate::fault::Fault;
-use crate::part::{Part, parts};
 use db_read::{DbError, read};
 use go_base::Bytes;
 use pat_types::{NoMemory, Pattern};
+use pattern_faults::{Fault, explain};
+use pattern_lines::{Part, parts};
 use std::alloc::Global;
 
 /// What the author of a text is told.

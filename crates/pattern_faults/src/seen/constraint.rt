@@ -1,10 +1,9 @@
 //! Faults of a constraint diagram.
 
-use super::diagram::is_letter;
 use super::{Seen, of_role, seen_at};
 use crate::cause::Cause;
-use crate::written::{Role, Written};
 use pat_types::NoMemory;
+use pattern_lines::{Role, Written, is_letter};
 use std::alloc::Global;
 
 /// Whether a byte may be a label.

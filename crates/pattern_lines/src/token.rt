@@ -1,6 +1,6 @@
 //! The words of an expression with their places.
 
-use crate::fault::Place;
+use crate::place::Place;
 use crate::written::{Role, Written};
 use db_lex::is_blank;
 use pat_types::NoMemory;
@@ -8,7 +8,7 @@ use std::alloc::Global;
 
 /// What a word of an expression is.
 #[derive(Clone, Copy, PartialEq, Eq)]
-pub(crate) enum Sort {
+pub enum Sort {
     /// A number.
     Number,
     /// A name, or an argument's letter.
@@ -33,13 +33,13 @@ pub(crate) enum Sort {
 
 /// A word of an expression.
 #[derive(Clone, Copy)]
-pub(crate) struct Token<'a> {
+pub struct Token<'a> {
     /// What it is.
-    pub(crate) sort: Sort,
+    pub sort: Sort,
     /// Its bytes.
-    pub(crate) bytes: &'a [u8],
+    pub bytes: &'a [u8],
     /// Where it begins.
-    pub(crate) place: Place<'a>,
+    pub place: Place<'a>,
 }
 
 /// How many bytes at the front pass a test.
@@ -93,8 +93,8 @@ fn push_line<'a>(all: &mut Vec<Token<'a>>, line: Written<'a>) -> Result<(), NoMe
     Ok(())
 }
 
-/// The words of the expression of an entry with these lines.
-pub(crate) fn tokens<'a>(alloc: Global, lines: &[Written<'a>]) -> Result<Vec<Token<'a>>, NoMemory> {
+/// The words of the expression of an entry with these lines, in order, or that there is no memory for them.
+pub fn tokens<'a>(alloc: Global, lines: &[Written<'a>]) -> Result<Vec<Token<'a>>, NoMemory> {
     let mut all = Vec::new(alloc);
     for line in lines {
         if line.role == Role::Expression {

@@ -2,12 +2,11 @@
 
 use super::{Seen, seen_at};
 use crate::cause::Cause;
-use crate::part::is_no_blank;
-use crate::written::Written;
 use db_lex::trim;
 use db_read::{DbError, read};
 use go_base::Bytes;
 use pat_types::NoMemory;
+use pattern_lines::{Written, is_no_blank};
 use std::alloc::Global;
 
 /// The front of an entry that any item may end.

@@ -2,14 +2,11 @@
 
 use crate::alone::never_alone;
 use crate::caution::Caution;
-use crate::explain::is_letter;
-use crate::fault::Place;
-use crate::part::{Part, is_feed};
-use crate::report::Report;
-use crate::tokens::{Sort, tokens};
-use crate::written::{Role, Written, head_of, lines_in, name_in};
 use db_lex::is_blank;
 use pat_types::{NoMemory, Pattern};
+use pattern_lines::{
+    Part, Place, Role, Sort, Written, head_of, is_feed, is_letter, lines_in, name_in, tokens,
+};
 use std::alloc::Global;
 
 /// A warning.
@@ -240,12 +237,16 @@ fn other_of(patterns: &[Pattern], at: usize) -> Option<usize> {
 }
 
 /// Puts the entries that never match alone.
-fn push_never_alone<'a>(all: &mut Vec<Warning<'a>>, report: &Report<'a>) -> Result<(), NoMemory> {
-    for (at, part) in report.entries.iter().enumerate() {
-        let Some(place) = other_of(report.patterns.as_slice(), at) else {
+fn push_never_alone<'a>(
+    all: &mut Vec<Warning<'a>>,
+    entries: &[Part<'a>],
+    patterns: &[Pattern],
+) -> Result<(), NoMemory> {
+    for (at, part) in entries.iter().enumerate() {
+        let Some(place) = other_of(patterns, at) else {
             continue;
         };
-        if let (Some(head), Some(other)) = (head_of(part), report.entries.get(place)) {
+        if let (Some(head), Some(other)) = (head_of(part), entries.get(place)) {
             let caution = Caution::NeverAlone { line: other.number };
             all.push(warning_at(head.name(), &head, 0, caution))?;
         }
@@ -277,22 +278,27 @@ fn push_ends<'a>(all: &mut Vec<Warning<'a>>, text: &'a [u8]) -> Result<(), NoMem
     Ok(())
 }
 
-/// All warnings of a text, whose parts and report these are, in the order of their lines.
+/// All warnings of a text of which these are the parts, the entries without a fault and their patterns, in the order of
+/// their lines.
+///
+/// Entries and patterns stand in the order of the text, one pattern for each entry. Takes memory, and may answer that
+/// there is none.
 pub fn warnings<'a>(
     alloc: Global,
     text: &'a [u8],
     parts: &[Part<'a>],
-    report: &Report<'a>,
+    entries: &[Part<'a>],
+    patterns: &[Pattern],
 ) -> Result<Vec<Warning<'a>>, NoMemory> {
     let mut all = Vec::new(alloc);
     for part in parts {
         push_lines(alloc, &mut all, *part)?;
     }
-    for (part, pattern) in report.entries.iter().zip(report.patterns.iter()) {
+    for (part, pattern) in entries.iter().zip(patterns.iter()) {
         push_labels(alloc, &mut all, *part, pattern)?;
     }
     push_names(alloc, &mut all, parts)?;
-    push_never_alone(&mut all, report)?;
+    push_never_alone(&mut all, entries, patterns)?;
     push_ends(&mut all, text)?;
     if parts.len() < 2 {
         all.push(Warning {

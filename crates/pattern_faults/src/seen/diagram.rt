@@ -2,17 +2,12 @@
 
 use super::{Seen, of_role, seen_at};
 use crate::cause::Cause;
-use crate::written::{Role, Written};
 use pat_types::NoMemory;
+use pattern_lines::{Role, Written, is_letter};
 use std::alloc::Global;
 
 /// The most bytes of a line, and the most lines.
 const MOST: usize = 25;
-
-/// Whether a byte is a letter of a diagram.
-pub(crate) fn is_letter(byte: u8) -> bool {
-    matches!(byte, b'O' | b'X' | b'o' | b'x' | b'.' | b'?' | b'*')
-}
 
 /// Whether a word seems to be an edge line.
 fn is_edge(word: &[u8]) -> bool {

@@ -1,6 +1,5 @@
 //! The cause of a fault, in words.
 
-use crate::gap::{around, around_two};
 use crate::shown::{Shown, ShownByte};
 use std::fmt::{self, Display, Formatter, Write};
 
@@ -145,10 +144,10 @@ pub enum Cause<'a> {
 }
 
 impl Cause<'_> {
-    /// The words of a cause of a line, a name, or a diagram.
-    fn drawn<W: Write>(&self, f: &mut Formatter<W>) -> fmt::Result {
+    /// The words of a cause of a line out of its place or of a Pattern line, and of the others.
+    fn out_of_place<W: Write>(&self, f: &mut Formatter<W>) -> fmt::Result {
         match self {
-            Cause::BadByte(byte) => around(f, "byte ", byte, " may stand in no line"),
+            Cause::BadByte(byte) => write!(f, "byte {byte} may stand in no line"),
             Cause::BeforeEntries => f.write_str(
                 "before the first entry only lines that begin with a letter may stand; an entry begins with a \
                  Pattern line",
@@ -163,42 +162,46 @@ impl Cause<'_> {
                  a Pattern line",
             ),
             Cause::NoName => f.write_str("a name is missing behind Pattern"),
-            Cause::LongName(bytes) => around(f, "the name has ", bytes, " bytes, and may have 80"),
-            Cause::NameByte(byte) => around(f, "'", &ShownByte(*byte), "' may not stand in a name"),
-            Cause::NoRow => f.write_str("no row of letters stands above the colon line"),
-            Cause::Width { points, first } => {
-                around_two(
-                    f,
-                    "the line is ",
-                    points,
-                    " wide, and the first ",
-                    first,
-                    "",
-                )
-            }
-            Cause::Letter(byte) => around(
+            Cause::LongName(bytes) => write!(f, "the name has {bytes} bytes, and may have 80"),
+            Cause::NameByte(byte) => write!(f, "'{}' may not stand in a name", ShownByte(*byte)),
+            _ => self.drawn(f),
+        }
+    }
+
+    /// The words of a cause of a row, and of the others.
+    fn drawn<W: Write>(&self, f: &mut Formatter<W>) -> fmt::Result {
+        match self {
+            Cause::Letter(byte) => write!(
                 f,
-                "'",
-                &ShownByte(*byte),
-                "' is no letter of a diagram (O X o x . ? *)",
+                "'{}' is no letter of a diagram (O X o x . ? *)",
+                ShownByte(*byte)
             ),
-            Cause::LabelInDiagram(byte) => around(
+            Cause::LabelInDiagram(byte) => write!(
                 f,
-                "'",
-                &ShownByte(*byte),
-                "' is no letter of a diagram (O X o x . ? *); is the colon line above a constraint diagram missing?",
+                "'{}' is no letter of a diagram (O X o x . ? *); is the colon line above a constraint diagram missing?",
+                ShownByte(*byte)
             ),
-            Cause::EdgeWithin(byte) => around(
+            Cause::EdgeWithin(byte) => write!(
                 f,
-                "'",
-                &ShownByte(*byte),
-                "' is part of an edge, and may not stand within a row",
+                "'{}' is part of an edge, and may not stand within a row",
+                ShownByte(*byte)
             ),
             Cause::NoLine => f.write_str(
                 "the line is neither a row of letters (O X o x . ? *), with or without '|' at its ends, nor an \
                  edge line of '-'",
             ),
-            Cause::Stars(stars) => around(f, "the diagram has ", stars, " '*', and needs one"),
+            _ => self.framed(f),
+        }
+    }
+
+    /// The words of a cause of the diagram as a whole, and of the others.
+    fn framed<W: Write>(&self, f: &mut Formatter<W>) -> fmt::Result {
+        match self {
+            Cause::NoRow => f.write_str("no row of letters stands above the colon line"),
+            Cause::Width { points, first } => {
+                write!(f, "the line is {points} wide, and the first {first}")
+            }
+            Cause::Stars(stars) => write!(f, "the diagram has {stars} '*', and needs one"),
             Cause::EdgeBetween => {
                 f.write_str("an edge line stands above all rows or below all of them")
             }
@@ -209,143 +212,119 @@ impl Cause<'_> {
                 "an edge at a side is drawn beside every row, with '+' where it meets another; the first line has it \
                  otherwise",
             ),
-            Cause::LongLine(bytes) => around(f, "the line has ", bytes, " bytes, and may have 25"),
+            Cause::LongLine(bytes) => write!(f, "the line has {bytes} bytes, and may have 25"),
             Cause::ManyLines => f.write_str("a diagram has at most 25 lines"),
             Cause::NoColonLine => f.write_str("no colon line, as ':8,s', stands below the diagram"),
             _ => self.named(f),
         }
     }
 
-    /// The words of a cause of a colon line or a constraint diagram.
+    /// The words of a cause of a colon line, and of the others.
     fn named<W: Write>(&self, f: &mut Formatter<W>) -> fmt::Result {
         match self {
-            Cause::Mark(mark) => around(f, "'", &Shown(mark), "' is no mark (8 | - / \\ + X O)"),
-            Cause::ClassLetter(byte) => around(f, "'", &ShownByte(*byte), "' is no class letter"),
+            Cause::Mark(mark) => write!(f, "'{}' is no mark (8 | - / \\ + X O)", Shown(mark)),
+            Cause::ClassLetter(byte) => write!(f, "'{}' is no class letter", ShownByte(*byte)),
             Cause::ManyClassLetters(letters) => {
-                around(
-                    f,
-                    "",
-                    letters,
-                    " class letters, and at most 32 may stand here",
-                )
+                write!(f, "{letters} class letters, and at most 32 may stand here")
             }
-            Cause::Item(item) => around(
+            Cause::Item(item) => write!(
                 f,
-                "'",
-                &Shown(item),
-                "' is no item: a name, or a name and a text in one pair of parentheses",
+                "'{}' is no item: a name, or a name and a text in one pair of parentheses",
+                Shown(item)
             ),
-            Cause::ManyItems(items) => {
-                around(f, "", items, " items, and at most 16 may stand here")
-            }
-            Cause::Helper(name) => around_two(
+            Cause::ManyItems(items) => write!(f, "{items} items, and at most 16 may stand here"),
+            Cause::Helper(name) => write!(
                 f,
-                "no helper has the name '",
-                &Shown(name),
-                "'; with a text, as in ",
-                &Shown(name),
-                "(), it tests nothing",
+                "no helper has the name '{}'; with a text, as in {}(), it tests nothing",
+                Shown(name),
+                Shown(name)
             ),
-            Cause::ConstraintEnds(lines) => around(
+            _ => self.repeated(f),
+        }
+    }
+
+    /// The words of a cause of a constraint diagram, and of the others.
+    fn repeated<W: Write>(&self, f: &mut Formatter<W>) -> fmt::Result {
+        match self {
+            Cause::ConstraintEnds(lines) => write!(
                 f,
-                "a constraint diagram has as many lines as its diagram, here ",
-                lines,
-                "",
+                "a constraint diagram has as many lines as its diagram, here {lines}"
             ),
             Cause::NoSemicolon => {
                 f.write_str("no line of a constraint diagram; is it an expression without its ';'?")
             }
-            Cause::ConstraintWidth { bytes, diagram } => {
-                around_two(
-                    f,
-                    "the line is ",
-                    bytes,
-                    " wide, and its line of the diagram ",
-                    diagram,
-                    "",
-                )
-            }
-            Cause::NoLabel { byte, diagram } => around_two(
+            Cause::ConstraintWidth { bytes, diagram } => write!(
                 f,
-                "'",
-                &ShownByte(*byte),
-                "' is neither the diagram's '",
-                &ShownByte(*diagram),
-                "' nor a label, a letter other than O X o x",
+                "the line is {bytes} wide, and its line of the diagram {diagram}"
+            ),
+            Cause::NoLabel { byte, diagram } => write!(
+                f,
+                "'{}' is neither the diagram's '{}' nor a label, a letter other than O X o x",
+                ShownByte(*byte),
+                ShownByte(*diagram)
             ),
             Cause::LabelOnEdge(byte) => {
-                around(f, "the label '", &ShownByte(*byte), "' stands on an edge")
+                write!(f, "the label '{}' stands on an edge", ShownByte(*byte))
             }
-            Cause::LabelAgain(byte) => {
-                around(
-                    f,
-                    "the label '",
-                    &ShownByte(*byte),
-                    "' stands in the diagram already",
-                )
-            }
-            Cause::ConstraintShort { lines, diagram } => around_two(
+            Cause::LabelAgain(byte) => write!(
                 f,
-                "the constraint diagram stops after ",
-                lines,
-                " of ",
-                diagram,
-                " lines",
+                "the label '{}' stands in the diagram already",
+                ShownByte(*byte)
+            ),
+            Cause::ConstraintShort { lines, diagram } => write!(
+                f,
+                "the constraint diagram stops after {lines} of {diagram} lines"
+            ),
+            _ => self.spelled(f),
+        }
+    }
+
+    /// The words of a cause of a word of an expression, and of the others.
+    fn spelled<W: Write>(&self, f: &mut Formatter<W>) -> fmt::Result {
+        match self {
+            Cause::ExpressionByte(byte) => {
+                write!(f, "'{}' may not stand in an expression", ShownByte(*byte))
+            }
+            Cause::NoOperand(word) => write!(
+                f,
+                "a number, a call, '!', '-' or '(' is wanted here, and '{}' stands here",
+                Shown(word)
+            ),
+            Cause::NoOperator(word) => write!(
+                f,
+                "the expression may end here or go on with an operator, and '{}' stands here",
+                Shown(word)
+            ),
+            Cause::NoArguments(word) => write!(
+                f,
+                "'{}' is the name of no number; a function has its arguments in parentheses behind its name",
+                Shown(word)
+            ),
+            Cause::NoArgument(word) => write!(
+                f,
+                "an argument is one letter, '*' or '?', and '{}' stands here",
+                Shown(word)
+            ),
+            Cause::NoComma(word) => write!(
+                f,
+                "',' or ')' is wanted behind an argument, and '{}' stands here",
+                Shown(word)
             ),
             _ => self.said(f),
         }
     }
 
-    /// The words of a cause of an expression, and of the others.
+    /// The words of a cause of the expression as a whole, and of the others.
     fn said<W: Write>(&self, f: &mut Formatter<W>) -> fmt::Result {
         match self {
-            Cause::ExpressionByte(byte) => {
-                around(
-                    f,
-                    "'",
-                    &ShownByte(*byte),
-                    "' may not stand in an expression",
-                )
-            }
             Cause::LongNumber => f.write_str("a number has at most six digits"),
             Cause::LongExpression => f.write_str("an expression has at most 4096 bytes"),
-            Cause::NoOperand(word) => around(
-                f,
-                "a number, a call, '!', '-' or '(' is wanted here, and '",
-                &Shown(word),
-                "' stands here",
-            ),
-            Cause::NoOperator(word) => around(
-                f,
-                "the expression may end here or go on with an operator, and '",
-                &Shown(word),
-                "' stands here",
-            ),
-            Cause::NoArguments(word) => around(
-                f,
-                "'",
-                &Shown(word),
-                "' is the name of no number; a function has its arguments in parentheses behind its name",
-            ),
-            Cause::NoArgument(word) => around(
-                f,
-                "an argument is one letter, '*' or '?', and '",
-                &Shown(word),
-                "' stands here",
-            ),
-            Cause::NoComma(word) => around(
-                f,
-                "',' or ')' is wanted behind an argument, and '",
-                &Shown(word),
-                "' stands here",
-            ),
             Cause::Unopened => f.write_str("no '(' belongs to this ')'"),
             Cause::EndsEarly => {
                 f.write_str("the expression ends where a number, a call or a parenthesis is wanted")
             }
             Cause::Unclosed => f.write_str("the expression ends before a ')'"),
             Cause::Deep => f.write_str("parentheses and signs stand more than 32 deep"),
-            Cause::Function(name) => around(f, "no function has the name '", &Shown(name), "'"),
             _ => self.called(f),
         }
     }
@@ -353,39 +332,38 @@ impl Cause<'_> {
     /// The words of a cause of a call, and of the others.
     fn called<W: Write>(&self, f: &mut Formatter<W>) -> fmt::Result {
         match self {
+            Cause::Function(name) => write!(f, "no function has the name '{}'", Shown(name)),
             Cause::Arity {
                 name,
                 arguments,
                 least,
                 most,
             } => {
-                around_two(
-                    f,
-                    "the number of arguments of ",
-                    &Shown(name),
-                    " is ",
-                    least,
-                    "",
-                )?;
+                write!(f, "the number of arguments of {} is {least}", Shown(name))?;
                 if least != most {
-                    around(f, " to ", most, "")?;
+                    write!(f, " to {most}")?;
                 }
-                around(f, ", and here ", arguments, "")
+                write!(f, ", and here {arguments}")
             }
-            Cause::Pass(name) => around(
+            Cause::Pass(name) => write!(
                 f,
-                "'?' is a pass, and ",
-                &Shown(name),
-                " takes none here: it may stand for a move of oplay_.. and xplay_.. alone",
+                "'?' is a pass, and {} takes none here: it may stand for a move of oplay_.. and xplay_.. alone",
+                Shown(name)
             ),
-            Cause::Label(letter) => around(
+            Cause::Label(letter) => write!(
                 f,
-                "the label '",
-                &ShownByte(*letter),
-                "' does not stand in the constraint diagram",
+                "the label '{}' does not stand in the constraint diagram",
+                ShownByte(*letter)
             ),
+            _ => self.left(f),
+        }
+    }
+
+    /// The words of a cause of the whole text, and of one that is not known.
+    fn left<W: Write>(&self, f: &mut Formatter<W>) -> fmt::Result {
+        match self {
             Cause::ManyEntries => f.write_str("a text has at most 4096 entries"),
-            Cause::Kind(kind) => around(f, "a fault of kind ", kind, ""),
+            Cause::Kind(kind) => write!(f, "a fault of kind {kind}"),
             _ => f.write_str("a fault"),
         }
     }
@@ -393,6 +371,6 @@ impl Cause<'_> {
 
 impl Display for Cause<'_> {
     fn fmt<W: Write>(&self, f: &mut Formatter<W>) -> fmt::Result {
-        self.drawn(f)
+        self.out_of_place(f)
     }
 }

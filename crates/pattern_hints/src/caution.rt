@@ -1,7 +1,6 @@
 //! What is told of a text that is no fault, in words.
 
-use crate::gap::{around, around_two};
-use crate::shown::{Shown, ShownByte};
+use pattern_faults::{Shown, ShownByte};
 use std::fmt::{self, Display, Formatter, Write};
 
 /// What an author may not have meant.
@@ -39,37 +38,31 @@ pub enum Caution<'a> {
 impl Display for Caution<'_> {
     fn fmt<W: Write>(&self, f: &mut Formatter<W>) -> fmt::Result {
         match self {
-            Caution::BehindRow(rest) => around(
+            Caution::BehindRow(rest) => write!(
                 f,
-                "a row ends at its first blank; '",
-                &Shown(rest),
-                "' is passed over",
+                "a row ends at its first blank; '{}' is passed over",
+                Shown(rest)
             ),
-            Caution::NearPattern(word) => around(
+            Caution::NearPattern(word) => write!(
                 f,
-                "a line before the first entry is passed over; is Pattern meant by '",
-                &Shown(word),
-                "'?",
+                "a line before the first entry is passed over; is Pattern meant by '{}'?",
+                Shown(word)
             ),
             Caution::UnusedLabel(label) => {
-                around(f, "no expression uses the label '", &ShownByte(*label), "'")
+                write!(f, "no expression uses the label '{}'", ShownByte(*label))
             }
-            Caution::ClassCase { letter, other } => around_two(
+            Caution::ClassCase { letter, other } => write!(
                 f,
-                "the class letter '",
-                &ShownByte(*letter),
-                "' tests nothing; is '",
-                &ShownByte(*other),
-                "' meant?",
+                "the class letter '{}' tests nothing; is '{}' meant?",
+                ShownByte(*letter),
+                ShownByte(*other)
             ),
             Caution::SameName { line } => {
-                around(f, "the entry of line ", line, " has the same name")
+                write!(f, "the entry of line {line} has the same name")
             }
-            Caution::NeverAlone { line } => around(
+            Caution::NeverAlone { line } => write!(
                 f,
-                "wherever this entry matches, that of line ",
-                line,
-                " matches at the same point",
+                "wherever this entry matches, that of line {line} matches at the same point"
             ),
             Caution::LineEnds => {
                 f.write_str(

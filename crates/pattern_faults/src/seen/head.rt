@@ -2,7 +2,7 @@
 
 use super::{Seen, seen_at};
 use crate::cause::Cause;
-use crate::written::{Role, Written};
+use pattern_lines::{Role, Written};
 
 /// What some editors write before the first line of a text.
 const BYTE_ORDER_MARK: &[u8] = b"\xef\xbb\xbf";

@@ -1,6 +1,7 @@
 //! A text, cut at its Pattern lines.
 
-use db_lex::{is_blank, trim, word_len};
+use crate::bytes::{is_bad, is_feed};
+use db_lex::{trim, word_len};
 use pat_types::NoMemory;
 use std::alloc::Global;
 
@@ -13,19 +14,18 @@ pub struct Part<'a> {
     pub bytes: &'a [u8],
 }
 
-/// Whether a byte ends a line.
-pub(crate) fn is_feed(byte: &u8) -> bool {
-    *byte == b'\n'
-}
-
-/// Whether a byte is one that no line may have.
-pub(crate) fn is_bad(byte: &u8) -> bool {
-    matches!(*byte, 0..=8 | 11 | 14..=31 | 127)
-}
-
-/// Whether a byte is none that counts as a blank.
-pub(crate) fn is_no_blank(byte: &u8) -> bool {
-    !is_blank(*byte)
+impl<'a> Part<'a> {
+    /// The line of this number of the text. It is empty where the part has no such line.
+    pub fn line(&self, number: u64) -> &'a [u8] {
+        let mut at = self.number;
+        for line in self.bytes.split(is_feed) {
+            if at == number {
+                return line;
+            }
+            at = at.saturating_add(1);
+        }
+        &[]
+    }
 }
 
 /// Whether a line is a Pattern line. A line with a byte that no line may have is none.

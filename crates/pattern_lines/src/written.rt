@@ -1,14 +1,15 @@
 //! The lines of one part of a text, sorted by what they are.
 
-use crate::fault::Place;
-use crate::part::{Part, is_feed, is_no_blank, is_pattern_line};
+use crate::bytes::{is_feed, is_no_blank};
+use crate::part::{Part, is_pattern_line};
+use crate::place::Place;
 use db_lex::{trim, word_len};
 use pat_types::NoMemory;
 use std::alloc::Global;
 
 /// What a line of an entry is.
 #[derive(Clone, Copy, PartialEq, Eq)]
-pub(crate) enum Role {
+pub enum Role {
     /// A line before the first entry.
     Front,
     /// The Pattern line.
@@ -27,38 +28,38 @@ pub(crate) enum Role {
     Stray,
 }
 
-/// A line that is not passed over.
+/// A line that is not passed over: one that has more than blanks, and no comment.
 #[derive(Clone, Copy)]
-pub(crate) struct Written<'a> {
+pub struct Written<'a> {
     /// What it is.
-    pub(crate) role: Role,
+    pub role: Role,
     /// Its number in the text.
-    pub(crate) number: u64,
+    pub number: u64,
     /// The line as it stands in the text.
-    pub(crate) whole: &'a [u8],
+    pub whole: &'a [u8],
     /// The line without the blanks at its ends.
-    pub(crate) bytes: &'a [u8],
+    pub bytes: &'a [u8],
 }
 
 impl<'a> Written<'a> {
-    /// The front of the line up to the first blank.
-    pub(crate) fn word(&self) -> &'a [u8] {
+    /// The front of the line up to the first blank. On a row it is what is drawn.
+    pub fn word(&self) -> &'a [u8] {
         &self.bytes[..word_len(self.bytes)]
     }
 
     /// What stands behind the word, without blanks before it.
-    pub(crate) fn behind_word(&self) -> &'a [u8] {
+    pub fn behind_word(&self) -> &'a [u8] {
         trim(&self.bytes[word_len(self.bytes)..])
     }
 
     /// The word behind the first, which is the name on a Pattern line.
-    pub(crate) fn name(&self) -> &'a [u8] {
+    pub fn name(&self) -> &'a [u8] {
         let rest = self.behind_word();
         &rest[..word_len(rest)]
     }
 
-    /// The place of the byte at this index of the line without the blanks at its ends.
-    pub(crate) fn place(&self, at: usize) -> Place<'a> {
+    /// The place of the byte at this index of `bytes`, counted from 0. An index behind the last byte is taken too.
+    pub fn place(&self, at: usize) -> Place<'a> {
         let blanks = self.whole.iter().position(is_no_blank).unwrap_or(0);
         Place {
             line: self.number,
@@ -86,8 +87,8 @@ fn role_after(before: Role, line: &[u8], first: u8) -> Role {
     }
 }
 
-/// The lines of a part that are not passed over, in order.
-pub(crate) fn lines_in<'a>(alloc: Global, part: Part<'a>) -> Result<Vec<Written<'a>>, NoMemory> {
+/// The lines of a part that are not passed over, in order, or that there is no memory for them.
+pub fn lines_in<'a>(alloc: Global, part: Part<'a>) -> Result<Vec<Written<'a>>, NoMemory> {
     let mut all = Vec::new(alloc);
     let mut number = part.number;
     let mut before = Role::Front;
@@ -109,16 +110,16 @@ pub(crate) fn lines_in<'a>(alloc: Global, part: Part<'a>) -> Result<Vec<Written<
     Ok(all)
 }
 
-/// The name on the Pattern line of these lines, or nothing.
-pub(crate) fn name_in<'a>(lines: &[Written<'a>]) -> &'a [u8] {
+/// The name on the Pattern line of these lines of a part. It is empty where they do not begin with one.
+pub fn name_in<'a>(lines: &[Written<'a>]) -> &'a [u8] {
     match lines.first() {
         Some(line) if line.role == Role::Head => line.name(),
         _ => &[],
     }
 }
 
-/// The Pattern line of a part, where it has one.
-pub(crate) fn head_of<'a>(part: &Part<'a>) -> Option<Written<'a>> {
+/// The Pattern line of a part, where it has one. Takes no memory.
+pub fn head_of<'a>(part: &Part<'a>) -> Option<Written<'a>> {
     let whole = part.bytes.split(is_feed).next()?;
     if !is_pattern_line(whole) {
         return None;
@@ -131,7 +132,7 @@ pub(crate) fn head_of<'a>(part: &Part<'a>) -> Option<Written<'a>> {
     })
 }
 
-/// The name of the entry of a part, or nothing.
+/// The name of the entry of a part. It is empty where the part has no Pattern line. Takes no memory.
 pub fn name_of<'a>(part: &Part<'a>) -> &'a [u8] {
     match head_of(part) {
         Some(head) => head.name(),

@@ -1,132 +1,12 @@
 //! What an entry of GNU Go's has that gopat does not have, and where a value differs.
 
-use crate::cause::Cause;
-use crate::fault::{Fault, Place};
-use crate::gap::around;
-use crate::part::Part;
-use crate::shown::{Shown, ShownByte};
-use crate::tokens::{Sort, tokens};
-use crate::written::lines_in;
+use crate::gnu_go::{EYE_LETTERS, FUNCTIONS, LETTERS};
 use db_lex::trim;
 use pat_types::NoMemory;
+use pattern_faults::{Cause, Fault, Shown, ShownByte};
+use pattern_lines::{Part, Place, Sort, lines_in, tokens};
 use std::alloc::Global;
 use std::fmt::{self, Display, Formatter, Write};
-
-/// The letters of GNU Go's diagrams that gopat's do not have.
-const LETTERS: &[u8] = b",a!QY";
-
-/// The letters of GNU Go's eye shapes that no diagram has.
-const EYE_LETTERS: &[u8] = b"@$<>()";
-
-/// The functions of GNU Go's constraints that gopat's do not have.
-const FUNCTIONS: &[&[u8]] = &[
-    b"lib2",
-    b"lib3",
-    b"lib4",
-    b"alive",
-    b"unknown",
-    b"critical",
-    b"dead",
-    b"status",
-    b"defend_against_atari",
-    b"weakness",
-    b"weak",
-    b"x_suicide",
-    b"o_suicide",
-    b"x_alive_somewhere",
-    b"o_alive_somewhere",
-    b"xmoyo_opposite",
-    b"omoyo_opposite",
-    b"xmoyo",
-    b"omoyo",
-    b"xarea",
-    b"oarea",
-    b"xterri",
-    b"oterri",
-    b"genus",
-    b"approx_xlib",
-    b"approx_olib",
-    b"xcut",
-    b"ocut",
-    b"edge_double_sente",
-    b"xplay_defend_both",
-    b"oplay_defend_both",
-    b"xplay_attack_either",
-    b"oplay_attack_either",
-    b"xplay_break_through",
-    b"oplay_break_through",
-    b"oplay_connect",
-    b"xplay_connect",
-    b"oplay_disconnect",
-    b"xplay_disconnect",
-    b"oplay_lib",
-    b"xplay_lib",
-    b"seki_helper",
-    b"threaten_to_save",
-    b"threaten_to_capture",
-    b"prevent_attack_threat",
-    b"eye",
-    b"proper_eye",
-    b"marginal_eye",
-    b"halfeye",
-    b"max_eye_value",
-    b"owl_topological_eye",
-    b"obvious_false_oeye",
-    b"obvious_false_xeye",
-    b"antisuji",
-    b"add_connect_move",
-    b"add_cut_move",
-    b"test_attack_either_move",
-    b"add_defend_both_move",
-    b"same_dragon",
-    b"same_string",
-    b"dragonsize",
-    b"wormsize",
-    b"effective_size",
-    b"vital_chain",
-    b"potential_cutstone",
-    b"amalgamate_most_valuable_helper",
-    b"amalgamate",
-    b"owl_escape_value",
-    b"owl_goal_dragon",
-    b"owl_eyespace",
-    b"owl_big_eyespace",
-    b"owl_mineye",
-    b"owl_maxeye",
-    b"owl_proper_eye",
-    b"owl_eye_size",
-    b"owl_lunch",
-    b"owl_strong_dragon",
-    b"has_aji",
-    b"finish_ko_helper",
-    b"squeeze_ko_helper",
-    b"backfill_helper",
-    b"connect_and_cut_helper2",
-    b"connect_and_cut_helper",
-    b"owl_threatens",
-    b"replace",
-    b"backfill_replace",
-    b"non_oterritory",
-    b"non_xterritory",
-    b"remaining_handicap_stones",
-    b"total_handicap_stones",
-    b"o_captures_something",
-    b"x_captures_something",
-    b"false_eye_territory",
-    b"false_eye",
-    b"o_visible_along_edge",
-    b"x_visible_along_edge",
-    b"is_surrounded",
-    b"does_surround",
-    b"surround_map",
-    b"oracle_threatens",
-    b"value",
-    b"adjacent_to_stone_in_atari",
-    b"adjacent_to_defendable_stone_in_atari",
-    b"good_attack_threat",
-    b"known_safe_move",
-    b"break_mirror_helper",
-];
 
 /// What is told to an author who brings entries of GNU Go's.
 #[derive(Clone, Copy)]
@@ -162,66 +42,57 @@ pub enum Port<'a> {
 impl Display for Port<'_> {
     fn fmt<W: Write>(&self, f: &mut Formatter<W>) -> fmt::Result {
         match self {
-            Port::Letter(letter) => around(
+            Port::Letter(letter) => write!(
                 f,
-                "GNU Go has the letter '",
-                &ShownByte(*letter),
-                "' in diagrams; gopat has not",
+                "GNU Go has the letter '{}' in diagrams; gopat has not",
+                ShownByte(*letter)
             ),
-            Port::EyeLetter(letter) => around(
+            Port::EyeLetter(letter) => write!(
                 f,
-                "GNU Go has the letter '",
-                &ShownByte(*letter),
-                "' in eye shapes; gopat has no eye shapes",
+                "GNU Go has the letter '{}' in eye shapes; gopat has no eye shapes",
+                ShownByte(*letter)
             ),
             Port::EyeStars => f.write_str(
                 "in GNU Go's eye shapes '*' is a vital point, of which there may be none or several; gopat has no eye \
                  shapes",
             ),
-            Port::EyeValue(value) => around(
+            Port::EyeValue(value) => write!(
                 f,
-                "GNU Go has the eyes of an eye shape, as ",
-                &Shown(value),
-                ", in place of a mark; gopat has no eye shapes",
+                "GNU Go has the eyes of an eye shape, as {}, in place of a mark; gopat has no eye shapes",
+                Shown(value)
             ),
-            Port::Weight(weight) => around(
+            Port::Weight(weight) => write!(
                 f,
-                "GNU Go has a weight of its playouts, as ",
-                &Shown(weight),
-                ", in place of a mark; gopat has no weights",
+                "GNU Go has a weight of its playouts, as {}, in place of a mark; gopat has no weights",
+                Shown(weight)
             ),
             Port::NoMove => f.write_str(
                 "GNU Go has patterns without a move, as those of connections and of influence; gopat has not",
             ),
-            Port::LabelAgain(label) => around(
+            Port::LabelAgain(label) => write!(
                 f,
-                "in GNU Go the first '",
-                &ShownByte(*label),
-                "' counts where several stand; here a label stands once",
+                "in GNU Go the first '{}' counts where several stand; here a label stands once",
+                ShownByte(*label)
             ),
-            Port::Function(name) => around(
+            Port::Function(name) => write!(
                 f,
-                "GNU Go has the function ",
-                &Shown(name),
-                "; gopat has not",
+                "GNU Go has the function {}; gopat has not",
+                Shown(name)
             ),
-            Port::Word(word) => around(
+            Port::Word(word) => write!(
                 f,
-                "GNU Go compares with words such as ",
-                &Shown(word),
-                "; gopat has numbers alone",
+                "GNU Go compares with words such as {}; gopat has numbers alone",
+                Shown(word)
             ),
-            Port::Helper(name) => around(
+            Port::Helper(name) => write!(
                 f,
-                "GNU Go calls its function ",
-                &Shown(name),
-                " here; a helper of this name can be handed to gopat's library",
+                "GNU Go calls its function {} here; a helper of this name can be handed to gopat's library",
+                Shown(name)
             ),
-            Port::TakenTarget(name) => around(
+            Port::TakenTarget(name) => write!(
                 f,
-                "where the moves take the last argument, ",
-                &Shown(name),
-                " is 3 in GNU Go and 0 here",
+                "where the moves take the last argument, {} is 3 in GNU Go and 0 here",
+                Shown(name)
             ),
             Port::DoesAttack => f.write_str(
                 "does_attack is 0 in GNU Go where the target is lost anyway, and looks at its best defence too; here \

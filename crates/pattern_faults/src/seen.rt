@@ -9,12 +9,10 @@ mod expression;
 mod head;
 
 use crate::cause::Cause;
-use crate::fault::{Fault, Place};
-use crate::part::{Part, is_bad, is_feed};
-use crate::written::{Role, Written, lines_in, name_in};
-pub(crate) use diagram::is_letter;
+use crate::fault::Fault;
 use go_base::Bytes;
 use pat_types::NoMemory;
+use pattern_lines::{Part, Place, Role, Written, is_bad, lines_in, name_in};
 use std::alloc::Global;
 
 /// A cause and where it is seen.
@@ -49,25 +47,13 @@ fn of_role<'a>(
     Ok(all)
 }
 
-/// The line of this number in a part, or an empty one behind its last.
-fn whole_line<'a>(part: Part<'a>, number: u64) -> &'a [u8] {
-    let mut at = part.number;
-    for line in part.bytes.split(is_feed) {
-        if at == number {
-            return line;
-        }
-        at = at.saturating_add(1);
-    }
-    &[]
-}
-
 /// A fault of which nothing more is seen than its kind.
 fn unseen<'a>(part: Part<'a>, line: u64, kind: u8) -> Seen<'a> {
     Seen {
         place: Place {
             line,
             column: 1,
-            text: whole_line(part, line),
+            text: part.line(line),
         },
         cause: Cause::Kind(kind),
     }
@@ -75,7 +61,7 @@ fn unseen<'a>(part: Part<'a>, line: u64, kind: u8) -> Seen<'a> {
 
 /// A byte that no line may have.
 fn bad_byte<'a>(part: Part<'a>, line: u64) -> Option<Seen<'a>> {
-    let text = whole_line(part, line);
+    let text = part.line(line);
     let at = text.iter().position(is_bad)?;
     let byte = *text.get(at)?;
     Some(Seen {
@@ -130,7 +116,11 @@ fn look<'a>(
 }
 
 /// The fault of this line and kind, which this part of a text has, with what is seen of it.
-pub(crate) fn explain<'a>(
+///
+/// The line is counted from 1 in the text, and the kind is that of `db_read`, with helpers of these names. Where nothing
+/// is seen, as of a fault that the part does not have, the cause is the kind alone. Takes memory, and may answer that
+/// there is none.
+pub fn explain<'a>(
     alloc: Global,
     helpers: &[Bytes],
     part: Part<'a>,

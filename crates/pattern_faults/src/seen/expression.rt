@@ -3,10 +3,9 @@
 use super::constraint::is_label;
 use super::{Seen, of_role, seen_at};
 use crate::cause::Cause;
-use crate::tokens::{Sort, Token, tokens};
-use crate::written::{Role, Written};
 use cons_parse::{ConsError, parse};
 use pat_types::NoMemory;
+use pattern_lines::{Role, Sort, Token, Written, tokens};
 use std::alloc::Global;
 
 /// The most digits of a number.

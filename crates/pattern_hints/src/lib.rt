@@ -1,0 +1,15 @@
+//! What an author of pattern files is told beside the faults: what may not have been meant, and what of GNU Go's entries
+//! gopat does not have or values otherwise.
+//!
+//! No clause speaks of them; they are tested, in `report_rows`.
+#![tactic(auto)]
+
+mod alone;
+mod caution;
+mod gnu_go;
+mod port;
+mod warning;
+
+pub use caution::Caution;
+pub use port::{Port, PortNote, port_notes, port_of};
+pub use warning::{Warning, warnings};

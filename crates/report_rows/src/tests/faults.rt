@@ -1,0 +1,306 @@
+//! The faults that are told of texts, one row for each cause.
+
+use go_base::Bytes;
+use pattern_report::{Report, report_on};
+use std::test::Fail;
+
+/// The faults of a text, one a line: the number of its line, the place, the kind and the cause.
+fn told(rt: &HostRuntime, text: &[u8]) -> Result<String, Fail> {
+    let alloc = rt.alloc();
+    let mut name = Bytes::new(alloc);
+    name.extend(b"near_edge")?;
+    let mut helpers = Vec::new(alloc);
+    helpers.push(name)?;
+    let report: Report = report_on(alloc, text, helpers.as_slice())?;
+    let mut lines = String::new(alloc);
+    for fault in report.first.iter().chain(report.others.iter()) {
+        let line = format!(in alloc;
+            "{} {}:{} kind {}: {}\n",
+            fault.line, fault.place.line, fault.place.column, fault.kind, fault.cause
+        )?;
+        lines.push_str(line.as_str())?;
+    }
+    Ok(lines)
+}
+
+#[test]
+fn the_reading_goes_on_at_the_next_pattern_line(rt: HostRuntime) -> Result<(), Fail> {
+    let text = b"Pattern A\nO0*\n:8,s\nPattern B\nO*\n:8,s\n Pattern C\nO*\nPattern D\nO*\n:7,s\n";
+    assert!(rt;
+        told(&rt, text)?.as_str()
+            == "2 2:2 kind 6: '0' is no letter of a diagram (O X o x . ? *)\n\
+         9 8:1 kind 10: no colon line, as ':8,s', stands below the diagram\n\
+         11 11:2 kind 11: '7' is no mark (8 | - / \\ + X O)\n"
+    );
+    Ok(())
+}
+
+/// Lines that may not stand where they stand, and Pattern lines.
+const LINES: [(&[u8], &str); 9] = [
+    (b"# \x07", "1 1:3 kind 1: byte 7 may stand in no line\n"),
+    (
+        b"\xef\xbb\xbfPattern A\nO*\n:8,s\n",
+        "1 1:1 kind 2: the text begins with a byte order mark, which no editor shows; save it as UTF-8 \
+         without one\n",
+    ),
+    (
+        b"?O*\n",
+        "1 1:1 kind 2: before the first entry only lines that begin with a letter may stand; an entry \
+         begins with a Pattern line\n",
+    ),
+    (
+        b"Pattern A\nO*\n:8,s\n:8,s\n",
+        "4 4:1 kind 2: the entry has a colon line already\n",
+    ),
+    (
+        b"Pattern A\nO*\n:8,s\n> x\n;1\n",
+        "5 5:1 kind 2: an expression stands before the action lines\n",
+    ),
+    (
+        b"Pattern A\nO*\n:8,s\n;1\nO*\n",
+        "5 5:1 kind 2: behind an expression or actions only lines with ';' or '>' may stand; an entry \
+         begins with a Pattern line\n",
+    ),
+    (
+        b"Pattern A\nO*\n:8,s\n;\n:8,s\n;1\n",
+        "4 4:1 kind 15: the expression ends where a number, a call or a parenthesis is wanted\n",
+    ),
+    (
+        b"Pattern",
+        "1 1:8 kind 3: a name is missing behind Pattern\n",
+    ),
+    (
+        b"Pattern  a\xe9\n",
+        "1 1:11 kind 3: '\\xe9' may not stand in a name\n",
+    ),
+];
+
+/// Diagrams.
+const DIAGRAMS: [(&[u8], &str); 12] = [
+    (
+        b"Pattern A\n:8,s\n",
+        "2 2:1 kind 4: no row of letters stands above the colon line\n",
+    ),
+    (
+        b"Pattern A\n|O*\n|O\n:8,s\n",
+        "3 3:1 kind 5: the line is 1 wide, and the first 2\n",
+    ),
+    (
+        b"Pattern A\n  O!*\n:8,s\n",
+        "2 2:4 kind 6: '!' is no letter of a diagram (O X o x . ? *)\n",
+    ),
+    (
+        b"Pattern A\nO*\nOA\n:8,s\n",
+        "3 3:2 kind 6: 'A' is no letter of a diagram (O X o x . ? *); is the colon line above a constraint \
+         diagram missing?\n",
+    ),
+    (
+        b"Pattern A\nO|*\n:8,s\n",
+        "2 2:2 kind 6: '|' is part of an edge, and may not stand within a row\n",
+    ),
+    (
+        b"Pattern A\n-O\n:8,s\n",
+        "2 2:1 kind 6: the line is neither a row of letters (O X o x . ? *), with or without '|' at its \
+         ends, nor an edge line of '-'\n",
+    ),
+    (
+        b"Pattern A\n**\n:8,s\n",
+        "3 3:1 kind 7: the diagram has 2 '*', and needs one\n",
+    ),
+    (
+        b"Pattern A\nO*\n--\nO*\n:8,s\n",
+        "4 4:1 kind 8: the edge line above ends the diagram; one stands above all rows or below all of them\n",
+    ),
+    (
+        b"Pattern A\n--\n--\nO*\n:8,s\n",
+        "3 3:1 kind 8: an edge line stands above all rows or below all of them\n",
+    ),
+    (
+        b"Pattern A\n|O*\nO*\n:8,s\n",
+        "3 3:1 kind 8: an edge at a side is drawn beside every row, with '+' where it meets another; the \
+         first line has it otherwise\n",
+    ),
+    (
+        b"Pattern A\n*.........................\n:8,s\n",
+        "2 2:26 kind 9: the line has 26 bytes, and may have 25\n",
+    ),
+    (
+        b"Pattern A\nO*",
+        "3 2:1 kind 10: no colon line, as ':8,s', stands below the diagram\n",
+    ),
+];
+
+/// Colon lines.
+const COLON_LINES: [(&[u8], &str); 6] = [
+    (
+        b"Pattern A\nO*\n: 7,s\n",
+        "3 3:3 kind 11: '7' is no mark (8 | - / \\ + X O)\n",
+    ),
+    (
+        b"Pattern A\nO*\n:8, s1\n",
+        "3 3:6 kind 12: '1' is no class letter\n",
+    ),
+    (
+        b"Pattern A\nO*\n:8,sssssssssssssssssssssssssssssssss\n",
+        "3 3:4 kind 12: 33 class letters, and at most 32 may stand here\n",
+    ),
+    (
+        b"Pattern A\nO*\n:8,s,near_edge,value(5\n",
+        "3 3:16 kind 13: 'value(5' is no item: a name, or a name and a text in one pair of parentheses\n",
+    ),
+    (
+        b"Pattern A\nO*\n:8,s,a(),a(),a(),a(),a(),a(),a(),a(),a(),a(),a(),a(),a(),a(),a(),a(),b()\n",
+        "3 3:70 kind 13: 17 items, and at most 16 may stand here\n",
+    ),
+    (
+        b"Pattern A\nO*\n:8,s,far_away\n",
+        "3 3:6 kind 17: no helper has the name 'far_away'; with a text, as in far_away(), it tests nothing\n",
+    ),
+];
+
+/// Constraint diagrams.
+const CONSTRAINTS: [(&[u8], &str); 8] = [
+    (
+        b"Pattern A\nO*\n:8,s\nA*\nB*\n",
+        "5 5:1 kind 14: a constraint diagram has as many lines as its diagram, here 1\n",
+    ),
+    (
+        b"Pattern A\nO*\n:8,s\nA*\nlib(A)>1\n",
+        "5 5:1 kind 14: no line of a constraint diagram; is it an expression without its ';'?\n",
+    ),
+    (
+        b"Pattern A\nO*\n:8,s\nA*?\n",
+        "4 4:1 kind 14: the line is 3 wide, and its line of the diagram 2\n",
+    ),
+    (
+        b"Pattern A\nO*\n:8,s\nX*\n",
+        "4 4:1 kind 14: 'X' is neither the diagram's 'O' nor a label, a letter other than O X o x\n",
+    ),
+    (
+        b"Pattern A\n|O*\n:8,s\nAO*\n",
+        "4 4:1 kind 14: the label 'A' stands on an edge\n",
+    ),
+    (
+        b"Pattern A\nO*\nOX\n:8,s\nA*\nOA\n",
+        "6 6:2 kind 14: the label 'A' stands in the diagram already\n",
+    ),
+    (
+        b"Pattern A\nOO*\n:8,s\nAA*\n",
+        "4 4:2 kind 14: the label 'A' stands in the diagram already\n",
+    ),
+    (
+        b"Pattern A\nO*\nOX\n:8,s\nA*\n;1\n",
+        "6 5:1 kind 14: the constraint diagram stops after 1 of 2 lines\n",
+    ),
+];
+
+#[test]
+fn each_fault_of_a_line_has_its_cause(rt: HostRuntime) -> Result<(), Fail> {
+    let tables: [&[(&[u8], &str)]; 4] = [&LINES, &DIAGRAMS, &COLON_LINES, &CONSTRAINTS];
+    for rows in tables {
+        for (text, want) in rows {
+            assert!(rt; told(&rt, text)?.as_str() == *want);
+        }
+    }
+    Ok(())
+}
+
+/// Expressions of an entry with the label A, whose expression is its fifth line.
+const EXPRESSIONS: [(&str, &str); 20] = [
+    (
+        "lib(B)>1",
+        "5:6 kind 16: the label 'B' does not stand in the constraint diagram",
+    ),
+    ("lib[A]", "5:5 kind 15: '[' may not stand in an expression"),
+    ("1000000", "5:2 kind 15: a number has at most six digits"),
+    (
+        "1 + * 2",
+        "5:6 kind 15: a number, a call, '!', '-' or '(' is wanted here, and '*' stands here",
+    ),
+    (
+        "1 2",
+        "5:4 kind 15: the expression may end here or go on with an operator, and '2' stands here",
+    ),
+    (
+        "A == 1",
+        "5:2 kind 15: 'A' is the name of no number; a function has its arguments in parentheses behind its name",
+    ),
+    (
+        "1 + A",
+        "5:6 kind 15: 'A' is the name of no number; a function has its arguments in parentheses behind its name",
+    ),
+    (
+        "lib(1)",
+        "5:6 kind 15: an argument is one letter, '*' or '?', and '1' stands here",
+    ),
+    (
+        "lib(AB)",
+        "5:6 kind 15: an argument is one letter, '*' or '?', and 'AB' stands here",
+    ),
+    ("lib(A;)", "5:7 kind 15: ';' may not stand in an expression"),
+    (
+        "lib(A A)",
+        "5:8 kind 15: ',' or ')' is wanted behind an argument, and 'A' stands here",
+    ),
+    ("1)", "5:3 kind 15: no '(' belongs to this ')'"),
+    (
+        "1 &&",
+        "5:4 kind 15: the expression ends where a number, a call or a parenthesis is wanted",
+    ),
+    (
+        "",
+        "5:1 kind 15: the expression ends where a number, a call or a parenthesis is wanted",
+    ),
+    ("(1 + 2", "5:7 kind 15: the expression ends before a ')'"),
+    (
+        "---------------------------------1",
+        "5:1 kind 15: parentheses and signs stand more than 32 deep",
+    ),
+    (
+        "1 + libs(A)",
+        "5:6 kind 15: no function has the name 'libs'",
+    ),
+    (
+        "lib(A)+lib(A,A)",
+        "5:9 kind 15: the number of arguments of lib is 1, and here 2",
+    ),
+    (
+        "xplay_attack(A)",
+        "5:2 kind 15: the number of arguments of xplay_attack is 2 to 9, and here 1",
+    ),
+    (
+        "oplay_attack(?,?)",
+        "5:17 kind 15: '?' is a pass, and oplay_attack takes none here: it may stand for a move of oplay_.. \
+         and xplay_.. alone",
+    ),
+];
+
+#[test]
+fn each_fault_of_an_expression_has_its_cause(rt: HostRuntime) -> Result<(), Fail> {
+    for (expression, want) in EXPRESSIONS {
+        let text = format!(in rt.alloc(); "Pattern P\nO*\n:8,s\nA*\n;{expression}\n")?;
+        let want = format!(in rt.alloc(); "5 {want}\n")?;
+        assert!(rt; told(&rt, text.as_bytes())?.as_str() == want.as_str());
+    }
+    Ok(())
+}
+
+#[test]
+fn a_fault_of_a_long_expression_is_seen_in_its_own_line(rt: HostRuntime) -> Result<(), Fail> {
+    let text = b"Pattern P\nO*\n:8,s\nA*\n;lib(A) > 1\n;&& libs(A)\n";
+    assert!(rt; told(&rt, text)?.as_str() == "5 6:5 kind 15: no function has the name 'libs'\n");
+    Ok(())
+}
+
+#[test]
+fn an_entry_too_many_is_told_at_its_line(rt: HostRuntime) -> Result<(), Fail> {
+    let mut text = Vec::new(rt.alloc());
+    for _ in 0..4097 {
+        text.extend_from_slice(b"Pattern A\nO*\n:8,s\n")?;
+    }
+    assert!(rt;
+        told(&rt, text.as_slice())?.as_str()
+            == "12289 12289:1 kind 18: a text has at most 4096 entries\n"
+    );
+    Ok(())
+}

@@ -1,0 +1,102 @@
+//! What is told of texts to those who bring entries of GNU Go's.
+
+use pattern_report::{Report, port_notes, port_of, report_on};
+use std::test::Fail;
+
+/// What of GNU Go's own is told of a text, one a line: of each fault, and of each place in the entries that are taken.
+fn ported(rt: &HostRuntime, text: &[u8]) -> Result<String, Fail> {
+    let alloc = rt.alloc();
+    let report: Report = report_on(alloc, text, &[])?;
+    let mut lines = String::new(alloc);
+    for fault in report.first.iter().chain(report.others.iter()) {
+        if let Some(port) = port_of(fault) {
+            let line = format!(in alloc; "{}: {port}\n", fault.line)?;
+            lines.push_str(line.as_str())?;
+        }
+    }
+    for part in &report.entries {
+        for note in &port_notes(alloc, *part)? {
+            let line = format!(in alloc;
+                "{}:{}: {}\n",
+                note.place.line, note.place.column, note.port
+            )?;
+            lines.push_str(line.as_str())?;
+        }
+    }
+    Ok(lines)
+}
+
+/// Texts with what of GNU Go's own is told of them.
+const TEXTS: [(&[u8], &str); 17] = [
+    (
+        b"Pattern A\nOY*\n:8,s\n",
+        "2: GNU Go has the letter 'Y' in diagrams; gopat has not\n",
+    ),
+    (
+        b"Pattern A\n.*\n.a\n:8,s\n",
+        "3: GNU Go has the letter 'a' in diagrams; gopat has not\n",
+    ),
+    (
+        b"Pattern 1\n.$*\n:0112\n",
+        "2: GNU Go has the letter '$' in eye shapes; gopat has no eye shapes\n",
+    ),
+    (
+        b"Pattern 1\n...\n :0112\n",
+        "3: in GNU Go's eye shapes '*' is a vital point, of which there may be none or several; gopat has no \
+         eye shapes\n",
+    ),
+    (
+        b"Pattern A\n.Q\n:8,s\nPattern B\n...\n:8,t\n",
+        "2: GNU Go has the letter 'Q' in diagrams; gopat has not\n\
+         6: GNU Go has patterns without a move, as those of connections and of influence; gopat has not\n",
+    ),
+    (b"Pattern 1\n**.\n:8,s\n", ""),
+    (
+        b"Pattern A\nOO*\n:8,s\nAA*\n",
+        "4: in GNU Go the first 'A' counts where several stand; here a label stands once\n",
+    ),
+    (
+        b"Pattern 1\n.*.\n:0112\n",
+        "3: GNU Go has the eyes of an eye shape, as 0112, in place of a mark; gopat has no eye shapes\n",
+    ),
+    (
+        b"Pattern 1\nO*O\n:40,x\n",
+        "3: GNU Go has a weight of its playouts, as 40, in place of a mark; gopat has no weights\n",
+    ),
+    (b"Pattern 1\nO*O\n:,s\n", ""),
+    (
+        b"Pattern A\nO*\n:8,s\nA*\n;dead(A)\n",
+        "5: GNU Go has the function dead; gopat has not\n",
+    ),
+    (b"Pattern A\nO*\n:8,s\nA*\n;libs(A)\n", ""),
+    (
+        b"Pattern A\nO*\n:8,s\nA*\n;lib(A)==DEAD\n",
+        "5: GNU Go compares with words such as DEAD; gopat has numbers alone\n",
+    ),
+    (
+        b"Pattern A\nO*\n:8,s,jump_out_helper\n",
+        "3: GNU Go calls its function jump_out_helper here; a helper of this name can be handed to gopat's \
+         library\n",
+    ),
+    (
+        b"Pattern A\nO*\n:8,s\nA*\n;xplay_attack(*,A)\n",
+        "5:2: where the moves take the last argument, xplay_attack is 3 in GNU Go and 0 here\n",
+    ),
+    (
+        b"Pattern A\nO*\n:8,s\nA*\n;does_attack(*,A)\n",
+        "5:2: does_attack is 0 in GNU Go where the target is lost anyway, and looks at its best defence too; \
+         here it is 3 less the defend code behind the play\n",
+    ),
+    (
+        b"Pattern A\nO*\n:8,s\nA*\n;1 + ko(A)\n",
+        "5:6: ko of a stone is 1 in GNU Go where the stone can be retaken; here it is 0\n",
+    ),
+];
+
+#[test]
+fn what_is_gnu_gos_own_has_its_words(rt: HostRuntime) -> Result<(), Fail> {
+    for (text, want) in TEXTS {
+        assert!(rt; ported(&rt, text)?.as_str() == want);
+    }
+    Ok(())
+}
