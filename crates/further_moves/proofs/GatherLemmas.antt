@@ -40,37 +40,50 @@ module _ (test : ℕ → ℕ → Bool) (points : sets.FinSet nat_cmp) where
         absurd (omega arith);
   }
 
+  -- of the points up to l that are left, l is one, and the others are below n
+  l_or_below : (n l q : ℕ) (left : sets.FinSet nat_cmp)
+      → ((k : ℕ) → n ≤ k → k < l → sets.contains left k ≡ false) → sets.contains left q ≡ true → q < l + 1
+      → (q ≡ l) ⊎ (q < n)
+  l_or_below n l q left none was past = elim (cases_eq q l) [
+    | inl e ↦ inl e
+    | inr ne ↦ elim (cases_lt q n) [
+      | inl before ↦ inr before
+      | inr between ↦ absurd (both_ways (sets.contains left q) (none q between (omega arith)) was)
+    ]
+  ]
+
+  -- what the test has at a point that is no longer left had come before, or the test has it at l
+  came_by : (n l : ℕ) (left rest old : sets.FinSet nat_cmp) → Gathers test points left n old
+      → ((k : ℕ) → n ≤ k → k < l → sets.contains left k ≡ false) → Passes test l left rest → (q p : ℕ)
+      → sets.contains points q ≡ true → (sets.contains rest q ≡ true → q < l + 1) → test q p ≡ true
+      → (sets.contains old p ≡ true) ⊎ (test l p ≡ true)
+  came_by n l left rest old h none pass q p i below t = elim (cases_Bool (sets.contains left q)) [
+    | inr out ↦ inl (h.all q p i (λ was. absurd (both_ways (sets.contains left q) out was)) t)
+    | inl was ↦ elim (pass.gone q was) [
+      | inr same ↦ inr (same p t)
+      | inl still ↦ elim (l_or_below n l q left none was (below still)) [
+        | inl e ↦ inr (subst (λ x. test x p ≡ true) e t)
+        | inr before ↦ inl (h.all q p i (λ _. before) t)
+      ]
+    ]
+  ]
+
   -- what the test has at the next point came
   pub Gathers-next : (n l : ℕ) (left rest old new : sets.FinSet nat_cmp) → n ≤ l → Gathers test points left n old
       → sets.contains left l ≡ true → ((k : ℕ) → n ≤ k → k < l → sets.contains left k ≡ false)
       → Passes test l left rest
       → ((p : ℕ) → sets.contains new p ≡ (sets.contains old p || test l p)) → Gathers test points rest (l + 1) new
-  Gathers-next n l left rest old new up h here none pass came =
-      let its = λ (p : ℕ) (t : test l p ≡ true). came p ∙ or_right _ _ t in
-      let kept = λ (p : ℕ) (i : sets.contains old p ≡ true). came p ∙ or_left _ _ i in
-      record {
-        within = λ q i. h.within q (pass.fewer q i);
-        only = λ p i. elim (or_cases _ _ (sym (came p) ∙ i)) [
-          | inl before ↦ h.only p before
-          | inr now ↦ (l, h.within l here, now)
-        ];
-        all = λ q p i below t. elim (cases_Bool (sets.contains left q)) [
-          | inr out ↦ kept p (h.all q p i (λ was. absurd (both_ways (sets.contains left q) out was)) t)
-          | inl was ↦ elim (pass.gone q was) [
-            | inr same ↦ its p (same p t)
-            | inl still ↦ elim (cases_eq q l) [
-              | inl e ↦ its p (subst (λ x. test x p ≡ true) e t)
-              | inr ne ↦
-                  let past = below still in
-                  elim (cases_lt q n) [
-                    | inl before ↦ kept p (h.all q p i (λ _. before) t)
-                    | inr between ↦ absurd (both_ways (sets.contains left q)
-                        (none q between (omega (arith, past, ne))) was)
-                  ]
-            ]
-          ]
-        ];
-      }
+  Gathers-next n l left rest old new up h here none pass came = record {
+    within = λ q i. h.within q (pass.fewer q i);
+    only = λ p i. elim (or_cases _ _ (sym (came p) ∙ i)) [
+      | inl before ↦ h.only p before
+      | inr now ↦ (l, h.within l here, now)
+    ];
+    all = λ q p i below t. elim (came_by n l left rest old h none pass q p i below t) [
+      | inl before ↦ came p ∙ or_left _ _ before
+      | inr now ↦ came p ∙ or_right _ _ now
+    ];
+  }
 
   -- no point is left, and all are below the bound
   pub Gathers-all : (n m : ℕ) (left found : sets.FinSet nat_cmp) → Gathers test points left n found

@@ -16,7 +16,7 @@ use Rattle.go_rules.specs.Strings.{liberty_points}
 use Rattle.go_rules.specs.Position.{BoardState, IsPosition, other, stone_of}
 use Rattle.go_rules.specs.Play.{play_free, cells_after, is_taken}
 use Rattle.go_rules.specs.Rules.{IsCaptured}
-use Rattle.go_rules.proofs.Links.{liberty_moves, liberties_from, are_neighbours_comm}
+use Rattle.go_rules.proofs.Links.{not_its_own, liberty_moves, liberties_from, are_neighbours_comm}
 use Rattle.go_rules.proofs.Paths.{same_cell-true, same_cell-from, IsLiberty-from_test, is_liberty-from_fact}
 use Rattle.go_rules.proofs.Plays.{at_put_same, at_put_other, at_after, own_not_taken, stone_is}
 use Rattle.go_rules.proofs.Plays.{taken_parts, alive_not_taken, taken_beside}
@@ -38,7 +38,6 @@ use Rattle.read_rules.proofs.AfterPlays.{put_liberty, after_liberty}
 use Rattle.read_rules.proofs.OneMember.{one_member}
 use Rattle.go_rules.proofs.Tests.{same_tests, and-false}
 use Rattle.read_moves.proofs.OtherLiberties.{other_or_only}
-use Rattle.read_moves.proofs.SideLemmas.{not_its_own}
 
 -- a point that was empty, or is made empty, is empty
 empty_both : (b : Bool) (k : Cell) → k ≡ Empty → cond b Empty k ≡ Empty
@@ -158,60 +157,60 @@ module _ (s : ℕ) (cells : List Cell) (c : Colour) (l : ℕ) (whole : length ce
       stone : cell_at cells q ≡ stone_of c
       path : Path s cells q y
 
+    -- a stone of c next to the stone, or next to a stone of such a string, is of such a string
+    joined_next : {y r : ℕ} → r < s * s → are_neighbours s y r ≡ true → cell_at cells r ≡ stone_of c
+        → (y ≡ l) ⊎ IsJoinedTo y → IsJoinedTo r
+    joined_next {y} {r} r_on near its (inl e) = record {
+      q = r;
+      q_on = r_on;
+      near = subst (λ z. are_neighbours s z r ≡ true) e near;
+      stone = its;
+      path = start;
+    }
+    joined_next {y} {r} r_on near its (inr j) = record {
+      q = j.q;
+      q_on = j.q_on;
+      near = j.near;
+      stone = j.stone;
+      path = step j.path r_on near (its ∙ sym j.stone);
+    }
+
     -- the string of the stone is the stone with the strings that it joins
     from_here : {y : ℕ} → Path s gone l y → (y ≡ l) ⊎ IsJoinedTo y
     from_here start = inl refl
     from_here (step {q = y} {r} path r_on near same) = elim (cases_eq r l) [
       | inl e ↦ inl e
-      | inr ne ↦
-          let its : cell_at cells r ≡ stone_of c = sym (stays r r_on ne) ∙ same ∙ stone_here in
-          elim (from_here path) [
-            | inl e ↦ inr (record {
-              q = r;
-              q_on = r_on;
-              near = subst (λ z. are_neighbours s z r ≡ true) e near;
-              stone = its;
-              path = start;
-            })
-            | inr j ↦ inr (record {
-              q = j.q;
-              q_on = j.q_on;
-              near = j.near;
-              stone = j.stone;
-              path = step j.path r_on near (its ∙ sym j.stone);
-            })
-          ]
+      | inr ne ↦ inr (joined_next r_on near (sym (stays r r_on ne) ∙ same ∙ stone_here) (from_here path))
     ]
 
-    -- the stone has no liberty but what it reaches
+    -- a liberty beside a string that the stone joins was one of that string
+    liberty_before : (x : ℕ) (lib : IsLiberty s gone l x) → cell_at cells x ≡ Empty → (j : IsJoinedTo lib.beside.0)
+        → IsLiberty s cells j.q x
+    liberty_before x lib was j = record {
+      on_board = lib.on_board;
+      is_empty = was;
+      beside = (lib.beside.0, record { stone = ap is_stone j.stone ∙ stone_is c; path = j.path }, lib.beside.2);
+    }
+
+    -- a liberty of the stone's string is beside the stone, or one of a string that it joins
+    reached_by : (x : ℕ) (lib : IsLiberty s gone l x) → cell_at cells x ≡ Empty → x ≢ l
+        → (lib.beside.0 ≡ l) ⊎ IsJoinedTo lib.beside.0 → IsReached s cells c l x
+    reached_by x lib was off (inl e) = by_side (record {
+      on_board = lib.on_board;
+      is_empty = was;
+      beside = subst (λ z. are_neighbours s z x ≡ true) e lib.beside.2;
+    })
+    reached_by x lib was off (inr j) = by_string (record {
+      q = j.q;
+      beside = j.near;
+      its = record { on_board = j.q_on; stone = j.stone; liberty = liberty_before x lib was j };
+    }) off
+
+    -- so the stone has no liberty but what it reaches
     pub only_gained : (x : ℕ) → IsLiberty s gone l x → IsReached s cells c l x
     only_gained x lib =
         let off : x ≢ l = λ e. stone_not_empty c (sym stone_here ∙ ap (cell_at gone) (sym e) ∙ lib.is_empty) in
-        let was = sym (stays x lib.on_board off) ∙ lib.is_empty in
-        elim (from_here lib.beside.1.path) [
-          | inl e ↦ by_side (record {
-            on_board = lib.on_board;
-            is_empty = was;
-            beside = subst (λ z. are_neighbours s z x ≡ true) e lib.beside.2;
-          })
-          | inr j ↦ by_string (record {
-            q = j.q;
-            beside = j.near;
-            its = record {
-              on_board = j.q_on;
-              stone = j.stone;
-              liberty = record {
-                on_board = lib.on_board;
-                is_empty = was;
-                beside = (
-                  lib.beside.0,
-                  record { stone = ap is_stone j.stone ∙ stone_is c; path = j.path },
-                  lib.beside.2,
-                );
-              };
-            };
-          }) off
-        ]
+        reached_by x lib (sym (stays x lib.on_board off) ∙ lib.is_empty) off (from_here lib.beside.1.path)
 
 -- what is reached is empty
 pub reached_empty : (s : ℕ) (cells : List Cell) (c : Colour) (l x : ℕ) → IsReached s cells c l x

@@ -1,12 +1,12 @@
 -- The empty sides of a point.
-use Rattle.std.proofs.Common.{◌≡◌, ℕ, ◌+◌, ◌*◌, ◌/◌, ◌%◌, ◌<◌, ◌||◌, ◌&&◌, Bool, true, false, eqb, ltb, List, refl, sym}
-use Rattle.std.proofs.Common.{ap, subst, arith, inl, inr, ◌∙◌}
-use Rattle.std.proofs.lemmas.Bool.{or_cases, eqb-true, and_parts, and_from, ltb-true}
+use Rattle.std.proofs.Common.{◌≡◌, ℕ, ◌*◌, ◌<◌, ◌||◌, ◌&&◌, Bool, true, false, ltb, List, refl, sym}
+use Rattle.std.proofs.Common.{ap, subst, ◌∙◌}
+use Rattle.std.proofs.lemmas.Bool.{eqb-true, and_parts, and_from, ltb-true}
 use Rattle.std.specs.Ordering.{nat_cmp}
 use Rattle.std.specs.FinSet as sets
 use Rattle.go_rules.specs.declared.Cell.{Cell}
 use Rattle.go_rules.specs.declared.Cell.TheVariants.{Empty}
-use Rattle.go_rules.specs.Board.{are_neighbours, are_one_apart}
+use Rattle.go_rules.specs.Board.{are_neighbours}
 use Rattle.go_rules.proofs.Counts.{any_below_gives, any_below_from}
 use Rattle.go_rules.proofs.Sets.{same_nat_set, contains-set_below, len-set_below}
 use Rattle.go_rules.proofs.Tests.{same_tests}
@@ -62,22 +62,6 @@ side_gives s cells l x h =
       is_empty = same_cell-true _ _ first.1;
       beside = subst (λ y. are_neighbours s y x ≡ true) (eqb-true k.0 l both.0) both.1;
     }
-
--- no number is one apart from itself
-not_apart : (a : ℕ) → are_one_apart a a ≡ true → ⊥
-not_apart a h = elim (or_cases _ _ h) [
-  | inl e ↦ let same = eqb-true a (a + 1) e in omega arith
-  | inr e ↦ let same = eqb-true a (a + 1) e in omega arith
-]
-
--- no point is its own neighbour
-pub not_its_own : (s l : ℕ) → are_neighbours s l l ≡ true → ⊥
-unfolding are_neighbours
-not_its_own s l h = elim (or_cases (eqb (l / s) (l / s) && are_one_apart (l % s) (l % s))
-    (eqb (l % s) (l % s) && are_one_apart (l / s) (l / s)) h) [
-      | inl e ↦ not_apart (l % s) (and_parts (eqb (l / s) (l / s)) (are_one_apart (l % s) (l % s)) e).1
-      | inr e ↦ not_apart (l / s) (and_parts (eqb (l % s) (l % s)) (are_one_apart (l / s) (l / s)) e).1
-    ]
 
 -- an empty neighbour of l is on the board
 beside_within : (s : ℕ) (cells : List Cell) (l x : ℕ) → is_empty_beside s cells (alone l) x ≡ (ltb x

@@ -116,29 +116,39 @@ module _ (here : BoardState) (c : Colour) (p : ℕ) (new : BoardState) (t : ℕ)
       ] in
       step before x_on near kept
 
-  -- no stone next to it is taken
-  none_taken : (y x : ℕ) → Path s here.cells t y → are_neighbours s y x ≡ true → x < s * s
-      → cell_at here.cells x ≡ stone_of (other c) → IsCaptured s put c x → ⊥
-  none_taken y x path near x_on enemy captured =
+  -- a string without liberties counts none
+  none_counted : (cells : List Cell) (x : ℕ) → ((l : ℕ) → IsLiberty s cells x l → ⊥) → liberties s cells x ≡ 0
+  none_counted cells x none = elim (cases_eq (liberties s cells x) 0) [
+    | inl e ↦ e
+    | inr ne ↦ (let some = liberties_some s cells x (omega (arith, ne)) in absurd (none some.0 some.1))
+  ]
+
+  -- an enemy string that is taken had no liberty but the point of the play
+  taken_there : (x : ℕ) → x < s * s → IsCaptured s put c x → (l : ℕ) → IsLiberty s here.cells x l → l ≡ p
+  taken_there x x_on captured l lib = elim (cases_eq l p) [
+    | inl e ↦ e
+    | inr ne ↦ absurd (captured.dead l (put_liberty s here.cells c p vacant x x_on l lib ne))
+  ]
+
+  -- an enemy string that is taken had one liberty, and it was that point
+  taken_one : (x : ℕ) → x < s * s → cell_at here.cells x ≡ stone_of (other c) → IsCaptured s put c x
+      → (liberties s here.cells x ≡ 1) × IsLiberty s here.cells x p
+  taken_one x x_on enemy captured =
       let alive = good.alive x x_on (ap is_stone enemy ∙ stone_is (other c)) in
-      let at_p : (l : ℕ) → IsLiberty s here.cells x l → l ≡ p =
-      λ l lib. elim (cases_eq l p) [
-        | inl e ↦ e
-        | inr ne ↦ absurd (captured.dead l (put_liberty s here.cells c p vacant x x_on l lib ne))
-      ] in
       let dead : liberties s put x ≡ 0 = none_counted put x captured.dead in
       let few = counts_but_one s here.cells put x p x_on
       (λ l lib ne. put_liberty s here.cells c p vacant x x_on l lib ne) in
       let some = liberties_some s here.cells x alive in
+      let there = taken_there x x_on captured some.0 some.1 in
+      (omega (arith, alive, few, dead), subst (IsLiberty s here.cells x) there some.1)
+
+  -- no stone next to it is taken
+  none_taken : (y x : ℕ) → Path s here.cells t y → are_neighbours s y x ≡ true → x < s * s
+      → cell_at here.cells x ≡ stone_of (other c) → IsCaptured s put c x → ⊥
+  none_taken y x path near x_on enemy captured =
+      let one = taken_one x x_on enemy captured in
       both_ways _ last (is_last s here.cells t x y p on x_on (path_on_board s here.cells t on path)
-      (are_enemies _ _ c own enemy) (record { stone = ap is_stone own ∙ stone_is c; path = path }) near
-      (omega (arith, alive, few, dead)) (subst (IsLiberty s here.cells x) (at_p some.0 some.1) some.1))
-    where
-      none_counted : (cells : List Cell) (x : ℕ) → ((l : ℕ) → IsLiberty s cells x l → ⊥) → liberties s cells x ≡ 0
-      none_counted cells x none = elim (cases_eq (liberties s cells x) 0) [
-        | inl e ↦ e
-        | inr ne ↦ (let some = liberties_some s cells x (omega (arith, ne)) in absurd (none some.0 some.1))
-      ]
+      (are_enemies _ _ c own enemy) (record { stone = ap is_stone own ∙ stone_is c; path = path }) near one.0 one.1)
 
   -- so each liberty after the play was one before
   was_liberty : (x : ℕ) → IsLiberty s new.cells t x → IsLiberty s here.cells t x
@@ -218,38 +228,53 @@ module _ (n : ℕ) (turn : Turn) (here : BoardState) (on : turn.target < here.si
   one_more : n ≡ suc (n - 1)
   one_more = let some = atari.plies in omega arith
 
-  -- after a play that takes nothing next to the target he takes it
-  lost_at : (p : ℕ) → p < here.size * here.size → is_liberty here.size here.cells turn.target p ≡ false
-      → is_last_liberty_of_enemy here.size here.cells turn.target p ≡ false → (next : Node) (new : BoardState)
-      → child_of (under turn ko) here p ≡ Some (next, new) → attacker_wins n next new ≡ true
-  lost_at p p_on off last next new is =
-      let t = turn.target in
-      let c = turn.defender in
-      let child = child_free (under turn ko) here p next new (child_gives (under turn ko) here p next new is) in
-      let legal : play_free here c p ≡ Ok new =
-      ap (λ b. play_free here (cond b (other c) c) p) (sym atari.defends) ∙ child.1 in
-      let node = next_node (under turn ko) child.0 in
-      let size = play_size here c p new legal in
-      let own = atari.own in
-      let few : liberties new.size new.cells t ≤ 1 =
-      subst (λ m. liberties m new.cells t ≤ 1) (sym size)
-      (let fewer = no_more here c p new t atari.sound p_on on legal own off last in
-      let one = atari.one in omega (arith, fewer, one)) in
-      let taken : IsTaken (turn_at node) new = record {
-        attacks = ap not atari.defends;
-        enemy = stands here c p new t atari.sound p_on on legal own off last;
-        l = only.0;
-        liberty = subst (λ m. is_liberty m new.cells t only.0 ≡ true) (sym size)
-            (is_liberty-from_fact here.size new.cells t only.0 on
-            (is_still here c p new t atari.sound p_on on legal own off last only.0 only.1));
-        only = λ x h. only_liberty here.size here.cells t on atari.one only.0 x only.1
-            (was_liberty here c p new t atari.sound p_on on legal own off last x
-            (IsLiberty-from_test here.size new.cells t x (ap (λ m. is_liberty m new.cells t x) (sym size) ∙ h)));
-        free = unbanned here c p new t atari.sound p_on on legal own off last only.0 only.1;
-      } in
-      ap (λ m. attacker_wins m next new) one_more ∙ ap (λ (k : Node). attacker_wins (suc (n - 1)) k new) child.2
-      ∙ taking_wins (n - 1) node new (free_keeps here c p new atari.sound p_on legal).cells
-      (subst (λ m. t < m * m) (sym size) on) (few_liberties turn.tree new t (turn.wide - 1) few) taken
+  -- The defender's play at p, which takes nothing next to the target and none of its liberties.
+  module _ (p : ℕ) (p_on : p < here.size * here.size) (off : is_liberty here.size here.cells turn.target p ≡ false)
+      (last : is_last_liberty_of_enemy here.size here.cells turn.target p ≡ false) (new : BoardState)
+      (legal : play_free here turn.defender p ≡ Ok new) where
+    -- the board keeps its size
+    kept_size : new.size ≡ here.size
+    kept_size = play_size here turn.defender p new legal
+
+    -- the target has no more than one liberty then
+    at_most_one : liberties new.size new.cells turn.target ≤ 1
+    at_most_one =
+        let fewer = no_more here turn.defender p new turn.target atari.sound p_on on legal atari.own off last in
+        let one = atari.one in
+        subst (λ m. liberties m new.cells turn.target ≤ 1) (sym kept_size) (omega (arith, fewer, one))
+
+    -- its liberty is still one
+    still_liberty : is_liberty new.size new.cells turn.target only.0 ≡ true
+    still_liberty = subst (λ m. is_liberty m new.cells turn.target only.0 ≡ true) (sym kept_size)
+        (is_liberty-from_fact here.size new.cells turn.target only.0 on
+        (is_still here turn.defender p new turn.target atari.sound p_on on legal atari.own off last only.0 only.1))
+
+    -- and none came
+    still_only : (x : ℕ) → is_liberty new.size new.cells turn.target x ≡ true → x ≡ only.0
+    still_only x h = only_liberty here.size here.cells turn.target on atari.one only.0 x only.1
+        (was_liberty here turn.defender p new turn.target atari.sound p_on on legal atari.own off last x
+        (IsLiberty-from_test here.size new.cells turn.target x
+        (ap (λ m. is_liberty m new.cells turn.target x) (sym kept_size) ∙ h)))
+
+    -- so the attacker takes the target
+    is_taken : (left : ℕ) → IsTaken (turn_at (next_node (under turn ko) left)) new
+    is_taken left = record {
+      attacks = ap not atari.defends;
+      enemy = stands here turn.defender p new turn.target atari.sound p_on on legal atari.own off last;
+      l = only.0;
+      liberty = still_liberty;
+      only = still_only;
+      free = unbanned here turn.defender p new turn.target atari.sound p_on on legal atari.own off last only.0 only.1;
+    }
+
+    -- and wins, whatever allowance is left to the defender
+    lost_at : (left : ℕ) → attacker_wins n (next_node (under turn ko) left) new ≡ true
+    lost_at left =
+        ap (λ m. attacker_wins m (next_node (under turn ko) left) new) one_more
+        ∙ taking_wins (n - 1) (next_node (under turn ko) left) new
+        (free_keeps here turn.defender p new atari.sound p_on legal).cells
+        (subst (λ m. turn.target < m * m) (sym kept_size) on)
+        (few_liberties turn.tree new turn.target (turn.wide - 1) at_most_one) (is_taken left)
 
   -- so no such play saves the target
   pub off_fails : (p : ℕ) → p < here.size * here.size → is_liberty here.size here.cells turn.target p ≡ false
@@ -258,29 +283,40 @@ module _ (n : ℕ) (turn : Turn) (here : BoardState) (on : turn.target < here.si
   off_fails p p_on off last = ap (λ b. suits n b (child_of (under turn ko) here p)) atari.defends
       ∙ by (child_of (under turn ko) here p) refl
     where
+      lost : (next : Node) (new : BoardState) → child_of (under turn ko) here p ≡ Some (next, new)
+          → attacker_wins n next new ≡ true
+      lost next new is =
+          let child = child_free (under turn ko) here p next new (child_gives (under turn ko) here p next new is) in
+          let legal : play_free here turn.defender p ≡ Ok new =
+          ap (λ b. play_free here (cond b (other turn.defender) turn.defender) p) (sym atari.defends) ∙ child.1 in
+          ap (λ (k : Node). attacker_wins n k new) child.2 ∙ lost_at p p_on off last new legal child.0
+
       by : (o : Option (Node × BoardState)) → child_of (under turn ko) here p ≡ o → suits n false o ≡ false
       by None is = refl
-      by (Some child) is = ap not (lost_at p p_on off last child.0 child.1 is)
+      by (Some child) is = ap not (lost child.0 child.1 is)
 
-  -- nor does the pass
+  -- after the pass the attacker takes the target
+  taken_past : (left : ℕ) → IsTaken (turn_at (next_node (under turn ko) left)) (pass here)
+  taken_past left = record {
+    attacks = ap not atari.defends;
+    enemy = atari.own;
+    l = only.0;
+    liberty = is_liberty-from_fact here.size here.cells turn.target only.0 on only.1;
+    only = λ x h. only_liberty here.size here.cells turn.target on atari.one only.0 x only.1
+        (IsLiberty-from_test here.size here.cells turn.target x h);
+    free = refl;
+  }
+
+  -- so the pass does not save it either
   pub pass_fails : pass_saves n (under turn ko) here ≡ false
   pass_fails =
-      let t = turn.target in
       let node = next_node (under turn ko) (allowance_of (under turn ko)) in
-      let few : liberties here.size here.cells t ≤ 1 = (let one = atari.one in omega (arith, one)) in
-      let taken : IsTaken (turn_at node) (pass here) = record {
-        attacks = ap not atari.defends;
-        enemy = atari.own;
-        l = only.0;
-        liberty = is_liberty-from_fact here.size here.cells t only.0 on only.1;
-        only = λ x h. only_liberty here.size here.cells t on atari.one only.0 x only.1
-            (IsLiberty-from_test here.size here.cells t x h);
-        free = refl;
-      } in
+      let few : liberties here.size here.cells turn.target ≤ 1 = (let one = atari.one in omega (arith, one)) in
       and_false_right (not turn.attacker_to_play) _ (ap not
       (ap (λ m. attacker_wins m node (pass here)) one_more
       ∙ taking_wins (n - 1) node (pass here) atari.sound.cells on
-      (few_liberties turn.tree (pass here) t (turn.wide - 1) few) taken))
+      (few_liberties turn.tree (pass here) turn.target (turn.wide - 1) few)
+      (taken_past (allowance_of (under turn ko)))))
 
   -- the candidates but for the liberties and the captures fail
   pub atari_fails : (q : ℕ) → is_off_liberties turn here q ≡ true → is_capture here turn.target q ≡ false

@@ -188,32 +188,38 @@ module _ (n : ℕ) (turn : Turn) (here : BoardState) where
   pub best_nothing : turn.attacker_to_play ≡ true → IsBest n turn here nowhere (record { code = 0; at = None })
   best_nothing attacks = best_none (λ more lo hi. no_pass turn.attacker_to_play _ attacks)
 
+  -- a pass that saves is the first move
+  pass_first : (code : ℕ) → pass_saves n (node_of turn code) here ≡ true
+      → Some Pass ≡ first_move n (node_of turn code) here
+  pass_first code saves =
+      sym (ap (λ b. cond b (Some Pass) (at_point (first_success n (node_of turn code) here))) saves)
+
+  -- the defender's pass, where it saves under some allowance
+  pass_saved : (saved : Allowances) → Tells all_three saved (λ ko. pass_saves n (under turn ko) here)
+      → has_some saved ≡ true
+      → IsBest n turn here nowhere (record { code = best_code saved 0 turn.attacker_to_play; at = Some Pass })
+  pass_saved saved t some =
+      let best = best_is saved 0 turn.attacker_to_play some in
+      let code = best_code saved 0 turn.attacker_to_play in
+      let above = code_above best.is_code in
+      record {
+        bounded = code_at_most best.is_code;
+        no_pass = λ more lo hi. told _ _ _ (t.each (ko_of turn.attacker_to_play more))
+            (has_all (ko_of turn.attacker_to_play more)) ∙ best.none more lo hi;
+        no_point = λ more lo hi q. refl;
+        no_move = λ e. absurd (omega arith);
+        move = λ ne. (
+          Pass,
+          refl,
+          pass_first code (told_there _ _ _ (t.each (ko_of turn.attacker_to_play code)) best.there).1,
+        );
+      }
+
   -- the defender's pass
-  pub best_pass : (saved : Allowances)
-      → Tells (record {
-        defender = true;
-        neither = true;
-        attacker = true;
-      }) saved (λ ko. pass_saves n (under turn ko) here)
+  pub best_pass : (saved : Allowances) → Tells all_three saved (λ ko. pass_saves n (under turn ko) here)
       → IsBest n turn here nowhere (better (record { code = 0; at = None }) turn.attacker_to_play saved Pass)
   best_pass saved t = elim (cases_Bool (has_some saved)) [
-    | inl some ↦
-        let best = best_is saved 0 turn.attacker_to_play some in
-        let code = best_code saved 0 turn.attacker_to_play in
-        let above = code_above best.is_code in
-        rw some (record {
-          bounded = code_at_most best.is_code;
-          no_pass = λ more lo hi. told _ _ _ (t.each (ko_of turn.attacker_to_play more))
-              (has_all (ko_of turn.attacker_to_play more)) ∙ best.none more lo hi;
-          no_point = λ more lo hi q. refl;
-          no_move = λ e. absurd (omega arith);
-          move = λ ne. (
-            Pass,
-            refl,
-            sym (ap (λ b. cond b (Some Pass) (at_point (first_success n (node_of turn code) here)))
-                (told_there _ _ _ (t.each (ko_of turn.attacker_to_play code)) best.there).1),
-          );
-        })
+    | inl some ↦ rw some (pass_saved saved t some)
     | inr none ↦ rw none (best_none (λ more lo hi. told _ _ _ (t.each (ko_of turn.attacker_to_play more))
         (has_all (ko_of turn.attacker_to_play more)) ∙ none_of saved (ko_of turn.attacker_to_play more) none))
   ]
@@ -228,26 +234,7 @@ module _ (n : ℕ) (turn : Turn) (here : BoardState) where
   best_point cands next p best good same i cand between t = elim (cases_Bool (has_some good)) [
     | inr none ↦ rw none (best_of (λ q. ltb q (p + 1) && cands q) i (λ more lo hi. later more lo hi
         (fails more lo hi (none_of good (ko_of turn.attacker_to_play more) none))))
-    | inl some ↦
-        let found = best_is good best.code turn.attacker_to_play some in
-        let code = best_code good best.code turn.attacker_to_play in
-        let asked = told_there _ _ _ (t.each (ko_of turn.attacker_to_play code)) found.there in
-        let above = above_only turn.attacker_to_play best.code code found.is_code asked.0 in
-        let bounded = code_at_most found.is_code in
-        rw some (record {
-          bounded = bounded;
-          no_pass = λ more lo hi. i.no_pass more (omega arith) hi;
-          no_point = λ more lo hi. later more (omega arith) hi (fails more (omega arith) hi (found.none more lo hi));
-          no_move = λ e. absurd (omega arith);
-          move = λ ne. (
-            At p,
-            refl,
-            ap at_point (first_success-found n (node_of turn code) here next p cands same (before code above bounded)
-                between cand (sym asked.1))
-                ∙ sym (ap (λ b. cond b (Some Pass) (at_point (first_success n (node_of turn code) here)))
-                (i.no_pass code above bounded)),
-          );
-        })
+    | inl some ↦ rw some (gives some)
   ]
     where
       fails : (more : ℕ) → best.code < more → more ≤ 3 → has good (ko_of turn.attacker_to_play more) ≡ false
@@ -266,6 +253,29 @@ module _ (n : ℕ) (turn : Turn) (here : BoardState) where
             next p (before more lo hi) between cand lost q l)
         | inr g ↦ off_first (ltb q (p + 1)) (cands q) _ (le-ltb q (p + 1) g)
       ]
+
+      first_at : (code : ℕ) → best.code < code → code ≤ 3 → succeeds n (node_of turn code) here p ≡ true
+          → Some (At p) ≡ first_move n (node_of turn code) here
+      first_at code above bounded wins = ap at_point (first_success-found n (node_of turn code) here next p cands same
+          (before code above bounded) between cand (sym wins))
+          ∙ sym (ap (λ b. cond b (Some Pass) (at_point (first_success n (node_of turn code) here)))
+          (i.no_pass code above bounded))
+
+      gives : has_some good ≡ true → IsBest n turn here (λ q. ltb q (p + 1) && cands q)
+          (record { code = best_code good best.code turn.attacker_to_play; at = Some (At p) })
+      gives some =
+          let found = best_is good best.code turn.attacker_to_play some in
+          let code = best_code good best.code turn.attacker_to_play in
+          let asked = told_there _ _ _ (t.each (ko_of turn.attacker_to_play code)) found.there in
+          let above = above_only turn.attacker_to_play best.code code found.is_code asked.0 in
+          let bounded = code_at_most found.is_code in
+          record {
+            bounded = bounded;
+            no_pass = λ more lo hi. i.no_pass more (omega arith) hi;
+            no_point = λ more lo hi. later more (omega arith) hi (fails more (omega arith) hi (found.none more lo hi));
+            no_move = λ e. absurd (omega arith);
+            move = λ ne. (At p, refl, first_at code above bounded asked.1);
+          }
 
   -- no candidate is left
   pub best_all : (cands : ℕ → Bool) (next : ℕ) (best : Answer)

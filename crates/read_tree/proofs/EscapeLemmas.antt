@@ -85,23 +85,27 @@ module _ (s : ℕ) (cells : List Cell) (c : Colour) (l t : ℕ) (whole : length 
             lib.on_board lib.beside.2 (new_stands ∙ sym still);
       }
 
+  -- a liberty of the string is one of the string of its stone next to l
+  beside_liberty : (x : ℕ) → IsLiberty s cells t x → IsLiberty s cells lib.beside.0 x
+  beside_liberty x other =
+      let path = lib.beside.1.path in
+      liberty_moves s cells lib.beside.0 t x (path_on_board s cells t on path) (record {
+        stone = ap is_stone (path_same s cells t path ∙ own) ∙ stone_is c;
+        path = path_back s cells t on path;
+      }) other
+
   -- the other liberties, and the empty sides of l, are reached by the new stone
   reached : (x : ℕ) → (IsLiberty s cells t x × (x ≢ l)) ⊎ IsEmptyNeighbour s cells l x → IsReached s cells c l x
   reached x (inr side) = by_side side
   reached x (inl other) =
-      let y = lib.beside.0 in
       let path = lib.beside.1.path in
-      let y_on = path_on_board s cells t on path in
       by_string (record {
-        q = y;
-        beside = are_neighbours_comm s l y ∙ lib.beside.2;
+        q = lib.beside.0;
+        beside = are_neighbours_comm s l lib.beside.0 ∙ lib.beside.2;
         its = record {
-          on_board = y_on;
+          on_board = path_on_board s cells t on path;
           stone = path_same s cells t path ∙ own;
-          liberty = liberty_moves s cells y t x y_on (record {
-            stone = ap is_stone (path_same s cells t path ∙ own) ∙ stone_is c;
-            path = path_back s cells t on path;
-          }) other.0;
+          liberty = beside_liberty x other.0;
         };
       }) other.1
 

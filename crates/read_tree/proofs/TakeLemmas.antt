@@ -13,7 +13,7 @@ use Rattle.go_rules.specs.declared.Cell.{Cell}
 use Rattle.go_rules.specs.declared.Cell.TheVariants.{Empty}
 use Rattle.go_rules.specs.declared.Colour.{Colour}
 use Rattle.go_rules.specs.declared.Colour.TheVariants.{Black as black, White as white}
-use Rattle.go_rules.specs.Strings.{cell_at, is_stone, start, IsLiberty, is_liberty, liberties}
+use Rattle.go_rules.specs.Strings.{cell_at, Path, is_stone, start, IsLiberty, is_liberty, liberties}
 use Rattle.go_rules.specs.Strings.{liberty_points}
 use Rattle.go_rules.specs.Position.{BoardState, other, stone_of}
 use Rattle.go_rules.specs.Play.{play, cells_after, is_taken}
@@ -66,25 +66,33 @@ module _ (s : ℕ) (cells : List Cell) (c : Colour) (l t : ℕ) (whole : length 
   pub target_gone : cell_at (cells_after s put c) t ≡ Empty
   target_gone = gone t on taken
 
-  -- so the stone at l has a liberty where the string was
+  -- the string of t is whole when the stone was put
+  string_put : (q : ℕ) → Path s cells t q → Path s put t q
+  string_put q path = path_keeps s cells put t
+      (λ y way. at_put_other cells l y (stone_of c) (apart y (path_same s cells t way ∙ enemy))) path
+
+  -- the stone at l stands after the play
+  stone_stays : cell_at (cells_after s put c) l ≡ stone_of c
+  stone_stays = at_after s put c l lib.on_board
+      ∙ ap (λ b. cond b Empty (cell_at put l)) (own_not_taken s put c l put_at) ∙ put_at
+
+  -- the stone of the string next to it leaves it a liberty
+  freed_beside : IsLiberty s (cells_after s put c) l lib.beside.0
+  freed_beside =
+      let q = lib.beside.0 in
+      let path = string_put q lib.beside.1.path in
+      let q_on = path_on_board s put t on path in
+      let near = are_neighbours_comm s l q ∙ lib.beside.2 in
+      record {
+        on_board = q_on;
+        is_empty = gone q q_on (taken_whole s put c t q on taken path);
+        beside = (l, record { stone = ap is_stone stone_stays ∙ stone_is c; path = start }, near);
+      }
+
+  -- so the stone at l has a liberty
   pub stone_lives : liberties s (cells_after s put c) l ≢ 0
   stone_lives z =
-      let q = lib.beside.0 in
-      let inside = lib.beside.1 in
-      let path = path_keeps s cells put t (λ y path.
-      at_put_other cells l y (stone_of c) (apart y (path_same s cells t path ∙ enemy))) inside.path in
-      let stands = at_after s put c l lib.on_board
-      ∙ ap (λ b. cond b Empty (cell_at put l)) (own_not_taken s put c l put_at) ∙ put_at in
-      let some = liberties_from s (cells_after s put c) l q lib.on_board (record {
-        on_board = path_on_board s put t on path;
-        is_empty = gone q (path_on_board s put t on path) (taken_whole s put c t q on taken path);
-        beside = (
-          l,
-          record { stone = ap is_stone stands ∙ stone_is c; path = start },
-          are_neighbours_comm s l q ∙ lib.beside.2,
-        );
-      }) in
-      omega arith
+      let some = liberties_from s (cells_after s put c) l lib.beside.0 lib.on_board freed_beside in omega arith
 
 -- the other colour of the other colour is the colour
 pub other_twice : (c : Colour) → other (other c) ≡ c

@@ -1,5 +1,5 @@
 -- What the reading of a question needs on a trial board, and what it answers.
-use Rattle.std.specs.Prelude.{◌≡◌, ◌↔◌, ◌+◌, ◌<◌, ◌≤◌, Bool, true, false, length, IsNone, IfSome}
+use Rattle.std.specs.Prelude.{◌≡◌, ◌↔◌, ◌+◌, ◌<◌, ◌≤◌, Bool, true, false, [], length, IsNone, IfSome}
 use Rattle.std.specs.Ordering.{nat_cmp}
 use Rattle.std.specs.FinSet as set
 use Rattle.go_rules.specs.Position.{BoardState}
@@ -12,6 +12,10 @@ use Rattle.read_rules.specs.Answer.{is_attack, is_about, answer_of}
 use Rattle.read_rules.specs.GoodMoves.{IsOnBoard}
 use Rattle.read_rules.specs.Bound.{outlasts}
 use Rattle.read_tree.specs.Walk.{IsPointOf, AreLibertiesOf, OnEachAgreeing}
+
+-- the look with no trial moves, and no play tried
+abbrev pub untried : {L : Type 0} → L → Trying L
+untried look = record { look = look; moves = []; count = 0 }
 
 -- the question has plies, for which there is room, its target is on the board, and the points are the target's
 -- liberties, which are not too many

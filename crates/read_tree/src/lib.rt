@@ -14,6 +14,7 @@ mod apart;
 mod bound;
 mod candidates;
 mod escape;
+mod first_look;
 pub mod making;
 pub mod memory;
 pub mod nodes;

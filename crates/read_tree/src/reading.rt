@@ -6,7 +6,7 @@ ghost use Rattle.go_rules.specs.Position.{BoardState, stone_of};
 ghost use Rattle.go_rules.specs.Strings.{cell_at, liberties};
 ghost use Rattle.go_rules.specs.Neighbourhood.{neighbourhood_of};
 ghost use Rattle.go_base.specs.Facts.{Agrees, Grows, AddsIn, CellIs};
-ghost use Rattle.trial_board.specs.Trials.{Stays, most_moves, after};
+ghost use Rattle.trial_board.specs.Trials.{Stays, most_moves};
 ghost use Rattle.go_base.specs.Views.{nowhere, alone};
 ghost use Rattle.read_rules.specs.Ranges.{most_plies};
 ghost use Rattle.read_rules.specs.ActiveArea.{InActiveArea, AddsNear};
@@ -16,14 +16,14 @@ ghost use Rattle.read_rules.specs.Bound.{outlasts};
 ghost use Rattle.read_rules.specs.GoodMoves.{IsOnBoard};
 ghost use Rattle.read_tree.specs.Stages.{is_candidate_on};
 ghost use Rattle.read_tree.specs.Steps.{first_turn, unread, better, IsBest};
-ghost use Rattle.read_tree.specs.Readings.{IsToRead, Answers};
+ghost use Rattle.read_tree.specs.Readings.{IsToRead, Answers, untried};
 ghost use Rattle.read_tree.specs.Table.{IsTrueTable};
 ghost use Rattle.read_tree.specs.Walk.{IsPointOf, AreLibertiesOf, OnEachAgreeing, LooksNear};
 
 use crate::allowances::Allowances;
 use crate::bound::has_too_many;
+use crate::first_look::{FirstLook, first_look};
 use crate::memory::Memory;
-use crate::outlook::liberties_within;
 use crate::report::Report;
 use crate::table::{Entry, empty_table};
 use crate::tree::{pass_saves, succeeds};
@@ -184,27 +184,21 @@ fn read_known<L: Look>(board: &mut Trial<L>, question: &ReadingQuestion, known: 
     read_with_table(board, question, known)
 }
 
-/// The answer to a question that is about the position.
-fn read_on<L: Look>(board: &mut Trial<L>, question: &ReadingQuestion) -> Answer
-    requires plies { 0 < question.now.plies }
-    requires room { length board.old.moves + question.now.plies ≤ most_moves }
-    requires target { IsPointOf L.shows board.old question.now.target }
-    ensures answers { Answers L.shows L.seen board.old board.new question.now result }
-    ensures too_many { IsTrue (outlasts question.now.tree (is_attack question.now.kind) question.now.plies
-        question.now.wide
-        (liberties (L.shows board.old.look).size (after (L.shows board.old.look) board.old.moves).cells
-        question.now.target))
-        → (result ≡ unread (is_attack question.now.kind)) × (board.new.count ≡ board.old.count)
-        × AddsIn (L.seen board.old.look) (L.seen board.new.look)
-        (neighbourhood_of (L.shows board.old.look).size (after (L.shows board.old.look) board.old.moves).cells
-        (alone question.now.target)) }
+/// The answer to a question whose target has few liberties, read on a board of its own. That board is large, and a
+/// question that needs none is not to pay for it.
+#[inline(never)]
+fn read_through<L: Look>(look: L, question: ReadingQuestion, liberties: PointSet) -> Report<L>
+    requires { IsToRead L.shows L.seen (untried look) question liberties }
+    ensures { Answers L.shows L.seen (untried look) (untried result.look) question result.answer }
 {
-    let turn = first_turn(question);
-    let known = liberties_within(board, turn, question.plies);
-    if has_too_many(turn, question.plies, &known) {
-        return unread(turn.attacker_to_play);
+    let mut board = Trial::new(look);
+    let answer = read_known(&mut board, &question, &liberties);
+    let trials = board.trials();
+    Report {
+        answer,
+        trials,
+        look: board.finish(),
     }
-    read_known(board, question, &known)
 }
 
 /// Reads a question about a stone of the position that the view shows: the answer, how many plays were tried, and the
@@ -243,14 +237,16 @@ pub fn read<L: Look>(look: L, question: ReadingQuestion) -> Report<L>
     let mut view = look;
     // The answer rests on the target's stone first of all.
     let _stone = view.cell(question.target);
-    let mut board = Trial::new(view);
-    let answer = read_on(&mut board, &question);
-    let trials = board.trials();
-    Report {
-        answer,
-        trials,
-        look: board.finish(),
+    let turn = first_turn(&question);
+    let FirstLook { liberties, look } = first_look(view, turn, question.plies);
+    if has_too_many(turn, question.plies, &liberties) {
+        return Report {
+            answer: unread(turn.attacker_to_play),
+            trials: 0,
+            look,
+        };
     }
+    read_through(look, question, liberties)
 }
 
 /// The question of this kind about the stone at the target.

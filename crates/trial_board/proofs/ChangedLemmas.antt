@@ -53,30 +53,37 @@ pub tells_fewer : {known : List Known} {touched : ℕ → Bool} {c : Changes} (f
     → TellsPut known touched c → ((q : ℕ) → fewer q ≡ true → touched q ≡ true) → TellsPut known fewer c
 tells_fewer fewer t h = record { only = t.only; each = λ q f. t.each q (h q f) }
 
+-- Of a point p this cell was put, and told where no other was told of it; elsewhere nothing new is told.
+module _ {known : List Known} {touched : ℕ → Bool} {old : Changes} (new : Changes) (p : ℕ) (cell : Cell)
+    (t : TellsPut known touched old) (is : get_or known p NotAsked ≡ Put cell)
+    (here : (told_at old p ≡ None) ⊎ (told_at old p ≡ Some cell) → told_at new p ≡ Some cell)
+    (elsewhere : (q : ℕ) → q ≢ p → told_at new q ≡ told_at old q) where
+  -- so what was put there is told
+  told_here : (q : ℕ) → q ≡ p → told_at new q ≡ put_cell (get_or known q NotAsked)
+  told_here q e =
+      let put : put_cell (get_or known p NotAsked) ≡ Some cell = ap put_cell is in
+      subst (λ x. told_at new x ≡ put_cell (get_or known x NotAsked)) (sym e)
+      (here (elim (t.only p) [ inl n ↦ inl n | inr s ↦ inr (s ∙ put) ]) ∙ sym put)
+
+  -- of each point nothing is told but what was put
+  told_only : (q : ℕ) → (told_at new q ≡ None) ⊎ (told_at new q ≡ put_cell (get_or known q NotAsked))
+  told_only q = elim (cases_eq q p) [
+    | inl e ↦ inr (told_here q e)
+    | inr ne ↦ elim (t.only q) [ inl n ↦ inl (elsewhere q ne ∙ n) | inr s ↦ inr (elsewhere q ne ∙ s) ]
+  ]
+
 -- one more cell that was put is told
 pub tells_put : {known : List Known} {touched : ℕ → Bool} {old new : Changes} (p : ℕ) (cell : Cell)
     → TellsPut known touched old → get_or known p NotAsked ≡ Put cell
     → ((told_at old p ≡ None) ⊎ (told_at old p ≡ Some cell) → told_at new p ≡ Some cell)
     → ((q : ℕ) → q ≢ p → told_at new q ≡ told_at old q) → TellsPut known (λ q. eqb q p || touched q) new
-tells_put {known} {touched} {old} {new} p cell t is here elsewhere =
-    let put : put_cell (get_or known p NotAsked) ≡ Some cell = ap put_cell is in
-    let now : told_at new p ≡ put_cell (get_or known p NotAsked) =
-    here (elim (t.only p) [ inl n ↦ inl n | inr s ↦ inr (s ∙ put) ]) ∙ sym put in
-    let at : (q : ℕ) → q ≡ p → told_at new q ≡ put_cell (get_or known q NotAsked) =
-    λ q e. subst (λ x. told_at new x ≡ put_cell (get_or known x NotAsked)) (sym e) now in
-    record {
-      only = λ q. elim (cases_eq q p) [
-        | inl e ↦ inr (at q e)
-        | inr ne ↦ elim (t.only q) [
-          | inl n ↦ inl (elsewhere q ne ∙ n)
-          | inr s ↦ inr (elsewhere q ne ∙ s)
-        ]
-      ];
-      each = λ q h. elim (cases_eq q p) [
-        | inl e ↦ at q e
-        | inr ne ↦ elsewhere q ne ∙ t.each q (or_else (eqb q p) (touched q) (ne_eqb q p ne) h)
-      ];
-    }
+tells_put {touched} {new} p cell t is here elsewhere = record {
+  only = told_only new p cell t is here elsewhere;
+  each = λ q h. elim (cases_eq q p) [
+    | inl e ↦ told_here new p cell t is here elsewhere q e
+    | inr ne ↦ elsewhere q ne ∙ t.each q (or_else (eqb q p) (touched q) (ne_eqb q p ne) h)
+  ];
+}
 
 -- what a point held before a play, by what it holds after it
 at_before : (s : ℕ) (c : Colour) (p : ℕ) (taken : sets.FinSet nat_cmp) (cells : List Cell) (q : ℕ) → q < s * s

@@ -73,7 +73,8 @@ fn is_refused(banned: bool, allow: bool) -> bool
 }
 
 impl<L: Look> Trial<L> {
-    /// The position that the view shows, with no trial moves.
+    /// The position that the view shows, with no trial moves. It is built where it is to stand.
+    #[inline(always)]
     pub fn new(look: L) -> Self
         ensures { result ≡ record { look = look; moves = []; count = 0 } }
     {

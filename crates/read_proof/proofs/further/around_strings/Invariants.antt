@@ -1,15 +1,12 @@
 use Rattle.std.specs.Prelude.{◌-◌}
 use Rattle.go_rules.specs.Board.{largest_points}
-use Rattle.further_moves.specs.Strings.{is_few_liberty, is_few_enemy}
-use Rattle.further_moves.proofs.GatherLemmas.{Gathers}
+use Rattle.further_moves.proofs.StringLemmas.{GathersAround}
 use Rattle.read_proof.proofs.further.around_strings.Given as goal
 
 -- what stands around the strings of the points came, but for the points that are left from the next one on
 abbrev pub invariant-loop-q : goal.invariant-loop-q
-invariant-loop-q l = record {
-  liberties : Gathers (is_few_liberty l.most l.pos.size l.pos.cells) l.points l.rest l.next l.found.liberties;
-  enemies : Gathers (is_few_enemy l.most l.pos.size l.pos.cells) l.points l.rest l.next l.found.enemies;
-}
+invariant-loop-q l =
+    GathersAround l.most l.pos.size l.pos.cells l.points l.rest l.next l.found.liberties l.found.enemies
 
 -- how many points are left
 abbrev pub decreases-loop-q : goal.decreases-loop-q

@@ -1,7 +1,6 @@
 use Rattle.std.proofs.Common.{◌*◌, ◌∙◌, sym}
-use Rattle.std.specs.FinSet as set
 use Rattle.std.proofs.lemmas.Bool.{and_parts, ltb-true}
-use Rattle.further_moves.proofs.SetLemmas.{defender_is, cut_is, joined_twice}
+use Rattle.further_moves.proofs.SetLemmas.{defender_joined}
 use Rattle.read_proof.proofs.further.for_defender.Goals as goal
 
 -- those that may cut are on the board
@@ -13,13 +12,8 @@ last_liberties-requires c = λ r h.
 -- Beside, Join and Cut were joined
 pub returns : goal.returns
 returns c = λ p.
-    let pos = c.args.pos.now in
-    let beside = c.weak_enemies-found.result.liberties in
-    let linked = c.linked_strings-linked.result in
-    let cuts = c.last_liberties.result in
-    defender_is pos.size pos.cells c.args.target p _ (set.contains beside p) (set.contains linked.liberties p)
-    (set.contains cuts p)
-    (joined_twice beside linked.liberties cuts c.join.new.self c.join-2.new.self p c.join.ensures c.join-2.ensures)
-    (c.weak_enemies-found.ensures.liberties p) (c.linked_strings-linked.ensures.liberties p)
-    (c.last_liberties.ensures p
-    ∙ cut_is pos.size pos.cells c.args.target p linked.enemies c.linked_strings-linked.ensures.enemies)
+    let linked = c.linked_strings-linked in
+    defender_joined c.args.pos.now.size c.args.pos.now.cells c.args.target p c.weak_enemies-found.result.liberties
+    linked.result.liberties linked.result.enemies c.last_liberties.result c.join.new.self c.join-2.new.self
+    c.join.ensures c.join-2.ensures (c.weak_enemies-found.ensures.liberties p) (linked.ensures.liberties p)
+    linked.ensures.enemies (c.last_liberties.ensures p)

@@ -1,33 +1,53 @@
--- The first look is at the target, and those of the reading lie in the active area.
-use Rattle.std.proofs.Common.{◌≡◌, ◌∙◌, true, ap, sym, subst}
-use Rattle.go_rules.specs.Strings.{cell_at}
+-- The first looks are at the target and its liberties, and those of the reading lie in the active area.
+use Rattle.std.proofs.Common.{◌≡◌, ◌≢◌, ◌*◌, ◌<◌, ◌∙◌, ℕ, Bool, [], true, refl, ap, sym, subst, arith, List}
+use Rattle.std.proofs.lemmas.Bool.{both_ways}
+use Rattle.std.specs.FinSet as set
+use Rattle.std.specs.Ordering.{nat_cmp}
+use Rattle.go_rules.specs.declared.Cell.{Cell}
+use Rattle.go_rules.specs.Strings.{cell_at, liberties, liberty_points}
 use Rattle.go_rules.specs.Position.{BoardState, stone_of}
 use Rattle.go_base.specs.Facts.{Agrees, AddsIn, AddsIn-trans, AddsIn-mono, CellIs, agrees_before, same_size}
 use Rattle.go_base.specs.Views.{alone}
 use Rattle.go_base.proofs.AddedFacts.{cell_near}
 use Rattle.go_base.proofs.PointNeighbourhoods.{close_alone}
 use Rattle.go_rules.specs.Neighbourhood.{neighbourhood_of}
-use Rattle.trial_board.specs.Trials.{after}
-use Rattle.read_rules.specs.Answer.{is_about, answer_of}
+use Rattle.read_rules.specs.declared.question.ReadingQuestion.{ReadingQuestion}
 use Rattle.read_rules.specs.ActiveArea.{InActiveArea, AddsNear}
-use Rattle.read_rules.proofs.AnswerLemmas.{about_from}
+use Rattle.read_rules.specs.Answer.{is_about, is_attack, answer_of}
+use Rattle.read_rules.specs.Bound.{outlasts}
+use Rattle.read_rules.proofs.AnswerLemmas.{about_from, about_stands}
 use Rattle.read_rules.proofs.AreaLemmas.{AddsNear-trans, target_on}
-use Rattle.read_tree.proofs.StandingNodes.{near_asked}
+use Rattle.read_tree.specs.declared.turn.Turn.{Turn}
+use Rattle.read_tree.specs.Steps.{TellsLiberties, first_turn, unread}
+use Rattle.read_tree.proofs.BestLemmas.{unread_answer, first_nodes}
+use Rattle.read_tree.proofs.StandingNodes.{near_asked, near_beside, standing_node}
 use Rattle.read_tree.proofs.reading.read.Given.{Over}
 use Rattle.read_tree.proofs.reading.read.Goals as goal
-use Rattle.read_tree.proofs.reading.read.Goals.{After-finish}
+use Rattle.read_tree.proofs.reading.read.Goals.{After-first_look-liberties, After-unread}
 
--- A position that agrees with what is seen after the reading.
-module _ (g : Over) (c : After-finish g) (pos : BoardState)
-    (a : Agrees (g.L.Look.seen c.finish.result) pos) where
-  -- it agrees with what was seen when the reading had ended
-  at_end : Agrees (g.L.Look.seen c.read_on-answer.new.board.look) pos
-  at_end = subst (λ look. Agrees (g.L.Look.seen look) pos) c.finish.ensures a
+-- the liberties that were found are too many where the target's are
+many_at : (q : ReadingQuestion) (s : ℕ) (cells : List Cell) {turn : Turn} {known : set.FinSet nat_cmp} {many : Bool}
+    → turn ≡ first_turn q → many ≡ outlasts turn.tree turn.attacker_to_play q.plies turn.wide (set.len known)
+    → TellsLiberties turn q.plies s cells known
+    → many ≡ outlasts q.tree (is_attack q.kind) q.plies q.wide (liberties s cells q.target)
+many_at q s cells {turn} first many tells =
+    many ∙ tells.many
+    ∙ ap (λ (t : Turn). outlasts t.tree t.attacker_to_play q.plies t.wide (liberties s cells t.target)) first
 
-  -- and with what was seen at its beginning
+-- the target is on the board that is still shown
+still_on : (g : Over) (c : After-first_look-liberties g)
+    → c.args.question.target < (g.L.Look.shows c.first_look-liberties.result.look).size
+    * (g.L.Look.shows c.first_look-liberties.result.look).size
+still_on g c = target_on (g.L.Look.shows c.first_look-liberties.result.look).size c.args.question.size
+    c.args.question.target (ap (λ (p : BoardState). p.size)
+    (c.first_look-liberties.ensures.shown ∙ c.cell-stone.ensures.same) ∙ sym c.requires.size) c.requires.on_board
+
+-- A position that agrees with what is seen after the first look.
+module _ (g : Over) (c : After-first_look-liberties g) (pos : BoardState)
+    (a : Agrees (g.L.Look.seen c.first_look-liberties.result.look) pos) where
+  -- it agrees with what was seen at the beginning
   at_start : Agrees (g.L.Look.seen c.cell-stone.new.self) pos
-  at_start = subst (λ t. Agrees (g.L.Look.seen t.look) pos) c.new-board.ensures
-      (agrees_before c.read_on-answer.ensures.answers.stays.grows at_end)
+  at_start = agrees_before c.first_look-liberties.ensures.grows a
 
   -- its size is that of the position shown
   size : pos.size ≡ (g.L.Look.shows c.args.look).size
@@ -48,41 +68,114 @@ module _ (g : Over) (c : After-finish g) (pos : BoardState)
   about : is_about c.args.question pos ≡ true
   about = about_from c.args.question pos (c.requires.size ∙ sym size) stone
 
--- the answer is that of the question, which is about the position
-pub returns-clause-over : goal.returns-clause-over
-returns-clause-over g c = λ pos a.
-    let q = c.args.question in
-    let d = (goal.at.returns-clause-over g c).After-finish in
-    subst (λ t. is_about q (after pos t.moves) ≡ true → c.read_on-answer.result ≡ answer_of q (after pos t.moves))
-    c.new-board.ensures (c.read_on-answer.ensures.answers.over pos (at_end g d pos a)) (about g d pos a)
+  -- the target is on its board
+  inside : c.args.question.target < pos.size * pos.size
+  inside = target_on pos.size c.args.question.size c.args.question.target (size ∙ sym c.requires.size)
+      c.requires.on_board
 
--- the look at the target's cell and those of the reading lie in the active area
-pub returns-clause-near : goal.returns-clause-near
-returns-clause-near g c = λ pos a.
-    let q = c.args.question in
-    let d = (goal.at.returns-clause-near g c).After-finish in
-    let reading = subst (λ t. is_about q (after pos t.moves) ≡ true
-    → AddsNear (g.L.Look.seen t.look) (g.L.Look.seen c.read_on-answer.new.board.look)
-    (InActiveArea q (after pos t.moves)))
-    c.new-board.ensures (c.read_on-answer.ensures.answers.near pos (at_end g d pos a)) (about g d pos a) in
-    let inside = target_on pos.size q.size q.target (size g d pos a ∙ sym c.requires.size) c.requires.on_board in
-    let target = near_asked q pos inside (about g d pos a) (cell_near c.cell-stone.ensures.only) in
-    subst (λ look. AddsNear (g.L.Look.seen c.args.look) (g.L.Look.seen look) (InActiveArea q pos))
-    (sym c.finish.ensures) (AddsNear-trans target reading)
+  -- the first looks lie in the active area
+  looks_near : AddsNear (g.L.Look.seen c.args.look) (g.L.Look.seen c.first_look-liberties.result.look)
+      (InActiveArea c.args.question pos)
+  looks_near =
+      let q = c.args.question in
+      let some : q.plies ≢ 0 = omega (arith, c.requires.plies) in
+      let node = standing_node _ (g.met.L.Look.sized c.first_look-liberties.result.look) a [] (still_on g c) refl
+      (first_nodes q pos some) (about_stands q pos about) in
+      AddsNear-trans (near_asked q pos inside about (cell_near c.cell-stone.ensures.only))
+      (near_beside node (rw c.first_turn-turn.ensures at (c.first_look-liberties.ensures.near pos a)))
 
--- with too many liberties no play is tried
-pub returns-clause-too_many : goal.returns-clause-too_many
-returns-clause-too_many g c = λ h.
+-- the position shown agrees with what is seen after the first look
+shown_agrees : (g : Over) (c : After-first_look-liberties g)
+    → Agrees (g.L.Look.seen c.first_look-liberties.result.look) (g.L.Look.shows c.args.look)
+shown_agrees g c = subst (Agrees (g.L.Look.seen c.first_look-liberties.result.look))
+    (c.first_look-liberties.ensures.shown ∙ c.cell-stone.ensures.same)
+    (g.met.L.Look.holds c.first_look-liberties.result.look)
+
+-- the look at the target's stone lies beside it
+stone_near : (g : Over) (c : After-first_look-liberties g)
+    → AddsIn (g.L.Look.seen c.args.look) (g.L.Look.seen c.cell-stone.new.self)
+    (neighbourhood_of (g.L.Look.shows c.args.look).size (g.L.Look.shows c.args.look).cells
+    (alone c.args.question.target))
+stone_near g c =
     let q = c.args.question in
     let shown = g.L.Look.shows c.args.look in
-    let w = (rw (c.new-board.ensures, c.cell-stone.ensures.same) at c.read_on-answer.ensures.too_many) h in
-    let inside = target_on shown.size q.size q.target (sym c.requires.size) c.requires.on_board in
-    let near : AddsIn (g.L.Look.seen c.args.look) (g.L.Look.seen c.cell-stone.new.self)
-    (neighbourhood_of shown.size shown.cells (alone q.target)) =
-    AddsIn-mono (cell_near c.cell-stone.ensures.only) (λ p. close_alone shown.size shown.cells q.target p inside) in (
-      w.0,
-      c.trials-trials.ensures ∙ w.1,
-      subst (λ look. AddsIn (g.L.Look.seen c.args.look) (g.L.Look.seen look)
-          (neighbourhood_of shown.size shown.cells (alone q.target))) (sym c.finish.ensures)
-          (AddsIn-trans near w.2),
+    AddsIn-mono (cell_near c.cell-stone.ensures.only) (λ p. close_alone shown.size shown.cells q.target p
+    (target_on shown.size q.size q.target (sym c.requires.size) c.requires.on_board))
+
+-- where the liberties that were found are too many, what is told without a reading is the answer to the question
+unread_told : (g : Over) (c : After-unread g) (pos : BoardState)
+    → Agrees (g.L.Look.seen c.first_look-liberties.result.look) pos → is_about c.args.question pos ≡ true
+    → c.args.question.target < pos.size * pos.size → c.unread.result ≡ answer_of c.args.question pos
+unread_told g c pos a about inside =
+    let q = c.args.question in
+    let many = sym (many_at q pos.size pos.cells c.first_turn-turn.ensures c.has_too_many.ensures
+    (c.first_look-liberties.ensures.over pos a)) ∙ c.if-has_too_many.true in
+    c.unread.ensures ∙ ap (λ (t : Turn). unread t.attacker_to_play) c.first_turn-turn.ensures
+    ∙ unread_answer q pos (omega (arith, c.requires.plies)) about inside many
+
+-- it is so on each position that agrees
+pub returns-then-has_too_many-clause-over : goal.returns-then-has_too_many-clause-over
+returns-then-has_too_many-clause-over g c = λ pos a.
+    let at = goal.at.returns-then-has_too_many-clause-over g c in
+    let d = at.After-first_look-liberties in
+    unread_told g at.After-unread pos a (about g d pos a) (inside g d pos a)
+
+-- and on the one shown
+pub returns-then-has_too_many-clause-answer : goal.returns-then-has_too_many-clause-answer
+returns-then-has_too_many-clause-answer g c =
+    let at = goal.at.returns-then-has_too_many-clause-answer g c in
+    let d = at.After-first_look-liberties in
+    let shown = g.L.Look.shows c.args.look in
+    let a = shown_agrees g d in
+    unread_told g at.After-unread shown a (about g d shown a) (inside g d shown a)
+
+-- only the target and its liberties were looked at
+pub returns-then-has_too_many-clause-near : goal.returns-then-has_too_many-clause-near
+returns-then-has_too_many-clause-near g c = λ pos a.
+    looks_near g (goal.at.returns-then-has_too_many-clause-near g c).After-first_look-liberties pos a
+
+-- no play was tried, and the looks lie near the target
+pub returns-then-has_too_many-clause-too_many : goal.returns-then-has_too_many-clause-too_many
+returns-then-has_too_many-clause-too_many g c = λ h.
+    let d = (goal.at.returns-then-has_too_many-clause-too_many g c).After-first_look-liberties in (
+      c.unread.ensures ∙ ap (λ (t : Turn). unread t.attacker_to_play) c.first_turn-turn.ensures,
+      refl,
+      AddsIn-trans (stone_near g d)
+          (rw c.first_turn-turn.ensures at
+          (c.first_look-liberties.ensures.near (g.L.Look.shows c.args.look) (shown_agrees g d))),
     )
+
+-- the liberties that were found are the target's, and they are not too many
+pub read_through-requires : goal.read_through-requires
+read_through-requires g c = record {
+  plies = c.requires.plies;
+  room = omega (arith, c.requires.few);
+  target = still_on g (goal.at.read_through-requires g c).After-first_look-liberties;
+  liberties = λ pos a. (c.first_look-liberties.ensures.over pos a).all
+      (sym c.has_too_many.ensures ∙ c.if-has_too_many.false)
+      ∙ ap (λ (t : Turn). liberty_points pos.size pos.cells t.target) c.first_turn-turn.ensures;
+  few = sym (c.has_too_many.ensures
+      ∙ ap (λ (t : Turn). outlasts t.tree t.attacker_to_play c.args.question.plies t.wide
+      (set.len c.first_look-liberties.result.liberties)) c.first_turn-turn.ensures) ∙ c.if-has_too_many.false;
+}
+
+-- the reading's answer is that of the question
+pub returns-clause-over : goal.returns-clause-over
+returns-clause-over g c = λ pos a.
+    let d = (goal.at.returns-clause-over g c).After-first_look-liberties in
+    c.read_through.ensures.over pos a (about g d pos (agrees_before c.read_through.ensures.stays.grows a))
+
+-- its looks lie in the active area too
+pub returns-clause-near : goal.returns-clause-near
+returns-clause-near g c = λ pos a.
+    let d = (goal.at.returns-clause-near g c).After-first_look-liberties in
+    let a0 = agrees_before c.read_through.ensures.stays.grows a in
+    AddsNear-trans (looks_near g d pos a0) (c.read_through.ensures.near pos a (about g d pos a0))
+
+-- plays are tried only where the liberties are not too many
+pub returns-clause-too_many : goal.returns-clause-too_many
+returns-clause-too_many g c = λ h.
+    let d = (goal.at.returns-clause-too_many g c).After-first_look-liberties in
+    absurd (both_ways _ (sym (many_at c.args.question _ _ c.first_turn-turn.ensures c.has_too_many.ensures
+    (c.first_look-liberties.ensures.over (g.L.Look.shows c.args.look) (shown_agrees g d)))
+    ∙ c.if-has_too_many.false) h)
