@@ -96,6 +96,7 @@ pub struct Engine {
 impl Model for Engine {
     ghost use Rattle.std.specs.Prelude.{◌≡◌};
     ghost use Rattle.engine.specs.EngineView.{EngineView, NumbersPatterns};
+    ghost use Rattle.engine.specs.SeenEngines.{seen};
     ghost use Rattle.pat_types.specs.contracts.expr.Expr as expr;
     ghost use Rattle.std.specs.Coded.{codes};
 
@@ -103,23 +104,7 @@ impl Model for Engine {
 
     ghost coded = { Prim.hlevel (codes, expr.the_row.coded) };
 
-    ghost view = { λ s. record {
-      base = s.history.base;
-      moves = s.history.moves;
-      komi = s.komi;
-      depths = s.readings.depths;
-      patterns = s.patterns.items;
-      automaton = s.scanner;
-      counts = record {
-        readings = s.counts.readings;
-        fresh = s.counts.fresh;
-        trials = s.counts.trials;
-        refused = s.readings.answers.refused;
-        links = record { connections = s.connections; fresh = s.links.answers.fresh };
-      };
-      readings = s.readings;
-      links = s.links;
-    } };
+    ghost view = { seen };
 
     ghost invariant = { λ s. record {
       numbers : NumbersPatterns s.scanner s.patterns.items;
