@@ -9,7 +9,6 @@ pub mod LineTexts
 pub mod ListedMatches
 pub mod LoadAnswers
 pub mod MoveAnswers
-pub mod ReadAnswers
 pub mod RecordAnswers
 pub mod RefusedLines
 pub mod StoneAnswers

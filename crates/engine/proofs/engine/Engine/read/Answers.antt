@@ -1,8 +1,8 @@
 -- One call of the readings was made on the session's board, and was counted.
 use Rattle.std.proofs.Common.{ap, ◌∙◌, rules}
 use Rattle.engine.specs.EngineView.{machine_with}
-use Rattle.engine.proofs.ReadAnswers.{ReadsAs-inside, told-read}
-use Rattle.engine.proofs.StoneAnswers.{depths-kept}
+use Rattle.engine.proofs.LineCounts.{ReadsAs-inside}
+use Rattle.engine.proofs.StoneAnswers.{depths-kept, told-read}
 use Rattle.engine.proofs.engine.Engine.read.Goals as goal
 
 -- attack or defend on a stone makes one reading, of the session's position and at the session's depths

@@ -1,8 +1,8 @@
 -- An answer that was kept is one call of the readings, on the session's board, and was counted.
 use Rattle.std.proofs.Common.{ap, ◌∙◌, rules}
 use Rattle.engine.specs.EngineView.{machine_with}
-use Rattle.engine.proofs.ReadAnswers.{ReadsAs-inside, told-read}
-use Rattle.engine.proofs.StoneAnswers.{depths-kept}
+use Rattle.engine.proofs.LineCounts.{ReadsAs-inside}
+use Rattle.engine.proofs.StoneAnswers.{depths-kept, told-read}
 use Rattle.engine.proofs.engine.Engine.recall.Goals as goal
 
 -- attack or defend on a stone makes one reading, of the session's position and at the session's depths
