@@ -323,6 +323,12 @@ module _ (first last : Kept) (turns : List (Turn Machine)) (along : IsAlong IsAf
     connections = (let both = all-links in omega (arith, no-connections, both.0));
     fresh_links = all-links.1;
     rose = record {
-      first = first; last = last; uncounted = none; readings = unread; links = unasked; along = along; same = refl;
+      first = first;
+      last = last;
+      uncounted = none;
+      readings = unread;
+      links = unasked;
+      along = along;
+      same = refl;
     };
   }

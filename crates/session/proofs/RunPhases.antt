@@ -182,8 +182,12 @@ serves-generated n step goes first left piece faults w0 w1 c0 c1 f0 f1 p text re
         left = refl;
         piece = refl;
         input_faults = refl;
-        generated = (rest, last, serves-text n step first faults w0 w1 c0 c1 f0 f1 p last text rest end counting.tally
-            is counting.serves);
+        generated = (
+          rest,
+          last,
+          serves-text n step first faults w0 w1 c0 c1 f0 f1 p last text rest end counting.tally
+              is counting.serves,
+        );
         not_too_long = not_too_long step first (Some rest) text rest counting.serves.taken counting.tally.out last n end
             few is counting.serves.reads counting.serves.right;
       };
@@ -198,12 +202,12 @@ pub ends-generated : {M : Type 0} (n : ℕ) (step : M → RawLine → Step M →
     (last : ℕ)
     (end : End) (counts : Counts) (missed : List (List ℕ)) (old : Progress) (written : Option (List ℕ)) (sent : Sent)
     (generate : Option ℕ) → generate ≡ Some n → n ≤ 100000 → text ≡ generated_text n → EndsCounting None step goes first
-    (streams (Some text) p f0 w0 c0)
-    (streams (Some rest) last f1 w1 c1) end counts missed
+    (record { left = Some text; piece = p; input_faults = f0; written = w0; output_faults = c0 })
+    (record { left = Some rest; piece = last; input_faults = f1; written = w1; output_faults = c1 }) end counts missed
     old written sent
     → EndsCounting generate step goes first
-    (streams left piece faults w0 c0)
-    (streams left piece faults w1 c1) end counts missed
+    (record { left = left; piece = piece; input_faults = faults; written = w0; output_faults = c0 })
+    (record { left = left; piece = piece; input_faults = faults; written = w1; output_faults = c1 }) end counts missed
     old written sent
 ends-generated n step goes first left piece faults w0 w1 c0 c1 f0 f1 p text rest last end counts missed old written sent
     generate some few is ends = record {
