@@ -28,7 +28,7 @@ use Rattle.session.specs.PatternFiles.{IsRefused, MissedIn}
 use Rattle.session.specs.FirstSession.{Opens, CameBy, ServesCounting, EndsCounting}
 use Rattle.session.specs.Outcomes.{Phase, NotOpened, Served}
 use Rattle.session.specs.Ends.{Streams, streams, IsRight, Serves, most_taken}
-use Rattle.session.specs.Headline.{AreCounts, AreCountsOf, IsSent, IsCauseOf, MissedAfter}
+use Rattle.session.specs.Headline.{AreCounts, AreCountsOf, IsSent, IsCauseOf, MissedAfter, ServesGenerated}
 use Rattle.session.specs.Serving.{progress_of}
 use Rattle.session.specs.declared.outcome.End.{End}
 use Rattle.session.specs.declared.outcome.End.TheVariants.{InputTooLong}
@@ -160,6 +160,21 @@ serves-text n step first faults w0 w1 c0 c1 f0 f1 p last text rest end tally is 
   tallied = serves.tallied;
 }
 
+-- so these were served in place of the source, which stays as it was
+serves-these : {M : Type 0} (n : ℕ) (step : M → RawLine → Step M → Type 0) (first : M) (left : Option (List ℕ))
+    (piece faults : ℕ) (w0 w1 : Option (List ℕ)) (c0 c1 f0 f1 p last : ℕ) (text rest : List ℕ) (end : End)
+    (tally : Tally M) → n ≤ 100000 → text ≡ generated_text n
+    → Serves step first (streams (Some text) p f0 w0 c0) (streams (Some rest) last f1 w1 c1) end tally
+    → ServesGenerated n step first (streams left piece faults w0 c0) (streams left piece faults w1 c1) end tally
+serves-these n step first left piece faults w0 w1 c0 c1 f0 f1 p last text rest end tally few is serves = record {
+  left = refl;
+  piece = refl;
+  input_faults = refl;
+  generated = (rest, last, serves-text n step first faults w0 w1 c0 c1 f0 f1 p last text rest end tally is serves);
+  not_too_long = not_too_long step first (Some rest) text rest serves.taken tally.out last n end few is serves.reads
+      serves.right;
+}
+
 -- generated lines were served in place of the source
 serves-generated : {M : Type 0} (n : ℕ) (step : M → RawLine → Step M → Type 0)
     (goes : Kept → Turn M → Kept → Type 0)
@@ -178,19 +193,8 @@ serves-generated n step goes first left piece faults w0 w1 c0 c1 f0 f1 p text re
     subst (λ o. ServesCounting o step goes first (streams left piece faults w0 c0) (streams left piece faults w1 c1) end
     old new) (sym some) (record {
       tally = counting.tally;
-      serves = record {
-        left = refl;
-        piece = refl;
-        input_faults = refl;
-        generated = (
-          rest,
-          last,
-          serves-text n step first faults w0 w1 c0 c1 f0 f1 p last text rest end counting.tally
-              is counting.serves,
-        );
-        not_too_long = not_too_long step first (Some rest) text rest counting.serves.taken counting.tally.out last n end
-            few is counting.serves.reads counting.serves.right;
-      };
+      serves = serves-these n step first left piece faults w0 w1 c0 c1 f0 f1 p last text rest end counting.tally few is
+          counting.serves;
       advances = counting.advances;
     })
 
