@@ -41,6 +41,11 @@ pub nothing-there : {X Y : Type 0} (make : X → Y) (found : Option X) → None 
 nothing-there make None e = refl
 nothing-there make (Some x) e = absurd cc
 
+-- where no helper has a name, none has the word that this is
+pub none-named : (slots : List SlotState) (given word : List ℕ) → given ≡ word → is_some (named given slots) ≡ false
+    → is_some (named word slots) ≡ false
+none-named slots given word is missing = subst (λ n. is_some (named n slots) ≡ false) is missing
+
 -- where no helper has the name, that is told, and the machine stays
 pub not-there : (old : Machine) (name : List ℕ) (effect : Effect) (new : Machine)
     → is_some (named name old.helpers) ≡ false → new ≡ old

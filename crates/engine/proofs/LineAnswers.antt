@@ -17,13 +17,14 @@ use Rattle.machine_rules.specs.LinkQuestions.{asks_link_of, asks_link_of_line}
 use Rattle.machine_rules.specs.Loads.{parsed_load, load_in, missed_by, IsFileOf}
 use Rattle.machine_rules.specs.Machine.{Machine}
 use Rattle.machine_rules.specs.Questions.{asks_of, asks_of_parsed, asks_of_line}
-use Rattle.machine_rules.specs.Soundness.{IsWithoutWords}
+use Rattle.machine_rules.specs.Calls.{AreSameButCalls}
+use Rattle.machine_rules.specs.Soundness.{IsWithoutWords, IsRefusal}
 use Rattle.machine_rules.specs.Step.{Input, step, step_on, effect_of}
 use Rattle.machine_rules.specs.Matcher.{automaton_matcher}
 use Rattle.machine_rules.proofs.Soundness.{step-sound, read-heard, link-heard, some_file}
 use Rattle.machine_rules.proofs.WordLines.{parsed_of-none, none-parsed_of}
-use Rattle.engine.specs.AfterLine.{ReadsAs}
-use Rattle.engine.specs.AskedLinks.{LinksAs}
+use Rattle.engine.specs.AfterLine.{ReadsAs, KeepsCounts}
+use Rattle.engine.specs.AskedLinks.{LinksAs, LinksNothing}
 use Rattle.engine.specs.LineAnswers.{AnswersParsed, AnswersLine}
 use Rattle.engine.specs.Kept.{Kept, machine_of}
 use Rattle.engine.specs.Replies.{reply_bytes, reply_ends, reply_count}
@@ -78,33 +79,50 @@ module _ (contents : Contents) (old : Kept) (line : RawLine) (answer : Reply) (n
   line-links : LinksAs (asks_link_of_line (machine_of old) line) old.engine new.engine
   line-links = subst (λ a. LinksAs a old.engine new.engine) (sym (link-heard (machine_of old) line)) is.links
 
+  -- it has no reply exactly where it has no words
+  line-nothing : (answer ≡ reply.Nothing) ↔ IsWithoutWords line
+  line-nothing =
+      let nothing = nothing-heard (machine_of old) line in
+      ((λ none. nothing.0 (is.nothing.0 none)), (λ none. is.nothing.1 (nothing.1 none)))
+
+  -- The reply is a refusal.
+  module _ (refusal : IsRefusal (reply_bytes answer)) where
+    -- so the machine is as it was, but for the calls of helpers
+    refused-machine : AreSameButCalls (machine_of old) (machine_of new)
+    refused-machine =
+        refused-same (machine_of old) line-reply.0 (reply_bytes answer) (machine_of new) (reply_ends answer)
+        (step-sound (matcher_of old.engine) contents (machine_of old) line line-reply.0 line-reply.1) line-reply.2
+        refusal
+
+    -- the line counts as no reading
+    refused-counts : KeepsCounts old.engine new.engine
+    refused-counts =
+        counts_kept-line (machine_of old) line old.engine new.engine line-read
+        (read-not_refused (matcher_of old.engine) contents (machine_of old) line (reply_bytes answer) (machine_of new)
+        (reply_ends answer) line-reply refusal)
+
+    -- nor does it ask about a connection
+    refused-links : LinksNothing old.engine new.engine
+    refused-links =
+        unasked-links old.engine new.engine (asks_link_of_line (machine_of old) line) line-links
+        (link-not_refused (matcher_of old.engine) contents (machine_of old) line (reply_bytes answer) (machine_of new)
+        (reply_ends answer) line-reply refusal)
+
   -- the line was answered
   heard-answers : AnswersLine contents old line answer new
-  heard-answers =
-      let nothing = nothing-heard (machine_of old) line in
-      record {
-        reply = line-reply;
-        nothing = ((λ none. nothing.0 (is.nothing.0 none)), (λ none. is.nothing.1 (nothing.1 none)));
-        bytes = is.bytes;
-        patterns = is.patterns;
-        automaton = is.automaton;
-        readings = line-readings;
-        read = line-read;
-        links = line-links;
-        missed = line-missed;
-        few_fresh = few_fresh-line (machine_of old) line old.engine new.engine line-readings line-read;
-        refused = λ refusal. (
-          refused-same (machine_of old) line-reply.0 (reply_bytes answer) (machine_of new) (reply_ends answer)
-              (step-sound (matcher_of old.engine) contents (machine_of old) line line-reply.0 line-reply.1)
-              line-reply.2 refusal,
-          counts_kept-line (machine_of old) line old.engine new.engine line-read
-              (read-not_refused (matcher_of old.engine) contents (machine_of old) line (reply_bytes answer)
-              (machine_of new) (reply_ends answer) line-reply refusal),
-          unasked-links old.engine new.engine (asks_link_of_line (machine_of old) line) line-links
-              (link-not_refused (matcher_of old.engine) contents (machine_of old) line (reply_bytes answer)
-              (machine_of new) (reply_ends answer) line-reply refusal),
-        );
-      }
+  heard-answers = record {
+    reply = line-reply;
+    nothing = line-nothing;
+    bytes = is.bytes;
+    patterns = is.patterns;
+    automaton = is.automaton;
+    readings = line-readings;
+    read = line-read;
+    links = line-links;
+    missed = line-missed;
+    few_fresh = few_fresh-line (machine_of old) line old.engine new.engine line-readings line-read;
+    refused = λ refusal. (refused-machine refusal, refused-counts refusal, refused-links refusal);
+  }
 
 -- what says the same as a line answers it
 pub answers-line : (contents : Contents) (old : Kept) (line : RawLine) (said : Parsed) (answer : Reply) (new : Kept)

@@ -24,6 +24,8 @@ use Rattle.machine_rules.specs.Questions.{Nothing, One, Many, key_at}
 use Rattle.engine.specs.AfterLine.{ReadsAs, ReadsNothing, KeepsCounts, CountsRefused, after_trials}
 use Rattle.machine_rules.specs.Questions.{asks_at, asks_of, asks_of_parsed, asks_of_line}
 use Rattle.engine.specs.AfterLine.{HasFewFresh}
+use Rattle.engine.specs.SeenEngines.{seen}
+use Rattle.engine.specs.declared.engine.Engine.TheInside.{Inside}
 
 module _ (old new : EngineView) where
   -- no reading was made, and so the counts are as before
@@ -160,3 +162,17 @@ module _ (old new : EngineView) (kind : Kind) (p : ℕ) (pos : BoardState) (answ
         fresh = fresh;
         trials = trials;
       })
+
+-- what was read of a session's fields, on its board, is what was asked where a stone stands
+pub ReadsAs-inside : (old : EngineView) (kind : Kind) (p : ℕ) → has_stone (machine_alone old) p ≡ true
+    → (inside : Inside) (new : EngineView) (pos : BoardState) (answer : Answer) (after : ReadingsView)
+    → seen inside ≡ old → pos ≡ board_of old → new.readings ≡ after
+    → HasRead (record { question = asked_at inside.readings.depths pos kind p }) pos answer inside.readings after
+    → IsPosition pos → HoldsOfEach Rests after.answers.kept → CountsRefused new
+    → new.counts.fresh ≡ counted old.counts.fresh (is_some new.readings.last)
+    → new.counts.trials ≡ after_trials old.counts.trials new.readings.last
+    → ReadsAs (asks_at (machine_alone old) kind p) old new
+ReadsAs-inside old kind p stone inside new pos answer after view board is has sound rest refused fresh trials =
+    ReadsAs-once old new kind p pos answer inside.readings after board (ap (λ (k : EngineView). k.readings) view)
+    (ap (λ (k : EngineView). k.depths) view) is has sound rest (subst CountsRefused view refl) refused fresh trials
+    stone

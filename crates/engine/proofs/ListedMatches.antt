@@ -45,7 +45,7 @@ module _ (kept new : EngineView) (friend : Colour) (patterns : List Pattern) (ro
       ≡ after_matches before ps (automaton_matches (codes_at d) all_yes r ps b friend) b friend) asked)
 
   -- where the text was made, the list is told
-  pub listed-told : {T E : Type 0} (view : T → List ℕ) (result : Result T E)
+  listed-told : {T E : Type 0} (view : T → List ℕ) (result : Result T E)
       → IfOk result (λ text. view text ≡ matches_text patterns board.size
       (automaton_matches (codes_of readings) (says_yes before) rows patterns board friend))
       → (Asked ⊎ ((is_err result ≡ true) × (after ≡ before)))
@@ -62,8 +62,19 @@ module _ (kept new : EngineView) (friend : Colour) (patterns : List Pattern) (ro
   }
 
   -- where there is no memory for the reply, the helpers were asked or not
-  pub listed-excused : {T E : Type 0} (result : Result T E) → (Asked ⊎ ((is_err result ≡ true) × (after ≡ before)))
+  listed-excused : {T E : Type 0} (result : Result T E) → (Asked ⊎ ((is_err result ≡ true) × (after ≡ before)))
       → IsExcused (matches_listed (matcher_of kept) (machine_with before kept) friend).excuses OutOfMemory
       (machine_with after new)
   listed-excused result (inl asked) = inr (inl (refl, now-asked asked))
   listed-excused result (inr none) = inl (refl, keeps ∙ ap (λ helpers. machine_with helpers kept) none.1)
+
+  -- so a list that grew is an answer, and so is that there was no memory for it
+  pub listed-grown : {T E : Type 0} (view : T → List ℕ) (result : Result T E)
+      → IfOk result (λ text. view text ≡ matches_text patterns board.size
+      (automaton_matches (codes_of readings) (says_yes before) rows patterns board friend))
+      → (Asked ⊎ ((is_err result ≡ true) × (after ≡ before)))
+      → IfOk result (λ text. Succeeds (matches_listed (matcher_of kept) (machine_with before kept) friend) (view text)
+      (machine_with after new))
+      × IsExcused (matches_listed (matcher_of kept) (machine_with before kept) friend).excuses OutOfMemory
+      (machine_with after new)
+  listed-grown view result is calls = (listed-told view result is calls, listed-excused result calls)

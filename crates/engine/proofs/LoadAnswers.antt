@@ -58,23 +58,37 @@ missed-told line id (command.LoadSgf span) bytes said told =
     missed-named id (is_utf8 (word_at line span)) (word_at line span) bytes said told
 missed-told line id _ bytes said told = refl
 
--- What was answered to a work that loads nothing.
+-- What was answered to a work, which is this one.
 module _ {work done : Work} (is : work ≡ done) where
-  -- it is what the command tells
+  -- it is done as this one is
+  pub done-same : (contents : Contents) (matcher : Matcher) (old : Machine) (line : List ℕ) (said : Answer)
+      (new : Machine) → IsDone contents matcher old line (command_of done) said new
+      → IsDone contents matcher old line (command_of work) said new
+  done-same contents matcher old line said new =
+      subst (λ (w : Work). IsDone contents matcher old line (command_of w) said new) (sym is)
+
+  -- and misses what this one does
+  pub missed-same : (line : List ℕ) (said : Answer) (missed now : List (List ℕ))
+      → now ≡ missed ++ missed_as (load_of line None (command_of done)) said
+      → now ≡ missed ++ missed_as (load_of line None (command_of work)) said
+  missed-same line said missed now =
+      subst (λ (w : Work). now ≡ missed ++ missed_as (load_of line None (command_of w)) said) (sym is)
+
+  -- where this one loads nothing, it is what the command tells
   pub done-unloaded : (contents : Contents) (matcher : Matcher) (old : Machine) (line : List ℕ) (said : Answer)
       (new : Machine) → load_of line None (command_of done) ≡ None → ((file : List ℕ)
       → IsAnswer (effect_of matcher old (record { line = line; file = file }) (command_of done)) said new)
       → IsDone contents matcher old line (command_of work) said new
   done-unloaded contents matcher old line said new none answers =
-      subst (λ (w : Work). IsDone contents matcher old line (command_of w) said new) (sym is)
+      done-same contents matcher old line said new
       ([], subst (λ load. IsFileOf contents load []) (sym none) tt, answers [])
 
-  -- and it misses nothing
+  -- and nothing is missed
   pub missed-unloaded : (line : List ℕ) (said : Answer) (missed : List (List ℕ))
       → load_of line None (command_of done) ≡ None
       → missed ≡ missed ++ missed_as (load_of line None (command_of work)) said
   missed-unloaded line said missed none =
-      subst (λ (w : Work). missed ≡ missed ++ missed_as (load_of line None (command_of w)) said) (sym is)
+      missed-same line said missed missed
       (subst (λ load. missed ≡ missed ++ missed_as load said) (sym none) (sym (append-nil missed)))
 
 -- a number is itself

@@ -77,6 +77,14 @@ are-contents : (contents : Option (List ℕ)) (bytes : List ℕ) → IsLoaded co
 are-contents None bytes is = tt
 are-contents (Some told) bytes is = is
 
+-- what was loaded by a name, behind nothing, is what the loader gives by the word that the name is
+pub loaded-anew : (contents : Contents) (word name into bytes file : List ℕ) → name ≡ word → into ≡ [] → file ≡ bytes
+    → IsLoaded (contents name) into bytes → IsLoaded (contents word) [] file
+loaded-anew contents word name into bytes file same empty is loaded =
+    subst (λ text. IsLoaded (contents word) [] text) (sym is)
+    (subst (λ front. IsLoaded (contents word) front bytes) empty
+    (subst (λ known. IsLoaded (contents known) into bytes) same loaded))
+
 -- What is loaded by a name that is a text.
 module _ (name : List ℕ) (utf8 : is_utf8 name ≡ true) where
   -- a load by that name

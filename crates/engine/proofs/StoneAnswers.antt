@@ -5,7 +5,11 @@ use Rattle.machine_rules.specs.BoardCommands.{of_stone}
 use Rattle.machine_rules.specs.Counting.{has_stone}
 use Rattle.machine_rules.specs.Effects.{refused, told}
 use Rattle.machine_rules.specs.Machine.{Machine}
+use Rattle.machine_rules.specs.ReadingCommands.{answer_text, read, reading_of}
 use Rattle.match_engine.specs.ReadingDepths.{ReadingDepths}
+use Rattle.helpers.specs.HelperStates.{SlotState}
+use Rattle.read_rules.specs.declared.question.Kind.{Kind}
+use Rattle.engine.specs.EngineView.{EngineView, machine_alone, machine_with}
 use Rattle.engine.specs.CommandAnswers.{IsAnswer}
 use Rattle.engine.specs.declared.answer.Answer.{Answer}
 use Rattle.engine.specs.declared.answer.Answer.TheVariants as answer
@@ -22,3 +26,12 @@ told-of_stone machine p text result said new stone says same keeps =
 -- a machine with the depths that it has
 pub depths-kept : (m : Machine) (depths : ReadingDepths) → depths ≡ m.depths → record m { depths = depths } ≡ m
 depths-kept m depths same = ap (λ d. record m { depths = d }) same
+
+-- where a stone stands, the text of its reading is an answer, whoever the helpers are
+pub told-read : (session : EngineView) (kind : Kind) (p : ℕ) → has_stone (machine_alone session) p ≡ true
+    → (helpers : List SlotState) (text : List ℕ) (said : Answer) (new : Machine) → said ≡ answer.Told text
+    → text ≡ answer_text session.base.size (reading_of (machine_alone session) kind p)
+    → new ≡ machine_with helpers session → IsAnswer (read (machine_with helpers session) kind p) said new
+told-read session kind p stone helpers text said new says is keeps =
+    told-of_stone (machine_with helpers session) p
+    (answer_text session.base.size (reading_of (machine_alone session) kind p)) text said new stone says is keeps

@@ -6,5 +6,6 @@ pub mod Handed
 pub mod Kept
 pub mod LineAnswers
 pub mod Replies
+pub mod SeenEngines
 pub mod SessionView
 pub mod SlowLines

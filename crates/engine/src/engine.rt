@@ -96,6 +96,7 @@ pub struct Engine {
 impl Model for Engine {
     ghost use Rattle.std.specs.Prelude.{◌≡◌};
     ghost use Rattle.engine.specs.EngineView.{EngineView, NumbersPatterns};
+    ghost use Rattle.engine.specs.SeenEngines.{seen};
     ghost use Rattle.pat_types.specs.contracts.expr.Expr as expr;
     ghost use Rattle.std.specs.Coded.{codes};
 
@@ -103,23 +104,7 @@ impl Model for Engine {
 
     ghost coded = { Prim.hlevel (codes, expr.the_row.coded) };
 
-    ghost view = { λ s. record {
-      base = s.history.base;
-      moves = s.history.moves;
-      komi = s.komi;
-      depths = s.readings.depths;
-      patterns = s.patterns.items;
-      automaton = s.scanner;
-      counts = record {
-        readings = s.counts.readings;
-        fresh = s.counts.fresh;
-        trials = s.counts.trials;
-        refused = s.readings.answers.refused;
-        links = record { connections = s.connections; fresh = s.links.answers.fresh };
-      };
-      readings = s.readings;
-      links = s.links;
-    } };
+    ghost view = { seen };
 
     ghost invariant = { λ s. record {
       numbers : NumbersPatterns s.scanner s.patterns.items;
@@ -347,56 +332,59 @@ impl Engine {
         ensures same { OnErr result (self.new ≡ self.old) }
         ensures helpers { OnErr result (helpers.new ≡ helpers.old) }
     {
-        match command {
-            Command::ProtocolVersion => Ok(told(b"2")),
-            Command::Name => Ok(told(b"gopat")),
-            Command::Version => Ok(told(b"1")),
-            Command::KnownCommand(known) => Ok(told(word(known))),
-            Command::ListCommands => Ok(grown(names_text(self.alloc))),
-            Command::Quit => Ok(Answer::Ended),
-            Command::BoardSize(size) => Ok(self.resize(size)),
-            Command::ClearBoard => Ok(self.clear()),
-            Command::Komi(komi) => Ok(self.keep_komi(komi)),
-            Command::GetKomi => Ok(told(self.komi.as_slice())),
-            Command::Play(colour, at) => Ok(self.play(Move { colour, at })),
-            Command::Undo => Ok(self.undo()),
-            Command::ShowBoard => Ok(self.show_board()),
-            Command::IsLegal(colour, at) => Ok(self.tell_legal(Move { colour, at })),
-            Command::AllLegal(colour) => Ok(self.list_legal(colour)),
-            Command::CountLib(p) => Ok(self.count_liberties(p)),
-            Command::FindLib(p) => Ok(self.find_liberties(p)),
-            Command::Captures(colour) => Ok(self.count_captures(colour)),
-            Command::Attack(p) => self.recall(Kind::Attack, p, Work::Attack(p)),
-            Command::Defend(p) => self.recall(Kind::Defend, p, Work::Defend(p)),
-            Command::Depths { plies, wide } => Ok(self.deepen(plies, wide)),
-            Command::MatchPatterns(friend) => Err(Work::Match(friend)),
-            Command::ListPatterns => Ok(self.list_patterns()),
-            Command::LoadSgf(span) => Err(Work::Load(span)),
-            Command::AttackProof(p) => Err(Work::AttackProof(p)),
-            Command::DefendProof(p) => Err(Work::DefendProof(p)),
+        let answer = match command {
+            Command::ProtocolVersion => told(b"2"),
+            Command::Name => told(b"gopat"),
+            Command::Version => told(b"1"),
+            Command::KnownCommand(known) => told(word(known)),
+            Command::ListCommands => grown(names_text(self.alloc)),
+            Command::Quit => Answer::Ended,
+            Command::BoardSize(size) => self.resize(size),
+            Command::ClearBoard => self.clear(),
+            Command::Komi(komi) => self.keep_komi(komi),
+            Command::GetKomi => told(self.komi.as_slice()),
+            Command::Play(colour, at) => self.play(Move { colour, at }),
+            Command::Undo => self.undo(),
+            Command::ShowBoard => self.show_board(),
+            Command::IsLegal(colour, at) => self.tell_legal(Move { colour, at }),
+            Command::AllLegal(colour) => self.list_legal(colour),
+            Command::CountLib(p) => self.count_liberties(p),
+            Command::FindLib(p) => self.find_liberties(p),
+            Command::Captures(colour) => self.count_captures(colour),
+            Command::Attack(p) => self.recall(Kind::Attack, p, Work::Attack(p))?,
+            Command::Defend(p) => self.recall(Kind::Defend, p, Work::Defend(p))?,
+            Command::Depths { plies, wide } => self.deepen(plies, wide),
+            Command::MatchPatterns(friend) => return Err(Work::Match(friend)),
+            Command::ListPatterns => self.list_patterns(),
+            Command::LoadSgf(span) => return Err(Work::Load(span)),
+            Command::AttackProof(p) => return Err(Work::AttackProof(p)),
+            Command::DefendProof(p) => return Err(Work::DefendProof(p)),
             Command::CheckProof {
                 attack,
                 target,
                 code,
                 tokens,
-            } => Err(Work::CheckProof {
-                attack,
-                target,
-                code,
-                tokens,
-            }),
+            } => {
+                return Err(Work::CheckProof {
+                    attack,
+                    target,
+                    code,
+                    tokens,
+                });
+            }
             Command::Connect(a, b) => {
-                self.recall_link(LinkKind::Connect, a, b, Work::Connect(a, b))
+                self.recall_link(LinkKind::Connect, a, b, Work::Connect(a, b))?
             }
             Command::Disconnect(a, b) => {
-                self.recall_link(LinkKind::Disconnect, a, b, Work::Disconnect(a, b))
+                self.recall_link(LinkKind::Disconnect, a, b, Work::Disconnect(a, b))?
             }
-            Command::GenMove(friend) => Err(Work::GenMove(friend)),
-            Command::RegGenMove(friend) => Err(Work::RegGenMove(friend)),
-            Command::HelperOff(span) => Ok(self.switch_off(helpers, line, span)),
-            Command::HelperCalls(span) => Ok(self.tell_calls(helpers, line, span)),
-            Command::HelperDrop(span) => Ok(self.drop_helper(helpers, line, span)),
-        }
+            Command::GenMove(friend) => return Err(Work::GenMove(friend)),
+            Command::RegGenMove(friend) => return Err(Work::RegGenMove(friend)),
+            Command::HelperOff(span) => self.switch_off(helpers, line, span),
+            Command::HelperCalls(span) => self.tell_calls(helpers, line, span),
+            Command::HelperDrop(span) => self.drop_helper(helpers, line, span),
+        };
+        Ok(answer)
     }
 
     /// The position after the moves.

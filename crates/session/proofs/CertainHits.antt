@@ -124,38 +124,67 @@ at_hand_along key pos (turn ∷ turns) n a b (mid, first, rest) none room apart 
 module _ (k0 k new : Kept) (before : List (Turn Machine)) (now : Turn Machine)
     (along : IsAlong IsAfterLine k0 before k)
     (line : IsAfterLine k now new) (none : new.engine.counts.refused ≡ 0) (room : 8 ≤ room_of k0.engine) where
+  -- A question was asked before, and may be certain to be answered as it was.
+  module _ (hit : IsCertainHit before now) (a b : Kept) (start : IsAlong IsAfterLine k0 hit.first a)
+      (asked : IsAfterLine a hit.earlier b) (between : IsAlong IsAfterLine b hit.between k) where
+    -- the question
+    abbrev hit-key : Key
+    hit-key = record { question = hit.question }
+
+    -- it was read then
+    read-before : ReadsOnce hit-key a.engine b.engine
+    read-before = subst (λ asks. ReadsAs asks a.engine b.engine) hit.asked asked.read
+
+    -- and is read again
+    read-again : ReadsOnce hit-key k.engine new.engine
+    read-again = subst (λ asks. ReadsAs asks k.engine new.engine) hit.again line.read
+
+    -- no keeping was refused up to here
+    unrefused-yet : k.engine.counts.refused ≡ 0
+    unrefused-yet = unrefused k.engine new.engine (asks_of_line now.machine now.line) line.read none
+
+    -- so its answer was kept
+    kept-then : IsAtHand hit-key (board_of a.engine) 1 b.engine.readings.answers.kept
+    kept-then =
+        IsAtHand-first hit-key (board_of a.engine) read-before.answer a.engine.readings b.engine.readings
+        read-before.read read-before.rest
+        (sym read-before.refused ∙ unrefused_along hit.between b k between unrefused-yet)
+
+    -- where eight questions and more may be kept
+    room-then : 8 ≤ room_of b.engine
+    room-then =
+        let same = same_room a.engine b.engine (One hit-key) read-before in
+        let earlier = same_room_along hit.first k0 a start in
+        omega (arith, room, same, earlier)
+
+    -- few readings came between, so it is still at hand
+    kept-yet : (m : ℕ) × IsAtHand hit-key (board_of a.engine) m k.engine.readings.answers.kept
+    kept-yet =
+        let few = hit.few in
+        at_hand_along hit-key (board_of a.engine) hit.between 1 b k between unrefused-yet room-then hit.no_matching
+        (omega (arith, few)) kept-then
+
+    -- the board is as it was in the question's active area
+    same-area : AgreeOn (InActiveArea hit.question (board_of a.engine)) (board_of a.engine) (board_of k.engine)
+    same-area =
+        subst (λ (m : Machine). AgreeOn (InActiveArea hit.question (position_of m)) (position_of m)
+        (board_of k.engine)) asked.machine
+        (subst (λ (m : Machine). AgreeOn (InActiveArea hit.question (board_at hit.earlier)) (board_at hit.earlier)
+        (position_of m)) line.machine hit.agree)
+
+    -- so it is answered by what is kept
+    again-unfresh : new.engine.counts.fresh ≡ k.engine.counts.fresh
+    again-unfresh =
+        let last = IsAtHand-kept hit-key (board_of a.engine) kept-yet.0 (board_of k.engine) read-again.answer
+        k.engine.readings new.engine.readings kept-yet.1 read-again.board same-area read-again.read in
+        read-again.fresh ∙ ap (λ (o : Option ℕ). counted k.engine.counts.fresh (is_some o)) last
+
   -- a certain hit is not fresh
   pub hit_is_kept : IsCertainHit before now → new.engine.counts.fresh ≡ k.engine.counts.fresh
   hit_is_kept hit =
-      let key : Key = record { question = hit.question } in
       let parts = IsAlong-split IsAfterLine k0 k hit.first (hit.earlier ∷ hit.between)
       (subst (λ ts. IsAlong IsAfterLine k0 ts k) hit.place along) in
-      let a = parts.0 in
-      let b = parts.2.0 in
-      let read : ReadsOnce key a.engine b.engine =
-      subst (λ asks. ReadsAs asks a.engine b.engine) hit.asked parts.2.1.read in
-      let again : ReadsOnce key k.engine new.engine =
-      subst (λ asks. ReadsAs asks k.engine new.engine) hit.again line.read in
-      let unrefused_now : k.engine.counts.refused ≡ 0 =
-      unrefused k.engine new.engine (asks_of_line now.machine now.line) line.read none in
-      let unrefused_then : b.engine.counts.refused ≡ 0 = unrefused_along hit.between b k parts.2.2 unrefused_now in
-      let there = board_of a.engine in
-      let hand = IsAtHand-first key there read.answer a.engine.readings b.engine.readings read.read read.rest
-      (sym read.refused ∙ unrefused_then) in
-      let rooms : 8 ≤ room_of b.engine =
-      (let same = same_room a.engine b.engine (One key) read in let earlier = same_room_along hit.first k0 a parts.1 in
-      omega (arith, room, same, earlier)) in
-      let few = hit.few in
-      let kept = at_hand_along key there hit.between 1 b k parts.2.2 unrefused_now rooms hit.no_matching
-      (omega (arith, few)) hand in
-      let moved : AgreeOn (InActiveArea hit.question there) there (board_of k.engine) =
-      subst (λ (m : Machine). AgreeOn (InActiveArea hit.question (position_of m)) (position_of m)
-      (board_of k.engine)) parts.2.1.machine
-      (subst (λ (m : Machine). AgreeOn (InActiveArea hit.question (board_at hit.earlier)) (board_at hit.earlier)
-      (position_of m)) line.machine hit.agree) in
-      let last = IsAtHand-kept key there kept.0
-      (board_of k.engine) again.answer k.engine.readings new.engine.readings kept.1 again.board moved again.read in
-      again.fresh ∙ ap (λ (o : Option ℕ). counted k.engine.counts.fresh (is_some o)) last
+      again-unfresh hit parts.0 parts.2.0 parts.1 parts.2.1 parts.2.2
 
   -- and is counted
   pub hit_is_counted : IsCertainHit before now → new.engine.counts.readings ≡ counted k.engine.counts.readings true

@@ -30,6 +30,7 @@ use Rattle.machine_rules.specs.Turns.{Turn, IsAlong}
 use Rattle.session.specs.Tallies.{Tally, IsTallied, BreaksOff, one_turn}
 use Rattle.session.specs.Ends.{Streams, Serves, AreTallied, IsRight, most_taken}
 use Rattle.session.specs.Headline.{ServesLines, AreCountsOf}
+use Rattle.machine_rules.specs.CertainHit.{HaveCertainHits}
 use Rattle.session.specs.declared.outcome.End.{End}
 use Rattle.session.specs.declared.outcome.End.TheVariants.{Done, InputFault, OutputFault, InputTooLong}
 use Rattle.engine.proofs.LineCounts.{few_fresh-line}
@@ -257,39 +258,77 @@ links_along (turn ∷ turns) a b (mid, first, rest) few small =
     one-at-most true = omega arith
     one-at-most false = omega arith
 
--- the counts of a session that has answered few lines since it had counted nothing
-pub counts_of : (capacity : ℕ) (first last : Kept) (turns : List (Turn Machine)) → IsAlong IsAfterLine first turns last
-    → first.engine.counts ≡ no_counts
-    → first.engine.readings.answers ≡ first_keeping capacity → first.engine.links.answers ≡ first_keeping capacity
-    → 8 ≤ capacity → length turns ≤ most_taken + 1
-    → AreCountsOf capacity turns last.engine.counts
-counts_of capacity first last turns along none unread unasked room few =
-    let open_room = subst (λ (k : Keeping Key Answer). 8 ≤ k.kept.1) (sym unread) room in
-    let readings = ap (λ (c : Counts). c.readings) none in
-    let fresh = ap (λ (c : Counts). c.fresh) none in
-    let small : first.engine.counts.readings + length turns < 2 ^ 64 = omega (arith, readings, few) in
-    let all = readings_along turns first last along small in
-    let unlinked = ap (λ (c : Counts). c.links.connections) none in
-    let stale = ap (λ (c : Counts). c.links.fresh) none in
-    let linked = links_along turns first last along (omega (arith, unlinked, stale)) (omega (arith, unlinked, few)) in
-    let start : HasFewFresh first.engine.counts =
-    record { few = omega (arith, readings, fresh); small = omega (arith, readings) } in
-    record {
-      readings = omega (arith, readings, all);
-      fresh = (few_along turns first last along start).few;
-      hits = λ unrefused n hits. (let law = hits_are_kept first [] turns first last 0 n refl along open_room unrefused
-          hits (omega (arith, readings, fresh)) small in omega (arith, law));
-      untried = λ unfresh. (untried_along turns first last along unfresh).1 ∙ ap (λ (c : Counts). c.trials) none;
-      idle = λ idle. idle_along turns first last along idle ∙ ap of_readings none;
-      connections = omega (arith, unlinked, linked.0);
-      fresh_links = linked.1;
-      rose = record {
-        first = first;
-        last = last;
-        uncounted = none;
-        readings = unread;
-        links = unasked;
-        along = along;
-        same = refl;
-      };
-    }
+-- What a session that had counted nothing counts after few lines.
+module _ (first last : Kept) (turns : List (Turn Machine)) (along : IsAlong IsAfterLine first turns last)
+    (none : first.engine.counts ≡ no_counts) (few : length turns ≤ most_taken + 1) where
+  -- it had counted no reading
+  no-readings : first.engine.counts.readings ≡ 0
+  no-readings = ap (λ (c : Counts). c.readings) none
+
+  -- and none that was fresh
+  no-fresh : first.engine.counts.fresh ≡ 0
+  no-fresh = ap (λ (c : Counts). c.fresh) none
+
+  -- nor a connection
+  no-connections : first.engine.counts.links.connections ≡ 0
+  no-connections = ap (λ (c : Counts). c.links.connections) none
+
+  -- and none that was fresh
+  no-fresh_links : first.engine.counts.links.fresh ≡ 0
+  no-fresh_links = ap (λ (c : Counts). c.links.fresh) none
+
+  -- so a u64 counts the readings of these lines
+  few-readings : first.engine.counts.readings + length turns < 2 ^ 64
+  few-readings = omega (arith, no-readings, few)
+
+  -- which are as many as ask for a reading
+  all-readings : last.engine.counts.readings ≡ readings_in turns
+  all-readings = let all = readings_along turns first last along few-readings in omega (arith, no-readings, all)
+
+  -- no more are fresh
+  few-fresh : last.engine.counts.fresh ≤ last.engine.counts.readings
+  few-fresh =
+      let start : HasFewFresh first.engine.counts = record {
+        few = omega (arith, no-readings, no-fresh);
+        small = omega (arith, no-readings);
+      } in (few_along turns first last along start).few
+
+  -- and no certain hit is, where eight questions and more may be kept
+  hits-kept : (capacity : ℕ) → first.engine.readings.answers ≡ first_keeping capacity → 8 ≤ capacity
+      → last.engine.counts.refused ≡ 0 → (n : ℕ) → HaveCertainHits [] turns n
+      → last.engine.counts.fresh + n ≤ last.engine.counts.readings
+  hits-kept capacity unread room unrefused n hits =
+      let open_room = subst (λ (k : Keeping Key Answer). 8 ≤ k.kept.1) (sym unread) room in
+      let law = hits_are_kept first [] turns first last 0 n refl along open_room unrefused hits
+      (omega (arith, no-readings, no-fresh)) few-readings in
+      omega (arith, law)
+
+  -- the connections are as many as the lines that ask about one
+  all-links : (last.engine.counts.links.connections ≡ first.engine.counts.links.connections + connections_in turns)
+      × (last.engine.counts.links.fresh ≤ last.engine.counts.links.connections)
+  all-links =
+      links_along turns first last along (omega (arith, no-connections, no-fresh_links))
+      (omega (arith, no-connections, few))
+
+  -- so the counts are those of the lines
+  pub counts_of : (capacity : ℕ) → first.engine.readings.answers ≡ first_keeping capacity
+      → first.engine.links.answers ≡ first_keeping capacity → 8 ≤ capacity
+      → AreCountsOf capacity turns last.engine.counts
+  counts_of capacity unread unasked room = record {
+    readings = all-readings;
+    fresh = few-fresh;
+    hits = hits-kept capacity unread room;
+    untried = λ unfresh. (untried_along turns first last along unfresh).1 ∙ ap (λ (c : Counts). c.trials) none;
+    idle = λ idle. idle_along turns first last along idle ∙ ap of_readings none;
+    connections = (let both = all-links in omega (arith, no-connections, both.0));
+    fresh_links = all-links.1;
+    rose = record {
+      first = first;
+      last = last;
+      uncounted = none;
+      readings = unread;
+      links = unasked;
+      along = along;
+      same = refl;
+    };
+  }

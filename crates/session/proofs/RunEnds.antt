@@ -15,10 +15,11 @@ use Rattle.engine.specs.Kept.{Kept}
 use Rattle.machine_rules.specs.Turns.{Turn}
 use Rattle.session.specs.Tallies.{Tally, Progress, Advances, IsTallied, together}
 use Rattle.session.specs.Serving.{RunsTo, RunsPart}
-use Rattle.session.specs.Ends.{most_taken, Streams, earlier}
+use Rattle.session.specs.Ends.{most_taken, Streams, earlier, IsRight, IsReadToEnd, AreTallied}
 use Rattle.session.specs.FirstSession.{ServesCounting}
 use Rattle.session.proofs.TallyLemmas.{Advances-trans, IsTallied-append, IsTallied-run}
 use Rattle.session.proofs.TallyLemmas.{BreaksOff-after, BreaksOff-more}
+use Rattle.session.specs.declared.outcome.End.{End}
 use Rattle.session.specs.declared.outcome.End.TheVariants.{Done, InputFault, OutputFault, InputTooLong}
 
 -- some bytes were taken and some put, each line that ended was answered, the rest is held, and room bytes may still
@@ -96,35 +97,46 @@ module _ (M : Type 0) (step : M → RawLine → Step M → Type 0) (goes : Kept 
       subst (λ w. Appends w after.written tally.out) (sym opened)
       (subst (λ w. Appends p0.written w tally.out) is advances.writes)
 
+  -- what was taken, put and answered is what was served, by this end
+  serves-by : (after : Streams) (p : Progress) (end : End) (taken : List ℕ) (tally : Tally M)
+      → p.written ≡ after.written → Consumes before.left after.left taken → Advances goes p0 p tally
+      → IsRight step first after.left taken tally.out after.piece end → AreTallied step first taken tally end
+      → ServesCounting None step goes first before after end p0 p
+  serves-by after p end taken tally is reads advances right tallies = record {
+    tally = tally;
+    serves = record {
+      taken = taken;
+      reads = reads;
+      writes = put_since after p tally is advances;
+      right = right;
+      tallied = tallies;
+    };
+    advances = advances;
+  }
+
+  -- the lines that were answered before the last piece stand before the one whose reply broke off
+  before_cut : (taken : List ℕ) (piece : ℕ) (more : List RawLine) → earlier taken piece ≡ s.taken
+      → length (lines_of (earlier taken piece)) ≤ length (lines_from (Line []) s.taken ++ more)
+  before_cut taken piece more is =
+      subst (λ t. length (lines_of t) ≤ length (lines_from (Line []) s.taken ++ more)) (sym is)
+      (let before_it = length-append (lines_from (Line []) s.taken) more in
+      let lines = ap length (lines_of-lines_from s.taken) in
+      omega (arith, before_it, lines))
+
   -- the source failed
   pub served_fault : (after : Streams) → Keeps l1 after.left → p1.written ≡ after.written → 0 < room
       → ServesCounting None step goes first before after InputFault p0 p1
-  served_fault after kept same some = record {
-    tally = s.tally;
-    serves = record {
-      taken = s.taken;
-      reads = Consumes-kept before.left l1 after.left s.taken s.reads kept;
-      writes = put_since after p1 s.tally same s.advances;
-      right = (answered, (let few = s.few in omega arith));
-      tallied = (now, tallied);
-    };
-    advances = s.advances;
-  }
+  served_fault after kept same some =
+      serves-by after p1 InputFault s.taken s.tally same (Consumes-kept before.left l1 after.left s.taken s.reads kept)
+      s.advances (answered, (let few = s.few in omega arith)) (now, tallied)
 
   -- no byte more may be taken
   pub served_too_long : (after : Streams) → l1 ≡ after.left → p1.written ≡ after.written → room ≡ 0
       → ServesCounting None step goes first before after InputTooLong p0 p1
-  served_too_long after unread unput none = record {
-    tally = s.tally;
-    serves = record {
-      taken = s.taken;
-      reads = subst (λ l. Consumes before.left l s.taken) unread s.reads;
-      writes = put_since after p1 s.tally unput s.advances;
-      right = (answered, (let few = s.few in omega arith));
-      tallied = (now, tallied);
-    };
-    advances = s.advances;
-  }
+  served_too_long after unread unput none =
+      serves-by after p1 InputTooLong s.taken s.tally unput
+      (subst (λ l. Consumes before.left l s.taken) unread s.reads) s.advances
+      (answered, (let few = s.few in omega arith)) (now, tallied)
 
   -- The source came to its end.
   module _ (after : Streams) (p2 : Progress) (holds : p2.written ≡ after.written) (reads : Consumes l1 after.left [])
@@ -134,74 +146,56 @@ module _ (M : Type 0) (step : M → RawLine → Step M → Type 0) (goes : Kept 
     reads_end = subst (Consumes before.left after.left) (append-nil s.taken)
         (Consumes-trans before.left l1 after.left s.taken [] s.reads reads)
 
+    -- so all was taken before the last piece
+    none_later : earlier s.taken after.piece ≡ s.taken
+    none_later = ap (λ n. take n s.taken) (omega arith) ∙ take_all (length s.taken) s.taken (omega arith)
+
     -- the lines with the rest are those answered so far and what is held
     with_held : lines_with_rest s.taken ≡ lines_from (Line []) s.taken ++ held_line held
     with_held = lines_with_rest-lines_from s.taken ∙ ap (λ h. lines_from (Line []) s.taken ++ held_line h)
         (sym s.held_is)
+
+    -- where all of them were answered, the input was read to its end
+    read_to_end : (new : M) (ended : Bool) (later : Tally M) → 0 < room
+        → IsTallied step first (lines_with_rest s.taken) (together s.tally later) new ended
+        → IsReadToEnd step first after.left s.taken (together s.tally later).out after.piece
+    read_to_end new ended later some whole = record {
+      at_end = at_end;
+      last = last;
+      few = let few = s.few in omega arith;
+      transcript = (
+        new,
+        ended,
+        IsTallied-run M step first (lines_with_rest s.taken) (together s.tally later) new ended whole,
+      );
+      none_ended = (s.tally.out, (later.out, refl), answered);
+    }
 
     -- the rest was answered as a last line
     pub served_end : (new : M) (ended : Bool) → 0 < room → RunsTo step goes now (held_line held) new ended p1 p2
         → ServesCounting None step goes first before after Done p0 p2
     served_end new ended some runs =
         let tally = together s.tally runs.tally in
-        let both = Advances-trans goes p0 p1 p2 s.tally runs.tally s.advances runs.advances in
         let whole = subst (λ l. IsTallied step first l tally new ended) (sym with_held)
         (IsTallied-append M step first _ _ s.tally runs.tally now new ended s.run runs.run) in
-        record {
-          tally = tally;
-          serves = record {
-            taken = s.taken;
-            reads = reads_end;
-            writes = put_since after p2 tally holds both;
-            right = inl (record {
-              at_end = at_end;
-              last = last;
-              few = let few = s.few in omega arith;
-              transcript = (
-                new,
-                ended,
-                IsTallied-run M step first
-                    (lines_with_rest s.taken) tally new ended whole,
-              );
-              none_ended = (s.tally.out, (runs.tally.out, refl), answered);
-            });
-            tallied = inl (new, ended, whole);
-          };
-          advances = both;
-        }
+        serves-by after p2 Done s.taken tally holds reads_end
+        (Advances-trans goes p0 p1 p2 s.tally runs.tally s.advances runs.advances)
+        (inl (read_to_end new ended runs.tally some whole)) (inl (new, ended, whole))
 
     -- the reply to the rest broke off
     pub served_cut_end : IsTotal step → RunsPart step goes now (held_line held) p1 p2
         → ServesCounting None step goes first before after OutputFault p0 p2
     served_cut_end total runs =
-        let tally = together s.tally runs.tally in
-        let both = Advances-trans goes p0 p1 p2 s.tally runs.tally s.advances runs.advances in
         let off = BreaksOff-after M step first (lines_from (Line []) s.taken) (held_line held) _ s.tally runs.tally now
         with_held s.run runs.breaks_off in
-        let none_later : earlier s.taken after.piece ≡ s.taken =
-        ap (λ n. take n s.taken) (omega arith) ∙ take_all (length s.taken) s.taken (omega arith) in
-        record {
-          tally = tally;
-          serves = record {
-            taken = s.taken;
-            reads = reads_end;
-            writes = put_since after p2 tally holds both;
-            right = record {
-              few = let few = s.few in omega arith;
-              front = Cut-front M step total first _ _ off.cut;
-              cut = off.cut;
-              in_last =
-                  subst (λ t. length (lines_of t) ≤ length (lines_from (Line []) s.taken ++ runs.breaks_off.cut.before))
-                  (sym none_later)
-                  (let before_it = length-append (lines_from (Line []) s.taken) runs.breaks_off.cut.before in
-                  let lines = ap length (lines_of-lines_from s.taken) in
-                  omega (arith, before_it, lines));
-              has_feed = inr (at_end, last);
-            };
-            tallied = off;
-          };
-          advances = both;
-        }
+        serves-by after p2 OutputFault s.taken (together s.tally runs.tally) holds reads_end
+        (Advances-trans goes p0 p1 p2 s.tally runs.tally s.advances runs.advances) (record {
+          few = let few = s.few in omega arith;
+          front = Cut-front M step total first _ _ off.cut;
+          cut = off.cut;
+          in_last = before_cut s.taken after.piece runs.breaks_off.cut.before none_later;
+          has_feed = inr (at_end, last);
+        }) off
 
   -- The source gave a piece.
   module _ (after : Streams) (p2 : Progress) (holds : p2.written ≡ after.written) (part : List ℕ)
@@ -210,76 +204,58 @@ module _ (M : Type 0) (step : M → RawLine → Step M → Type 0) (goes : Kept 
     reads_more : Consumes before.left after.left (s.taken ++ part)
     reads_more = Consumes-trans before.left l1 after.left s.taken part s.reads reads
 
+    -- they are no more than may be taken
+    few_more : length part ≡ after.piece → after.piece ≤ room → length (s.taken ++ part) ≤ most_taken
+    few_more len within =
+        let few = s.few in let lens = length-append s.taken part in omega (arith, few, lens, len, within)
+
+    -- before the piece no line had ended the session
+    answered_earlier : length part ≡ after.piece
+        → GoesOn step first (lines_of (earlier (s.taken ++ part) after.piece)) s.tally.out
+    answered_earlier len =
+        subst (λ t. GoesOn step first (lines_of t) s.tally.out) (sym (earlier-append s.taken part after.piece len))
+        answered
+
     -- one of its lines ended the session
     pub served_ended : (new : M) → length part ≡ after.piece → after.piece ≤ room
         → RunsTo step goes now (lines_from held part) new true p1 p2
         → ServesCounting None step goes first before after Done p0 p2
     served_ended new len within runs =
         let tally = together s.tally runs.tally in
-        let both = Advances-trans goes p0 p1 p2 s.tally runs.tally s.advances runs.advances in
         let whole = subst (λ l. IsTallied step first l tally new true)
         (sym (lines_of-append s.taken part held s.held_is))
         (IsTallied-append M step first _ _ s.tally runs.tally now new true s.run runs.run) in
-        record {
-          tally = tally;
-          serves = record {
-            taken = s.taken ++ part;
-            reads = reads_more;
-            writes = put_since after p2 tally holds both;
-            right = inr (record {
-              few = let few = s.few in let lens = length-append s.taken part in omega (arith, few, lens);
-              ended = (new, IsTallied-run M step first (lines_of (s.taken ++ part)) tally new true whole);
-              in_last = (
-                s.tally.out,
-                (runs.tally.out, refl),
-                subst (λ t. GoesOn step first (lines_of t) s.tally.out)
-                    (sym (earlier-append s.taken part after.piece len))
-                    answered,
-              );
-            });
-            tallied = inr (new, whole);
-          };
-          advances = both;
-        }
+        serves-by after p2 Done (s.taken ++ part) tally holds reads_more
+        (Advances-trans goes p0 p1 p2 s.tally runs.tally s.advances runs.advances) (inr (record {
+          few = few_more len within;
+          ended = (new, IsTallied-run M step first (lines_of (s.taken ++ part)) tally new true whole);
+          in_last = (s.tally.out, (runs.tally.out, refl), answered_earlier len);
+        })) (inr (new, whole))
 
     -- the reply to one of its lines broke off
     pub served_cut : IsTotal step → length part ≡ after.piece → after.piece ≤ room → RunsPart step goes now
         (lines_from held part) p1 p2
         → ServesCounting None step goes first before after OutputFault p0 p2
     served_cut total len within runs =
-        let tally = together s.tally runs.tally in
-        let both = Advances-trans goes p0 p1 p2 s.tally runs.tally s.advances runs.advances in
         let answered_lines = lines_from (Line []) s.taken in
         let rest = rest_line (rest_of (s.taken ++ part)) in
         let same = lines_of-append s.taken part held s.held_is in
         let ended = BreaksOff-after M step first answered_lines (lines_from held part)
         (lines_of (s.taken ++ part)) s.tally runs.tally now same s.run runs.breaks_off in
-        let off = BreaksOff-more M step first (lines_of (s.taken ++ part)) rest _ tally refl ended in
-        record {
-          tally = tally;
-          serves = record {
-            taken = s.taken ++ part;
-            reads = reads_more;
-            writes = put_since after p2 tally holds both;
-            right = record {
-              few = let few = s.few in let lens = length-append s.taken part in omega (arith, few, lens);
-              front = Cut-front M step total first _ _ off.cut;
-              cut = off.cut;
-              in_last =
-                  subst (λ t. length (lines_of t) ≤ length (answered_lines ++ runs.breaks_off.cut.before))
-                  (sym (earlier-append s.taken part after.piece len))
-                  (let lens = length-append answered_lines runs.breaks_off.cut.before in
-                  let lines = ap length (lines_of-lines_from s.taken) in
-                  omega (arith, lens, lines));
-              has_feed =
-                  inl (let place = ap length ended.cut.place in
-                  let lens = length-append ended.cut.before (ended.cut.line ∷ ended.cut.after) in
-                  omega (arith, place, lens));
-            };
-            tallied = off;
-          };
-          advances = both;
-        }
+        let off = BreaksOff-more M step first (lines_of (s.taken ++ part)) rest _ (together s.tally runs.tally) refl
+        ended in
+        serves-by after p2 OutputFault (s.taken ++ part) (together s.tally runs.tally) holds reads_more
+        (Advances-trans goes p0 p1 p2 s.tally runs.tally s.advances runs.advances) (record {
+          few = few_more len within;
+          front = Cut-front M step total first _ _ off.cut;
+          cut = off.cut;
+          in_last = before_cut (s.taken ++ part) after.piece runs.breaks_off.cut.before
+              (earlier-append s.taken part after.piece len);
+          has_feed =
+              inl (let place = ap length ended.cut.place in
+              let lens = length-append ended.cut.before (ended.cut.line ∷ ended.cut.after) in
+              omega (arith, place, lens));
+        }) off
 
 -- Of a piece of n bytes.
 

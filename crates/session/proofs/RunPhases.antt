@@ -27,8 +27,8 @@ use Rattle.read_rules.specs.declared.tree.Tree.{Tree}
 use Rattle.session.specs.PatternFiles.{IsRefused, MissedIn}
 use Rattle.session.specs.FirstSession.{Opens, CameBy, ServesCounting, EndsCounting}
 use Rattle.session.specs.Outcomes.{Phase, NotOpened, Served}
-use Rattle.session.specs.Ends.{Streams, IsRight, most_taken}
-use Rattle.session.specs.Headline.{AreCounts, AreCountsOf, IsSent, IsCauseOf, MissedAfter}
+use Rattle.session.specs.Ends.{Streams, streams, IsRight, Serves, most_taken}
+use Rattle.session.specs.Headline.{AreCounts, AreCountsOf, IsSent, IsCauseOf, MissedAfter, ServesGenerated}
 use Rattle.session.specs.Serving.{progress_of}
 use Rattle.session.specs.declared.outcome.End.{End}
 use Rattle.session.specs.declared.outcome.End.TheVariants.{InputTooLong}
@@ -47,6 +47,21 @@ sent-told : {M : Type 0} (generate : Option ℕ) (sent : Sent) (tally : Tally M)
     → sent.bytes ≡ kept_sum 0 (length tally.out) → IsSent generate (option_map (λ _. sent) generate) tally
 sent-told None sent tally lines bytes = refl
 sent-told (Some n) sent tally lines bytes = (lines, bytes)
+
+-- so what is noted where the options ask for the counts are those of the lines
+counts-noted : (asked : Bool) (capacity : ℕ) (counts kept : Counts) (told : Option Counts) (tally : Tally Machine)
+    → told ≡ cond asked (Some counts) None → counts ≡ kept → AreCountsOf capacity tally.turns kept
+    → AreCounts asked capacity told tally
+counts-noted asked capacity counts kept told tally tells same are =
+    subst (λ o. AreCounts asked capacity o tally) (sym (tells ∙ ap (λ (k : Counts). cond asked (Some k) None) same))
+    (counts-told asked capacity kept tally are)
+
+-- and what is noted of what was sent is so
+sent-noted : {M : Type 0} (generate : Option ℕ) (sent : Sent) (tally : Tally M) (noted : Option Sent)
+    → noted ≡ option_map (λ _. sent) generate → sent.lines ≡ kept_sum 0 tally.replies
+    → sent.bytes ≡ kept_sum 0 (length tally.out) → IsSent generate noted tally
+sent-noted generate sent tally noted notes lines bytes =
+    subst (λ o. IsSent generate o tally) (sym notes) (sent-told generate sent tally lines bytes)
 
 -- the names missed along lines are those of the lines, in their order
 missed_along : (turns : List (Turn Machine)) (old new : Kept) → IsAlong IsAfterLine old turns new
@@ -73,8 +88,8 @@ came-served tree helpers slots contents options session lines missed now before 
     let kept = ends.kept in
     let lines = served-few (step (matcher_of session) contents) options.generate
     (machine_with slots session) before after end counting.tally counting.serves in
-    let are = counts_of options.cache (kept_with slots missed session) kept counting.tally.turns counting.advances.along
-    opens.plain.counts opens.plain.readings opens.plain.links opens.plain.room lines in
+    let are = counts_of (kept_with slots missed session) kept counting.tally.turns counting.advances.along
+    opens.plain.counts lines options.cache opens.plain.readings opens.plain.links opens.plain.room in
     subst (CameBy tree helpers options contents missed now before after told noted) (sym is) (record {
       patterns = opens.patterns;
       opened = opens.opened;
@@ -83,11 +98,10 @@ came-served tree helpers slots contents options session lines missed now before 
           contents options.generate before after end counting.tally opens.plain opens.same counting.serves;
       names = ends.names
           ∙ missed_along counting.tally.turns (kept_with slots missed session) kept counting.advances.along;
-      counted = subst (λ o. AreCounts options.stats options.cache o counting.tally)
-          (sym (tells ∙ ap (λ (k : Counts). cond options.stats (Some k) None) ends.same))
-          (counts-told options.stats options.cache kept.engine.counts counting.tally are);
-      told = subst (λ o. IsSent options.generate o counting.tally) (sym notes)
-          (sent-told options.generate sent counting.tally counting.advances.replies counting.advances.bytes);
+      counted = counts-noted options.stats options.cache counts kept.engine.counts told counting.tally tells ends.same
+          are;
+      told = sent-noted options.generate sent counting.tally noted notes counting.advances.replies
+          counting.advances.bytes;
     })
 
 -- the same where the files were opened before, which leaves what files hold and which names were missed
@@ -131,6 +145,36 @@ not_too_long step first left text rest taken put piece n end few is reads right 
     let parts : length text ≡ length taken + length rest = ap length reads ∙ length-append taken rest in
     omega (arith, taken_all, short, parts)
 
+-- what was served of a source that has the text of generated lines was served of these
+serves-text : {M : Type 0} (n : ℕ) (step : M → RawLine → Step M → Type 0) (first : M) (faults : ℕ)
+    (w0 w1 : Option (List ℕ)) (c0 c1 f0 f1 p last : ℕ) (text rest : List ℕ) (end : End) (tally : Tally M)
+    → text ≡ generated_text n
+    → Serves step first (streams (Some text) p f0 w0 c0) (streams (Some rest) last f1 w1 c1) end tally
+    → Serves step first (streams (Some (generated_text n)) 0 faults w0 c0) (streams (Some rest) last faults w1 c1) end
+    tally
+serves-text n step first faults w0 w1 c0 c1 f0 f1 p last text rest end tally is serves = record {
+  taken = serves.taken;
+  reads = sym is ∙ serves.reads;
+  writes = serves.writes;
+  right = serves.right;
+  tallied = serves.tallied;
+}
+
+-- so these were served in place of the source, which stays as it was
+serves-these : {M : Type 0} (n : ℕ) (step : M → RawLine → Step M → Type 0) (first : M) (left : Option (List ℕ))
+    (piece faults : ℕ) (w0 w1 : Option (List ℕ)) (c0 c1 f0 f1 p last : ℕ) (text rest : List ℕ) (end : End)
+    (tally : Tally M) → n ≤ 100000 → text ≡ generated_text n
+    → Serves step first (streams (Some text) p f0 w0 c0) (streams (Some rest) last f1 w1 c1) end tally
+    → ServesGenerated n step first (streams left piece faults w0 c0) (streams left piece faults w1 c1) end tally
+serves-these n step first left piece faults w0 w1 c0 c1 f0 f1 p last text rest end tally few is serves = record {
+  left = refl;
+  piece = refl;
+  input_faults = refl;
+  generated = (rest, last, serves-text n step first faults w0 w1 c0 c1 f0 f1 p last text rest end tally is serves);
+  not_too_long = not_too_long step first (Some rest) text rest serves.taken tally.out last n end few is serves.reads
+      serves.right;
+}
+
 -- generated lines were served in place of the source
 serves-generated : {M : Type 0} (n : ℕ) (step : M → RawLine → Step M → Type 0)
     (goes : Kept → Turn M → Kept → Type 0)
@@ -139,47 +183,18 @@ serves-generated : {M : Type 0} (n : ℕ) (step : M → RawLine → Step M → T
     (last : ℕ)
     (end : End) (old new : Progress) (generate : Option ℕ) → generate ≡ Some n → n ≤ 100000
     → text ≡ generated_text n → ServesCounting None step goes first
-    (record { left = Some text; piece = p; input_faults = f0; written = w0; output_faults = c0 })
-    (record { left = Some rest; piece = last; input_faults = f1; written = w1; output_faults = c1 }) end old new
+    (streams (Some text) p f0 w0 c0)
+    (streams (Some rest) last f1 w1 c1) end old new
     → ServesCounting generate step goes first
-    (record { left = left; piece = piece; input_faults = faults; written = w0; output_faults = c0 })
-    (record { left = left; piece = piece; input_faults = faults; written = w1; output_faults = c1 }) end old new
+    (streams left piece faults w0 c0)
+    (streams left piece faults w1 c1) end old new
 serves-generated n step goes first left piece faults w0 w1 c0 c1 f0 f1 p text rest last end old new generate some few
     is counting =
-    let before : Streams = record {
-      left = left;
-      piece = piece;
-      input_faults = faults;
-      written = w0;
-      output_faults = c0;
-    } in
-    let after : Streams = record {
-      left = left;
-      piece = piece;
-      input_faults = faults;
-      written = w1;
-      output_faults = c1;
-    } in
-    subst (λ o. ServesCounting o step goes first before after end old new) (sym some) (record {
+    subst (λ o. ServesCounting o step goes first (streams left piece faults w0 c0) (streams left piece faults w1 c1) end
+    old new) (sym some) (record {
       tally = counting.tally;
-      serves = record {
-        left = refl;
-        piece = refl;
-        input_faults = refl;
-        generated = (
-          rest,
-          last,
-          record {
-            taken = counting.serves.taken;
-            reads = sym is ∙ counting.serves.reads;
-            writes = counting.serves.writes;
-            right = counting.serves.right;
-            tallied = counting.serves.tallied;
-          },
-        );
-        not_too_long = not_too_long step first (Some rest) text rest counting.serves.taken counting.tally.out last n end
-            few is counting.serves.reads counting.serves.right;
-      };
+      serves = serves-these n step first left piece faults w0 w1 c0 c1 f0 f1 p last text rest end counting.tally few is
+          counting.serves;
       advances = counting.advances;
     })
 

@@ -424,7 +424,7 @@ module _ (M : Type 0) (step : M → RawLine → Step M → Type 0) (goes : Kept 
           (stops stop at)
 
       -- one of them ended the session, and what waited was put
-      pub piece_ended : ended ≡ true → (w'' : Option (List ℕ)) (s'' : Sent) → Stays w' w'' s' s'' b' none_wait
+      piece_ended : ended ≡ true → (w'' : Option (List ℕ)) (s'' : Sent) → Stays w' w'' s' s'' b' none_wait
           → RunsTo step goes from all to true old (progress_of w'' kept' s'')
       piece_ended is w'' s'' stays =
           let a = progress_with w kept s b in
@@ -437,13 +437,13 @@ module _ (M : Type 0) (step : M → RawLine → Step M → Type 0) (goes : Kept 
           stays
 
       -- what waited was put in part
-      pub piece_stop : (stop : Stop) → IsStop w' s' b' stop → CutsShort step goes from all old stop kept'.missed
+      piece_stop : (stop : Stop) → IsStop w' s' b' stop → CutsShort step goes from all old stop kept'.missed
       piece_stop stop at =
           CutsShort-is M step goes from all ((so_far.lines ++ next) ++ more) old stop kept'.missed joined
           (CutsShort-more M step goes from (so_far.lines ++ next) more old stop kept'.missed (stops-so-far stop at))
 
       -- none of them ended the session
-      pub piece_more : ended ≡ false → PieceSoFar step goes from to all more old w' kept' s' b'
+      piece_more : ended ≡ false → PieceSoFar step goes from to all more old w' kept' s' b'
       piece_more is =
           let a = progress_with w kept s b in
           let c = progress_with w' kept' s' b' in
@@ -502,3 +502,48 @@ module _ (M : Type 0) (step : M → RawLine → Step M → Type 0) (goes : Kept 
   part-line from held line same w0 w1 kept0 s0 s1 b0 missed result part =
       subst (λ (l : RawLine). IfErr result (λ noted. MayCut step goes from (l ∷ []) w0 kept0 s0 b0
       (record { written = w1; sent = s1; counts = noted }) missed)) (sym same) part
+
+-- Some lines of a piece were answered, and a session that finds matches as the first did, where files have the same
+-- contents, answered more of them.
+module _ (goes : Kept → Turn Machine → Kept → Type 0) (now first : Matcher) (same : now ≡ first) (here there : Contents)
+    (holds : here ≡ there) (from mid : Machine) (all left : List RawLine) (old : Progress) (w : Option (List ℕ))
+    (kept : Kept) (s : Sent) (b : WaitingState)
+    (so_far : PieceSoFar (answering.step first there) goes from mid all left old w kept s b)
+    (next more : List RawLine) (parts : left ≡ next ++ more) (to : Machine) (ended : Bool) (w' : Option (List ℕ))
+    (kept' : Kept) (s' : Sent) (b' : WaitingState)
+    (later : RunsTo (answering.step now here) goes mid next to ended (progress_with w kept s b)
+    (progress_with w' kept' s' b'))
+    (stops : (stop : Stop) → IsStop w' s' b' stop
+    → MayCut (answering.step now here) goes mid next w kept s b stop kept'.missed) where
+  -- the first would have answered them so
+  runs-first : RunsTo (answering.step first there) goes mid next to ended (progress_with w kept s b)
+      (progress_with w' kept' s' b')
+  runs-first = RunsTo-by goes now first same here there holds mid next to ended (progress_with w kept s b)
+      (progress_with w' kept' s' b') later
+
+  -- and the output may fail there as it would
+  stops-first : (stop : Stop) → IsStop w' s' b' stop
+      → MayCut (answering.step first there) goes mid next w kept s b stop kept'.missed
+  stops-first stop at =
+      MayCut-by goes now first same here there holds mid next w kept s b stop kept'.missed (stops stop at)
+
+  -- one of them ended the session, and what waited was put
+  pub turn_ended : ended ≡ true → (w'' : Option (List ℕ)) (s'' : Sent) → Stays w' w'' s' s'' b' none_wait
+      → RunsTo (answering.step first there) goes from all to true old (progress_of w'' kept' s'')
+  turn_ended is w'' s'' stays =
+      piece_ended Machine (answering.step first there) goes from mid all left old w kept s b so_far next more parts to
+      ended w' kept' s' b' runs-first stops-first is w'' s'' stays
+
+  -- what waited was put in part
+  pub turn_stop : (stop : Stop) → IsStop w' s' b' stop
+      → CutsShort (answering.step first there) goes from all old stop kept'.missed
+  turn_stop stop at =
+      piece_stop Machine (answering.step first there) goes from mid all left old w kept s b so_far next more parts to
+      ended w' kept' s' b' runs-first stops-first stop at
+
+  -- none of them ended the session
+  pub turn_more : ended ≡ false
+      → PieceSoFar (answering.step first there) goes from to all more old w' kept' s' b'
+  turn_more is =
+      piece_more Machine (answering.step first there) goes from mid all left old w kept s b so_far next more parts to
+      ended w' kept' s' b' runs-first stops-first is

@@ -131,27 +131,40 @@ one-within m k within =
 -- A reply more waits.
 module _ (bytes reply : List ℕ) (marks : List ReplyMark) (m : ReplyMark) (are : AreMarked bytes marks)
     (ends : m.end ≡ length bytes + length reply) where
-  -- its mark stands behind the others
-  pub marked-more : AreMarked (bytes ++ reply) (marks ++ m ∷ [])
-  marked-more =
+  -- where the bytes have ended, so has it, and all before it
+  all-more : (k : ℕ) → length (bytes ++ reply) ≤ k → gone (marks ++ m ∷ []) k ≡ length (marks ++ m ∷ [])
+  all-more k past =
       let bytes_more = length-append bytes reply in
       let marks_more = length-append marks (m ∷ []) in
-      record {
-        all = λ k past.
-            let earlier = (gone-back marks (m ∷ []) k (are.all k (omega (arith, past, bytes_more)))).0 in
-            let last = one-within m k (omega (arith, past, bytes_more, ends)) in
-            omega (arith, earlier, last, marks_more);
-        some = λ k less. ⊎_elim
-            (λ (front : k < length bytes).
-            let some = are.some k front in
-            let same = (gone-front marks (m ∷ []) k some).0 in
-            omega (arith, some, same, marks_more))
-            (λ (back : length bytes ≤ k).
-            let earlier = (gone-back marks (m ∷ []) k (are.all k back)).0 in
-            let last = (one-past m k (omega (arith, less, bytes_more, ends))).0 in
-            omega (arith, earlier, last, marks_more))
-            (cases_lt k (length bytes));
-      }
+      let earlier = (gone-back marks (m ∷ []) k (are.all k (omega (arith, past, bytes_more)))).0 in
+      let last = one-within m k (omega (arith, past, bytes_more, ends)) in
+      omega (arith, earlier, last, marks_more)
+
+  -- within the bytes before it not each has ended
+  some-front : (k : ℕ) → k < length bytes → gone (marks ++ m ∷ []) k < length (marks ++ m ∷ [])
+  some-front k front =
+      let some = are.some k front in
+      let same = (gone-front marks (m ∷ []) k some).0 in
+      let marks_more = length-append marks (m ∷ []) in
+      omega (arith, some, same, marks_more)
+
+  -- nor within its own
+  some-back : (k : ℕ) → length bytes ≤ k → k < length (bytes ++ reply)
+      → gone (marks ++ m ∷ []) k < length (marks ++ m ∷ [])
+  some-back k back less =
+      let bytes_more = length-append bytes reply in
+      let earlier = (gone-back marks (m ∷ []) k (are.all k back)).0 in
+      let last = (one-past m k (omega (arith, less, bytes_more, ends))).0 in
+      let marks_more = length-append marks (m ∷ []) in
+      omega (arith, earlier, last, marks_more)
+
+  -- its mark stands behind the others
+  pub marked-more : AreMarked (bytes ++ reply) (marks ++ m ∷ [])
+  marked-more = record {
+    all = all-more;
+    some = λ k less. ⊎_elim (λ (front : k < length bytes). some-front k front)
+        (λ (back : length bytes ≤ k). some-back k back less) (cases_lt k (length bytes));
+  }
 
 -- known bytes, and some behind them
 known-append : (known : Option (List ℕ)) (bytes more : List ℕ)
@@ -215,37 +228,47 @@ module _ (written : Option (List ℕ)) (sent : Sent) (bytes reply : List ℕ) (m
         counts = at.counts ∙ same.1;
       }
 
-  -- the output may fail within the reply
-  added-back : (stop : Stop) (at : IsStop written sent after stop) → length bytes ≤ at.place
-      → CutsReply (holds_with written before) (sent_with sent before) reply m.counts stop
-  added-back stop at back =
+  -- within the reply, all before it have ended, and the counts are its own
+  gone-added : (stop : Stop) (at : IsStop written sent after stop) → length bytes ≤ at.place
+      → (gone (marks ++ m ∷ []) at.place ≡ length marks) × (counts_at (marks ++ m ∷ []) at.place ≡ m.counts)
+  gone-added stop at back =
+      let within = at.within in
+      let both = length-append bytes reply in
+      let same = gone-back marks (m ∷ []) at.place (are.all at.place back) in
+      let past = one-past m at.place (omega (arith, within, both, ends)) in
+      let all = same.0 in
+      let none = past.0 in
+      (omega (arith, all, none), same.1 ∙ past.1)
+
+  -- and what was put behind them is a front of it
+  part-added : (stop : Stop) (at : IsStop written sent after stop) → length bytes ≤ at.place
+      → Puts (holds_with written before) stop.written (sent_with sent before) stop.sent
+      (take (at.place - length bytes) reply)
+  part-added stop at back =
       let n = at.place - length bytes in
       let within = at.within in
       let both = length-append bytes reply in
       let place : at.place ≡ length bytes + n = omega (arith, back) in
-      let same = gone-back marks (m ∷ []) at.place (are.all at.place back) in
-      let past = one-past m at.place (omega (arith, within, both, ends)) in
-      let none = past.0 in
-      let gone_all : gone (marks ++ m ∷ []) at.place ≡ length marks = (let all = same.0 in omega (arith, all, none)) in
       let len = length-take-le n reply (omega (arith, within, both)) in
-      let left = length-drop n reply in
       record {
-        puts = record {
-          part = take n reply;
-          missing = drop n reply;
-          whole = sym (take-append-drop n reply);
-          proper = omega (arith, left, within, both, back);
-          puts = record {
-            writes = known-behind written stop.written bytes (take n reply)
-                (subst (Appends written stop.written)
-                (ap (λ k. take k (bytes ++ reply)) place ∙ take-append-add bytes reply n) at.writes);
-            lines = at.lines ∙ ap (kept_sum sent.lines) gone_all;
-            bytes_sent = at.bytes ∙ ap (kept_sum sent.bytes) place
-                ∙ sym (kept_sum-twice sent.bytes (length bytes) n)
-                ∙ ap (kept_sum (kept_sum sent.bytes (length bytes))) (sym len);
-          };
-        };
-        same = at.counts ∙ same.1 ∙ past.1;
+        writes = known-behind written stop.written bytes (take n reply) (subst (Appends written stop.written)
+            (ap (λ k. take k (bytes ++ reply)) place ∙ take-append-add bytes reply n) at.writes);
+        lines = at.lines ∙ ap (kept_sum sent.lines) (gone-added stop at back).0;
+        bytes_sent = at.bytes ∙ ap (kept_sum sent.bytes) place ∙ sym (kept_sum-twice sent.bytes (length bytes) n)
+            ∙ ap (kept_sum (kept_sum sent.bytes (length bytes))) (sym len);
+      }
+
+  -- so the output may fail within it
+  added-back : (stop : Stop) (at : IsStop written sent after stop) → length bytes ≤ at.place
+      → CutsReply (holds_with written before) (sent_with sent before) reply m.counts stop
+  added-back stop at back =
+      let within = at.within in
+      let both = length-append bytes reply in
+      record {
+        puts = part-front (holds_with written before) stop.written (sent_with sent before) stop.sent reply
+            (at.place - length bytes)
+            (record { within = omega (arith, within, both, back); puts = part-added stop at back });
+        same = at.counts ∙ (gone-added stop at back).1;
       }
 
   -- so the reply is sent

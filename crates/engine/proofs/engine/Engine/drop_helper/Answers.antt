@@ -1,12 +1,12 @@
 -- No helper has the name, and none is taken out.
-use Rattle.std.proofs.Common.{◌≡◌, false, [], is_some, sym, ap, ◌∙◌}
+use Rattle.std.proofs.Common.{◌≡◌, [], ap, ◌∙◌}
 use Rattle.helpers.specs.Slots.{states_of}
 use Rattle.helpers.specs.HelperStates.{SlotState, named, after_remove}
 use Rattle.machine_rules.specs.Effects.{told}
 use Rattle.machine_rules.specs.Heard.{word_at}
 use Rattle.machine_rules.specs.HelperCommands.{with_helpers}
 use Rattle.engine.specs.EngineView.{machine_with}
-use Rattle.engine.proofs.HelperAnswers.{remove-none, nothing-there, not-there}
+use Rattle.engine.proofs.HelperAnswers.{none-named, remove-none, nothing-there, not-there}
 use Rattle.engine.proofs.engine.Engine.drop_helper.Goals as goal
 
 -- it is told that no helper has the name
@@ -17,11 +17,9 @@ returns g c =
     let after = states_of (λ z. (goal.Helper-dyn g z).state z.1) c.remove.new.self in
     let name = word_at c.args.line.now c.args.span in
     let is : c.as_slice.result.now ≡ name = c.as_slice.ensures ∙ c.in-Ok.ensures in
-    let missing : is_some (named name before) ≡ false =
-    ap (λ n. is_some (named n before)) (sym is)
-    ∙ nothing-there (λ (s : SlotState). s.helper) (named c.as_slice.result.now before) c.in-None.ensures.found in
-    let same : after ≡ before = c.remove.ensures.after ∙ ap (λ n. after_remove n before) is
-    ∙ remove-none name before missing in
+    let missing = none-named before c.as_slice.result.now name is
+    (nothing-there (λ (s : SlotState). s.helper) (named c.as_slice.result.now before) c.in-None.ensures.found) in
+    let same = c.remove.ensures.after ∙ ap (λ n. after_remove n before) is ∙ remove-none name before missing in
     not-there (machine_with before kept) name
     (told [] (with_helpers (machine_with before kept) (after_remove name before))) (machine_with after kept) missing
     (ap (λ helpers. machine_with helpers kept) same)

@@ -1,7 +1,7 @@
 -- The answer says what the loader said of the file, and what its text is as a record.
-use Rattle.std.proofs.Common.{◌≡◌, ◌++◌, true, [], Err, inl, refl, sym, ap, subst, ◌∙◌, append-nil}
+use Rattle.std.proofs.Common.{◌≡◌, ◌++◌, true, List, [], Err, inl, refl, sym, ap, subst, ◌∙◌, append-nil}
 use Rattle.std.specs.Prelude.{IsUtf8}
-use Rattle.gtp_io.specs.Loading.{IsLoaded}
+use Rattle.helpers.specs.HelperStates.{SlotState}
 use Rattle.machine_rules.specs.Heard.{word_at}
 use Rattle.machine_rules.specs.Loads.{named_load}
 use Rattle.machine_rules.specs.RecordCommands.{is_utf8}
@@ -9,7 +9,7 @@ use Rattle.sgf_rules.specs.Game.{game_of}
 use Rattle.machine_rules.proofs.Soundness.{some_file}
 use Rattle.engine.specs.EngineView.{machine_with}
 use Rattle.engine.proofs.RecordAnswers.{text-is_utf8, record-misses, given-file, miss-told}
-use Rattle.engine.proofs.RecordAnswers.{record-loaded, file-not-loaded}
+use Rattle.engine.proofs.RecordAnswers.{loaded-anew, record-loaded, file-not-loaded}
 use Rattle.engine.proofs.engine.Engine.load_record.Goals as goal
 
 -- there was no memory for the word, whatever the file is
@@ -28,17 +28,11 @@ returns-in-Ok-load-clause-answer g c =
     let contents = g.L.Loader.contents c.args.files.now in
     let name : c.in-Ok-from_utf8.name.now ≡ word = c.in-Ok-from_utf8.ensures.cases.0 ∙ same in
     let file = c.as_slice-in-Ok-load.result.now in
-    let loaded : IsLoaded (contents word) [] file =
-    subst (λ text. IsLoaded (contents word) [] text) (sym c.as_slice-in-Ok-load.ensures.value)
-    (subst (λ into. IsLoaded (contents word) into c.in-Ok-load.contents.items) c.new-2.ensures.items
-    (subst (λ known. IsLoaded (contents known) c.new-2.result.items c.in-Ok-load.contents.items) name
-    c.in-Ok-load.ensures.loaded)) in (
-      file,
-      given-file word utf8 contents file loaded,
-      λ helpers. record-loaded word utf8
-          (machine_with helpers c.args.self.now) file c.set_record.result (machine_with helpers c.set_record.new.self)
-          (c.set_record.ensures.answer helpers),
-    )
+    let loaded = loaded-anew contents word c.in-Ok-from_utf8.name.now c.new-2.result.items c.in-Ok-load.contents.items
+    file name c.new-2.ensures.items c.as_slice-in-Ok-load.ensures.value c.in-Ok-load.ensures.loaded in
+    let answers = λ (helpers : List SlotState). record-loaded word utf8 (machine_with helpers c.args.self.now) file c.set_record.result
+    (machine_with helpers c.set_record.new.self) (c.set_record.ensures.answer helpers) in
+    (file, given-file word utf8 contents file loaded, answers)
 
 -- no name is missed there
 pub returns-in-Ok-load-clause-missed : goal.returns-in-Ok-load-clause-missed

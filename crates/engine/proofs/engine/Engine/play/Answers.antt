@@ -3,6 +3,7 @@ use Rattle.std.proofs.Common.{Err, ap, subst, ◌∙◌}
 use Rattle.machine_rules.specs.BoardCommands.{played}
 use Rattle.engine.specs.EngineView.{EngineView, machine_with}
 use Rattle.engine.specs.CommandAnswers.{IsAnswer}
+use Rattle.engine.specs.SeenEngines.{seen}
 use Rattle.engine.proofs.MoveAnswers.{with_game, move_added, move_illegal, move_past_full, move_without_memory}
 use Rattle.engine.proofs.engine.Engine.play.Goals as goal
 use Rattle.engine.proofs.engine.Engine.play.Goals.{in-Ok, in-Err-Illegal, in-Err-Full, in-Err-NoMemory}
@@ -11,23 +12,7 @@ use Rattle.engine.proofs.engine.Engine.play.Goals.{in-Ok, in-Err-Illegal, in-Err
 pub returns-clause-answer : goal.returns-clause-answer
 returns-clause-answer c = λ helpers.
     let game = c.self.inside.history in
-    let kept = machine_with helpers (record {
-      base = game.base;
-      moves = game.moves;
-      komi = c.self.inside.komi;
-      depths = c.self.inside.readings.depths;
-      patterns = c.self.inside.patterns.items;
-      automaton = c.self.inside.scanner;
-      counts = record {
-        readings = c.self.inside.counts.readings;
-        fresh = c.self.inside.counts.fresh;
-        trials = c.self.inside.counts.trials;
-        refused = c.self.inside.readings.answers.refused;
-        links = record { connections = c.self.inside.connections; fresh = c.self.inside.links.answers.fresh };
-      };
-      readings = c.self.inside.readings;
-      links = c.self.inside.links;
-    }) in
+    let kept = machine_with helpers (seen c.self.inside) in
     let new = c.play.new.self in
     let family : EngineView → Type 0 = λ old. IsAnswer
     (played (machine_with helpers old) c.args.m) c.match-play.result (with_game new kept) in
