@@ -112,8 +112,8 @@ module _ (automaton : List Row) (pos : BoardState) (friend : Colour) (t : ℕ) (
       subst (λ b. Contains (cond b (accepted automaton (word_at pos friend t (anchor_of pos.size w) w.letters)) []) k)
           few there,
     )
-    | inr past ↦ absurd (Contains-nil k
-        (subst (λ b. Contains (cond b (accepted automaton (word_at pos friend t (anchor_of pos.size w) w.letters)) []) k)
+    | inr past ↦ absurd (Contains-nil k (subst
+        (λ b. Contains (cond b (accepted automaton (word_at pos friend t (anchor_of pos.size w) w.letters)) []) k)
         past there))
   ]
 

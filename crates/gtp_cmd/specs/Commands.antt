@@ -127,8 +127,8 @@ code_of word = if length word == 1 then number_between 0 greatest_code word else
 -- what a proof is said to show on a board of size s, where the first three words say it
 abbrev pub claim_of : ℕ → List (List ℕ) → Option Claim
 claim_of s (kind ∷ target ∷ code ∷ more) =
-    option_and_then (λ attack. option_and_then (λ at. option_map (λ c. record { attack = attack; target = at; code = c })
-    (code_of code)) (vertex_of s target)) (is_attack_of kind)
+    option_and_then (λ attack. option_and_then (λ at. option_map
+    (λ c. record { attack = attack; target = at; code = c }) (code_of code)) (vertex_of s target)) (is_attack_of kind)
 claim_of s _ = None
 
 -- two points of a board of size s, where the first two words name both
@@ -146,7 +146,8 @@ command_of name.Version s words spans = Some command.Version
 command_of name.KnownCommand s words spans = option_map command.KnownCommand (known_of words)
 command_of name.ListCommands s words spans = Some command.ListCommands
 command_of name.Quit s words spans = Some command.Quit
-command_of name.BoardSize s words spans = option_map (λ n. command.BoardSize (size_of n)) (first_argument number_of words)
+command_of name.BoardSize s words spans = option_map (λ n. command.BoardSize (size_of n))
+    (first_argument number_of words)
 command_of name.ClearBoard s words spans = Some command.ClearBoard
 command_of name.Komi s words spans = option_map command.Komi (first_argument komi_of words)
 command_of name.GetKomi s words spans = Some command.GetKomi

@@ -63,8 +63,8 @@ module _ (machine : Machine) where
   fits_command name.ProtocolVersion id s words spans = tt
   fits_command name.Name id s words spans = tt
   fits_command name.Version id s words spans = tt
-  fits_command name.KnownCommand id s words spans = fits_asked command.KnownCommand (Some name.KnownCommand) (λ _. tt) id
-      (known_of words)
+  fits_command name.KnownCommand id s words spans = fits_asked command.KnownCommand (Some name.KnownCommand) (λ _. tt)
+      id (known_of words)
   fits_command name.ListCommands id s words spans = tt
   fits_command name.Quit id s words spans = tt
   fits_command name.BoardSize id s words spans =
@@ -78,8 +78,8 @@ module _ (machine : Machine) where
       (move_of s words)
   fits_command name.Undo id s words spans = tt
   fits_command name.ShowBoard id s words spans = tt
-  fits_command name.IsLegal id s words spans = fits_asked (λ m. command.IsLegal m.0 m.1) (Some name.IsLegal) (λ _. tt) id
-      (move_of s words)
+  fits_command name.IsLegal id s words spans = fits_asked (λ m. command.IsLegal m.0 m.1) (Some name.IsLegal) (λ _. tt)
+      id (move_of s words)
   fits_command name.AllLegal id s words spans = fits_asked command.AllLegal (Some name.AllLegal) (λ _. tt) id
       (first_argument colour_of words)
   fits_command name.CountLib id s words spans = fits_asked command.CountLib (Some name.CountLib) (λ _. tt) id

@@ -326,8 +326,8 @@ pub linked-told : (old : Machine) (kind : LinkKind) (a b : ℕ) → have_one_col
     → linked old kind a b ≡ told (linkage_text old.base.size (linkage_at old kind a b)) old
 linked-told old kind a b one = all-pass (has_stone old a) (has_stone old b)
     (same_cell (cell_at (position_of old).cells a) (cell_at (position_of old).cells b))
-    (told (linkage_text old.base.size (linkage_at old kind a b)) old) (refused old VertexEmpty) (refused old VertexEmpty)
-    (refused old ColoursDiffer) one
+    (told (linkage_text old.base.size (linkage_at old kind a b)) old) (refused old VertexEmpty)
+    (refused old VertexEmpty) (refused old ColoursDiffer) one
 
 -- the same of such a command
 link-at : (old : Machine) (kind : LinkKind) (a b : ℕ) (q : LinkQuestion) → asks_link_at old kind a b ≡ Some q

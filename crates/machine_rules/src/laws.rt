@@ -15,8 +15,8 @@ ghost use Rattle.read_rules.specs.declared.question.ReadingQuestion.{ReadingQues
 /// A refused line keeps the machine; what may stand in place of a reply is a refusal, which keeps it but for the calls
 /// of helpers; and only a success ends the session, which keeps the machine. Something is given for each line.
 pub fn replies_are_sound()
-    ensures sound { (matcher : Matcher) (contents : Contents) (machine : Machine) (line : RawLine) (given : Step Machine)
-        → step matcher contents machine line given → IsSound machine given }
+    ensures sound { (matcher : Matcher) (contents : Contents) (machine : Machine) (line : RawLine)
+        (given : Step Machine) → step matcher contents machine line given → IsSound machine given }
     ensures total { (matcher : Matcher) (contents : Contents) → IsTotal (step matcher contents) }
 {}
 

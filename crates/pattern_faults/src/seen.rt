@@ -117,9 +117,9 @@ fn look<'a>(
 
 /// The fault of this line and kind, which this part of a text has, with what is seen of it.
 ///
-/// The line is counted from 1 in the text, and the kind is that of `db_read`, with helpers of these names. Where nothing
-/// is seen, as of a fault that the part does not have, the cause is the kind alone. Takes memory, and may answer that
-/// there is none.
+/// The line is counted from 1 in the text, and the kind is that of `db_read`, with helpers of these names. Where
+/// nothing is seen, as of a fault that the part does not have, the cause is the kind alone. Takes memory, and may
+/// answer that there is none.
 pub fn explain<'a>(
     alloc: Global,
     helpers: &[Bytes],

@@ -11,8 +11,8 @@ use Rattle.read_tree.specs.declared.nodes.NodeAt.{NodeAt}
 abbrev pub has_one_at_most : Node → Bool
 has_one_at_most node = nat_lt (node.attacker_ko + node.defender_ko) 2
 
--- the allowances of a node: of the attacker where he may still ignore the ban, of the defender where he may, and that of
--- neither where neither may
+-- the allowances of a node: of the attacker where he may still ignore the ban, of the defender where he may, and that
+-- of neither where neither may
 abbrev pub the_allowance : Node → Allowances
 the_allowance node = record {
   defender = nat_lt 0 node.defender_ko;

@@ -1,7 +1,7 @@
 //! Who wins at a node of the game tree, and which move there is the first that will do, on a board with trial moves.
 
-ghost use Rattle.std.specs.Prelude.{◌≡◌, ◌+◌, ◌<◌, ◌≤◌, ◌&&◌, ◌||◌, ◌==◌, nat_lt, true, None, Some, IfSome, MatchOption, length};
-ghost use Rattle.std.specs.Prelude.{is_some};
+ghost use Rattle.std.specs.Prelude.{◌≡◌, ◌+◌, ◌<◌, ◌≤◌, ◌&&◌, ◌||◌, ◌==◌, nat_lt, true, None, Some, IfSome};
+ghost use Rattle.std.specs.Prelude.{MatchOption, length, is_some};
 ghost use Rattle.go_rules.specs.Position.{BoardState};
 ghost use Rattle.go_base.specs.Facts.{Agrees, Grows};
 ghost use Rattle.trial_board.specs.Trials.{Stays, most_moves, after, tail};

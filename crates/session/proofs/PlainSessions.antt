@@ -39,7 +39,8 @@ pub ServesLines-plain : (patterns : List Pattern) (depths : ReadingDepths) (capa
     (slots helpers : List SlotState) (contents : Contents) (generate : Option ℕ) (before after : Streams) (end : End)
     (tally : Tally Machine) → IsPlainWith patterns depths capacity session → slots ≡ helpers
     → ServesLines generate (step (matcher_of session) contents) (machine_with slots session) before after end tally
-    → ServesLines generate (step (plain_matcher patterns) contents) (first_machine helpers depths) before after end tally
+    → ServesLines generate (step (plain_matcher patterns) contents) (first_machine helpers depths) before after end
+    tally
 ServesLines-plain patterns depths capacity session slots helpers contents generate before after end tally plain same
     serves =
     let by_plain =

@@ -105,8 +105,8 @@ came-served tree helpers slots contents options session lines missed now before 
     })
 
 -- the same where the files were opened before, which leaves what files hold and which names were missed
-pub came-served-after : (tree : Tree) (helpers slots : List SlotState) (contents contents' : Contents) (options : Options)
-    (session : EngineView) (lines : LinesState) (missed missed' now : List (List ℕ))
+pub came-served-after : (tree : Tree) (helpers slots : List SlotState) (contents contents' : Contents)
+    (options : Options) (session : EngineView) (lines : LinesState) (missed missed' now : List (List ℕ))
     (before after : Streams) (end : End) (counts : Counts) (w0 w1 : Option (List ℕ)) (sent : Sent)
     (told : Option Counts) (noted : Option Sent)
     (phase : Phase) → contents' ≡ contents → missed' ≡ missed → Opens tree helpers contents options session slots lines
@@ -117,8 +117,8 @@ pub came-served-after : (tree : Tree) (helpers slots : List SlotState) (contents
     → phase ≡ Served end → CameBy tree helpers options contents missed now before after told noted phase
 came-served-after tree helpers slots contents contents' options session lines missed missed' now before after end counts
     w0 w1 sent told noted phase same kept opens ends tells notes is =
-    came-served tree helpers slots contents options session lines missed now before after end counts w0 w1 sent told noted
-    phase opens
+    came-served tree helpers slots contents options session lines missed now before after end counts w0 w1 sent told
+    noted phase opens
     (subst (λ l. EndsCounting options.generate (step (matcher_of session) contents) IsAfterLine
     (machine_with slots session) before after end counts now
     (progress_of w0 (kept_with slots l session) (record { lines = 0; bytes = 0 })) w1 sent) kept
@@ -225,8 +225,8 @@ ends-generated n step goes first left piece faults w0 w1 c0 c1 f0 f1 p text rest
 -- the files were not opened
 module _ (options : Options) (error : OpenError) (phase : Phase) (is : phase ≡ NotOpened error) where
   -- nothing was taken, put or counted, and the error says why
-  pub came-unopened : (tree : Tree) (helpers : List SlotState) (contents : Contents) (missed now : List (List ℕ)) (before : Streams)
-      (counts : Option Counts) (sent : Option Sent)
+  pub came-unopened : (tree : Tree) (helpers : List SlotState) (contents : Contents) (missed now : List (List ℕ))
+      (before : Streams) (counts : Option Counts) (sent : Option Sent)
       → IsRefused (helper_names helpers) contents options.files options.states error → counts ≡ None → sent ≡ None
       → CameBy tree helpers options contents missed now before before counts sent phase
   came-unopened tree helpers contents missed now before counts sent refused uncounted unsent =

@@ -26,9 +26,9 @@ use Rattle.session.specs.declared.outcome.End.{End}
 use Rattle.run_notes.specs.declared.notes.Counts.{Counts}
 use Rattle.run_notes.specs.declared.notes.Sent.{Sent}
 
--- the session is the first machine with these helpers and depths, its matcher finds the matches of these patterns as the
--- plain one does, it has counted and kept nothing, and may keep this many questions, which are eight and more, and as
--- many about connections
+-- the session is the first machine with these helpers and depths, its matcher finds the matches of these patterns as
+-- the plain one does, it has counted and kept nothing, and may keep this many questions, which are eight and more, and
+-- as many about connections
 pub record IsPlainWith (patterns : List Pattern) (depths : ReadingDepths) (capacity : ℕ)
     (session : EngineView) : Type 0 where
   pub machine : (helpers : List SlotState) → machine_with helpers session ≡ first_machine helpers depths
@@ -40,8 +40,8 @@ pub record IsPlainWith (patterns : List Pattern) (depths : ReadingDepths) (capac
 
 -- the files of the options were opened, in which the helpers may be named, the session is plain with their patterns and
 -- the depths of the options in a tree, has these helpers, and no line has come
-pub record Opens (tree : Tree) (helpers : List SlotState) (contents : Contents) (options : Options) (session : EngineView)
-    (slots : List SlotState) (lines : LinesState) : Type 0 where
+pub record Opens (tree : Tree) (helpers : List SlotState) (contents : Contents) (options : Options)
+    (session : EngineView) (slots : List SlotState) (lines : LinesState) : Type 0 where
   pub patterns : List Pattern
   pub opened : IsOpened (helper_names helpers) contents options.files options.states patterns
   pub plain : IsPlainWith patterns (depths_in tree options) options.cache session

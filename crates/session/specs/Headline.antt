@@ -131,11 +131,11 @@ IsSent generate sent tally = MatchOption generate (sent ≡ None) (λ n. IsSomeA
     (λ s. (s.lines ≡ kept_sum 0 tally.replies) × (s.bytes ≡ kept_sum 0 (length tally.out))))
 
 -- The files of the options were opened, in which the helpers may be named, and the lines were served by the plain
--- machine, which compares each diagram of their patterns with the board, reads in this tree, as deep as the options say,
--- and asks the helpers, whose meanings never change. The names that the loader missed are those that it had missed, and behind them
--- those of the lines that were answered `cannot load file`, in their order.
-pub record IsServed (tree : Tree) (helpers : List SlotState) (options : Options) (contents : Contents) (missed : List (List ℕ))
-    (now : List (List ℕ)) (before after : Streams) (end : End) (counts : Option Counts)
+-- machine, which compares each diagram of their patterns with the board, reads in this tree, as deep as the options
+-- say, and asks the helpers, whose meanings never change. The names that the loader missed are those that it had
+-- missed, and behind them those of the lines that were answered `cannot load file`, in their order.
+pub record IsServed (tree : Tree) (helpers : List SlotState) (options : Options) (contents : Contents)
+    (missed : List (List ℕ)) (now : List (List ℕ)) (before after : Streams) (end : End) (counts : Option Counts)
     (sent : Option Sent) : Type 0 where
   pub patterns : List Pattern
   pub opened : IsOpened (helper_names helpers) contents options.files options.states patterns
@@ -205,7 +205,7 @@ pub record DoesNothing (before after : Outside) (outcome : Outcome) : Type 0 whe
   pub notes : IsNoted before.noted after.noted before.notes_faults after.notes_faults (note_of outcome)
 
 -- what a run with these helpers did that reads in a tree, by its words where they could be had; texts tells these
-abbrev pub RunsHad : {V : Type 0} → Tree → List SlotState → (V → List (List ℕ)) → Result V WordsError → Outside → Outside
-    → Outcome → Type 0
+abbrev pub RunsHad : {V : Type 0} → Tree → List SlotState → (V → List (List ℕ)) → Result V WordsError → Outside
+    → Outside → Outcome → Type 0
 RunsHad tree helpers texts (Ok words) before after outcome = RunsIn tree helpers (texts words) before after outcome
 RunsHad tree helpers texts (Err error) before after outcome = (outcome ≡ unhad error) × DoesNothing before after outcome
