@@ -169,7 +169,8 @@ value_written : (bs : List ℕ) → is_stray (value_at bs).0 ≡ false
 value_written bs h = elim (cases_Bool (nat_lt (value_len false bs) (length bs))) [
   | inl ended ↦
       let v = value_begins bs (ltb-true (value_len false bs) (length bs) ended) in
-      subst (λ (x : Token × ℕ). Writes (left_bracket ∷ take x.1 bs) x.0) (sym (value_found bs v)) (brackets_written bs v)
+      subst (λ (x : Token × ℕ). Writes (left_bracket ∷ take x.1 bs) x.0) (sym (value_found bs v))
+      (brackets_written bs v)
   | inr open_end ↦ let stray : is_stray (value_at bs).0 ≡ true = rw open_end refl in absurd (cc (stray, h))
 ]
 

@@ -30,8 +30,8 @@ returns-in-Ok-load-clause-answer g c =
     let file = c.as_slice-in-Ok-load.result.now in
     let loaded = loaded-anew contents word c.in-Ok-from_utf8.name.now c.new-2.result.items c.in-Ok-load.contents.items
     file name c.new-2.ensures.items c.as_slice-in-Ok-load.ensures.value c.in-Ok-load.ensures.loaded in
-    let answers = λ (helpers : List SlotState). record-loaded word utf8 (machine_with helpers c.args.self.now) file c.set_record.result
-    (machine_with helpers c.set_record.new.self) (c.set_record.ensures.answer helpers) in
+    let answers = λ (helpers : List SlotState). record-loaded word utf8 (machine_with helpers c.args.self.now) file
+    c.set_record.result (machine_with helpers c.set_record.new.self) (c.set_record.ensures.answer helpers) in
     (file, given-file word utf8 contents file loaded, answers)
 
 -- no name is missed there

@@ -43,7 +43,8 @@ returns-in-AttackProof-clause-missed g c = missed-unloaded c.in-AttackProof.is _
 -- the proof of a defence
 pub returns-in-DefendProof-clause-answer : goal.returns-in-DefendProof-clause-answer
 returns-in-DefendProof-clause-answer g c =
-    done-unloaded c.in-DefendProof.is _ (matcher_of c.args.self.now) _ _ _ _ refl (λ _. c.print_proof-in-DefendProof.ensures _)
+    done-unloaded c.in-DefendProof.is _ (matcher_of c.args.self.now) _ _ _ _ refl
+    (λ _. c.print_proof-in-DefendProof.ensures _)
 
 -- it misses no file
 pub returns-in-DefendProof-clause-missed : goal.returns-in-DefendProof-clause-missed
@@ -70,7 +71,8 @@ returns-in-Connect-clause-missed g c = missed-unloaded c.in-Connect.is _ _ _ ref
 -- a cut
 pub returns-in-Disconnect-clause-answer : goal.returns-in-Disconnect-clause-answer
 returns-in-Disconnect-clause-answer g c =
-    done-unloaded c.in-Disconnect.is _ (matcher_of c.args.self.now) _ _ _ _ refl (λ _. c.tell_link-in-Disconnect.ensures.answer _)
+    done-unloaded c.in-Disconnect.is _ (matcher_of c.args.self.now) _ _ _ _ refl
+    (λ _. c.tell_link-in-Disconnect.ensures.answer _)
 
 -- it misses no file
 pub returns-in-Disconnect-clause-missed : goal.returns-in-Disconnect-clause-missed
