@@ -6,9 +6,9 @@ use crate::options::Options;
 use crate::page::{
     print_counts, print_fault, print_port, print_port_note, print_states, print_warning,
 };
-use crate::states::states_of;
 use go_base::Bytes;
 use pattern_report::{NoMemory, Report, parts, port_notes, port_of, report_on, warnings};
+use pattern_states::states_of;
 use std::alloc::Global;
 use std::io::{self, Write};
 

@@ -6,16 +6,12 @@
 //! memory.
 #![tactic(auto)]
 
-mod added;
 mod checker;
 mod counts;
 mod list;
 mod options;
 mod page;
 mod progress;
-mod states;
-#[cfg(test)]
-mod tests;
 
 use crate::checker::{Checker, NOT_CHECKED};
 use crate::options::{Options, options_of};

@@ -2,8 +2,8 @@
 
 use crate::counts::Counts;
 use crate::list::List;
-use crate::states::{Added, States};
 use pattern_report::{Fault, Place, Port, PortNote, Shown, Warning};
+use pattern_states::{Added, States};
 use std::io::{self, Write};
 
 /// Prints blanks.
@@ -164,8 +164,8 @@ fn print_added<W: Write>(
     added: &Added,
 ) -> io::Result<()> {
     let (Some(origin), Some(pattern)) = (
-        list.origins.get(added.entry),
-        list.patterns.get(added.entry),
+        list.origins.get(added.pattern),
+        list.patterns.get(added.pattern),
     ) else {
         return Ok(());
     };

@@ -2,4 +2,5 @@
 
 mod faults;
 mod ports;
+mod states;
 mod warnings;

@@ -136,7 +136,10 @@ fn is_lacking(layer: &Layer, sums: &[(u64, usize)], live: &[u16], sum: u64, numb
 }
 
 /// For each of so many patterns, how many states fewer than this automaton that of the list without it has.
-pub(crate) fn added_by_each(
+///
+/// The automaton is that of a list of as many patterns, as `dfa_join::compile` makes it, and what is told of a pattern
+/// stands at its index in the list. Takes memory, and may answer that there is none.
+pub fn added_by_each(
     alloc: Global,
     automaton: &Automaton,
     patterns: usize,

@@ -1,4 +1,4 @@
-//! The states that the automaton of the entries takes.
+//! The states that a list of patterns takes, and the patterns that add most.
 
 ghost use Rattle.std.specs.Prelude.{◌≤◌, length};
 
@@ -10,41 +10,41 @@ use std::alloc::Global;
 /// The longest list of patterns that has an automaton.
 const MOST_PATTERNS: usize = 4096;
 
-/// How many entries are named.
+/// How many patterns are named.
 const NAMED: usize = 10;
 
-/// An entry of a list and the states that it adds.
+/// A pattern of a list and the states that it adds.
 #[derive(Clone, Copy)]
-pub(crate) struct Added {
-    /// How many states fewer the list has without the entry.
-    pub(crate) states: u32,
-    /// The index of the entry.
-    pub(crate) entry: usize,
+pub struct Added {
+    /// How many states fewer the list has without the pattern.
+    pub states: u32,
+    /// The index of the pattern in the list, counted from 0.
+    pub pattern: usize,
 }
 
 /// The states of a list of patterns.
 #[derive(Drop)]
-pub(crate) enum States {
-    /// The list has more patterns than an automaton takes.
+pub enum States {
+    /// The list has more than 4096 patterns, and no automaton takes so many.
     TooManyPatterns,
     /// They are more than were asked for.
     More,
-    /// So many, and the entries that add most, those that add most first.
+    /// So many, and the patterns that add most.
     Counted {
-        /// The states of all entries.
+        /// The states of all patterns.
         all: u32,
-        /// The entries that add most.
+        /// At most ten of the patterns, those that add most first.
         most: Vec<Added>,
     },
 }
 
-/// The entries that add most, those that add most first. Of those that add as many the first in the list are taken.
+/// The patterns that add most, those that add most first. Of those that add as many the first in the list are taken.
 fn most_of(alloc: Global, added: &[u32]) -> Result<Vec<Added>, NoMemory> {
     let mut most = Vec::new(alloc);
-    for (entry, states) in added.iter().enumerate() {
+    for (pattern, states) in added.iter().enumerate() {
         most.push(Added {
             states: *states,
-            entry,
+            pattern,
         })?;
     }
     most.sort_by_key(|other| u32::MAX.saturating_sub(other.states))?;
@@ -52,12 +52,11 @@ fn most_of(alloc: Global, added: &[u32]) -> Result<Vec<Added>, NoMemory> {
     Ok(most)
 }
 
-/// The states of patterns, up to so many, and the entries that add most.
-pub(crate) fn states_of(
-    alloc: Global,
-    patterns: &[Pattern],
-    limit: u32,
-) -> Result<States, NoMemory> {
+/// The states of the automaton of these patterns, up to so many, and the ten patterns that add most.
+///
+/// A list that is too long is told first, then more states than the limit. Takes memory, and may answer that there is
+/// none.
+pub fn states_of(alloc: Global, patterns: &[Pattern], limit: u32) -> Result<States, NoMemory> {
     if patterns.len() > MOST_PATTERNS {
         return Ok(States::TooManyPatterns);
     }

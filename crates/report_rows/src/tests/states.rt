@@ -1,10 +1,10 @@
 //! What an entry adds, beside the lists without it.
 
-use crate::added::added_by_each;
 use db_read::read;
 use dfa_core::Automaton;
 use dfa_join::compile;
 use pat_types::Pattern;
+use pattern_states::added_by_each;
 use std::test::Fail;
 
 /// Entries with one diagram, with fronts in common, and with lengths of their own.
