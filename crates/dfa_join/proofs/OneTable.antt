@@ -63,7 +63,7 @@ module _ (patterns : List Pattern) (a b : List Row) (one : IsTableOf patterns a)
   over : (u v : Word) → reach a u ≡ reach a v → reach b u ≡ reach b v
   over u v e = two.automaton.rows.same u v (one.automaton.rows.apart u v e)
 
-  -- and the other way round
+  -- words that reach one row of the second table reach one row of the first
   back : (u v : Word) → reach b u ≡ reach b v → reach a u ≡ reach a v
   back u v e = one.automaton.rows.same u v (two.automaton.rows.apart u v e)
 

@@ -91,7 +91,7 @@ module _ (patterns : List Pattern) (automaton : List Row) (at : BoardState) (fri
             found.matched);
       }
 
-  -- and the other way round
+  -- a pattern that fits is accepted by the automaton
   pub hit_from_fit : IsFit patterns at friend hit → IsHit automaton at friend hit
   hit_from_fit is =
       let w : Word = word_at at friend hit.transform hit.anchor (pattern_length is.pattern) in

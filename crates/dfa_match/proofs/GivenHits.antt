@@ -38,7 +38,7 @@ AreDistinct-from_pairs xs apart i j d p q e =
       ]
     ]
 
--- and the other way round
+-- distinct elements are no two the same
 pairs_from_distinct : {X : Type 0} (xs : List X) → AreDistinct xs → AllPairs (λ x y. x ≡ y → ⊥) xs
 pairs_from_distinct xs distinct i j d before low e = let same : i ≡ j = distinct i j d (omega arith) low e in
     omega arith

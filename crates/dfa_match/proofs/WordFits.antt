@@ -35,7 +35,7 @@ module _ (p : Pattern) (seen : ℕ → Seen) where
         | inr later ↦ all_admitted (suc i) n parts.1 k (omega arith) (omega arith)
       ]
 
-  -- and the other way round
+  -- a word whose letters are all admitted is not refuted
   not_refuted : (i n : ℕ) → ((k : ℕ) → i ≤ k → k < i + n → admits p k (seen k) ≡ true)
       → refuted_from p i (word_from seen i n) ≡ false
   not_refuted i zero all = ap (refuted_from p i) (word_from-zero seen i)
@@ -130,7 +130,7 @@ module _ (p : Pattern) (at : BoardState) (friend : Colour) (t m : ℕ) where
       by r c (inl drawn) = let found = offset_exists _ (drawn_near p r c drawn) in
           drawn_cell r c found.0 found.1 found.2 drawn
 
-  -- and the other way round
+  -- where the pattern fits, the word matches
   pub match_from_fits : FitsAt p at friend t m → is_matched (word_at at friend t m (pattern_length p)) p ≡ true
   match_from_fits fits =
       and_from (eqb (length (word_at at friend t m (pattern_length p))) (pattern_length p)) _

@@ -34,7 +34,7 @@ reach_gives link here x p on w = record {
   reached = (reach-is here.size here.cells x p on).0 w.near;
 }
 
--- and the other way round
+-- what is reached from a point is in its reach
 reach_from : (link : Link) (here : BoardState) (x p : ℕ) → x < here.size * here.size → IsReachedFrom link here x p
     → IsInReach link here x p
 reach_from link here x p on w = record {
@@ -57,7 +57,7 @@ near_gives : (link : Link) (here : BoardState) (p : ℕ) → link.a < here.size 
 near_gives link here p a_on b_on (by_a w) = inl (reach_gives link here link.a p a_on w)
 near_gives link here p a_on b_on (by_b w) = inr (reach_gives link here link.b p b_on w)
 
--- and the other way round
+-- what is reached from one of the two strings is near them
 near_from : (link : Link) (here : BoardState) (p : ℕ) → link.a < here.size * here.size
     → link.b < here.size * here.size → IsReachedFrom link here link.a p ⊎ IsReachedFrom link here link.b p
     → IsNearLink link here p

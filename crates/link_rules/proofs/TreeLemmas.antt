@@ -29,7 +29,7 @@ leads_from test r new e h = ap (leads_to test) e ∙ h
 pub stand_from : (link : Link) (pos : BoardState) → BothStand link pos → both_stand link pos ≡ true
 stand_from link pos w = and_from _ _ (same_cell-from _ _ w.a) (same_cell-from _ _ w.b)
 
--- and the other way round
+-- both strings stand by the cells where they do by the test
 pub stand_gives : (link : Link) (pos : BoardState) → both_stand link pos ≡ true → BothStand link pos
 stand_gives link pos h =
     let parts = and_parts _ _ h in

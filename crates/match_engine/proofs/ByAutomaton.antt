@@ -151,7 +151,7 @@ module _ (patterns : List Pattern) (board : BoardState) (friend : Colour) where
       by_pattern None number found = absurd (none-some z found)
       by_pattern (Some p) number found = by_test p (ltb hit.transform (count_of p.mark)) number refl found
 
-  -- and the other way round
+  -- a match of which this can be said is that of the hit
   pub made-from : (hit : Hit) (z : Match) → IsMade patterns board friend hit z → made hit ≡ Some z
   made-from hit z is =
       ap (λ o. match_from o board friend hit) is.number
@@ -186,7 +186,7 @@ module _ (p : Pattern) (s t : ℕ) where
       ) a low at
       ∙ ap (place_at s t m) (there_and_back (anchor_of p) p.star) ∙ place_at-none s t m low on
 
-  -- and the other way round
+  -- from a star the anchor is found
   pub anchor_of_star : (a m : ℕ) → t < transformations → a < s * s → place_of_star p s t a ≡ Some m
       → place_of_anchor p s t m ≡ Some a
   anchor_of_star a m low on at =
@@ -219,7 +219,7 @@ module _ (automaton : List Row) (board : BoardState) (friend : Colour) where
             (eqb-true found.1 number found.4) (found.0, found.2, found.3);
       }
 
-  -- and the other way round
+  -- a hit is accepted from its anchor
   pub accept_of_hit : (hit : Hit) → IsHit automaton board friend hit
       → accepts_from automaton board friend hit.pattern hit.transform hit.anchor ≡ true
   unfolding accepts_from

@@ -33,7 +33,7 @@ module _ (p : Pattern) (s t m : ℕ) where
       (Contains-below_from p.rows r low))
       c (Contains-below_from p.cols c low')
 
-  -- and the other way round
+  -- a diagram lies on the board where each of its letters does
   pub on_all : ((r c : ℕ) → r < p.rows → c < p.cols → is_on r c ≡ true) → lies_on_board p s t m ≡ true
   on_all each =
       passes_all (λ k. list_all (is_on k) (range_with_len 0 p.cols)) (range_with_len 0 p.rows)

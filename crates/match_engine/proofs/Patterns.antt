@@ -60,7 +60,7 @@ module _ (p : Pattern) (board : BoardState) (friend : Colour) (t m a : ℕ) (low
       all_cells p board friend t m
       (λ r c. ap (drawn_fits (drawn_at p r c) board friend) (sym (same_place r c)) ∙ at.cells r c)
 
-  -- and the other way round
+  -- a pattern that fits at its star fits at its anchor
   fits_at_anchor : fits p board friend t m ≡ true → FitsAt p board friend t a
   fits_at_anchor is = record {
     cells = λ r c. ap (drawn_fits (drawn_at p r c) board friend) (same_place r c) ∙ each_cell p board friend t m is r c;
@@ -110,7 +110,7 @@ module _ (code : Codes) (advice : Advice) (patterns : List Pattern) (automaton :
             judged.1);
       }
 
-  -- and the other way round
+  -- a match of one of the patterns is one by the automaton
   automaton_of_match : (z : Match) → IsBy matched patterns board.size z → IsBy by_automaton patterns board.size z
   automaton_of_match z by =
       let p : Pattern = by.pattern in

@@ -123,7 +123,7 @@ module _ (s t m : ℕ) where
         point = p.4;
       }
 
-  -- and the other way round
+  -- the point in that row and column is what the offset leads to
   pub place_at-at : (d : Offset) (a : ℕ) → IsPlaced s t m d a → place_at s t m d ≡ Some a
   unfolding place_at
   place_at-at d a p =

@@ -28,7 +28,7 @@ class_there p letter e =
     let found = Any-from_list_any (λ c. eqb c letter) p.classes e in
     subst (Contains p.classes) (eqb-true found.1 letter found.4) (found.0, found.2, found.3)
 
--- and the other way round
+-- a class letter of the pattern is found
 class_found : (p : Pattern) (letter : ℕ) → Contains p.classes letter → has_class p letter ≡ true
 class_found p letter is =
     list_any-from_Any (λ c. eqb c letter) p.classes (is.0, letter, is.1, is.2, eq-eqb letter letter refl)
@@ -44,7 +44,7 @@ module _ (code : Codes) (board : BoardState) (c : Colour) (m : ℕ) where
       by (Ok next) at is = record { next = next; legal = at; safe = eqb-true (code_at code Attack next m) 0 is }
       by (Err reason) at is = absurd (false≢true is)
 
-  -- and the other way round
+  -- a legal play whose stone cannot be captured is a safe move
   safe_move : IsSafePlay code board c m → is_safe_move code board c m ≡ true
   unfolding is_safe_move
   safe_move is = ap (after_play false (λ next. eqb (code_at code Attack next m) 0)) is.legal
@@ -58,7 +58,7 @@ so_value meanings (Some d) so e at =
     subst (λ x. value_of meanings x ≢ pos 0) (same_Some d e at)
     ((Decides-not (int_eq (value_of meanings d) (pos 0)) (Decides-int_eq (value_of meanings d) (pos 0))).0 so)
 
--- and the other way round
+-- a value that is not 0 counts as true
 value_so : (meanings : Meanings) (o : Option Expr) → ((e : Expr) → o ≡ Some e → value_of meanings e ≢ pos 0)
     → is_so_valued meanings o ≡ true
 value_so meanings None each = refl
@@ -92,7 +92,7 @@ module _ (code : Codes) (p : Pattern) (board : BoardState) (friend : Colour) (t 
         constraint_true = so_value (meanings_at code p board friend t m) p.constraint more.1;
       }
 
-  -- and the other way round
+  -- where classes and constraint allow a match, so does the test
   pub allowed-from : IsAllowed code p board friend t m → is_allowed code p board friend t m ≡ true
   unfolding is_allowed
   allowed-from is =

@@ -107,7 +107,7 @@ module _ {X Y : Type 0} where
     | inr later ↦ let rest = Contains-map f xs z later in (rest.0, Contains-rest x xs rest.0 rest.1, rest.2)
   ]
 
-  -- and the other way round
+  -- what an element is mapped to is in the mapped list
   pub Contains-map_from : (f : X → Y) (xs : List X) (x : X) → Contains xs x → Contains (map f xs) (f x)
   Contains-map_from f [] x there = absurd (Contains-nil x there)
   Contains-map_from f (w ∷ xs) x there = elim (Contains-cons_cases w xs x there) [
@@ -124,7 +124,7 @@ module _ {X Y : Type 0} where
     | inr later ↦ let rest = Contains-flat_map f xs z later in (rest.0, Contains-rest x xs rest.0 rest.1, rest.2)
   ]
 
-  -- and the other way round
+  -- what is in one of the lists is in the joined list
   pub Contains-flat_map_from : (f : X → List Y) (xs : List X) (x : X) (z : Y) → Contains xs x → Contains (f x) z
       → Contains (flat_map f xs) z
   Contains-flat_map_from f [] x z there here = absurd (Contains-nil x there)
@@ -142,7 +142,7 @@ module _ {X Y : Type 0} where
     | inr later ↦ let rest = Contains-filter_map f xs z later in (rest.0, Contains-rest x xs rest.0 rest.1, rest.2)
   ]
 
-  -- and the other way round
+  -- what a function gives for an element is in the list of what it gives
   pub Contains-filter_map_from : (f : X → Option Y) (xs : List X) (x : X) (z : Y) → Contains xs x → f x ≡ Some z
       → Contains (filter_map f xs) z
   Contains-filter_map_from f [] x z there e = absurd (Contains-nil x there)
@@ -168,7 +168,7 @@ module _ {X : Type 0} (test : X → Bool) where
             ]
       ]
 
-  -- and the other way round
+  -- an element that passes the test passes the filter
   pub Contains-filter_from : (xs : List X) (z : X) → Contains xs z → test z ≡ true → Contains (filter test xs) z
   Contains-filter_from [] z there e = absurd (Contains-nil z there)
   Contains-filter_from (x ∷ xs) z there e = elim (Contains-cons_cases x xs z there) [
@@ -191,7 +191,7 @@ module _ {X : Type 0} (test : X → Bool) where
         | inr later ↦ passes_each xs parts.1 z later
       ]
 
-  -- and the other way round
+  -- a list passes whose elements all pass
   pub passes_all : (xs : List X) → ((z : X) → Contains xs z → test z ≡ true) → list_all test xs ≡ true
   passes_all [] each = refl
   passes_all (x ∷ xs) each =
@@ -246,7 +246,7 @@ module _ {X : Type 0} where
         (omega (arith, rest.0), ap (slice_get (x ∷ xs)) next ∙ rest.1)
   ]
 
-  -- and the other way round
+  -- the element at a place is numbered by it
   pub Contains-enumerate_from : (a : ℕ) (xs : List X) (i : ℕ) (x : X) → slice_get xs i ≡ Some x
       → Contains (enumerate_from a xs) (a + i, x)
   Contains-enumerate_from a [] i x e = absurd (none-some x e)

@@ -47,7 +47,7 @@ module _ (code : Codes) (advice : Advice) (patterns : List Pattern) (board : Boa
         helpers_agree = passes_each (λ name. advice name board z.at friend) (helper_names by.pattern.items) agreed.1;
       }
 
-  -- and the other way round
+  -- a match passes the test
   by_from_match : (z : Match) → IsMatch code advice patterns board friend z
       → IsBy (λ number p t m. is_match code advice p board friend t m) patterns board.size z
   by_from_match z is = record {

@@ -52,7 +52,7 @@ under-has test number t s z there =
       passes = subst (λ m. test m ≡ true) same kept.1;
     }
 
--- and the other way round
+-- the match at a point that passes is among those under its transformation
 under-from : (test : ℕ → Bool) (number t s m : ℕ) → m < s * s → test m ≡ true
     → Contains (matches_under test number t s) (match_with number t m)
 under-from test number t s m on passes =
@@ -94,7 +94,7 @@ one-has test number p s z there =
       passes = subst (λ t. test t z.at ≡ true) (sym under.transform) under.passes;
     }
 
--- and the other way round
+-- a match under one of the transformations is among those of its pattern
 one-from : (test : ℕ → ℕ → Bool) (number : ℕ) (p : Pattern) (s t m : ℕ) → t < count_of p.mark → m < s * s
     → test t m ≡ true → Contains (matches_of_one test number p s) (match_with number t m)
 one-from test number p s t m low on passes =
@@ -142,7 +142,7 @@ module _ (test : ℕ → Pattern → ℕ → ℕ → Bool) (patterns : List Patt
         passes = subst (λ n. test n from.0.1 z.transform z.at ≡ true) (sym of.pattern) of.passes;
       }
 
-  -- and the other way round
+  -- a match of one of the patterns is among those of all
   pub by-from : (z : Match) → IsBy test patterns s z → Contains (matches_by test patterns s) z
   by-from z is =
       let none : 0 + z.pattern ≡ z.pattern = omega arith in

@@ -147,7 +147,7 @@ pub both_rows : (P : Node × BoardState → Type 0) (xs ys : List (Node × Board
 both_rows P [] ys first second = second
 both_rows P (x ∷ xs) ys first second = (first.0, both_rows P xs ys first.1 second)
 
--- and the other way round
+-- what holds of each of the joined rows holds of each of both
 each_row : (P : Node × BoardState → Type 0) (xs ys : List (Node × BoardState)) → AllByRecursion P (xs ++ ys)
     → AllByRecursion P xs × AllByRecursion P ys
 each_row P [] ys all = (tt, all)
@@ -226,7 +226,7 @@ module _ (n : ℕ) (node : Node) (pos : BoardState) (stands : is_captured pos no
   more : (b : Bool) → attacker_wins (n + 1) node pos ≡ b → attacker_wins (suc n) node pos ≡ b
   more b h = sym (ap (λ m. attacker_wins m node pos) (add-one n)) ∙ h
 
-  -- and the other way round
+  -- the next number is the sum of the definitions
   less : (b : Bool) → attacker_wins (suc n) node pos ≡ b → attacker_wins (n + 1) node pos ≡ b
   less b h = ap (λ m. attacker_wins m node pos) (add-one n) ∙ h
 
