@@ -10,7 +10,8 @@ pub returns-clause-read : goal.returns-clause-read
 returns-clause-read c =
     ReadsAs-inside c.args.self.now c.args.kind c.args.p (search rules) c.self.inside c.count_reading.new.self
     c.position-position.result c.read-answer.result c.read-answer.new.self c.self.view_is
-    c.position-position.ensures.value c.count_reading.ensures.kept c.read-answer.ensures.read c.size.ensures.position c.read-answer.ensures.rest
+    c.position-position.ensures.value c.count_reading.ensures.kept c.read-answer.ensures.read
+    c.size.ensures.position c.read-answer.ensures.rest
     c.count_reading.ensures.refused (search rules) (search rules)
 
 -- its answer is told
