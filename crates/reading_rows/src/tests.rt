@@ -6,17 +6,26 @@ mod first_proofs;
 mod further;
 mod kept_answers;
 mod kept_connections;
+mod link_questions;
+mod nodes;
 mod proofs;
+mod questions;
 mod readings;
 mod wider_proofs;
 
 ghost use Rattle.std.specs.Prelude.{◌*◌, ◌<◌, IfSome};
 
-use go_base::{Colour, Point, PointSet, Position, Size};
+use go_base::{Colour, Point, Position, Size};
 use vertices::vertex_named;
 
-/// A small position: its size, black's stones, and then white's.
+/// A small position: its size, black's stones, and then white's, among them passes.
 type Stones = (u8, &'static str, &'static str);
+
+/// Black D4 has one liberty, D3.
+const IN_ATARI: Stones = (9, "D4", "C4 E4 D5");
+
+/// White C3 stands in a ko: it has taken D3, where black may not play at once.
+const KO: Stones = (5, "B3 C4 C2 D3", "D4 E3 D2 C3");
 
 /// The point of a vertex.
 fn vertex(size: Size, name: &str) -> Option<Point>
@@ -26,11 +35,19 @@ fn vertex(size: Size, name: &str) -> Option<Point>
     if p < size.points() { Some(p) } else { None }
 }
 
+/// The position after a stone at this vertex, or after a `PASS`.
+fn with_stone(position: &Position, colour: Colour, name: &str) -> Option<Position> {
+    if name == "PASS" {
+        return Some(position.pass());
+    }
+    position.play(colour, vertex(position.size(), name)?).ok()
+}
+
 /// The position with these stones more.
 fn with_stones(position: Position, colour: Colour, names: &str) -> Option<Position> {
     let mut position = position;
     for name in names.split_whitespace() {
-        position = position.play(colour, vertex(position.size(), name)?).ok()?;
+        position = with_stone(&position, colour, name)?;
     }
     Some(position)
 }
@@ -43,14 +60,4 @@ fn position((size, black, white): Stones) -> Option<Position> {
         Colour::White,
         white,
     )
-}
-
-/// The points of these vertices.
-fn points_of(size: Size, names: &str) -> Option<PointSet> {
-    let _ = size.get();
-    let mut points = PointSet::new();
-    for name in names.split_whitespace() {
-        points.add(vertex(size, name)?);
-    }
-    Some(points)
 }

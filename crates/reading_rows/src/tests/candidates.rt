@@ -1,153 +1,157 @@
 //! The candidates of small positions, counted by hand.
 
-use super::{points_of, position, vertex};
-use go_base::size::MAX_POINTS;
-use go_base::{PointSet, Position, Size, Watch};
+ghost use Rattle.std.specs.Prelude.{◌*◌, ◌<◌};
+
+use super::{IN_ATARI, Stones, position, vertex};
+use further_moves::further_candidates;
+use go_base::{Point, PointSet, Position, Size, Watch};
 use read_moves::{candidates, empty_sides, wide_candidates};
 use read_rules::Tree;
-use std::test::Fail;
 use trial_board::Trial;
 
-/// The candidates of a target on the position, at the attacker's turn in the stated tree.
-fn found(position: &Position, target: &str, wide: u8) -> Option<PointSet> {
-    let target = vertex(position.size(), target)?;
-    let mut board = Trial::new(Watch::new(position));
-    let found = candidates(&mut board, Tree::Stated, true, target, wide);
-    let _look = board.finish();
-    Some(found)
+/// Which candidates of a target are asked for.
+pub(super) enum Which {
+    /// Those of the stated tree at the attacker's turn, with so many wide plies left.
+    All(u8),
+    /// Those that the stated tree has for a wide ply alone, at the attacker's turn.
+    Wide,
+    /// The further ones at the attacker's turn.
+    OfAttacker,
+    /// The further ones at the defender's turn.
+    OfDefender,
 }
 
-/// The wide candidates of a target on the position, at the attacker's turn in the stated tree.
-fn wide(position: &Position, target: &str) -> Option<PointSet> {
-    let target = vertex(position.size(), target)?;
+/// A target: what is special about it, the stones, its point, and the candidates that it has.
+pub(super) struct Row {
+    pub(super) name: &'static str,
+    pub(super) stones: Stones,
+    pub(super) target: &'static str,
+    pub(super) which: Which,
+    pub(super) points: &'static str,
+}
+
+/// Targets with their candidates of the stated tree.
+static CANDIDATES: [Row; 8] = [
+    Row {
+        name: "the last liberty of a stone in atari",
+        stones: IN_ATARI,
+        target: "D4",
+        which: Which::All(0),
+        points: "D3",
+    },
+    Row {
+        name: "its neighbours too where a wide ply is left",
+        stones: IN_ATARI,
+        target: "D4",
+        which: Which::All(1),
+        points: "D3 C3 E3 D2",
+    },
+    Row {
+        name: "no neighbours where there are four liberties",
+        stones: (9, "D4", ""),
+        target: "D4",
+        which: Which::All(12),
+        points: "D5 C4 E4 D3",
+    },
+    Row {
+        name: "the capture of an enemy stone in atari",
+        stones: (5, "A1 A2 B3", "B2 A3 C1"),
+        target: "A1",
+        which: Which::All(0),
+        points: "B1 A4",
+    },
+    Row {
+        name: "nothing where the target is empty",
+        stones: (5, "A1", ""),
+        target: "C3",
+        which: Which::All(2),
+        points: "",
+    },
+    Row {
+        name: "the neighbours of a last liberty stand for themselves",
+        stones: IN_ATARI,
+        target: "D4",
+        which: Which::Wide,
+        points: "C3 E3 D2",
+    },
+    Row {
+        name: "no wide candidate where there are four liberties",
+        stones: (9, "D4", ""),
+        target: "D4",
+        which: Which::Wide,
+        points: "",
+    },
+    Row {
+        name: "the one liberty that white at a liberty would have, beside three liberties",
+        stones: (5, "A1 B1 C1 B2", "D1"),
+        target: "B1",
+        which: Which::Wide,
+        points: "A3",
+    },
+];
+
+/// The candidates of a target on the position.
+fn candidates_of(position: &Position, which: &Which, target: Point) -> PointSet
+    requires { target < position.now.size * position.now.size }
+{
     let mut board = Trial::new(Watch::new(position));
     let liberties = board.liberties(target);
-    let found = wide_candidates(&mut board, Tree::Stated, true, target, &liberties);
-    let _look = board.finish();
-    Some(found)
+    let found = match which {
+        Which::All(wide) => candidates(&mut board, Tree::Stated, true, target, *wide),
+        Which::Wide => wide_candidates(&mut board, Tree::Stated, true, target, &liberties),
+        Which::OfAttacker => further_candidates(&mut board, target, true, &liberties),
+        Which::OfDefender => further_candidates(&mut board, target, false, &liberties),
+    };
+    board.finish();
+    found
 }
 
-/// How many sides of a point of the position are empty.
-fn sides(position: &Position, name: &str) -> Option<u16> {
+/// The points of these vertices.
+fn points_of(size: Size, names: &str) -> Option<PointSet> {
+    let _ = size.get();
+    let mut points = PointSet::new();
+    for name in names.split_whitespace() {
+        points.add(vertex(size, name)?);
+    }
+    Some(points)
+}
+
+/// Whether a target has the candidates that its row says, and no others.
+pub(super) fn is_right(row: &Row) -> Option<bool> {
+    let position = position(row.stones)?;
+    let target = vertex(position.size(), row.target)?;
+    let found = candidates_of(&position, &row.which, target);
+    let wanted = points_of(position.size(), row.points)?;
+    Some(found.difference(&wanted).count() == 0 && wanted.difference(&found).count() == 0)
+}
+
+#[test]
+fn liberties_their_neighbours_and_captures_are_tried(rt: HostRuntime) {
+    for row in &CANDIDATES {
+        assert!(rt; is_right(row) == Some(true), "{}", row.name);
+    }
+}
+
+/// How many sides of a point are empty, where stones of both colours stand around C3.
+fn sides(name: &str) -> Option<u16> {
+    let position = position((9, "B1 C4", "C2"))?;
     let p = vertex(position.size(), name)?;
-    let mut board = Trial::new(Watch::new(position));
+    let mut board = Trial::new(Watch::new(&position));
     let sides = empty_sides(&mut board, p);
-    let _look = board.finish();
+    board.finish();
     Some(sides)
 }
 
-#[test]
-fn the_empty_sides_of_a_point_are_counted(rt: HostRuntime) -> Result<(), Fail> {
-    let size = Size::new(9).ok_or("the size is one of a board")?;
-    let position = position((9, "B1 C4", "C2")).ok_or("the stones can be played")?;
-    let rows = [
-        ("a corner beside a stone", "A1", 1),
-        ("a point between stones of both colours", "C3", 2),
-        ("a stone beside no other", "C4", 4),
-    ];
-    for (special, name, want) in rows {
-        assert!(rt; sides(&position, name) == Some(want), "{special}");
-    }
-    Ok(())
-}
+/// What is special about a point, its name, and how many of its sides are empty.
+static SIDES: [(&str, &str, u16); 3] = [
+    ("a corner beside a stone", "A1", 1),
+    ("a point between stones of both colours", "C3", 2),
+    ("a stone beside no other", "C4", 4),
+];
 
 #[test]
-fn liberties_their_neighbours_and_captures_are_tried(rt: HostRuntime) -> Result<(), Fail> {
-    let rows = [
-        (
-            "the last liberty of a stone in atari",
-            9,
-            "D4",
-            "C4 E4 D5",
-            "D4",
-            0,
-            "D3",
-        ),
-        (
-            "its neighbours too where a wide ply is left",
-            9,
-            "D4",
-            "C4 E4 D5",
-            "D4",
-            1,
-            "D3 C3 E3 D2",
-        ),
-        (
-            "no neighbours where there are four liberties",
-            9,
-            "D4",
-            "",
-            "D4",
-            12,
-            "D5 C4 E4 D3",
-        ),
-        (
-            "the capture of an enemy stone in atari",
-            5,
-            "A1 A2 B3",
-            "B2 A3 C1",
-            "A1",
-            0,
-            "B1 A4",
-        ),
-        (
-            "nothing where the target is empty",
-            5,
-            "A1",
-            "",
-            "C3",
-            2,
-            "",
-        ),
-    ];
-    for (what, rows, black, white, target, wide, names) in rows {
-        let size = Size::new(rows).ok_or("the size is one of a board")?;
-        let position = position((rows, black, white)).ok_or("the stones can be put")?;
-        let found = found(&position, target, wide).ok_or("the target is on the board")?;
-        let wanted = points_of(size, names).ok_or("the vertices are on the board")?;
-        for p in 0..MAX_POINTS as u16 {
-            assert!(rt; found.has(p) == wanted.has(p), "{what}, at {p}");
-        }
+fn the_empty_sides_of_a_point_are_counted(rt: HostRuntime) {
+    for &(special, name, want) in &SIDES {
+        assert!(rt; sides(name) == Some(want), "{special}");
     }
-    Ok(())
-}
-
-#[test]
-fn wide_candidates_stand_for_themselves(rt: HostRuntime) -> Result<(), Fail> {
-    let rows = [
-        (
-            "the neighbours of a last liberty",
-            9,
-            "D4",
-            "C4 E4 D5",
-            "D4",
-            "C3 E3 D2",
-        ),
-        (
-            "no neighbours where there are four liberties",
-            9,
-            "D4",
-            "",
-            "D4",
-            "",
-        ),
-        (
-            "the one liberty that white at a liberty would have, beside three liberties",
-            5,
-            "A1 B1 C1 B2",
-            "D1",
-            "B1",
-            "A3",
-        ),
-    ];
-    for (what, rows, black, white, target, names) in rows {
-        let size = Size::new(rows).ok_or("the size is one of a board")?;
-        let position = position((rows, black, white)).ok_or("the stones can be put")?;
-        let found = wide(&position, target).ok_or("the target is on the board")?;
-        let wanted = points_of(size, names).ok_or("the vertices are on the board")?;
-        for p in 0..MAX_POINTS as u16 {
-            assert!(rt; found.has(p) == wanted.has(p), "{what}, at {p}");
-        }
-    }
-    Ok(())
 }

@@ -20,49 +20,72 @@ impl Question for Number {
     ghost same = { λ p q e. Prim.search rules };
 }
 
+/// What is done with a number on the empty board of so many rows.
+#[derive(Drop)]
+enum Step {
+    /// It is kept.
+    Keep(u8, u8),
+    /// It is found.
+    Find(u8, u8),
+    /// It is not found.
+    Miss(u8, u8),
+}
+
+/// What is done one after another, and why it comes to that.
+static STEPS: [(Step, &str); 20] = [
+    (Step::Keep(0, 9), "the first of eight"),
+    (Step::Keep(1, 9), "the second of eight"),
+    (Step::Keep(2, 9), "the third of eight"),
+    (Step::Keep(3, 9), "the fourth of eight"),
+    (Step::Keep(4, 9), "the fifth of eight"),
+    (Step::Keep(5, 9), "the sixth of eight"),
+    (Step::Keep(6, 9), "the seventh of eight"),
+    (Step::Keep(7, 9), "the last of eight"),
+    (Step::Find(0, 9), "the first of eight"),
+    (Step::Miss(0, 13), "on another board"),
+    (Step::Keep(8, 9), "the ninth question"),
+    (Step::Find(0, 9), "it was used after the second"),
+    (Step::Miss(1, 9), "the ninth question dropped the second"),
+    (Step::Keep(0, 10), "the second of four variants"),
+    (Step::Keep(0, 11), "the third of four variants"),
+    (Step::Keep(0, 12), "the last of four variants"),
+    (Step::Find(0, 9), "the first of four variants"),
+    (Step::Keep(0, 13), "the fifth variant"),
+    (Step::Find(0, 9), "it was found after the second"),
+    (Step::Miss(0, 10), "the fifth variant dropped the second"),
+];
+
 /// The empty board of so many rows.
-fn empty(rows: u8) -> Result<Position, Fail> {
-    Ok(Position::new(Size::new(rows).ok_or("no such size")?))
+fn empty(rows: u8) -> Option<Position> {
+    Some(Position::new(Size::new(rows)?))
 }
 
 /// Keeps a number where the board has so many rows.
-fn keep(cache: &mut Cache<Number>, n: u8, rows: u8) -> Result<(), Fail> {
+fn is_kept(cache: &mut Cache<Number>, n: u8, rows: u8) -> Option<bool> {
     let position = empty(rows)?;
-    cache.keep(Number { n }, Watch::new(&position).facts(), n)?;
-    Ok(())
+    let facts = Watch::new(&position).facts();
+    Some(cache.keep(Number { n }, facts, n).is_ok())
 }
 
-/// Whether a number is found on the empty board of so many rows.
-fn is_found(cache: &mut Cache<Number>, n: u8, rows: u8) -> Result<bool, Fail> {
-    Ok(cache.find(&Number { n }, &empty(rows)?) == Some(n))
+/// Whether this is found of a number on the empty board of so many rows.
+fn is_found(cache: &mut Cache<Number>, n: u8, rows: u8, want: Option<u8>) -> Option<bool> {
+    Some(cache.find(&Number { n }, &empty(rows)?) == want)
+}
+
+/// Whether a step comes to what it says.
+fn is_right(cache: &mut Cache<Number>, step: &Step) -> Option<bool> {
+    match step {
+        Step::Keep(n, rows) => is_kept(cache, *n, *rows),
+        Step::Find(n, rows) => is_found(cache, *n, *rows, Some(*n)),
+        Step::Miss(n, rows) => is_found(cache, *n, *rows, None),
+    }
 }
 
 #[test]
 fn last_used_questions_and_variants_stay(rt: HostRuntime) -> Result<(), Fail> {
     let mut cache = Cache::new(rt.alloc(), 8)?;
-    for n in 0..8 {
-        keep(&mut cache, n, 9)?;
+    for (step, why) in &STEPS {
+        assert!(rt; is_right(&mut cache, step) == Some(true), "{why}");
     }
-    assert!(rt; is_found(&mut cache, 0, 9)?, "the first of eight");
-    assert!(rt; !is_found(&mut cache, 0, 13)?, "on another board");
-    keep(&mut cache, 8, 9)?;
-    assert!(rt; is_found(&mut cache, 0, 9)?, "it was used after the second");
-    assert!(rt;
-        !is_found(&mut cache, 1, 9)?,
-        "the ninth question dropped the second"
-    );
-    for rows in 10..13 {
-        keep(&mut cache, 0, rows)?;
-    }
-    assert!(rt; is_found(&mut cache, 0, 9)?, "the first of four variants");
-    keep(&mut cache, 0, 13)?;
-    assert!(rt;
-        is_found(&mut cache, 0, 9)?,
-        "it was found after the second"
-    );
-    assert!(rt;
-        !is_found(&mut cache, 0, 10)?,
-        "the fifth variant dropped the second"
-    );
     Ok(())
 }

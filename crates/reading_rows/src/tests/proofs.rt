@@ -1,322 +1,255 @@
 //! Proofs of small positions. Those that are true are the worked rows or were found by hand.
 
-use super::{Stones, position, vertex};
-use go_base::{Cell, Position};
-use read_proof::{Depths, ProofOf, Tree, check};
+use super::questions::question_on;
+use super::{IN_ATARI, KO, Stones, position};
+use read_proof::{Tree, check};
 use std::process::Abort;
-use std::test::Fail;
 
-/// A proof: what is special about it, the question with its plies and wide plies, the code and the text, and whether it
-/// is one.
-type Row = (&'static str, &'static str, u8, &'static str, bool);
-
-/// What a question asks.
-fn kind(word: &str) -> Option<ProofOf> {
-    match word {
-        "attack" => Some(ProofOf::Attack),
-        "defend" => Some(ProofOf::Defend),
-        _ => None,
-    }
+/// Texts about the code of one question: what they show, the stones, the question and the code, and each text by what
+/// is special about it, with the trees in which it is a proof or none.
+pub(super) struct Texts {
+    pub(super) name: &'static str,
+    pub(super) stones: Stones,
+    pub(super) question: &'static str,
+    pub(super) code: u8,
+    pub(super) rows: &'static [(&'static str, &'static [u8], In)],
 }
 
-/// Whether the text is a proof that the question on the position has the code in the tree; nothing where its target is
-/// empty.
-pub(super) fn checked_in(
-    position: &Position,
-    tree: Tree,
-    question: &str,
-    code: u8,
-    text: &[u8],
-) -> Option<bool> {
-    let mut words = question.split_whitespace();
-    let kind = kind(words.next()?)?;
-    let target = vertex(position.size(), words.next()?)?;
-    let depths = Depths::new(words.next()?.parse().ok()?, words.next()?.parse().ok()?)?;
-    if position.cell(target) == Cell::Empty || code > 3 {
-        return None;
-    }
-    Some(check(position, kind, target, depths.in_tree(tree), code, text))
-}
+/// In which trees a text is a proof, and in which it is none.
+pub(super) type In = &'static [(Tree, bool)];
 
-/// The same in the stated tree.
-fn checked(position: &Position, question: &str, code: u8, text: &[u8]) -> Option<bool> {
-    checked_in(position, Tree::Stated, question, code, text)
-}
+/// A proof in the stated tree.
+const PROOF: In = &[(Tree::Stated, true)];
 
-/// Each text is a proof or none, as its row says.
-fn check_on(rt: &impl Abort, stones: Stones, rows: &[Row]) -> Result<(), Fail> {
-    let position = position(stones).ok_or("the stones can be put")?;
-    for (what, question, code, text, want) in rows {
-        let found = checked(&position, question, *code, text.as_bytes()).ok_or(
-            "the question is about a stone",
-        )?;
-        assert!(rt; found == *want, "{what}: {question} {code} {text}");
-    }
-    Ok(())
-}
-
-/// Black D4 has one liberty, D3.
-const IN_ATARI: Stones = (9, "D4", "C4 E4 D5");
-
-#[test]
-fn stone_in_atari_is_captured(rt: HostRuntime) -> Result<(), Fail> {
-    let rows = [
-        ("the capture", "attack D4 3 2", 3, "W D3 .", true),
-        ("one ply is enough", "attack D4 1 0", 3, "W D3 .", true),
-        ("another point", "attack D4 3 2", 3, "W C3 .", false),
-        ("another code", "attack D4 3 2", 2, "W D3 .", false),
-        ("the code below", "attack D4 3 2", 2, "N * W D3 .", false),
-        ("the other claim", "attack D4 3 2", 3, "N D3 .", false),
-        (
-            "the attacker does not pass",
-            "attack D4 3 2",
-            3,
-            "W PASS .",
-            false,
-        ),
-        (
-            "the target is not captured yet",
-            "attack D4 3 2",
-            3,
-            "W .",
-            false,
-        ),
-        (
-            "each move at the wrong turn",
-            "attack D4 3 2",
-            3,
-            "W * .",
-            false,
-        ),
-        (
-            "no ply is left behind it",
-            "attack D4 1 0",
-            3,
-            "W D3 D3 .",
-            false,
-        ),
-    ];
-    check_on(&rt, IN_ATARI, &rows)
-}
-
-#[test]
-fn stone_in_atari_is_saved_by_its_extension(rt: HostRuntime) -> Result<(), Fail> {
-    let rows = [
-        ("the extension", "defend D4 3 2", 3, "N D3 .", true),
-        (
-            "the pass loses the stone",
-            "defend D4 3 2",
-            3,
-            "N PASS .",
-            false,
-        ),
-        (
-            "a point off the liberties is tried",
-            "defend D4 3 2",
-            3,
-            "N C3 .",
-            false,
-        ),
-        (
-            "a reply to the extension",
-            "defend D4 3 2",
-            3,
-            "N D3 * N .",
-            false,
-        ),
-    ];
-    check_on(&rt, IN_ATARI, &rows)
-}
-
-#[test]
-fn words_stand_apart_and_vertices_in_either_case(rt: HostRuntime) -> Result<(), Fail> {
-    let rows = [
-        (
-            "small letters in a vertex",
-            "attack D4 3 2",
-            3,
-            "W d3 .",
-            true,
-        ),
-        ("more blanks", "attack D4 3 2", 3, "  W\t D3  . ", true),
-        ("blanks at both ends", "attack D4 3 2", 3, " W D3 . ", true),
-        (
-            "a small letter of the claim",
-            "attack D4 3 2",
-            3,
-            "w D3 .",
-            false,
-        ),
-        ("words left over", "attack D4 3 2", 3, "W D3 . .", false),
-        ("a word too few", "attack D4 3 2", 3, "W D3", false),
-        ("the letter alone", "attack D4 3 2", 3, "W", false),
-        ("no words", "attack D4 3 2", 3, "", false),
-        ("blanks alone", "attack D4 3 2", 3, "  ", false),
-        ("an unknown word", "attack D4 3 2", 3, "W X .", false),
-        (
-            "a letter that is no column",
-            "attack D4 3 2",
-            3,
-            "W I3 .",
-            false,
-        ),
-        (
-            "a point off the board",
-            "attack D4 3 2",
-            3,
-            "W D10 .",
-            false,
-        ),
-    ];
-    check_on(&rt, IN_ATARI, &rows)
-}
-
-#[test]
-fn free_stone_is_not_captured(rt: HostRuntime) -> Result<(), Fail> {
-    let rows = [
-        (
-            "too many liberties",
-            "attack D4 3 2",
-            0,
-            "N . N . N .",
-            true,
-        ),
-        ("two codes alone", "attack D4 3 2", 0, "N . N .", false),
-        ("a code more", "attack D4 3 2", 0, "N . N . N . N .", false),
-        (
-            "four liberties in time",
-            "attack D4 7 2",
-            0,
-            "N . N . N .",
-            false,
-        ),
-        (
-            "four liberties without a wide ply",
-            "attack D4 7 0",
-            0,
-            "N . N . N .",
-            true,
-        ),
-    ];
-    check_on(&rt, (9, "D4", ""), &rows)
-}
-
-#[test]
-fn three_liberties_are_enough_without_a_wide_ply(rt: HostRuntime) -> Result<(), Fail> {
-    let rows = [
-        (
-            "three liberties without a wide ply",
-            "attack D4 9 0",
-            0,
-            "N . N . N .",
-            true,
-        ),
-        (
-            "three liberties with one",
-            "attack D4 9 1",
-            0,
-            "N . N . N .",
-            false,
-        ),
-    ];
-    check_on(&rt, (9, "D4", "C4"), &rows)
-}
-
-#[test]
-fn free_stone_needs_no_defence(rt: HostRuntime) -> Result<(), Fail> {
-    let rows = [
-        ("the defence needs no move", "defend D4 3 2", 3, "N .", true),
-        ("nor with many plies", "defend D4 9 0", 3, "N .", false),
-        (
-            "the pass, and too many liberties behind it",
-            "defend D4 9 0",
-            3,
-            "N PASS .",
-            true,
-        ),
-        (
-            "the pass in small letters",
-            "defend D4 9 0",
-            3,
-            "N pass .",
-            true,
-        ),
-    ];
-    check_on(&rt, (9, "D4", ""), &rows)
-}
-
-/// White has taken D3, where black may not play at once.
-const KO: Stones = (5, "B3 C4 C2 D3", "D4 E3 D2 C3");
-
-#[test]
-fn the_ban_forbids_and_an_allowance_permits(rt: HostRuntime) -> Result<(), Fail> {
-    let rows = [
-        (
-            "by the allowance of code 1",
-            "attack C3 3 4",
-            1,
-            "N * N * W D3 .",
-            true,
-        ),
-        ("code 2 has none", "attack C3 3 4", 2, "N * W D3 .", false),
-        (
-            "a child that is none",
-            "attack C3 3 4",
-            1,
-            "N * . N * W D3 .",
-            false,
-        ),
-        (
-            "no ply is left below it",
-            "attack C3 3 4",
-            0,
-            "N * N * N *",
-            false,
-        ),
-    ];
-    check_on(&rt, KO, &rows)
-}
-
-#[test]
-fn each_child_has_its_proof(rt: HostRuntime) -> Result<(), Fail> {
-    // Black A1 has one liberty, A2, and cannot be saved: the pass and the play there lead to a capture.
-    let rows = [
-        (
-            "the pass and the play",
-            "defend A1 2 0",
-            0,
-            "W * A2 . A3 . W * A2 . A3 . W * A2 . A3 .",
-            true,
-        ),
-        (
-            "the pass alone",
-            "defend A1 2 0",
-            0,
-            "W * A2 . W * A2 . W * A2 .",
-            false,
-        ),
-        (
-            "in another order",
-            "defend A1 2 0",
-            0,
-            "W * A3 . A2 . W * A3 . A2 . W * A3 . A2 .",
-            false,
-        ),
-    ];
-    check_on(&rt, (5, "A1", "B1 B2"), &rows)
-}
+/// No proof in the stated tree.
+const NONE: In = &[(Tree::Stated, false)];
 
 /// A word of 65,000 stars.
 const STARS: [u8; 65_000] = [b'*'; 65_000];
 
-#[test]
-fn long_word_says_nothing(rt: HostRuntime) -> Result<(), Fail> {
-    let position = position(IN_ATARI).ok_or("the stones can be put")?;
-    for question in ["attack D4 200 12", "defend D4 200 12"] {
-        assert!(rt;
-            checked(&position, question, 3, &STARS) == Some(false),
-            "{question}"
-        );
+/// Texts in the stated tree.
+static IN_THE_STATED_TREE: [Texts; 18] = [
+    Texts {
+        name: "a stone in atari is captured",
+        stones: IN_ATARI,
+        question: "attack D4 3 2",
+        code: 3,
+        rows: &[
+            ("the capture", b"W D3 .", PROOF),
+            ("another point", b"W C3 .", NONE),
+            ("the other claim", b"N D3 .", NONE),
+            ("the attacker does not pass", b"W PASS .", NONE),
+            ("the target is not captured yet", b"W .", NONE),
+            ("each move at the wrong turn", b"W * .", NONE),
+        ],
+    },
+    Texts {
+        name: "a stone in atari is captured in one ply",
+        stones: IN_ATARI,
+        question: "attack D4 1 0",
+        code: 3,
+        rows: &[
+            ("one ply is enough", b"W D3 .", PROOF),
+            ("no ply is left behind it", b"W D3 D3 .", NONE),
+        ],
+    },
+    Texts {
+        name: "no lower code is proved of a stone in atari",
+        stones: IN_ATARI,
+        question: "attack D4 3 2",
+        code: 2,
+        rows: &[
+            ("another code", b"W D3 .", NONE),
+            ("the code below", b"N * W D3 .", NONE),
+        ],
+    },
+    Texts {
+        name: "a stone in atari is saved by its extension",
+        stones: IN_ATARI,
+        question: "defend D4 3 2",
+        code: 3,
+        rows: &[
+            ("the extension", b"N D3 .", PROOF),
+            ("the pass loses the stone", b"N PASS .", NONE),
+            ("a point off the liberties is tried", b"N C3 .", NONE),
+            ("a reply to the extension", b"N D3 * N .", NONE),
+        ],
+    },
+    Texts {
+        name: "words stand apart, and vertices in either case",
+        stones: IN_ATARI,
+        question: "attack D4 3 2",
+        code: 3,
+        rows: &[
+            ("small letters in a vertex", b"W d3 .", PROOF),
+            ("more blanks", b"  W\t D3  . ", PROOF),
+            ("blanks at both ends", b" W D3 . ", PROOF),
+            ("a small letter of the claim", b"w D3 .", NONE),
+            ("words left over", b"W D3 . .", NONE),
+            ("a word too few", b"W D3", NONE),
+            ("the letter alone", b"W", NONE),
+            ("no words", b"", NONE),
+            ("blanks alone", b"  ", NONE),
+            ("an unknown word", b"W X .", NONE),
+            ("a letter that is no column", b"W I3 .", NONE),
+            ("a point off the board", b"W D10 .", NONE),
+        ],
+    },
+    Texts {
+        name: "a long word says nothing about an attack",
+        stones: IN_ATARI,
+        question: "attack D4 200 12",
+        code: 3,
+        rows: &[("65,000 stars", &STARS, NONE)],
+    },
+    Texts {
+        name: "a long word says nothing about a defence",
+        stones: IN_ATARI,
+        question: "defend D4 200 12",
+        code: 3,
+        rows: &[("65,000 stars", &STARS, NONE)],
+    },
+    Texts {
+        name: "a free stone is not captured",
+        stones: (9, "D4", ""),
+        question: "attack D4 3 2",
+        code: 0,
+        rows: &[
+            ("too many liberties", b"N . N . N .", PROOF),
+            ("two codes alone", b"N . N .", NONE),
+            ("a code more", b"N . N . N . N .", NONE),
+        ],
+    },
+    Texts {
+        name: "a free stone has not too many liberties for seven plies",
+        stones: (9, "D4", ""),
+        question: "attack D4 7 2",
+        code: 0,
+        rows: &[("four liberties in time", b"N . N . N .", NONE)],
+    },
+    Texts {
+        name: "a free stone has too many liberties for seven plies without a wide one",
+        stones: (9, "D4", ""),
+        question: "attack D4 7 0",
+        code: 0,
+        rows: &[("four liberties without a wide ply", b"N . N . N .", PROOF)],
+    },
+    Texts {
+        name: "three liberties are enough without a wide ply",
+        stones: (9, "D4", "C4"),
+        question: "attack D4 9 0",
+        code: 0,
+        rows: &[("three liberties without a wide ply", b"N . N . N .", PROOF)],
+    },
+    Texts {
+        name: "three liberties are not enough with a wide ply",
+        stones: (9, "D4", "C4"),
+        question: "attack D4 9 1",
+        code: 0,
+        rows: &[("three liberties with one", b"N . N . N .", NONE)],
+    },
+    Texts {
+        name: "a free stone needs no defence",
+        stones: (9, "D4", ""),
+        question: "defend D4 3 2",
+        code: 3,
+        rows: &[("the defence needs no move", b"N .", PROOF)],
+    },
+    Texts {
+        name: "a free stone is saved by the pass",
+        stones: (9, "D4", ""),
+        question: "defend D4 9 0",
+        code: 3,
+        rows: &[
+            ("no move with many plies", b"N .", NONE),
+            (
+                "the pass, and too many liberties behind it",
+                b"N PASS .",
+                PROOF,
+            ),
+            ("the pass in small letters", b"N pass .", PROOF),
+        ],
+    },
+    Texts {
+        name: "an allowance permits what the ban forbids",
+        stones: KO,
+        question: "attack C3 3 4",
+        code: 1,
+        rows: &[
+            ("by the allowance of code 1", b"N * N * W D3 .", PROOF),
+            ("a child that is none", b"N * . N * W D3 .", NONE),
+        ],
+    },
+    Texts {
+        name: "the ban forbids where there is no allowance",
+        stones: KO,
+        question: "attack C3 3 4",
+        code: 2,
+        rows: &[("code 2 has none", b"N * W D3 .", NONE)],
+    },
+    Texts {
+        name: "no code is proved where no ply is left",
+        stones: KO,
+        question: "attack C3 3 4",
+        code: 0,
+        rows: &[("no ply is left below it", b"N * N * N *", NONE)],
+    },
+    Texts {
+        // Black A1 has one liberty, A2, and cannot be saved: the pass and the play there lead to a capture.
+        name: "each child has its proof",
+        stones: (5, "A1", "B1 B2"),
+        question: "defend A1 2 0",
+        code: 0,
+        rows: &[
+            (
+                "the pass and the play",
+                b"W * A2 . A3 . W * A2 . A3 . W * A2 . A3 .",
+                PROOF,
+            ),
+            ("the pass alone", b"W * A2 . W * A2 . W * A2 .", NONE),
+            (
+                "in another order",
+                b"W * A3 . A2 . W * A3 . A2 . W * A3 . A2 .",
+                NONE,
+            ),
+        ],
+    },
+];
+
+/// Whether the text is a proof in the tree that the question has the code.
+fn is_proof(texts: &Texts, tree: Tree, text: &[u8]) -> Option<bool> {
+    let position = position(texts.stones)?;
+    let question = question_on(&position, texts.question)?;
+    if texts.code > 3 {
+        return None;
     }
-    Ok(())
+    let depths = question.depths.in_tree(tree);
+    Some(check(
+        &position,
+        question.kind,
+        question.target,
+        depths,
+        texts.code,
+        text,
+    ))
+}
+
+/// Each text is a proof or none in each tree, as its row says.
+pub(super) fn check_rows(rt: &impl Abort, texts: &Texts) {
+    for (what, text, trees) in texts.rows {
+        for (tree, want) in *trees {
+            assert!(rt;
+                is_proof(texts, *tree, text) == Some(*want),
+                "{}: {what}",
+                texts.name
+            );
+        }
+    }
+}
+
+#[test]
+fn texts_are_proofs_or_none_in_the_stated_tree(rt: HostRuntime) {
+    for texts in &IN_THE_STATED_TREE {
+        check_rows(&rt, texts);
+    }
 }

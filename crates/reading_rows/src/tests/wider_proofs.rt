@@ -1,233 +1,178 @@
 //! Proofs of small positions in the stated tree and in the wider one, found by hand.
 
-use super::proofs::checked_in;
-use super::{Stones, position};
+use super::proofs::{In, Texts, check_rows};
 use read_proof::Tree;
-use std::process::Abort;
-use std::test::Fail;
 
-/// A proof in one tree or both: what is special about it, the stones, the question with its plies and wide plies, the
-/// code and the text, and whether it is one in the stated tree and in the wider one.
-type TreeRow = (
-    &'static str,
-    Stones,
-    &'static str,
-    u8,
-    &'static str,
-    bool,
-    bool,
-);
+/// A proof in the stated tree alone.
+const STATED: In = &[(Tree::Stated, true), (Tree::Wider, false)];
 
-/// Each text is a proof or none in each tree, as its row says.
-fn check_in_both(rt: &impl Abort, rows: &[TreeRow]) -> Result<(), Fail> {
-    for (what, stones, question, code, text, stated, wider) in rows {
-        let position = position(*stones).ok_or("the stones can be put")?;
-        for (tree, want) in [(Tree::Stated, stated), (Tree::Wider, wider)] {
-            let found = checked_in(&position, tree, question, *code, text.as_bytes()).ok_or(
-                "the question is about a stone",
-            )?;
-            assert!(rt; found == *want, "{what}: {question} {code} {text}");
-        }
-    }
-    Ok(())
-}
+/// A proof in the wider tree alone.
+const WIDER: In = &[(Tree::Stated, false), (Tree::Wider, true)];
 
-#[test]
-fn the_defender_has_beside_and_no_net(rt: HostRuntime) -> Result<(), Fail> {
-    // One ply is left and one wide ply, so any candidate of the defender's proves that the attacker does not win.
-    let rows = [
-        (
-            "a liberty of a stone with three that is next to the target",
-            (5, "B2 B3", "C2"),
-            "defend B2 1 1",
-            3,
-            "N D2 .",
-            false,
-            true,
-        ),
-        (
-            "a liberty of two stones that have five",
-            (5, "B2 B3", "C2 D2"),
-            "defend B2 1 1",
-            3,
-            "N D3 .",
-            false,
-            false,
-        ),
-        (
-            "a point off all sets",
-            (5, "B2 B3", "C2"),
-            "defend B2 1 1",
-            3,
-            "N E5 .",
-            false,
-            false,
-        ),
-        (
-            "no point of a net at the defender's turn",
-            (5, "D1", "E2"),
-            "defend E2 1 1",
-            3,
-            "N D3 .",
-            false,
-            false,
-        ),
-    ];
-    check_in_both(&rt, &rows)
-}
+/// A proof in each tree.
+const BOTH: In = &[(Tree::Stated, true), (Tree::Wider, true)];
 
-#[test]
-fn the_defender_has_join_and_cut_where_a_wide_ply_is_left(rt: HostRuntime) -> Result<(), Fail> {
-    // One ply is left and one wide ply, so any candidate of the defender's proves that the attacker does not win.
-    let rows = [
-        (
-            "a liberty of a linked string",
-            (5, "B5 D5 A4", "C4 B3"),
-            "defend A4 1 1",
-            3,
-            "N C5 .",
-            false,
-            true,
-        ),
-        (
-            "the last liberty of a stone that would cut",
-            (5, "A5 C5 A3", "A4 D4 C3"),
-            "defend C5 1 1",
-            3,
-            "N B4 .",
-            false,
-            true,
-        ),
-        (
-            "none of them without a wide ply",
-            (5, "B5 D5 A4", "C4 B3"),
-            "defend A4 1 0",
-            3,
-            "N C5 .",
-            false,
-            false,
-        ),
-    ];
-    check_in_both(&rt, &rows)
-}
-
-#[test]
-fn the_attacker_has_a_net_around_three_liberties(rt: HostRuntime) -> Result<(), Fail> {
-    // One ply is left and one wide ply, so `*` is followed by a dot for each candidate of the attacker's.
-    let rows = [
-        (
-            "three liberties, and no net",
-            (5, "D1", "E2"),
-            "attack E2 1 1",
-            0,
-            "N * . . . N * . . . N * . . .",
-            true,
-            false,
-        ),
-        (
-            "the same with a net of D3, E4 and C2",
-            (5, "D1", "E2"),
-            "attack E2 1 1",
-            0,
-            "N * . . . . . . N * . . . . . . N * . . . . . .",
-            false,
-            true,
-        ),
-    ];
-    check_in_both(&rt, &rows)
-}
-
-#[test]
-fn the_attacker_has_beside_and_rescue(rt: HostRuntime) -> Result<(), Fail> {
-    // One ply is left and one wide ply, so `*` is followed by a dot for each candidate of the attacker's.
-    let rows = [
-        (
-            "five liberties of the target",
-            (5, "B2 B3", "B1"),
-            "attack B2 1 1",
-            0,
-            "N * . . . . . N * . . . . . N * . . . . .",
-            true,
-            false,
-        ),
-        (
-            "the same with the liberties of a stone next to it that has two",
-            (5, "B2 B3", "B1"),
-            "attack B2 1 1",
-            0,
-            "N * . . . . . . . N * . . . . . . . N * . . . . . . .",
-            false,
-            true,
-        ),
-        (
-            "no liberty of a stone next to the target that has three",
-            (5, "B2 B3", "C2"),
-            "attack B2 1 1",
-            0,
-            "N * . . . . . N * . . . . . N * . . . . .",
-            true,
-            true,
-        ),
-        (
-            "two liberties and three empty points next to them",
-            (5, "B3 D3 C2", "C3 D2"),
-            "attack D2 1 1",
-            0,
-            "N * . . . . . N * . . . . . N * . . . . .",
-            true,
-            false,
-        ),
-        (
-            "the same with B2 and D4 beside weak stones, and C4, which takes C3",
-            (5, "B3 D3 C2", "C3 D2"),
-            "attack D2 1 1",
-            0,
-            "N * . . . . . . . . N * . . . . . . . . N * . . . . . . . .",
-            false,
-            true,
-        ),
-    ];
-    check_in_both(&rt, &rows)
-}
+/// No proof in either tree.
+const NEITHER: In = &[(Tree::Stated, false), (Tree::Wider, false)];
 
 /// The first proof that three liberties are enough without a wide ply, under one code: the defender passes, and fills
 /// the last liberty at his second turn.
-pub(super) const THREE_LIBERTIES: &str = concat!(
-    "N * PASS * E1 . C1 . PASS * E1 . D2 . PASS * C1 . D2 . ",
-    "N * PASS * E1 . C1 . PASS * E1 . D2 . PASS * C1 . D2 . ",
-    "N * PASS * E1 . C1 . PASS * E1 . D2 . PASS * C1 . D2 .",
-);
+pub(super) const THREE_LIBERTIES: &[u8] = b"\
+    N * PASS * E1 . C1 . PASS * E1 . D2 . PASS * C1 . D2 . \
+    N * PASS * E1 . C1 . PASS * E1 . D2 . PASS * C1 . D2 . \
+    N * PASS * E1 . C1 . PASS * E1 . D2 . PASS * C1 . D2 .";
+
+/// Texts in both trees. Where one ply is left and one wide ply, any candidate of the defender's proves that the
+/// attacker does not win, and `*` is followed by a dot for each candidate of the attacker's.
+static IN_BOTH_TREES: [Texts; 12] = [
+    Texts {
+        name: "the defender has the liberties of stones beside the target",
+        stones: (5, "B2 B3", "C2"),
+        question: "defend B2 1 1",
+        code: 3,
+        rows: &[
+            (
+                "a liberty of a stone with three that is next to the target",
+                b"N D2 .",
+                WIDER,
+            ),
+            ("a point off all sets", b"N E5 .", NEITHER),
+        ],
+    },
+    Texts {
+        name: "the defender has no liberty of stones with many beside the target",
+        stones: (5, "B2 B3", "C2 D2"),
+        question: "defend B2 1 1",
+        code: 3,
+        rows: &[("a liberty of two stones that have five", b"N D3 .", NEITHER)],
+    },
+    Texts {
+        name: "the defender has no net",
+        stones: (5, "D1", "E2"),
+        question: "defend E2 1 1",
+        code: 3,
+        rows: &[(
+            "no point of a net at the defender's turn",
+            b"N D3 .",
+            NEITHER,
+        )],
+    },
+    Texts {
+        name: "the defender joins where a wide ply is left",
+        stones: (5, "B5 D5 A4", "C4 B3"),
+        question: "defend A4 1 1",
+        code: 3,
+        rows: &[("a liberty of a linked string", b"N C5 .", WIDER)],
+    },
+    Texts {
+        name: "the defender takes a stone that would cut where a wide ply is left",
+        stones: (5, "A5 C5 A3", "A4 D4 C3"),
+        question: "defend C5 1 1",
+        code: 3,
+        rows: &[(
+            "the last liberty of a stone that would cut",
+            b"N B4 .",
+            WIDER,
+        )],
+    },
+    Texts {
+        name: "the defender does not join where no wide ply is left",
+        stones: (5, "B5 D5 A4", "C4 B3"),
+        question: "defend A4 1 0",
+        code: 3,
+        rows: &[("none of them without a wide ply", b"N C5 .", NEITHER)],
+    },
+    Texts {
+        name: "the attacker has a net around three liberties",
+        stones: (5, "D1", "E2"),
+        question: "attack E2 1 1",
+        code: 0,
+        rows: &[
+            (
+                "three liberties, and no net",
+                b"N * . . . N * . . . N * . . .",
+                STATED,
+            ),
+            (
+                "the same with a net of D3, E4 and C2",
+                b"N * . . . . . . N * . . . . . . N * . . . . . .",
+                WIDER,
+            ),
+        ],
+    },
+    Texts {
+        name: "the attacker has the liberties of stones beside the target",
+        stones: (5, "B2 B3", "B1"),
+        question: "attack B2 1 1",
+        code: 0,
+        rows: &[
+            (
+                "five liberties of the target",
+                b"N * . . . . . N * . . . . . N * . . . . .",
+                STATED,
+            ),
+            (
+                "the same with the liberties of a stone next to it that has two",
+                b"N * . . . . . . . N * . . . . . . . N * . . . . . . .",
+                WIDER,
+            ),
+        ],
+    },
+    Texts {
+        name: "the attacker has no liberty of stones with three beside the target",
+        stones: (5, "B2 B3", "C2"),
+        question: "attack B2 1 1",
+        code: 0,
+        rows: &[(
+            "no liberty of a stone next to the target that has three",
+            b"N * . . . . . N * . . . . . N * . . . . .",
+            BOTH,
+        )],
+    },
+    Texts {
+        name: "the attacker has beside and rescue",
+        stones: (5, "B3 D3 C2", "C3 D2"),
+        question: "attack D2 1 1",
+        code: 0,
+        rows: &[
+            (
+                "two liberties and three empty points next to them",
+                b"N * . . . . . N * . . . . . N * . . . . .",
+                STATED,
+            ),
+            (
+                "the same with B2 and D4 beside weak stones, and C4, which takes C3",
+                b"N * . . . . . . . . N * . . . . . . . . N * . . . . . . . .",
+                WIDER,
+            ),
+        ],
+    },
+    Texts {
+        name: "three liberties may be filled in the wider tree",
+        stones: (9, "D1", ""),
+        question: "attack D1 5 0",
+        code: 0,
+        rows: &[
+            ("three liberties without a wide ply", b"N . N . N .", STATED),
+            (
+                "words that go on, where in the stated tree a dot would do",
+                THREE_LIBERTIES,
+                BOTH,
+            ),
+        ],
+    },
+    Texts {
+        name: "four liberties may not be filled in either tree",
+        stones: (9, "D4", ""),
+        question: "attack D4 9 0",
+        code: 0,
+        rows: &[("four liberties without a wide ply", b"N . N . N .", BOTH)],
+    },
+];
 
 #[test]
-fn three_liberties_may_be_filled_in_the_wider_tree(rt: HostRuntime) -> Result<(), Fail> {
-    let rows = [
-        (
-            "three liberties without a wide ply",
-            (9, "D1", ""),
-            "attack D1 5 0",
-            0,
-            "N . N . N .",
-            true,
-            false,
-        ),
-        (
-            "words that go on, where in the stated tree a dot would do",
-            (9, "D1", ""),
-            "attack D1 5 0",
-            0,
-            THREE_LIBERTIES,
-            true,
-            true,
-        ),
-        (
-            "four liberties without a wide ply",
-            (9, "D4", ""),
-            "attack D4 9 0",
-            0,
-            "N . N . N .",
-            true,
-            true,
-        ),
-    ];
-    check_in_both(&rt, &rows)
+fn texts_are_proofs_or_none_in_each_tree(rt: HostRuntime) {
+    for texts in &IN_BOTH_TREES {
+        check_rows(&rt, texts);
+    }
 }
