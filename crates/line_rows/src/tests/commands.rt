@@ -6,22 +6,34 @@ mod proofs;
 mod replies;
 mod spans;
 
-use gtp_cmd::{Command, Parsed, RefuseText};
+use go_base::Size;
+use gtp_cmd::{Parsed, RefuseText, parse};
+use std::panic::Expect;
+use std::process::Abort;
 
 /// How many bytes a line may have.
-pub const LONGEST_LINE: usize = 65_536;
-
-/// The refusal of a line.
-pub fn refused(id: Option<u32>, text: RefuseText) -> Parsed {
-    Parsed::Refused { id, text }
-}
+const LONGEST_LINE: usize = 65_536;
 
 /// The refusal of arguments that are missing or malformed.
-pub fn malformed() -> Parsed {
-    refused(None, RefuseText::SyntaxError)
-}
+const MALFORMED: Parsed = Parsed::Refused {
+    id: None,
+    text: RefuseText::SyntaxError,
+};
 
-/// A command that a line asks for.
-pub fn asked(id: Option<u32>, command: Command) -> Parsed {
-    Parsed::Command { id, command }
+/// The refusal of a line that names no command.
+const UNKNOWN: Parsed = Parsed::Refused {
+    id: None,
+    text: RefuseText::UnknownCommand,
+};
+
+/// What is special about a line, the line, and what it says.
+type Row = (&'static str, &'static str, Parsed);
+
+/// Reads lines on a board of so many rows.
+fn compare(rt: &impl Abort, rows: u8, lines: &[Row]) {
+    let size = Size::new(rows).expect(rt, "the size is one of a board");
+    for (name, line, want) in lines {
+        assert!(rt; line.len() <= LONGEST_LINE);
+        assert!(rt; parse(line.as_bytes(), size) == *want, "{name}");
+    }
 }

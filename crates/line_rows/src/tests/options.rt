@@ -3,6 +3,138 @@ use go_options::{Files, Options, OptionsError, read_options};
 use std::alloc::Global;
 use std::test::Fail;
 
+/// Words of a command line, by what they show, and the options that they give.
+struct Given {
+    name: &'static str,
+    words: &'static [&'static str],
+    depth: u8,
+    branch: u8,
+    cache: u32,
+    states: u32,
+    stats: bool,
+    generate: Option<u32>,
+    files: &'static [&'static str],
+}
+
+/// What no words give.
+const DEFAULTS: Given = Given {
+    name: "no words give the defaults",
+    words: &[],
+    depth: 10,
+    branch: 2,
+    cache: 4096,
+    states: 100_000,
+    stats: false,
+    generate: None,
+    files: &[],
+};
+
+/// Words that are taken.
+static GIVEN: [Given; 6] = [
+    DEFAULTS,
+    Given {
+        name: "values stand behind an equals sign or in the next word",
+        words: &[
+            "--depth=3",
+            "--branch",
+            "0",
+            "--cache=8",
+            "--states",
+            "1",
+            "--stats",
+            "--generate=100000",
+        ],
+        depth: 3,
+        branch: 0,
+        cache: 8,
+        states: 1,
+        stats: true,
+        generate: Some(100_000),
+        files: &[],
+    },
+    Given {
+        name: "files stand anywhere and keep their order",
+        words: &["b", "--stats", "a", "-", "--depth", "4", "", "b"],
+        depth: 4,
+        stats: true,
+        files: &["b", "a", "-", "", "b"],
+        ..DEFAULTS
+    },
+    Given {
+        name: "two hyphens end the options",
+        words: &["--depth=4", "--", "--stats", "-x", "--"],
+        depth: 4,
+        files: &["--stats", "-x", "--"],
+        ..DEFAULTS
+    },
+    Given {
+        name: "two hyphens alone give the defaults",
+        words: &["--"],
+        ..DEFAULTS
+    },
+    Given {
+        name: "numbers may have a sign and zeros in front",
+        words: &["--depth=+007", "--branch=-0", "--cache", "+8"],
+        depth: 7,
+        branch: 0,
+        cache: 8,
+        ..DEFAULTS
+    },
+];
+
+/// Words that are refused, by what is wrong with them.
+static REFUSED: [(&str, &[&str]); 43] = [
+    ("a depth is given twice", &["--depth=3", "--depth=3"]),
+    ("a flag is given twice", &["--stats", "--stats"]),
+    (
+        "an option is given twice, with two values",
+        &["--generate", "1", "--generate", "2"],
+    ),
+    ("a flag has no number", &["--stats=1"]),
+    ("a flag has no value, not even an empty one", &["--stats="]),
+    ("a flag has no truth value", &["--stats=true"]),
+    ("a depth below the range", &["--depth=0"]),
+    ("a depth above it", &["--depth=201"]),
+    ("a branch above the range", &["--branch=13"]),
+    ("a branch below it", &["--branch=-1"]),
+    ("a cache below the range", &["--cache=7"]),
+    ("a cache above it", &["--cache=65537"]),
+    ("states below the range", &["--states=0"]),
+    ("states above it", &["--states=1000001"]),
+    ("generated lines below the range", &["--generate=0"]),
+    ("generated lines above it", &["--generate=100001"]),
+    (
+        "a number of twenty digits",
+        &["--generate=99999999999999999999"],
+    ),
+    ("an empty value is no number", &["--depth="]),
+    ("a letter is no number", &["--depth=x"]),
+    ("a blank ends no number", &["--depth=3 "]),
+    ("a fraction is no number", &["--depth=3.0"]),
+    ("a number has no base", &["--depth=0x3"]),
+    ("two hyphens are no sign", &["--depth=--3"]),
+    ("a sign alone is no number", &["--branch=-"]),
+    ("a value is missing at the end", &["--depth"]),
+    ("a flag is no value", &["--depth", "--stats"]),
+    ("two hyphens are no value", &["--depth", "--", "3"]),
+    ("a word with a hyphen is no value", &["--depth", "-3"]),
+    ("nor where it is a number in the range", &["--branch", "-0"]),
+    ("a name that is cut short", &["--dep"]),
+    ("one that is cut short by a letter", &["--dept=3"]),
+    ("a name with a letter more", &["--depths=3"]),
+    ("a name with a capital", &["--Depth=3"]),
+    ("a short name", &["-d"]),
+    ("there is no short help", &["-h"]),
+    ("there is no help", &["--help"]),
+    ("there is no short version", &["-V"]),
+    ("there is no version", &["--version"]),
+    ("a number with a sign is no file", &["-1"]),
+    ("files have no option", &["--files=a"]),
+    ("three hyphens", &["---"]),
+    ("no name before a value", &["--=3"]),
+    ("a flag that is cut short", &["--stat"]),
+];
+
 /// The options that some words give.
 fn options_of(alloc: Global, words: &[&str]) -> Result<Options, OptionsError> {
     let mut owned = Vec::new(alloc);
@@ -14,171 +146,35 @@ fn options_of(alloc: Global, words: &[&str]) -> Result<Options, OptionsError> {
     read_options(alloc, owned.as_slice())
 }
 
-/// Whether some words are refused as wrong options.
-fn is_refused(alloc: Global, words: &[&str]) -> bool {
-    match options_of(alloc, words) {
-        Ok(_) => false,
-        Err(error) => error == OptionsError::Usage,
-    }
-}
-
-/// The names of the files, one after another with a blank behind each.
-fn names_of(alloc: Global, options: &Options) -> Result<String, Fail> {
-    let mut text = String::new(alloc);
-    for name in options.files.as_slice() {
-        text.push_str(name.as_str())?;
-        text.push(' ')?;
-    }
-    Ok(text)
-}
-
 #[test]
-fn no_words_give_the_defaults(rt: HostRuntime) -> Result<(), Fail> {
-    let options = options_of(rt.alloc(), &[])?;
-    assert!(rt; options.depth == 10);
-    assert!(rt; options.branch == 2);
-    assert!(rt; options.cache == 4096);
-    assert!(rt; options.states == 100_000);
-    assert!(rt; !options.stats);
-    assert!(rt; options.generate.is_none());
-    assert!(rt; options.files.as_slice().len() == 0);
-    Ok(())
-}
-
-#[test]
-fn values_stand_behind_an_equals_sign_or_in_the_next_word(rt: HostRuntime) -> Result<(), Fail> {
-    let words = [
-        "--depth=3",
-        "--branch",
-        "0",
-        "--cache=8",
-        "--states",
-        "1",
-        "--stats",
-        "--generate=100000",
-    ];
-    let options = options_of(rt.alloc(), words.as_slice())?;
-    assert!(rt; options.depth == 3);
-    assert!(rt; options.branch == 0);
-    assert!(rt; options.cache == 8);
-    assert!(rt; options.states == 1);
-    assert!(rt; options.stats);
-    assert!(rt; options.generate == Some(100_000));
-    Ok(())
-}
-
-#[test]
-fn files_stand_anywhere_and_keep_their_order(rt: HostRuntime) -> Result<(), Fail> {
+fn words_give_their_options(rt: HostRuntime) -> Result<(), Fail> {
     let alloc = rt.alloc();
-    let options = options_of(alloc, &["b", "--stats", "a", "-", "--depth", "4", "", "b"])?;
-    assert!(rt; names_of(alloc, &options)?.as_str() == "b a -  b ");
-    assert!(rt; options.depth == 4);
-    Ok(())
-}
-
-#[test]
-fn two_hyphens_end_the_options(rt: HostRuntime) -> Result<(), Fail> {
-    let alloc = rt.alloc();
-    let options = options_of(alloc, &["--depth=4", "--", "--stats", "-x", "--"])?;
-    assert!(rt; names_of(alloc, &options)?.as_str() == "--stats -x -- ");
-    assert!(rt; !options.stats);
-    assert!(rt; options.files.as_slice().len() == 3);
-    let none = options_of(alloc, &["--"])?;
-    assert!(rt; none.files.as_slice().len() == 0);
-    Ok(())
-}
-
-#[test]
-fn numbers_may_have_a_sign_and_zeros_in_front(rt: HostRuntime) -> Result<(), Fail> {
-    let options = options_of(
-        rt.alloc(),
-        &["--depth=+007", "--branch=-0", "--cache", "+8"],
-    )?;
-    assert!(rt; options.depth == 7);
-    assert!(rt; options.branch == 0);
-    assert!(rt; options.cache == 8);
-    Ok(())
-}
-
-#[test]
-fn an_option_is_given_once(rt: HostRuntime) {
-    assert!(rt; is_refused(rt.alloc(), &["--depth=3", "--depth=3"]));
-    assert!(rt; is_refused(rt.alloc(), &["--stats", "--stats"]));
-    assert!(rt; is_refused(rt.alloc(), &["--generate", "1", "--generate", "2"]));
-}
-
-#[test]
-fn a_flag_has_no_value(rt: HostRuntime) {
-    assert!(rt; is_refused(rt.alloc(), &["--stats=1"]));
-    assert!(rt; is_refused(rt.alloc(), &["--stats="]));
-    assert!(rt; is_refused(rt.alloc(), &["--stats=true"]));
-}
-
-#[test]
-fn numbers_out_of_range_are_refused(rt: HostRuntime) {
-    let words = [
-        "--depth=0",
-        "--depth=201",
-        "--branch=13",
-        "--branch=-1",
-        "--cache=7",
-        "--cache=65537",
-        "--states=0",
-        "--states=1000001",
-        "--generate=0",
-        "--generate=100001",
-        "--generate=99999999999999999999",
-    ];
-    for word in words.as_slice() {
-        assert!(rt; is_refused(rt.alloc(), &[*word]), "{word}");
+    for given in &GIVEN {
+        let name = given.name;
+        let options = options_of(alloc, given.words)?;
+        assert!(rt; options.depth == given.depth, "{name}");
+        assert!(rt; options.branch == given.branch, "{name}");
+        assert!(rt; options.cache == given.cache, "{name}");
+        assert!(rt; options.states == given.states, "{name}");
+        assert!(rt; options.stats == given.stats, "{name}");
+        assert!(rt; options.generate == given.generate, "{name}");
+        let files = options.files.as_slice();
+        assert!(rt; files.len() == given.files.len(), "{name}");
+        assert!(rt;
+            files.join(alloc, "|")? == given.files.join(alloc, "|")?,
+            "{name}"
+        );
     }
+    Ok(())
 }
 
 #[test]
-fn values_that_are_no_numbers_are_refused(rt: HostRuntime) {
-    let words = [
-        "--depth=",
-        "--depth=x",
-        "--depth=3 ",
-        "--depth=3.0",
-        "--depth=0x3",
-        "--depth=--3",
-        "--branch=-",
-    ];
-    for word in words.as_slice() {
-        assert!(rt; is_refused(rt.alloc(), &[*word]), "{word}");
-    }
-}
-
-#[test]
-fn a_missing_value_is_refused(rt: HostRuntime) {
-    assert!(rt; is_refused(rt.alloc(), &["--depth"]));
-    assert!(rt; is_refused(rt.alloc(), &["--depth", "--stats"]));
-    assert!(rt; is_refused(rt.alloc(), &["--depth", "--", "3"]));
-    assert!(rt; is_refused(rt.alloc(), &["--depth", "-3"]));
-    assert!(rt; is_refused(rt.alloc(), &["--branch", "-0"]));
-}
-
-#[test]
-fn unknown_names_are_refused(rt: HostRuntime) {
-    let words = [
-        "--dep",
-        "--dept=3",
-        "--depths=3",
-        "--Depth=3",
-        "-d",
-        "-h",
-        "--help",
-        "-V",
-        "--version",
-        "-1",
-        "--files=a",
-        "---",
-        "--=3",
-        "--stat",
-    ];
-    for word in words.as_slice() {
-        assert!(rt; is_refused(rt.alloc(), &[*word]), "{word}");
+fn wrong_words_are_refused(rt: HostRuntime) {
+    for &(name, words) in &REFUSED {
+        match options_of(rt.alloc(), words) {
+            Ok(_) => assert!(rt; false, "{name}"),
+            Err(error) => assert!(rt; error == OptionsError::Usage, "{name}"),
+        }
     }
 }
 

@@ -10,7 +10,7 @@ struct Case {
     want: Taken,
 }
 
-const CASES: [Case; 4] = [
+static CASES: [Case; 4] = [
     Case {
         what: "the longest line",
         letters: 65_536,

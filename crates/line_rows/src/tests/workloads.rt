@@ -17,67 +17,66 @@ fn all_bytes(alloc: Global, source: &mut Workload, room: usize) -> Result<Vec<u8
     Ok(bytes)
 }
 
-const SEVENTEEN: [&str; 19] = [
-    "boardsize 9",
-    "depths 5 1",
-    "play b F4",
-    "play w B6",
-    "play b C3",
-    "undo",
-    "play b D6",
-    "play w C3",
-    "play b J3",
-    "attack G2",
-    "play b H1",
-    "play w D5",
-    "play b G3",
-    "defend F3",
-    "play b D9",
-    "play w A8",
-    "play b C3",
-    "match_patterns w",
-    "play b E4",
+/// How many lines are asked for, and all bytes that come, by buffers of each length from one up to below another.
+struct Generated {
+    lines: u32,
+    from: usize,
+    to: usize,
+    want: &'static [u8],
+}
+
+static GENERATED: [Generated; 4] = [
+    Generated {
+        lines: 0,
+        from: 512,
+        to: 513,
+        want: b"boardsize 9\ndepths 5 1\n",
+    },
+    Generated {
+        lines: 1,
+        from: 512,
+        to: 513,
+        want: b"boardsize 9\ndepths 5 1\nplay b J2\n",
+    },
+    Generated {
+        lines: 2,
+        from: 512,
+        to: 513,
+        want: b"boardsize 9\ndepths 5 1\nplay b J8\nplay w C3\n",
+    },
+    Generated {
+        lines: 17,
+        from: 1,
+        to: 40,
+        want: b"boardsize 9\ndepths 5 1\nplay b F4\nplay w B6\nplay b C3\nundo\nplay b D6\nplay w C3\nplay b J3\n\
+            attack G2\nplay b H1\nplay w D5\nplay b G3\ndefend F3\nplay b D9\nplay w A8\nplay b C3\n\
+            match_patterns w\nplay b E4\n",
+    },
 ];
 
 #[test]
-fn one_and_two_lines(rt: HostRuntime) -> Result<(), Fail> {
-    let alloc = rt.alloc();
-    let one = all_bytes(alloc, &mut Workload::new(1), 512)?;
-    assert!(rt; one.as_slice() == b"boardsize 9\ndepths 5 1\nplay b J2\n".as_slice());
-    let two = all_bytes(alloc, &mut Workload::new(2), 512)?;
-    assert!(rt; two.as_slice() == b"boardsize 9\ndepths 5 1\nplay b J8\nplay w C3\n".as_slice());
-    Ok(())
-}
-
-#[test]
-fn a_whole_round_in_pieces_of_any_length(rt: HostRuntime) -> Result<(), Fail> {
-    let alloc = rt.alloc();
-    let mut wanted = String::new(alloc);
-    for line in SEVENTEEN.as_slice() {
-        wanted.push_str(line)?;
-        wanted.push('\n')?;
-    }
-    for room in 1..40usize {
-        let bytes = all_bytes(alloc, &mut Workload::new(17), room)?;
-        assert!(rt; bytes.as_slice() == wanted.as_bytes());
+fn lines_come_whole_in_pieces_of_any_length(rt: HostRuntime) -> Result<(), Fail> {
+    for row in &GENERATED {
+        let lines = row.lines;
+        for room in row.from..row.to {
+            let bytes = all_bytes(rt.alloc(), &mut Workload::new(lines), room)?;
+            assert!(rt;
+                bytes.as_slice() == row.want,
+                "{lines} lines by {room} bytes"
+            );
+        }
     }
     Ok(())
 }
 
 #[test]
-fn no_line_is_generated_but_those_asked_for(rt: HostRuntime) -> Result<(), Fail> {
-    let mut none = Workload::new(0);
-    let bytes = all_bytes(rt.alloc(), &mut none, 512)?;
-    assert!(rt; bytes.as_slice() == b"boardsize 9\ndepths 5 1\n".as_slice());
-    assert!(rt; none.next(&mut [0; 8]) == Ok(0));
-    Ok(())
-}
-
-#[test]
-fn an_empty_buffer_takes_nothing(rt: HostRuntime) {
+fn an_empty_buffer_takes_nothing_and_nothing_comes_after_the_end(rt: HostRuntime) {
     let mut source = Workload::new(1);
     assert!(rt; source.next(&mut []) == Ok(0));
     let mut buffer = [0; 9];
     assert!(rt; source.next(&mut buffer) == Ok(9));
     assert!(rt; buffer == *b"boardsize");
+    let mut none = Workload::new(0);
+    assert!(rt; none.next(&mut [0; 512]) == Ok(23));
+    assert!(rt; none.next(&mut [0; 8]) == Ok(0));
 }

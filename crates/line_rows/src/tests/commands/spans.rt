@@ -1,94 +1,129 @@
 //! Words that are told by their places in the line.
 
-use super::{LONGEST_LINE, asked, malformed, refused};
-use go_base::{Bytes, Size};
-use gtp_cmd::{Command, Parsed, RefuseText, Span, parse, text};
+use super::{MALFORMED, Row, UNKNOWN, compare};
+use go_base::Bytes;
+use gtp_cmd::{Command, Parsed, Span, text};
 use std::test::Fail;
 
-#[test]
-fn words_are_told_by_their_places(rt: HostRuntime) -> Result<(), Fail> {
-    let size = Size::new(2).ok_or("the size is one of a board")?;
-    for (row, line, want) in [
-        ("a name", "loadsgf game", Some((8, 12))),
-        (
-            "blanks at both ends",
-            "  loadsgf\t a.sgf \t",
-            Some((11, 16)),
-        ),
-        ("behind an id", "7 loadsgf a", Some((10, 11))),
-        (
-            "behind an id of many digits",
-            "0000000007 loadsgf ab",
-            Some((19, 21)),
-        ),
-        ("more words", "loadsgf a b c", Some((8, 9))),
-        ("a comment", "loadsgf ab#c", Some((8, 10))),
-        (
-            "dropped bytes about a word",
-            "load\u{1}sgf \u{1}a\u{2}b\u{3} c",
-            Some((10, 13)),
-        ),
-        ("dropped bytes alone", "loadsgf \u{1} \u{2}", None),
-        ("no name", "loadsgf", None),
-        ("blanks alone", "loadsgf \t ", None),
-        ("a comment alone", "loadsgf #a", None),
-    ] {
-        assert!(rt; line.len() <= LONGEST_LINE);
-        let found = match parse(line.as_bytes(), size) {
-            Parsed::Command {
-                command: Command::LoadSgf(Span { from, to }),
-                ..
-            } => Some((from, to)),
-            _ => None,
-        };
-        assert!(rt; found == want, "{row}");
-    }
-    assert!(rt; parse(b"loadsgf", size) == malformed());
-    assert!(rt; parse(b"LOADSGF a", size) == refused(None, RefuseText::UnknownCommand));
-    Ok(())
-}
+const WORDS_ARE_TOLD_BY_THEIR_PLACES: [Row; 12] = [
+    (
+        "a name",
+        "loadsgf game",
+        Parsed::Command {
+            id: None,
+            command: Command::LoadSgf(Span { from: 8, to: 12 }),
+        },
+    ),
+    (
+        "blanks at both ends",
+        "  loadsgf\t a.sgf \t",
+        Parsed::Command {
+            id: None,
+            command: Command::LoadSgf(Span { from: 11, to: 16 }),
+        },
+    ),
+    (
+        "a name behind an id",
+        "7 loadsgf a",
+        Parsed::Command {
+            id: Some(7),
+            command: Command::LoadSgf(Span { from: 10, to: 11 }),
+        },
+    ),
+    (
+        "a name behind an id of many digits",
+        "0000000007 loadsgf ab",
+        Parsed::Command {
+            id: Some(7),
+            command: Command::LoadSgf(Span { from: 19, to: 21 }),
+        },
+    ),
+    (
+        "more words",
+        "loadsgf a b c",
+        Parsed::Command {
+            id: None,
+            command: Command::LoadSgf(Span { from: 8, to: 9 }),
+        },
+    ),
+    (
+        "a comment behind a name",
+        "loadsgf ab#c",
+        Parsed::Command {
+            id: None,
+            command: Command::LoadSgf(Span { from: 8, to: 10 }),
+        },
+    ),
+    (
+        "dropped bytes about a word",
+        "load\u{1}sgf \u{1}a\u{2}b\u{3} c",
+        Parsed::Command {
+            id: None,
+            command: Command::LoadSgf(Span { from: 10, to: 13 }),
+        },
+    ),
+    ("dropped bytes alone", "loadsgf \u{1} \u{2}", MALFORMED),
+    ("no name", "loadsgf", MALFORMED),
+    ("blanks alone", "loadsgf \t ", MALFORMED),
+    ("a comment alone as a name", "loadsgf #a", MALFORMED),
+    (
+        "a command that names a file in capitals",
+        "LOADSGF a",
+        UNKNOWN,
+    ),
+];
 
-#[test]
-fn helpers_that_are_named(rt: HostRuntime) -> Result<(), Fail> {
-    let size = Size::new(9).ok_or("the size is one of a board")?;
-    for (row, line, want) in [
-        (
-            "one to switch off",
-            "helper_off near_edge",
-            asked(None, Command::HelperOff(Span { from: 11, to: 20 })),
-        ),
-        (
-            "one whose calls are asked for",
-            "helper_calls\tnear_edge far",
-            asked(None, Command::HelperCalls(Span { from: 13, to: 22 })),
-        ),
-        (
-            "one to drop",
-            " helper_drop  a \t",
-            asked(None, Command::HelperDrop(Span { from: 14, to: 15 })),
-        ),
-        ("no name to switch off", "helper_off", malformed()),
-        ("no name to ask for", "helper_calls \t", malformed()),
-        ("no name to drop", "helper_drop #a", malformed()),
-    ] {
-        assert!(rt; line.len() <= LONGEST_LINE);
-        assert!(rt; parse(line.as_bytes(), size) == want, "{row}");
-    }
-    Ok(())
-}
+const HELPERS_THAT_ARE_NAMED: [Row; 6] = [
+    (
+        "one to switch off",
+        "helper_off near_edge",
+        Parsed::Command {
+            id: None,
+            command: Command::HelperOff(Span { from: 11, to: 20 }),
+        },
+    ),
+    (
+        "one whose calls are asked for",
+        "helper_calls\tnear_edge far",
+        Parsed::Command {
+            id: None,
+            command: Command::HelperCalls(Span { from: 13, to: 22 }),
+        },
+    ),
+    (
+        "one to drop",
+        " helper_drop  a \t",
+        Parsed::Command {
+            id: None,
+            command: Command::HelperDrop(Span { from: 14, to: 15 }),
+        },
+    ),
+    ("no name to switch off", "helper_off", MALFORMED),
+    ("no name to ask for", "helper_calls \t", MALFORMED),
+    ("no name to drop", "helper_drop #a", MALFORMED),
+];
+
+/// Words of a line, by what they are, as they stand in it and as they are told.
+static SPANS: [(&str, Span, &[u8]); 3] = [
+    ("some words", Span { from: 24, to: 31 }, b"W D3 ."),
+    ("words and a comment", Span { from: 24, to: 41 }, b"W D3 . "),
+    ("no words", Span { from: 0, to: 0 }, b""),
+];
 
 #[test]
 fn span_is_cleaned(rt: HostRuntime) -> Result<(), Fail> {
     let line = b"check_proof attack D4 3 W\tD\x013 . # as read";
-    for (row, from, to, want) in [
-        ("some words", 24, 31, b"W D3 .".as_slice()),
-        ("a comment", 24, 41, b"W D3 . ".as_slice()),
-        ("no words", 0, 0, b"".as_slice()),
-    ] {
-        assert!(rt; from <= to);
-        assert!(rt; to as usize <= line.len());
-        let found = text(line, Span { from, to }, Bytes::new(rt.alloc()))?;
-        assert!(rt; found.as_slice() == want, "{row}");
+    for &(name, span, want) in &SPANS {
+        assert!(rt; span.from <= span.to);
+        assert!(rt; span.to as usize <= line.len());
+        let found = text(line, span, Bytes::new(rt.alloc()))?;
+        assert!(rt; found.as_slice() == want, "{name}");
     }
     Ok(())
+}
+
+#[test]
+fn lines_with_words_say_what_their_rows_have(rt: HostRuntime) {
+    compare(&rt, 2, &WORDS_ARE_TOLD_BY_THEIR_PLACES);
+    compare(&rt, 9, &HELPERS_THAT_ARE_NAMED);
 }
