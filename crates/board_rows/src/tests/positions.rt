@@ -1,14 +1,13 @@
 //! What the rules give on drawn positions: `.` is empty, `X` black, `O` white, and the rows are drawn from the top.
 
-use Colour::{Black, White};
+use super::Play;
+use go_base::Colour::{self, Black, White};
 use go_base::{
-    Bytes, Cell, Colour, Facts, Illegal, Look, PointSet, Position, Size, Transform, Watch,
+    Bytes, Cell, Facts, Illegal, Look, Point, PointSet, Position, Size, Transform, Watch,
 };
 use std::alloc::{AllocError, Global};
+use std::panic::Expect;
 use std::test::Fail;
-
-/// A play: a colour, a row and a column.
-type Play = (Colour, u8, u8);
 
 /// The play on the position, and None where its place is off the board.
 fn played(position: &Position, play: Play) -> Option<Result<Position, Illegal>> {
@@ -46,39 +45,66 @@ fn drawn(alloc: Global, position: &Position) -> Result<String, AllocError> {
     Ok(text)
 }
 
+/// The transformations by their numbers, and where each puts the offset (1, 2).
+static TRANSFORMATIONS: [(u8, (i8, i8)); 8] = [
+    (0, (1, 2)),
+    (1, (2, -1)),
+    (2, (-1, -2)),
+    (3, (-2, 1)),
+    (4, (1, -2)),
+    (5, (-2, -1)),
+    (6, (-1, 2)),
+    (7, (2, 1)),
+];
+
 #[test]
-fn the_transformations_are_the_table(rt: HostRuntime) -> Result<(), Fail> {
-    let rows: [(u8, (i8, i8)); 8] = [
-        (0, (1, 2)),
-        (1, (2, -1)),
-        (2, (-1, -2)),
-        (3, (-2, 1)),
-        (4, (1, -2)),
-        (5, (-2, -1)),
-        (6, (-1, 2)),
-        (7, (2, 1)),
-    ];
-    for (number, want) in rows {
-        let t = Transform::new(number).ok_or("a number below 8")?;
+fn the_transformations_are_the_table(rt: HostRuntime) {
+    for &(number, want) in &TRANSFORMATIONS {
+        let t = Transform::new(number).expect(&rt, "a number below 8");
         assert!(rt; t.get() == number);
         assert!(rt; t.apply(1, 2) == want, "transformation {number} of (1, 2)");
     }
     assert!(rt; Transform::new(8).is_none());
-    Ok(())
 }
 
-/// Captures: what is special about one, the size, the plays of which the last one takes, and the drawing after it.
-const CAPTURES: [(&str, u8, &[Play], &str); 6] = [
-    (
-        "a stone in the corner",
-        3,
-        &[(White, 0, 0), (Black, 0, 1), (Black, 1, 0)],
-        ".X.X.....",
-    ),
-    (
-        "a string of two on the edge",
-        4,
-        &[
+/// Plays on a board of so many rows, the drawing after the last one, and the ban that it leaves.
+struct Drawing {
+    name: &'static str,
+    rows: u8,
+    plays: &'static [Play],
+    want: &'static str,
+    ban: Option<(Point, Colour)>,
+}
+
+// . X O .        Black takes the white stone by playing at the third point of the second row.
+// X O . O
+// . X O .
+// . . . .
+/// The plays of a ko on a board of four rows.
+const KO_OF_FOUR_ROWS: [Play; 8] = [
+    (Black, 0, 1),
+    (White, 0, 2),
+    (Black, 1, 0),
+    (White, 1, 3),
+    (Black, 2, 1),
+    (White, 2, 2),
+    (White, 1, 1),
+    (Black, 1, 2),
+];
+
+/// A stone that takes one stone and has more than one liberty leaves no ban; nor does one that takes two.
+static DRAWINGS: [Drawing; 12] = [
+    Drawing {
+        name: "a stone in the corner is taken",
+        rows: 3,
+        plays: &[(White, 0, 0), (Black, 0, 1), (Black, 1, 0)],
+        want: ".X.X.....",
+        ban: None,
+    },
+    Drawing {
+        name: "a string of two on the edge is taken",
+        rows: 4,
+        plays: &[
             (White, 0, 1),
             (White, 0, 2),
             (Black, 0, 0),
@@ -86,12 +112,13 @@ const CAPTURES: [(&str, u8, &[Play], &str); 6] = [
             (Black, 1, 2),
             (Black, 0, 3),
         ],
-        "X..X.XX.........",
-    ),
-    (
-        "two strings at once, by a stone between them",
-        5,
-        &[
+        want: "X..X.XX.........",
+        ban: None,
+    },
+    Drawing {
+        name: "two strings are taken at once, by a stone between them",
+        rows: 5,
+        plays: &[
             (White, 0, 1),
             (White, 0, 3),
             (Black, 0, 0),
@@ -100,12 +127,13 @@ const CAPTURES: [(&str, u8, &[Play], &str); 6] = [
             (Black, 1, 3),
             (Black, 0, 2),
         ],
-        "X.X.X.X.X................",
-    ),
-    (
-        "a capture by a stone that has no liberty before it",
-        3,
-        &[
+        want: "X.X.X.X.X................",
+        ban: None,
+    },
+    Drawing {
+        name: "a stone that has no liberty before it takes three",
+        rows: 3,
+        plays: &[
             (Black, 0, 1),
             (Black, 1, 0),
             (White, 0, 2),
@@ -113,12 +141,13 @@ const CAPTURES: [(&str, u8, &[Play], &str); 6] = [
             (White, 2, 0),
             (White, 0, 0),
         ],
-        "O.O.O.O..",
-    ),
-    (
-        "a string that the stone touches on two sides",
-        3,
-        &[
+        want: "O.O.O.O..",
+        ban: None,
+    },
+    Drawing {
+        name: "a string is taken that the stone touches on two sides",
+        rows: 3,
+        plays: &[
             (White, 0, 0),
             (White, 0, 1),
             (White, 1, 0),
@@ -126,140 +155,205 @@ const CAPTURES: [(&str, u8, &[Play], &str); 6] = [
             (Black, 2, 0),
             (Black, 1, 1),
         ],
-        "..X.X.X..",
-    ),
-    (
-        "on the smallest board",
-        2,
-        &[(White, 0, 0), (Black, 0, 1), (Black, 1, 0)],
-        ".XX.",
-    ),
+        want: "..X.X.X..",
+        ban: None,
+    },
+    Drawing {
+        name: "a stone is taken on the smallest board",
+        rows: 2,
+        plays: &[(White, 0, 0), (Black, 0, 1), (Black, 1, 0)],
+        want: ".XX.",
+        ban: None,
+    },
+    // . . O X .        Black throws in at the second point of the first row, and White takes it from the corner.
+    // O O O X .
+    // X X X . .
+    Drawing {
+        name: "a stone that takes one and belongs to a string leaves no ban",
+        rows: 5,
+        plays: &[
+            (White, 0, 2),
+            (White, 1, 0),
+            (White, 1, 1),
+            (White, 1, 2),
+            (Black, 0, 3),
+            (Black, 1, 3),
+            (Black, 2, 0),
+            (Black, 2, 1),
+            (Black, 2, 2),
+            (Black, 0, 1),
+            (White, 0, 0),
+        ],
+        want: "O.OX.OOOX.XXX............",
+        ban: None,
+    },
+    Drawing {
+        name: "so a snapback takes the whole string back",
+        rows: 5,
+        plays: &[
+            (White, 0, 2),
+            (White, 1, 0),
+            (White, 1, 1),
+            (White, 1, 2),
+            (Black, 0, 3),
+            (Black, 1, 3),
+            (Black, 2, 0),
+            (Black, 2, 1),
+            (Black, 2, 2),
+            (Black, 0, 1),
+            (White, 0, 0),
+            (Black, 0, 1),
+        ],
+        want: ".X.X....X.XXX............",
+        ban: None,
+    },
+    Drawing {
+        name: "a stone that takes one and has one liberty leaves a ban",
+        rows: 4,
+        plays: &KO_OF_FOUR_ROWS,
+        want: ".XO.X.XO.XO.....",
+        ban: Some((5, White)),
+    },
+    Drawing {
+        name: "the other colour may fill the ko",
+        rows: 4,
+        plays: &[
+            (Black, 0, 1),
+            (White, 0, 2),
+            (Black, 1, 0),
+            (White, 1, 3),
+            (Black, 2, 1),
+            (White, 2, 2),
+            (White, 1, 1),
+            (Black, 1, 2),
+            (Black, 1, 1),
+        ],
+        want: ".XO.XXXO.XO.....",
+        ban: None,
+    },
+    Drawing {
+        name: "a ban ends with a play elsewhere",
+        rows: 4,
+        plays: &[
+            (Black, 0, 1),
+            (White, 0, 2),
+            (Black, 1, 0),
+            (White, 1, 3),
+            (Black, 2, 1),
+            (White, 2, 2),
+            (White, 1, 1),
+            (Black, 1, 2),
+            (White, 3, 0),
+            (White, 1, 1),
+        ],
+        want: ".XO.XO.O.XO.O...",
+        ban: Some((6, Black)),
+    },
+    Drawing {
+        name: "and with one of the other colour",
+        rows: 4,
+        plays: &[
+            (Black, 0, 1),
+            (White, 0, 2),
+            (Black, 1, 0),
+            (White, 1, 3),
+            (Black, 2, 1),
+            (White, 2, 2),
+            (White, 1, 1),
+            (Black, 1, 2),
+            (Black, 3, 3),
+            (White, 1, 1),
+        ],
+        want: ".XO.XO.O.XO....X",
+        ban: Some((6, Black)),
+    },
 ];
 
 #[test]
-fn captures_take_whole_strings_and_leave_no_ban(rt: HostRuntime) -> Result<(), Fail> {
-    // A stone that takes one stone and has more than one liberty leaves no ban; nor does one that takes two.
-    for (what, size, plays, want) in CAPTURES {
-        let position = after(size, plays).ok_or("each play is legal")?;
-        let got = drawn(rt.alloc(), &position)?;
-        assert!(rt; got.as_str() == want, "{what}");
-        assert!(rt; position.ban().is_none(), "{what}");
-    }
-    Ok(())
-}
-
-#[test]
-fn a_snapback_leaves_no_ban(rt: HostRuntime) -> Result<(), Fail> {
-    // . . O X .        Black throws in at the second point of the first row, White takes it from the corner,
-    // O O O X .        and Black takes the whole string back.
-    // X X X . .
-    let plays: [Play; 11] = [
-        (White, 0, 2),
-        (White, 1, 0),
-        (White, 1, 1),
-        (White, 1, 2),
-        (Black, 0, 3),
-        (Black, 1, 3),
-        (Black, 2, 0),
-        (Black, 2, 1),
-        (Black, 2, 2),
-        (Black, 0, 1),
-        (White, 0, 0),
-    ];
-    let taken = after(5, &plays).ok_or("each play is legal")?;
-    assert!(rt;
-        taken.ban().is_none(),
-        "the stone that took belongs to a string"
-    );
-    let back = played(&taken, (Black, 0, 1)).ok_or("on the board")?;
-    let back = back.ok().ok_or("the point is not banned")?;
-    let got = drawn(rt.alloc(), &back)?;
-    assert!(rt; got.as_str() == ".X.X....X.XXX............");
-    Ok(())
-}
-
-#[test]
-fn suicide_is_refused(rt: HostRuntime) -> Result<(), Fail> {
-    let rows: [(&str, u8, &[Play], Play); 3] = [
-        (
-            "of one stone in the corner",
-            3,
-            &[(Black, 0, 1), (Black, 1, 0)],
-            (White, 0, 0),
-        ),
-        (
-            "of a string of two",
-            3,
-            &[(White, 0, 0), (Black, 0, 2), (Black, 1, 0), (Black, 1, 1)],
-            (White, 0, 1),
-        ),
-        (
-            "on the smallest board",
-            2,
-            &[(Black, 0, 1), (Black, 1, 0)],
-            (White, 0, 0),
-        ),
-    ];
-    for (what, size, plays, last) in rows {
-        let position = after(size, plays).ok_or("each play is legal")?;
+fn plays_give_the_drawings_and_the_bans(rt: HostRuntime) -> Result<(), Fail> {
+    for row in &DRAWINGS {
+        let name = row.name;
+        let position = after(row.rows, row.plays).expect(&rt, "each play is legal");
         assert!(rt;
-            played(&position, last) == Some(Err(Illegal::Suicide)),
-            "{what}"
+            drawn(rt.alloc(), &position)?.as_str() == row.want,
+            "{name}"
         );
+        assert!(rt; position.ban() == row.ban, "{name}");
     }
     Ok(())
 }
 
+/// A play behind others on a board of so many rows, and why it is refused.
+struct Refused {
+    name: &'static str,
+    rows: u8,
+    plays: &'static [Play],
+    last: Play,
+    why: Illegal,
+}
+
+static REFUSED: [Refused; 5] = [
+    Refused {
+        name: "suicide of one stone in the corner",
+        rows: 3,
+        plays: &[(Black, 0, 1), (Black, 1, 0)],
+        last: (White, 0, 0),
+        why: Illegal::Suicide,
+    },
+    Refused {
+        name: "suicide of a string of two",
+        rows: 3,
+        plays: &[(White, 0, 0), (Black, 0, 2), (Black, 1, 0), (Black, 1, 1)],
+        last: (White, 0, 1),
+        why: Illegal::Suicide,
+    },
+    Refused {
+        name: "suicide on the smallest board",
+        rows: 2,
+        plays: &[(Black, 0, 1), (Black, 1, 0)],
+        last: (White, 0, 0),
+        why: Illegal::Suicide,
+    },
+    Refused {
+        name: "a stone on another",
+        rows: 4,
+        plays: &KO_OF_FOUR_ROWS,
+        last: (White, 1, 2),
+        why: Illegal::Occupied,
+    },
+    Refused {
+        name: "a play at the banned point",
+        rows: 4,
+        plays: &KO_OF_FOUR_ROWS,
+        last: (White, 1, 1),
+        why: Illegal::Ko,
+    },
+];
+
 #[test]
-fn a_ban_ends_with_a_pass_or_a_play_elsewhere(rt: HostRuntime) -> Result<(), Fail> {
-    // . X O .        Black takes the white stone by playing at the third point of the second row.
-    // X O . O
-    // . X O .
-    let plays: [Play; 8] = [
-        (Black, 0, 1),
-        (White, 0, 2),
-        (Black, 1, 0),
-        (White, 1, 3),
-        (Black, 2, 1),
-        (White, 2, 2),
-        (White, 1, 1),
-        (Black, 1, 2),
-    ];
-    let position = after(4, &plays).ok_or("each play is legal")?;
-    let retake = (White, 1, 1);
-    assert!(rt; position.ban() == Some((5, White)));
-    assert!(rt; played(&position, (White, 1, 2)) == Some(Err(Illegal::Occupied)));
-    assert!(rt; played(&position, retake) == Some(Err(Illegal::Ko)));
+fn plays_are_refused(rt: HostRuntime) {
+    for row in &REFUSED {
+        let name = row.name;
+        let position = after(row.rows, row.plays).expect(&rt, "each play is legal");
+        assert!(rt; played(&position, row.last) == Some(Err(row.why)), "{name}");
+    }
+}
+
+#[test]
+fn a_ban_ends_with_a_pass_and_can_be_dropped(rt: HostRuntime) {
+    let position = after(4, &KO_OF_FOUR_ROWS).expect(&rt, "each play is legal");
     assert!(rt; 5 < position.size().points());
     assert!(rt; position.play_free(White, 5).is_ok(), "the ban dropped");
-    assert!(rt;
-        matches!(played(&position, (Black, 1, 1)), Some(Ok(_))),
-        "the other colour may fill the ko"
-    );
-    assert!(rt;
-        matches!(played(&position.pass(), retake), Some(Ok(_))),
-        "after a pass"
-    );
-    for elsewhere in [(White, 3, 0), (Black, 3, 3)] {
-        let next = played(&position, elsewhere).ok_or("on the board")?;
-        let next = next.ok().ok_or("legal")?;
-        assert!(rt;
-            matches!(played(&next, retake), Some(Ok(_))),
-            "after a play elsewhere"
-        );
-    }
-    Ok(())
+    let retaken = played(&position.pass(), (White, 1, 1));
+    assert!(rt; matches!(retaken, Some(Ok(_))), "after a pass");
 }
 
 #[test]
-fn strings_and_liberties_are_told(rt: HostRuntime) -> Result<(), Fail> {
+fn strings_and_liberties_are_told(rt: HostRuntime) {
     // X X . .
     // O X . .
-    let position = after(
-        4,
-        &[(Black, 0, 0), (Black, 0, 1), (Black, 1, 1), (White, 1, 0)],
-    )
-    .ok_or("each play is legal")?;
+    let plays = [(Black, 0, 0), (Black, 0, 1), (Black, 1, 1), (White, 1, 0)];
+    let position = after(4, &plays).expect(&rt, "each play is legal");
     assert!(rt; 5 < position.size().points());
     let string = position.string(5);
     assert!(rt; string.count() == 3);
@@ -268,12 +362,11 @@ fn strings_and_liberties_are_told(rt: HostRuntime) -> Result<(), Fail> {
     assert!(rt; string.first_from(6).is_none());
     assert!(rt; position.liberties(5) == 3);
     assert!(rt; position.liberties(3) == 0, "an empty point has none");
-    Ok(())
 }
 
 #[test]
-fn a_watch_records_what_it_was_asked(rt: HostRuntime) -> Result<(), Fail> {
-    let before = after(3, &[(Black, 0, 0)]).ok_or("each play is legal")?;
+fn a_watch_records_what_it_was_asked(rt: HostRuntime) {
+    let before = after(3, &[(Black, 0, 0)]).expect(&rt, "each play is legal");
     let mut watch = Watch::new(&before);
     assert!(rt; 4 < watch.size().points());
     let seen = watch.cell(0);
@@ -283,20 +376,19 @@ fn a_watch_records_what_it_was_asked(rt: HostRuntime) -> Result<(), Fail> {
     let facts: Facts = watch.facts();
     assert!(rt; facts.stands(&before));
     assert!(rt; facts.points().count() == 2);
-    let elsewhere = after(3, &[(Black, 0, 0), (White, 2, 2)]).ok_or("each play is legal")?;
-    let moved = after(3, &[(Black, 0, 1)]).ok_or("each play is legal")?;
-    let larger = after(4, &[(Black, 0, 0)]).ok_or("each play is legal")?;
+    let elsewhere = after(3, &[(Black, 0, 0), (White, 2, 2)]).expect(&rt, "each play is legal");
+    let moved = after(3, &[(Black, 0, 1)]).expect(&rt, "each play is legal");
+    let larger = after(4, &[(Black, 0, 0)]).expect(&rt, "each play is legal");
     assert!(rt;
         facts.stands(&elsewhere),
         "a point that was not asked for may change"
     );
     assert!(rt; !facts.stands(&moved), "a point that was asked for may not");
     assert!(rt; !facts.stands(&larger), "nor the size");
-    Ok(())
 }
 
 #[test]
-fn bytes_and_sets_grow(rt: HostRuntime) -> Result<(), Fail> {
+fn bytes_and_sets_grow(rt: HostRuntime) {
     let mut bytes = Bytes::new(rt.alloc());
     assert!(rt; bytes.push(b'D').is_ok());
     assert!(rt; bytes.extend(b"4 E5").is_ok());
@@ -318,38 +410,57 @@ fn bytes_and_sets_grow(rt: HostRuntime) -> Result<(), Fail> {
     let left = points.difference(&others);
     assert!(rt; left.count() == 1);
     assert!(rt; left.first_from(0) == Some(624));
-    Ok(())
 }
 
+/// Plays on a board of so many rows, and how many points a colour may play at then.
+struct Legal {
+    name: &'static str,
+    rows: u8,
+    plays: &'static [Play],
+    colour: Colour,
+    count: u16,
+}
+
+// . X O .        Black has just taken a white stone at the second point of the second row, so white may not play there,
+// X . X O        and in the upper left corner white's stone would have no liberty. In the upper right one black's stone
+// . X O .        would have none either, but it takes one.
+// . . . .
+static LEGAL: [Legal; 3] = [
+    Legal {
+        name: "all empty points for black, also where the stone has a liberty only after it takes one",
+        rows: 4,
+        plays: &KO_OF_FOUR_ROWS,
+        colour: Black,
+        count: 9,
+    },
+    Legal {
+        name: "neither the banned point nor suicide for white",
+        rows: 4,
+        plays: &KO_OF_FOUR_ROWS,
+        colour: White,
+        count: 7,
+    },
+    Legal {
+        name: "each point of an empty board",
+        rows: 2,
+        plays: &[],
+        colour: White,
+        count: 4,
+    },
+];
+
 #[test]
-fn legal_points_are_those_that_can_be_played(rt: HostRuntime) -> Result<(), Fail> {
-    // . X O .        Black has just taken a white stone at the second point of the second row, so white may not play
-    // there, and X . X O        in the upper left corner white's stone would have no liberty. In the upper right one
-    // black's stone would . X O .        have none either, but it takes one.
-    let plays: [Play; 8] = [
-        (Black, 0, 1),
-        (White, 0, 2),
-        (Black, 1, 0),
-        (White, 1, 3),
-        (Black, 2, 1),
-        (White, 2, 2),
-        (White, 1, 1),
-        (Black, 1, 2),
-    ];
-    let position = after(4, &plays).ok_or("each play is legal")?;
-    let size = position.size();
-    for c in [Black, White] {
-        let legal = position.legal_points(c);
-        for p in 0..size.points() {
-            assert!(rt; legal.has(p) == position.play(c, p).is_ok(), "{c:?} at {p}");
+fn legal_points_are_those_that_can_be_played(rt: HostRuntime) {
+    for row in &LEGAL {
+        let name = row.name;
+        let position = after(row.rows, row.plays).expect(&rt, "each play is legal");
+        let legal = position.legal_points(row.colour);
+        for p in 0..position.size().points() {
+            assert!(rt;
+                legal.has(p) == position.play(row.colour, p).is_ok(),
+                "{name}: {p}"
+            );
         }
+        assert!(rt; legal.count() == row.count, "{name}");
     }
-    assert!(rt; position.legal_points(Black).count() == 9);
-    assert!(rt; position.legal_points(White).count() == 7);
-    let smallest = Position::new(Size::new(2).ok_or("the size is one of a board")?);
-    assert!(rt;
-        smallest.legal_points(White).count() == 4,
-        "each point of an empty board"
-    );
-    Ok(())
 }

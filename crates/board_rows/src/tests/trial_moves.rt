@@ -3,7 +3,9 @@
 ghost use Rattle.std.specs.Prelude.{◌≡◌, ◌+◌, ◌*◌, ◌<◌, ◌≤◌, length, IfSome};
 ghost use Rattle.trial_board.specs.Trials.{Stays, most_moves};
 
+use super::KO;
 use go_base::{Cell, Colour, Illegal, Look, Point, Position, Size, Watch};
+use std::panic::Expect;
 use std::process::Abort;
 use std::test::Fail;
 use trial_board::{Changes, Trial, Tried};
@@ -114,16 +116,7 @@ fn long_walks_of_plays_and_backs_follow_the_rules(rt: HostRuntime) -> Result<(),
 /// A board of five rows where white's last stone took a stone at D3, so that black may not play there.
 fn ko() -> Option<Position> {
     let mut position = Position::new(Size::new(5)?);
-    for (c, row, column) in [
-        (Colour::Black, 2, 1),
-        (Colour::Black, 1, 2),
-        (Colour::Black, 3, 2),
-        (Colour::Black, 2, 3),
-        (Colour::White, 1, 3),
-        (Colour::White, 2, 4),
-        (Colour::White, 3, 3),
-        (Colour::White, 2, 2),
-    ] {
+    for &(c, row, column) in &KO {
         let p = on(&position, row, column)?;
         position = position.play(c, p).ok()?;
     }
@@ -190,46 +183,35 @@ fn numbered(size: Size, n: u8) -> Point
     Point::from(n) % size.points()
 }
 
-/// What a black play, a white one and a black one change of an empty board of five rows.
-fn changes_by(rt: &impl Abort, size: Size, first: u8, second: u8, third: u8) -> Option<Changes> {
-    let position = Position::new(size);
-    let mut board = Trial::new(Watch::new(&position));
-    assert!(rt; board.changes().is_none(), "no move stands");
-    assert!(rt;
-        board.play(Colour::Black, numbered(size, first), false) == Tried::Done,
-        "each play is legal"
-    );
-    assert!(rt;
-        board.play(Colour::White, numbered(size, second), false) == Tried::Done,
-        "each play is legal"
-    );
-    assert!(rt;
-        board.play(Colour::Black, numbered(size, third), false) == Tried::Done,
-        "each play is legal"
-    );
-    let changes = board.changes();
-    let _look = board.finish();
-    changes
-}
+/// The numbers of the points of a black play, a white one and a black one on an empty board of five rows, and whether
+/// they change the same as those of the first row.
+static ORDERS: [(&str, [u8; 3], bool); 4] = [
+    ("the same plays", [1, 0, 5], true),
+    ("the order of the plays is left out", [5, 0, 1], true),
+    ("a play elsewhere is another change", [1, 0, 6], false),
+    ("a stone that was not taken too", [1, 9, 5], false),
+];
 
 #[test]
-fn other_orders_of_the_same_plays_change_the_same(rt: HostRuntime) -> Result<(), Fail> {
-    let size = Size::new(5).ok_or("the size is one of a board")?;
-    let taken = changes_by(&rt, size, 1, 0, 5);
-    assert!(rt; taken.is_some(), "moves stand");
-    assert!(rt;
-        taken == changes_by(&rt, size, 5, 0, 1),
-        "the order of the plays is left out"
-    );
-    assert!(rt;
-        taken != changes_by(&rt, size, 1, 0, 6),
-        "a play elsewhere is another change"
-    );
-    assert!(rt;
-        taken != changes_by(&rt, size, 1, 9, 5),
-        "a stone that was not taken too"
-    );
-    Ok(())
+fn other_orders_of_the_same_plays_change_the_same(rt: HostRuntime) {
+    let size = Size::new(5).expect(&rt, "the size is one of a board");
+    let position = Position::new(size);
+    let mut known: Option<Changes> = None;
+    for &(name, [first, second, third], is_same) in &ORDERS {
+        let mut board = Trial::new(Watch::new(&position));
+        assert!(rt; board.changes().is_none(), "no move stands");
+        let tried = board.play(Colour::Black, numbered(size, first), false);
+        assert!(rt; tried == Tried::Done, "{name}");
+        let tried = board.play(Colour::White, numbered(size, second), false);
+        assert!(rt; tried == Tried::Done, "{name}");
+        let tried = board.play(Colour::Black, numbered(size, third), false);
+        assert!(rt; tried == Tried::Done, "{name}");
+        let changes = board.changes();
+        let _look = board.finish();
+        assert!(rt; changes.is_some(), "moves stand");
+        known = known.or(changes);
+        assert!(rt; (changes == known) == is_same, "{name}");
+    }
 }
 
 #[test]
