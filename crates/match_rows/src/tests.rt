@@ -5,15 +5,16 @@ mod conditions;
 mod diagrams;
 mod openings;
 mod readings;
+mod rows;
 mod sizes;
 mod spirals;
 
-use db_read::{DbError, read};
-use dfa_join::{JoinError, compile};
+use db_read::read;
+use dfa_join::compile;
 use dfa_match::Scanner;
 use go_base::{Colour, Point, Position, Size};
-use helpers::Helpers;
-use match_engine::{Match, Readings, matches};
+use helpers::{Helper, Helpers, NearEdge, NoBan};
+use match_engine::{Readings, matches};
 use pat_types::Pattern;
 use read_rules::Depths;
 use std::test::Fail;
@@ -42,22 +43,41 @@ const MOST_ROWS: u32 = 10_000;
 /// A match: the pattern's place in its list, the number of the transformation, and the point of the move.
 type Found = (u16, u8, Point);
 
-/// The patterns that a text spells.
-fn patterns_of(rt: &HostRuntime, text: &[u8]) -> Result<Vec<Pattern>, DbError> {
-    read(rt.alloc(), text, &[], Vec::new(rt.alloc()))
+/// What is asked beside diagrams.
+#[derive(Drop)]
+struct Asked {
+    /// Readings, three plies deep, two of them wide.
+    readings: Readings,
+    /// `near_edge` and `no_ban`.
+    helpers: Helpers,
 }
 
-/// How many rows the automaton of a text has within a limit, None where the list has too many states.
-fn rows_within(rt: &HostRuntime, text: &[u8], limit: u32) -> Result<Option<u32>, Fail> {
-    let patterns = patterns_of(rt, text)?;
-    if patterns.len() > 4096 {
-        return Err("the list is short")?;
-    }
-    match compile(rt.alloc(), &patterns, limit) {
-        Ok(automaton) => Ok(Some(automaton.rows())),
-        Err(JoinError::TooManyStates { limit: _ }) => Ok(None),
-        Err(JoinError::NoMemory) => Err("there is memory")?,
-    }
+/// New readings, three plies deep, two of them wide.
+fn new_readings(rt: &HostRuntime) -> Result<Readings, Fail> {
+    let depths = Depths::new(3, 2).ok_or("the depths are in range")?;
+    Ok(Readings::new(rt.alloc(), depths, 4096)?)
+}
+
+/// The helpers `near_edge` and `no_ban`.
+fn new_helpers(rt: &HostRuntime) -> Result<Helpers, Fail> {
+    let mut list: Vec<Box<dyn Helper>> = Vec::new(rt.alloc());
+    list.push(Box::new(rt.alloc(), NearEdge::new())?)?;
+    list.push(Box::new(rt.alloc(), NoBan::new())?)?;
+    Ok(Helpers::new(rt.alloc(), list)?)
+}
+
+/// Readings and helpers that were not asked yet.
+fn new_asked(rt: &HostRuntime) -> Result<Asked, Fail> {
+    Ok(Asked {
+        readings: new_readings(rt)?,
+        helpers: new_helpers(rt)?,
+    })
+}
+
+/// The patterns that a text spells.
+fn patterns_of(rt: &HostRuntime, text: &[u8]) -> Result<Vec<Pattern>, Fail> {
+    let names = new_helpers(rt)?.names(rt.alloc())?;
+    Ok(read(rt.alloc(), text, names.as_slice(), Vec::new(rt.alloc()))?)
 }
 
 /// A position with stones of one colour more.
@@ -79,84 +99,44 @@ fn with_both(side: u8, black: &[Point], white: &[Point]) -> Result<Position, Fai
     with_more(position, Colour::White, white)
 }
 
-/// A board with black stones.
-fn with_stones(side: u8, stones: &[Point]) -> Result<Position, Fail> {
-    with_both(side, stones, &[])
-}
-
-/// New readings, three plies deep, two of them wide.
-fn new_readings(rt: &HostRuntime) -> Result<Readings, Fail> {
-    let depths = Depths::new(3, 2).ok_or("the depths are in range")?;
-    Ok(Readings::new(rt.alloc(), depths, 4096)?)
-}
-
-/// The matches of a list of patterns for a friend, by the automaton of another list and by these readings. The other
-/// list may not be longer.
+/// The matches of a list of patterns for a friend, in their order, by the automaton of another list. The other list may
+/// not be longer.
 fn matches_reading(
     rt: &HostRuntime,
     patterns: &[Pattern],
     others: &[Pattern],
     position: &Position,
     friend: Colour,
-    readings: &mut Readings,
-) -> Result<Vec<Match>, Fail> {
+    asked: &mut Asked,
+) -> Result<Vec<Found>, Fail> {
     if others.len() > patterns.len() || others.len() > 4096 {
         return Err("the other list is no longer")?;
     }
     let automaton = compile(rt.alloc(), others, MOST_ROWS)?;
     let scanner = Scanner::new(rt.alloc(), automaton)?;
-    let mut helpers = Helpers::new(rt.alloc(), Vec::new(rt.alloc()))?;
-    Ok(matches(
+    let found = matches(
         rt.alloc(),
         patterns,
         &scanner,
         position,
         friend,
-        readings,
-        &mut helpers,
-    )?)
-}
-
-/// The matches of a list of patterns for a friend, by the automaton of another list and by new readings.
-fn matches_in(
-    rt: &HostRuntime,
-    patterns: &[Pattern],
-    others: &[Pattern],
-    position: &Position,
-    friend: Colour,
-) -> Result<Vec<Match>, Fail> {
-    let mut readings = new_readings(rt)?;
-    matches_reading(rt, patterns, others, position, friend, &mut readings)
-}
-
-/// What these matches are, in their order.
-fn told(rt: &HostRuntime, found: &[Match]) -> Result<Vec<Found>, Fail> {
+        &mut asked.readings,
+        &mut asked.helpers,
+    )?;
     let mut list = Vec::new(rt.alloc());
-    for z in found {
+    for z in &found {
         list.push((z.pattern, z.transform.get(), z.at))?;
     }
     Ok(list)
 }
 
-/// The matches of the patterns of a text for a friend, by the automaton of another text.
-fn found_by(
+/// The matches of a list of patterns for a friend, by its own automaton.
+fn matches_in(
     rt: &HostRuntime,
-    text: &[u8],
-    other: &[u8],
+    patterns: &[Pattern],
     position: &Position,
     friend: Colour,
 ) -> Result<Vec<Found>, Fail> {
-    let patterns = patterns_of(rt, text)?;
-    let others = patterns_of(rt, other)?;
-    told(rt, &matches_in(rt, &patterns, &others, position, friend)?)
-}
-
-/// The matches of the patterns of a text for a friend.
-fn found_of(
-    rt: &HostRuntime,
-    text: &[u8],
-    position: &Position,
-    friend: Colour,
-) -> Result<Vec<Found>, Fail> {
-    found_by(rt, text, text, position, friend)
+    let mut asked = new_asked(rt)?;
+    matches_reading(rt, patterns, patterns, position, friend, &mut asked)
 }

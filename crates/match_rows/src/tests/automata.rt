@@ -1,95 +1,174 @@
-//! Automata of small lists, and the order in which they read.
+//! Automata of small lists.
 use super::{
     AT_THE_EDGE, FROM_THE_LEFT, IN_THE_CORNER, OVER_THE_BOTTOM, SMALLEST, UNDER_THE_TOP,
-    patterns_of, rows_within,
+    patterns_of,
 };
-use dfa_join::compile;
-use spiral::{OFFSETS, offset};
+use dfa_core::Automaton;
+use dfa_join::{JoinError, compile};
 use std::test::Fail;
 
-#[test]
-fn state_counts_of_small_lists(rt: HostRuntime) -> Result<(), Fail> {
-    let rows: [(&str, &[u8], u32, Option<u32>); 13] = [
-        ("the smallest pattern at its count", SMALLEST, 7, Some(7)),
-        ("the smallest pattern above it", SMALLEST, 6, None),
-        (
-            "a pattern of sixteen letters at its count",
-            AT_THE_EDGE,
-            18,
-            Some(18),
-        ),
-        ("and above it", AT_THE_EDGE, 17, None),
-        ("a corner has one letter more", IN_THE_CORNER, 19, Some(19)),
-        ("and its count is exact", IN_THE_CORNER, 18, None),
-        ("an edge above has five letters", UNDER_THE_TOP, 99, Some(7)),
-        ("an edge below has seven", OVER_THE_BOTTOM, 99, Some(9)),
-        ("an edge at the left has nine", FROM_THE_LEFT, 99, Some(11)),
-        (
-            "two patterns at their count",
-            b"Pattern P\nO*\n:8,s\nPattern Q\nX*\n:8,s",
-            12,
-            Some(12),
-        ),
-        (
-            "two patterns above it",
-            b"Pattern P\nO*\n:8,s\nPattern Q\nX*\n:8,s",
-            11,
-            None,
-        ),
-        ("the empty list has the sink alone", b"", 1, Some(1)),
-        ("and the sink counts", b"", 0, None),
-    ];
-    for (what, text, limit, want) in rows {
-        assert!(rt; rows_within(&rt, text, limit)? == want, "{what}");
+/// A list of patterns and its automaton.
+struct List {
+    /// What it shows.
+    name: &'static str,
+    /// The text of the patterns.
+    text: &'static [u8],
+    /// How many rows the automaton may have.
+    limit: u32,
+    /// How many rows it has, None where these are more than it may have.
+    rows: Option<u32>,
+    /// The numbers that its rows accept, one row after the other.
+    numbers: &'static [u16],
+}
+
+/// Small lists with the count of their states.
+static LISTS: [List; 16] = [
+    List {
+        name: "the smallest pattern at its count",
+        text: SMALLEST,
+        limit: 7,
+        rows: Some(7),
+        numbers: &[0],
+    },
+    List {
+        name: "the smallest pattern above it",
+        text: SMALLEST,
+        limit: 6,
+        rows: None,
+        numbers: &[],
+    },
+    List {
+        name: "a pattern of sixteen letters at its count",
+        text: AT_THE_EDGE,
+        limit: 18,
+        rows: Some(18),
+        numbers: &[0],
+    },
+    List {
+        name: "and above it",
+        text: AT_THE_EDGE,
+        limit: 17,
+        rows: None,
+        numbers: &[],
+    },
+    List {
+        name: "a corner has one letter more",
+        text: IN_THE_CORNER,
+        limit: 19,
+        rows: Some(19),
+        numbers: &[0],
+    },
+    List {
+        name: "and its count is exact",
+        text: IN_THE_CORNER,
+        limit: 18,
+        rows: None,
+        numbers: &[],
+    },
+    List {
+        name: "an edge above has five letters",
+        text: UNDER_THE_TOP,
+        limit: 99,
+        rows: Some(7),
+        numbers: &[0],
+    },
+    List {
+        name: "an edge below has seven",
+        text: OVER_THE_BOTTOM,
+        limit: 99,
+        rows: Some(9),
+        numbers: &[0],
+    },
+    List {
+        name: "an edge at the left has nine",
+        text: FROM_THE_LEFT,
+        limit: 99,
+        rows: Some(11),
+        numbers: &[0],
+    },
+    List {
+        name: "two patterns at their count",
+        text: b"Pattern P\nO*\n:8,s\nPattern Q\nX*\n:8,s",
+        limit: 12,
+        rows: Some(12),
+        numbers: &[0, 1],
+    },
+    List {
+        name: "two patterns above it",
+        text: b"Pattern P\nO*\n:8,s\nPattern Q\nX*\n:8,s",
+        limit: 11,
+        rows: None,
+        numbers: &[],
+    },
+    List {
+        name: "the empty list has the sink alone",
+        text: b"",
+        limit: 1,
+        rows: Some(1),
+        numbers: &[],
+    },
+    List {
+        name: "and the sink counts",
+        text: b"",
+        limit: 0,
+        rows: None,
+        numbers: &[],
+    },
+    List {
+        name: "the smallest pattern far below the limit",
+        text: SMALLEST,
+        limit: 99,
+        rows: Some(7),
+        numbers: &[0],
+    },
+    List {
+        name: "the same entry given twice",
+        text: b"Pattern P\nO*\n:8,s\nPattern P\nO*\n:8,s",
+        limit: 99,
+        rows: Some(7),
+        numbers: &[0, 1],
+    },
+    List {
+        name: "the empty list far below the limit",
+        text: b"",
+        limit: 99,
+        rows: Some(1),
+        numbers: &[],
+    },
+];
+
+/// Whether the ranges of the rows follow one another, up to the last number.
+fn ranges_follow(automaton: &Automaton) -> bool {
+    let mut end = 0;
+    for row in 0..automaton.rows() {
+        let (from, to) = automaton.range(row);
+        if from != end {
+            return false;
+        }
+        end = to;
     }
-    Ok(())
+    end == automaton.numbers().len()
 }
 
 #[test]
-fn flat_tables_of_small_lists(rt: HostRuntime) -> Result<(), Fail> {
-    let rows: [(&str, &[u8], u32, &[u16]); 3] = [
-        ("the smallest pattern", SMALLEST, 7, &[0]),
-        (
-            "the same entry given twice",
-            b"Pattern P\nO*\n:8,s\nPattern P\nO*\n:8,s",
-            7,
-            &[0, 1],
-        ),
-        ("the empty list", b"", 1, &[]),
-    ];
-    for (what, text, count, numbers) in rows {
-        let patterns = patterns_of(&rt, text)?;
+fn automata_of_small_lists(rt: HostRuntime) -> Result<(), Fail> {
+    for list in &LISTS {
+        let name = list.name;
+        let patterns = patterns_of(&rt, list.text)?;
         if patterns.len() > 4096 {
             return Err("the list is short")?;
         }
-        let automaton = compile(rt.alloc(), &patterns, 99)?;
-        assert!(rt; automaton.rows() == count, "{what}");
-        assert!(rt; automaton.numbers() == numbers, "{what}");
-        let mut end = 0;
-        for row in 0..automaton.rows() {
-            let (from, to) = automaton.range(row);
-            assert!(rt; from == end, "{what}: the ranges follow one another");
-            end = to;
+        match compile(rt.alloc(), &patterns, list.limit) {
+            Ok(automaton) => {
+                let flat = (Some(automaton.rows()), automaton.numbers());
+                assert!(rt; flat == (list.rows, list.numbers), "{name}");
+                assert!(rt; ranges_follow(&automaton), "{name}: the ranges of the rows");
+            }
+            Err(JoinError::TooManyStates { limit }) => {
+                assert!(rt; (limit, list.rows) == (list.limit, None), "{name}");
+            }
+            Err(JoinError::NoMemory) => return Err("there is memory")?,
         }
-        assert!(rt; end == numbers.len(), "{what}: to the last number");
-    }
-    Ok(())
-}
-
-#[test]
-fn first_offsets_of_the_spiral(rt: HostRuntime) -> Result<(), Fail> {
-    let rows = [
-        (3, (-1, 1)),
-        (4, (0, 1)),
-        (6, (1, 0)),
-        (8, (0, -1)),
-        (15, (0, 2)),
-    ];
-    for (number, want) in rows {
-        if number >= OFFSETS {
-            return Err("the index has an offset")?;
-        }
-        assert!(rt; offset(number) == want, "index {number}");
     }
     Ok(())
 }

@@ -1,80 +1,67 @@
-//! Tables of worths and choices. A pattern here is a star alone with some items on its colon line.
-
-use go_base::{Bytes, NoMemory, Point, Transform};
+//! Tables of worths and choices.
+use db_read::read;
+use go_base::{Bytes, Point, Transform};
 use move_choice::{Match, choose, worth_of};
-use pat_types::{Item, Items, Labels, Letter, Letters, Mark, Pattern};
+use pat_types::Pattern;
 use std::test::Fail;
 
-fn bytes(rt: &HostRuntime, text: &str) -> Result<Bytes, NoMemory> {
-    let mut bytes = Bytes::new(rt.alloc());
-    bytes.extend(text.as_bytes())?;
-    Ok(bytes)
-}
+/// Patterns of a star alone, whose worth is the first number that an item says: their items, and that worth. Choices
+/// are made among the first six.
+static WORTHS: [(&str, u32); 19] = [
+    ("value(5)", 5),
+    ("value(9)", 9),
+    ("value()", 0),
+    ("value(09)", 9),
+    ("value(10)", 10),
+    ("value(1000000)", 0),
+    ("NULL", 0),
+    ("value(7)", 7),
+    ("value(999999)", 999_999),
+    ("value(0000001)", 0),
+    ("value(007)", 7),
+    ("value(high)", 0),
+    ("value(+5)", 0),
+    ("value(5 )", 0),
+    ("value", 0),
+    ("Value(5),values(6)", 0),
+    ("value(3),value(8)", 3),
+    ("value(x),followup(4),value(8)", 8),
+    ("value(1234567),value(12)", 12),
+];
 
-/// An item as it is written: a name, or a name and a text in parentheses.
-fn item(rt: &HostRuntime, written: &str) -> Result<Item, NoMemory> {
-    match written.split_once('(') {
-        Some((name, text)) => Ok(Item {
-            name: bytes(rt, name)?,
-            text: Some(bytes(rt, text.trim_end_matches(')'))?),
-        }),
-        None => Ok(Item {
-            name: bytes(rt, written)?,
-            text: None,
-        }),
-    }
-}
+/// Matches, each of a pattern by its place in that list and at a point, and the point of the choice: that of the first
+/// match of the greatest worth.
+static CHOICES: [(&str, &[(u16, Point)], Option<Point>); 9] = [
+    ("no match", &[], None),
+    ("one match of no worth", &[(2, 40)], Some(40)),
+    ("the greater worth last", &[(0, 40), (1, 4)], Some(4)),
+    ("the greater worth first", &[(1, 40), (0, 4)], Some(40)),
+    (
+        "the greater worth between",
+        &[(0, 40), (4, 4), (1, 7)],
+        Some(4),
+    ),
+    (
+        "equal worths of two patterns",
+        &[(0, 40), (1, 7), (3, 4)],
+        Some(7),
+    ),
+    ("one pattern twice", &[(1, 7), (1, 4)], Some(7)),
+    ("more digits are more", &[(3, 7), (4, 4)], Some(4)),
+    ("none has a worth", &[(2, 7), (5, 4), (2, 1)], Some(7)),
+];
 
-/// A star alone, with these items, between which commas stand.
-fn pattern(rt: &HostRuntime, written: &str) -> Result<Pattern, NoMemory> {
-    let mut items = Items::new(rt.alloc());
-    for one in written.split(',') {
-        items.push(item(rt, one)?)?;
+/// The patterns of the list, as they are read. Without a text `value` is the name of a helper.
+fn patterns_with_items(rt: &HostRuntime) -> Result<Vec<Pattern>, Fail> {
+    let mut helper = Bytes::new(rt.alloc());
+    helper.extend(b"value")?;
+    let mut text = Vec::new(rt.alloc());
+    for &(items, _) in &WORTHS {
+        text.extend_from_slice(b"Pattern P\n*\n:O,s,")?;
+        text.extend_from_slice(items.as_bytes())?;
+        text.extend_from_slice(b"\n")?;
     }
-    let mut letters = Letters::new(rt.alloc());
-    letters.push(Letter::Star)?;
-    Ok(Pattern {
-        name: bytes(rt, "P")?,
-        rows: 1,
-        cols: 1,
-        letters,
-        top: false,
-        bottom: false,
-        left: false,
-        right: false,
-        star: (0, 0),
-        mark: Mark::Oh,
-        classes: Bytes::new(rt.alloc()),
-        items,
-        labels: Labels::new(rt.alloc()),
-        constraint: None,
-    })
-}
-
-#[test]
-fn worth_is_the_first_number_that_an_item_says(rt: HostRuntime) -> Result<(), Fail> {
-    let rows = [
-        ("NULL", 0),
-        ("value(7)", 7),
-        ("value(999999)", 999_999),
-        ("value(1000000)", 0),
-        ("value(0000001)", 0),
-        ("value(007)", 7),
-        ("value()", 0),
-        ("value(high)", 0),
-        ("value(+5)", 0),
-        ("value(5 )", 0),
-        ("value", 0),
-        ("Value(5),values(6)", 0),
-        ("value(3),value(8)", 3),
-        ("value(x),followup(4),value(8)", 8),
-        ("value(1234567),value(12)", 12),
-    ];
-    for (written, want) in rows {
-        let pattern = pattern(&rt, written)?;
-        assert!(rt; worth_of(&pattern) == want, "{written}");
-    }
-    Ok(())
+    Ok(read(rt.alloc(), &text, &[helper], Vec::new(rt.alloc()))?)
 }
 
 /// The point of the choice among matches of these patterns. A match is its pattern's place in the list, and its point.
@@ -100,38 +87,12 @@ fn chosen(
 
 #[test]
 fn first_match_of_the_greatest_worth_is_chosen(rt: HostRuntime) -> Result<(), Fail> {
-    let mut patterns = Vec::new(rt.alloc());
-    for written in [
-        "value(5)",
-        "value(9)",
-        "value()",
-        "value(09)",
-        "value(10)",
-        "value(1000000)",
-    ] {
-        patterns.push(pattern(&rt, written)?)?;
+    let patterns = patterns_with_items(&rt)?;
+    assert!(rt; patterns.len() == WORTHS.len(), "each is read");
+    for (pattern, &(items, want)) in patterns.iter().zip(&WORTHS) {
+        assert!(rt; worth_of(pattern) == want, "{items}");
     }
-    let none: [(u16, Point); 0] = [];
-    let rows: [(&str, &[(u16, Point)], Option<Point>); 9] = [
-        ("no match", &none, None),
-        ("one match of no worth", &[(2, 40)], Some(40)),
-        ("the greater worth last", &[(0, 40), (1, 4)], Some(4)),
-        ("the greater worth first", &[(1, 40), (0, 4)], Some(40)),
-        (
-            "the greater worth between",
-            &[(0, 40), (4, 4), (1, 7)],
-            Some(4),
-        ),
-        (
-            "equal worths of two patterns",
-            &[(0, 40), (1, 7), (3, 4)],
-            Some(7),
-        ),
-        ("one pattern twice", &[(1, 7), (1, 4)], Some(7)),
-        ("more digits are more", &[(3, 7), (4, 4)], Some(4)),
-        ("none has a worth", &[(2, 7), (5, 4), (2, 1)], Some(7)),
-    ];
-    for (what, found, want) in rows {
+    for &(what, found, want) in &CHOICES {
         assert!(rt; chosen(&rt, &patterns, found)? == want, "{what}");
     }
     Ok(())

@@ -1,10 +1,9 @@
 //! Where a diagram matches: under which transformations, and at which edges.
+use super::rows::{MOST, Row};
 use super::{
     AT_THE_EDGE, FROM_THE_LEFT, Found, IN_THE_CORNER, OVER_THE_BOTTOM, SMALLEST, UNDER_THE_TOP,
-    found_by, found_of, with_stones,
 };
-use go_base::{Colour, Point};
-use std::test::Fail;
+use go_base::Colour;
 
 /// The smallest pattern with the stone of the enemy.
 const AGAINST: &[u8] = b"Pattern Q\nX*\n:8,s";
@@ -24,112 +23,183 @@ const AROUND_THE_MIDDLE: [Found; 8] = [
     (0, 7, 7),
 ];
 
-#[test]
-fn eight_placements_of_the_smallest_pattern(rt: HostRuntime) -> Result<(), Fail> {
-    let rows: [(&str, u8, Point, Colour, &[Found]); 3] = [
-        (
-            "a stone in the middle",
-            3,
-            4,
-            Colour::Black,
-            &AROUND_THE_MIDDLE,
-        ),
-        (
-            "a stone in the corner",
-            9,
-            0,
-            Colour::Black,
-            &[(0, 0, 1), (0, 1, 9), (0, 6, 1), (0, 7, 9)],
-        ),
-        ("no stone of the friend", 3, 4, Colour::White, &[]),
-    ];
-    for (what, side, stone, friend, want) in rows {
-        let position = with_stones(side, &[stone])?;
-        let found = found_of(&rt, SMALLEST, &position, friend)?;
-        assert!(rt; found.as_slice() == want, "{what}");
-    }
-    Ok(())
-}
+/// The last column of the largest board.
+const LAST_COLUMN: [Found; 25] = [
+    (0, 0, 24),
+    (0, 0, 49),
+    (0, 0, 74),
+    (0, 0, 99),
+    (0, 0, 124),
+    (0, 0, 149),
+    (0, 0, 174),
+    (0, 0, 199),
+    (0, 0, 224),
+    (0, 0, 249),
+    (0, 0, 274),
+    (0, 0, 299),
+    (0, 0, 324),
+    (0, 0, 349),
+    (0, 0, 374),
+    (0, 0, 399),
+    (0, 0, 424),
+    (0, 0, 449),
+    (0, 0, 474),
+    (0, 0, 499),
+    (0, 0, 524),
+    (0, 0, 549),
+    (0, 0, 574),
+    (0, 0, 599),
+    (0, 0, 624),
+];
 
-#[test]
-fn mark_limits_the_transformations(rt: HostRuntime) -> Result<(), Fail> {
-    let position = with_stones(3, &[4])?;
-    let rows: [(&str, &[u8], &[Found]); 2] = [
-        (
-            "a mark of four",
-            b"Pattern P\nO*\n:-,s",
-            &[(0, 0, 5), (0, 1, 7), (0, 2, 3), (0, 3, 1)],
-        ),
-        ("a mark of one", b"Pattern P\nO*\n:O,s", &[(0, 0, 5)]),
-    ];
-    for (what, text, want) in rows {
-        let found = found_of(&rt, text, &position, Colour::Black)?;
-        assert!(rt; found.as_slice() == want, "{what}");
-    }
-    Ok(())
-}
-
-#[test]
-fn drawn_edges_need_the_edge(rt: HostRuntime) -> Result<(), Fail> {
-    let rows: [(&str, Point, &[Found]); 2] = [
-        ("beside the move", 43, &[(0, 0, 44), (0, 6, 44)]),
-        ("and none in the middle", 40, &[]),
-    ];
-    for (what, stone, want) in rows {
-        let position = with_stones(9, &[stone])?;
-        let found = found_of(&rt, AT_THE_EDGE, &position, Colour::Black)?;
-        assert!(rt; found.as_slice() == want, "{what}");
-    }
-    Ok(())
-}
-
-// The list asks for a friend's stone, the automaton for one of the enemy.
-#[test]
-fn diagrams_are_found_by_the_automaton_given(rt: HostRuntime) -> Result<(), Fail> {
-    let position = with_stones(3, &[4])?;
-    let rows: [(&str, Colour, &[Found]); 2] = [
-        ("nothing for black", Colour::Black, &[]),
-        ("all eight for white", Colour::White, &AROUND_THE_MIDDLE),
-    ];
-    for (what, friend, want) in rows {
-        let found = found_by(&rt, SMALLEST, AGAINST, &position, friend)?;
-        assert!(rt; found.as_slice() == want, "{what}");
-    }
-    Ok(())
-}
-
-#[test]
-fn edges_are_where_they_are_drawn(rt: HostRuntime) -> Result<(), Fail> {
-    let rows: [(&str, &[u8], Point, Option<Point>); 11] = [
-        ("under the top edge", UNDER_THE_TOP, 4, Some(5)),
-        ("not over the bottom edge", UNDER_THE_TOP, 76, None),
-        ("not in the second row", UNDER_THE_TOP, 13, None),
-        ("over the bottom edge", OVER_THE_BOTTOM, 76, Some(77)),
-        ("not under the top edge", OVER_THE_BOTTOM, 4, None),
-        ("beside the left edge", FROM_THE_LEFT, 36, Some(37)),
-        ("not in the second column", FROM_THE_LEFT, 37, None),
-        ("in the lower right corner", IN_THE_CORNER, 79, Some(80)),
-        ("not in the upper right corner", IN_THE_CORNER, 7, None),
-        ("not in the lower left corner", IN_THE_CORNER, 72, None),
-        ("not above the corner", IN_THE_CORNER, 70, None),
-    ];
-    for (what, text, stone, want) in rows {
-        let position = with_stones(9, &[stone])?;
-        let found = found_of(&rt, text, &position, Colour::Black)?;
-        assert!(rt; found.first().map(|z| z.2) == want, "{what}");
-        assert!(rt; found.len() < 2, "{what}");
-    }
-    Ok(())
-}
-
-#[test]
-fn the_longest_row_ends_in_the_last_column(rt: HostRuntime) -> Result<(), Fail> {
-    let position = with_stones(25, &[])?;
-    let found = found_of(&rt, LONGEST_ROW, &position, Colour::Black)?;
-    assert!(rt; found.len() == 25, "one in each row");
-    for (row, (_, t, at)) in found.iter().enumerate() {
-        assert!(rt; *t == 0, "row {row}");
-        assert!(rt; *at as usize == row * 25 + 24, "row {row}");
-    }
-    Ok(())
-}
+/// Where diagrams match. No class letter, constraint or item of these patterns asks for more.
+pub(super) static DIAGRAMS: [Row; 21] = [
+    Row {
+        name: "the smallest pattern has eight placements around a stone in the middle",
+        text: SMALLEST,
+        side: 3,
+        black: &[4],
+        want: &AROUND_THE_MIDDLE,
+        ..MOST
+    },
+    Row {
+        name: "four around a stone in the corner",
+        text: SMALLEST,
+        black: &[0],
+        want: &[(0, 0, 1), (0, 1, 9), (0, 6, 1), (0, 7, 9)],
+        ..MOST
+    },
+    Row {
+        name: "and none without a stone of the friend",
+        text: SMALLEST,
+        side: 3,
+        black: &[4],
+        friend: Colour::White,
+        ..MOST
+    },
+    Row {
+        name: "a mark of four limits the transformations",
+        text: b"Pattern P\nO*\n:-,s",
+        side: 3,
+        black: &[4],
+        want: &[(0, 0, 5), (0, 1, 7), (0, 2, 3), (0, 3, 1)],
+        ..MOST
+    },
+    Row {
+        name: "and so does a mark of one",
+        text: b"Pattern P\nO*\n:O,s",
+        side: 3,
+        black: &[4],
+        want: &[(0, 0, 5)],
+        ..MOST
+    },
+    Row {
+        name: "a drawn edge is found beside the move",
+        text: AT_THE_EDGE,
+        black: &[43],
+        want: &[(0, 0, 44), (0, 6, 44)],
+        ..MOST
+    },
+    Row {
+        name: "and none in the middle",
+        text: AT_THE_EDGE,
+        black: &[40],
+        ..MOST
+    },
+    // The list asks for a friend's stone, the automaton for one of the enemy.
+    Row {
+        name: "diagrams are found by the automaton given: nothing for black",
+        text: SMALLEST,
+        others: Some(AGAINST),
+        side: 3,
+        black: &[4],
+        ..MOST
+    },
+    Row {
+        name: "and all eight for white",
+        text: SMALLEST,
+        others: Some(AGAINST),
+        side: 3,
+        black: &[4],
+        friend: Colour::White,
+        want: &AROUND_THE_MIDDLE,
+        ..MOST
+    },
+    Row {
+        name: "an edge is found under the top edge",
+        text: UNDER_THE_TOP,
+        black: &[4],
+        want: &[(0, 0, 5)],
+        ..MOST
+    },
+    Row {
+        name: "not over the bottom edge",
+        text: UNDER_THE_TOP,
+        black: &[76],
+        ..MOST
+    },
+    Row {
+        name: "and not in the second row",
+        text: UNDER_THE_TOP,
+        black: &[13],
+        ..MOST
+    },
+    Row {
+        name: "an edge is found over the bottom edge",
+        text: OVER_THE_BOTTOM,
+        black: &[76],
+        want: &[(0, 0, 77)],
+        ..MOST
+    },
+    Row {
+        name: "not under the top edge",
+        text: OVER_THE_BOTTOM,
+        black: &[4],
+        ..MOST
+    },
+    Row {
+        name: "an edge is found beside the left edge",
+        text: FROM_THE_LEFT,
+        black: &[36],
+        want: &[(0, 0, 37)],
+        ..MOST
+    },
+    Row {
+        name: "not in the second column",
+        text: FROM_THE_LEFT,
+        black: &[37],
+        ..MOST
+    },
+    Row {
+        name: "a corner is found in the lower right corner",
+        text: IN_THE_CORNER,
+        black: &[79],
+        want: &[(0, 0, 80)],
+        ..MOST
+    },
+    Row {
+        name: "not in the upper right corner",
+        text: IN_THE_CORNER,
+        black: &[7],
+        ..MOST
+    },
+    Row {
+        name: "not in the lower left corner",
+        text: IN_THE_CORNER,
+        black: &[72],
+        ..MOST
+    },
+    Row {
+        name: "and not above the corner",
+        text: IN_THE_CORNER,
+        black: &[70],
+        ..MOST
+    },
+    Row {
+        name: "the longest row ends in the last column, once in each row of the board",
+        text: LONGEST_ROW,
+        side: 25,
+        want: &LAST_COLUMN,
+        ..MOST
+    },
+];

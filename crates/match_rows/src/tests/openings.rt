@@ -1,14 +1,10 @@
 //! A list whose automaton is large enough for a table of openings, and its patterns alone, whose automata have none.
-use super::{Found, MOST_ROWS, matches_in, patterns_of, rows_within, told};
+use super::{Found, MOST_ROWS, matches_in, patterns_of, with_both};
 use dfa_join::compile;
 use dfa_shortcuts::Shortcuts;
-use go_base::{Colour, Position, Size};
-use match_engine::Match;
+use go_base::{Colour, Point, Position};
 use pat_types::Pattern;
 use std::test::Fail;
-
-/// How many rows an automaton has at least for a table of its openings.
-const LEAST_ROWS: u32 = 4096;
 
 /// How many openings there are: words of nine letters, of which there are four.
 const OPENINGS: u32 = 262_144;
@@ -30,21 +26,26 @@ struct Shape {
     white: [usize; 8],
 }
 
-/// A game: `X` is black and `O` is white.
-const GAME: &[u8] = b"
-. . O . X . . . .
-. . . X . O . . .
-. . X . . O . O .
-. . . . O X . . .
-X . . . X O . . .
-. . . X . O X O .
-. X O . . . X . .
-O X . O X O . . X
-. . O X . . O . .
-";
+// A game: `X` is black and `O` is white.
+//
+// . . O . X . . . .
+// . . . X . O . . .
+// . . X . . O . O .
+// . . . . O X . . .
+// X . . . X O . . .
+// . . . X . O X O .
+// . X O . . . X . .
+// O X . O X O . . X
+// . . O X . . O . .
+
+/// Its black stones.
+const BLACK: [Point; 14] = [4, 12, 20, 32, 36, 40, 48, 51, 55, 60, 64, 67, 71, 75];
+
+/// Its white stones.
+const WHITE: [Point; 14] = [2, 14, 23, 25, 31, 41, 50, 52, 56, 63, 66, 68, 74, 78];
 
 /// The long list. `Edge` and `Corner` draw an edge beside the stone that is read first, so it lies within an opening.
-const SHAPES: [Shape; PATTERNS as usize] = [
+static SHAPES: [Shape; PATTERNS as usize] = [
     Shape {
         text: b"Pattern Hane\nOX\n*?\n:8,s\n",
         rows: 9,
@@ -155,38 +156,13 @@ const SHAPES: [Shape; PATTERNS as usize] = [
     },
 ];
 
-/// The position of a drawing of a board of 9, row after row from the top.
-fn drawn(drawing: &[u8]) -> Result<Position, Fail> {
-    let size = Size::new(9).ok_or("the size is one of a board")?;
-    let mut position = Position::new(size);
-    let mut next = 0;
-    for mark in drawing {
-        if *mark <= b' ' {
-            continue;
-        }
-        if next >= position.size().points() {
-            return Err("the drawing has the points of the board")?;
-        }
-        match *mark {
-            b'X' => position = position.play(Colour::Black, next)?,
-            b'O' => position = position.play(Colour::White, next)?,
-            _ => {}
-        }
-        next += 1;
-    }
-    Ok(position)
-}
-
-/// The patterns of the long list. It has to have an automaton with a table of openings.
+/// The patterns of the long list.
 fn long_list(rt: &HostRuntime) -> Result<Vec<Pattern>, Fail> {
     let mut text = Vec::new(rt.alloc());
     for shape in &SHAPES {
         text.extend_from_slice(shape.text)?;
     }
-    match rows_within(rt, &text, MOST_ROWS)? {
-        Some(rows) if rows >= LEAST_ROWS => Ok(patterns_of(rt, &text)?),
-        _ => Err("the automaton of the list has a table of openings")?,
-    }
+    patterns_of(rt, &text)
 }
 
 /// One pattern of a list, as a list.
@@ -195,17 +171,6 @@ fn one_of(patterns: &[Pattern], number: usize) -> Result<&[Pattern], Fail> {
         return Err("the list has the pattern")?;
     }
     Ok(&patterns[number..number + 1])
-}
-
-/// How many openings have a row behind them that is known.
-fn known_openings(shortcuts: &Shortcuts) -> u32 {
-    let mut known = 0_u32;
-    for number in 0..OPENINGS {
-        if shortcuts.opening(number).is_some() {
-            known = known.saturating_add(1);
-        }
-    }
-    known
 }
 
 /// How many rows the automaton of a list has, and its shortcuts.
@@ -218,8 +183,18 @@ fn rows_and_shortcuts(rt: &HostRuntime, patterns: &[Pattern]) -> Result<(u32, Sh
     Ok((automaton.rows(), shortcuts))
 }
 
-/// What each pattern of the long list finds by its own automaton, one pattern after the other.
-fn found_alone(
+/// How many openings have a row behind them that is known.
+fn known_openings(shortcuts: &Shortcuts) -> u32 {
+    let mut known = 0_u32;
+    for number in 0..OPENINGS {
+        known = known.saturating_add(u32::from(shortcuts.opening(number).is_some()));
+    }
+    known
+}
+
+/// The matches of the long list. They have to be what each pattern finds by its own automaton, one pattern after the
+/// other.
+fn found_both_ways(
     rt: &HostRuntime,
     patterns: &[Pattern],
     position: &Position,
@@ -228,70 +203,46 @@ fn found_alone(
     let mut alone = Vec::new(rt.alloc());
     for number in 0..PATTERNS {
         let one = one_of(patterns, number as usize)?;
-        for z in &matches_in(rt, one, one, position, friend)? {
-            alone.push((number, z.transform.get(), z.at))?;
+        for (_, transform, at) in &matches_in(rt, one, position, friend)? {
+            alone.push((number, *transform, *at))?;
         }
     }
-    Ok(alone)
+    let found = matches_in(rt, patterns, position, friend)?;
+    if found.as_slice() != alone.as_slice() {
+        return Err("the list finds what each of its patterns finds alone")?;
+    }
+    Ok(found)
 }
 
 /// How many of these matches are of one pattern, under each transformation.
-fn counted(found: &[Match], number: usize) -> [usize; 8] {
+fn counted(found: &[Found], number: usize) -> [usize; 8] {
     let mut counts = [0_usize; 8];
-    for z in found {
-        if z.pattern as usize == number {
-            let count = &mut counts[z.transform.get() as usize];
-            *count = count.saturating_add(1);
+    for (pattern, transform, _) in found {
+        match counts.get_mut(usize::from(*transform)) {
+            Some(count) if usize::from(*pattern) == number => *count = count.saturating_add(1),
+            _ => {}
         }
     }
     counts
 }
 
-// Of the 262,144 openings, 5,336 have a word that the list accepts behind their first letter.
-#[test]
-fn only_a_large_automaton_has_a_table_of_openings(rt: HostRuntime) -> Result<(), Fail> {
-    let patterns = long_list(&rt)?;
-    let (rows, shortcuts) = rows_and_shortcuts(&rt, &patterns)?;
-    assert!(rt; rows == 4923, "the whole list");
-    assert!(rt; known_openings(&shortcuts) == 256_808);
-    for (number, shape) in SHAPES.iter().enumerate() {
-        let (rows, shortcuts) = rows_and_shortcuts(&rt, one_of(&patterns, number)?)?;
-        assert!(rt; rows == shape.rows, "pattern {number} alone");
-        assert!(rt; shortcuts.openings.is_empty(), "pattern {number} alone");
-    }
-    Ok(())
-}
-
-#[test]
-fn openings_lead_to_what_each_pattern_finds_alone(rt: HostRuntime) -> Result<(), Fail> {
-    let patterns = long_list(&rt)?;
-    let position = drawn(GAME)?;
-    for friend in [Colour::Black, Colour::White] {
-        let found = matches_in(&rt, &patterns, &patterns, &position, friend)?;
-        let alone = found_alone(&rt, &patterns, &position, friend)?;
-        assert!(rt;
-            told(&rt, &found)?.as_slice() == alone.as_slice(),
-            "{friend:?}"
-        );
-    }
-    Ok(())
-}
-
+// Of the 262,144 openings, 5,336 have a word that the list accepts behind their first letter. A pattern alone has no
+// table of openings.
 #[test]
 fn openings_lead_to_the_matches_of_a_plain_program(rt: HostRuntime) -> Result<(), Fail> {
     let patterns = long_list(&rt)?;
-    let position = drawn(GAME)?;
-    let black = matches_in(&rt, &patterns, &patterns, &position, Colour::Black)?;
-    let white = matches_in(&rt, &patterns, &patterns, &position, Colour::White)?;
+    let (rows, shortcuts) = rows_and_shortcuts(&rt, &patterns)?;
+    let whole = (rows, known_openings(&shortcuts));
+    assert!(rt; whole == (4923, 256_808), "the whole list");
+    let position = with_both(9, &BLACK, &WHITE)?;
+    let black = found_both_ways(&rt, &patterns, &position, Colour::Black)?;
+    let white = found_both_ways(&rt, &patterns, &position, Colour::White)?;
     for (number, shape) in SHAPES.iter().enumerate() {
-        assert!(rt;
-            counted(&black, number) == shape.black,
-            "black, pattern {number}"
-        );
-        assert!(rt;
-            counted(&white, number) == shape.white,
-            "white, pattern {number}"
-        );
+        let (rows, shortcuts) = rows_and_shortcuts(&rt, one_of(&patterns, number)?)?;
+        let alone = (rows, shortcuts.openings.is_empty());
+        assert!(rt; alone == (shape.rows, true), "pattern {number} alone");
+        let counts = (counted(&black, number), counted(&white, number));
+        assert!(rt; counts == (shape.black, shape.white), "pattern {number}");
     }
     Ok(())
 }

@@ -24,10 +24,11 @@ fn trial_plays_of_a_reading_are_told(rt: HostRuntime) -> Result<(), Fail> {
     let mut readings = new_readings(&rt)?;
     for (what, last) in [("a fresh one", Some(TRIED)), ("a kept one", None)] {
         let answer = readings.read(Kind::Attack, &position, IN_ATARI);
-        assert!(rt; answer == captured, "{what}");
-        assert!(rt; readings.last() == last, "{what}");
-        assert!(rt; readings.trials() == TRIED, "{what}");
-        assert!(rt; readings.fresh() == 1, "{what}");
+        assert!(rt; (answer, readings.last()) == (captured, last), "{what}");
+        assert!(rt;
+            (readings.trials(), readings.fresh()) == (TRIED, 1),
+            "{what}"
+        );
     }
     Ok(())
 }

@@ -1,5 +1,5 @@
 //! A list of many patterns, and a long text: there is memory for both.
-use super::{SMALLEST, found_of, patterns_of, with_stones};
+use super::{Found, SMALLEST, matches_in, patterns_of, with_both};
 use go_base::Colour;
 use std::test::Fail;
 
@@ -9,29 +9,27 @@ const MANY: u16 = 150;
 /// A comment, with its line feed.
 const COMMENT: &[u8] = b"# a comment, of which a long text has many, and which no pattern has\n";
 
+// Each of many patterns matches, and a text above a megabyte is read.
 #[test]
-fn each_of_many_patterns_matches(rt: HostRuntime) -> Result<(), Fail> {
+fn many_patterns_and_long_texts_are_read(rt: HostRuntime) -> Result<(), Fail> {
     let mut text = Vec::new(rt.alloc());
-    for _ in 0..MANY {
+    let mut want: Vec<Found> = Vec::new(rt.alloc());
+    for number in 0..MANY {
         text.extend_from_slice(b"Pattern P\nO*\n:O,s\n")?;
+        want.push((number, 0, 41))?;
     }
-    let position = with_stones(9, &[40])?;
-    let found = found_of(&rt, &text, &position, Colour::Black)?;
-    assert!(rt; found.len() == usize::from(MANY));
-    for (number, z) in (0..MANY).zip(found.iter()) {
-        assert!(rt; *z == (number, 0, 41));
-    }
-    Ok(())
-}
-
-#[test]
-fn text_above_a_megabyte_is_read(rt: HostRuntime) -> Result<(), Fail> {
-    let mut text = Vec::new(rt.alloc());
+    let position = with_both(9, &[40], &[])?;
+    let found = matches_in(&rt, &patterns_of(&rt, &text)?, &position, Colour::Black)?;
+    assert!(rt;
+        found.as_slice() == want.as_slice(),
+        "each of many patterns matches"
+    );
+    text.clear();
     for _ in 0..20_000 {
         text.extend_from_slice(COMMENT)?;
     }
     text.extend_from_slice(SMALLEST)?;
-    assert!(rt; text.len() > 1 << 20, "the text is long");
-    assert!(rt; patterns_of(&rt, &text)?.len() == 1);
+    let sizes = (text.len() > 1 << 20, patterns_of(&rt, &text)?.len());
+    assert!(rt; sizes == (true, 1), "a text above a megabyte is read");
     Ok(())
 }

@@ -4,7 +4,7 @@ use Rattle.match_rows.proofs.tests.matches_reading.Goals as goal
 
 -- the other list is no longer, and its automaton accepts numbers of it alone
 pub matches-requires : goal.matches-requires
-matches-requires c = record {
+matches-requires g c = record {
   numbers = λ w n here. let low = c.in_ok-automaton.ensures.numbers w n
       (subst (λ rows. Contains (accepted rows w) n) c.in_ok-scanner.ensures here) in omega (arith, low);
 }
