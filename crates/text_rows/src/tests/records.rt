@@ -6,17 +6,29 @@ mod grammar;
 mod positions;
 mod values;
 
+use bytes::ENCODINGS;
+use faults::{KINDS, SEVERAL};
+use grammar::TREES;
 use sgf_read::read;
+use std::test::Fail;
+use values::{PASSES, POINTS, SIZES};
 
-/// The number of the first fault of a record, and 0 where it has none.
-fn fault_in(record: &[u8]) -> u8 {
-    match read(record) {
-        Ok(_) => 0,
-        Err(e) => e.kind,
+/// What is special about a record, the record, and the number of its first fault, 0 where it has none.
+type Record = (&'static str, &'static [u8], u8);
+
+#[test]
+fn first_faults_of_records(rt: HostRuntime) -> Result<(), Fail> {
+    let tables: [&[Record]; 7] = [
+        &TREES, &ENCODINGS, &KINDS, &SEVERAL, &SIZES, &POINTS, &PASSES,
+    ];
+    for records in tables {
+        for (what, record, kind) in records {
+            let fault = match read(record) {
+                Ok(_) => 0,
+                Err(e) => e.kind,
+            };
+            assert!(rt; fault == *kind, "{what}");
+        }
     }
-}
-
-/// The same for a record that is text.
-fn fault_of(record: &str) -> u8 {
-    fault_in(record.as_bytes())
+    Ok(())
 }

@@ -1,9 +1,207 @@
 //! The positions that records lead to.
 
-use go_base::Position;
+use go_base::{Point, Position};
 use go_rules::{Cell, Colour};
 use sgf_read::read;
 use std::test::Fail;
+
+/// A record, and the position that its main line leads to.
+struct Line {
+    /// What the row shows.
+    name: &'static str,
+    /// The record.
+    record: &'static [u8],
+    /// The position, row by row from the top.
+    drawing: &'static [u8],
+    /// Whether the position has a ban.
+    banned: bool,
+    /// A stone of it, where White may not play.
+    stone: Point,
+    /// How many liberties the string of that stone has.
+    liberties: u16,
+}
+
+/// A ko on a board of 4.
+const KO: &[u8] = b".XO.X.XO.XO.....";
+
+/// The position of a record that was worked by hand.
+const WORKED: &[u8] = b"\
+    O........\
+    .........\
+    .........\
+    ...XX....\
+    ....XX...\
+    .........\
+    .........\
+    .........\
+    .........\
+    ";
+
+/// Records with the positions that they lead to.
+static LINES: [Line; 20] = [
+    Line {
+        name: "a play",
+        record: b"(;SZ[2];B[ba])",
+        drawing: b".X..",
+        banned: false,
+        stone: 1,
+        liberties: 2,
+    },
+    Line {
+        name: "the column comes first",
+        record: b"(;SZ[3];B[ca];W[ab])",
+        drawing: b"..XO.....",
+        banned: false,
+        stone: 2,
+        liberties: 2,
+    },
+    Line {
+        name: "a rectangle",
+        record: b"(;SZ[3]AB[ba:cb])",
+        drawing: b".XX.XX...",
+        banned: false,
+        stone: 5,
+        liberties: 4,
+    },
+    Line {
+        name: "a later value overrides",
+        record: b"(;SZ[3]AB[aa:ca]AW[ba]AE[ca])",
+        drawing: b"XO.......",
+        banned: false,
+        stone: 0,
+        liberties: 1,
+    },
+    Line {
+        name: "the later of two properties",
+        record: b"(;SZ[2]AW[aa]AB[aa])",
+        drawing: b"X...",
+        banned: false,
+        stone: 0,
+        liberties: 2,
+    },
+    Line {
+        name: "AE takes stones away",
+        record: b"(;SZ[2]AB[aa][ba];AE[aa])",
+        drawing: b".X..",
+        banned: false,
+        stone: 1,
+        liberties: 2,
+    },
+    Line {
+        name: "the old names",
+        record: b"(;SiZe[2]AddBlack[aa];White[bb])",
+        drawing: b"X..O",
+        banned: false,
+        stone: 0,
+        liberties: 2,
+    },
+    Line {
+        name: "a capture",
+        record: b"(;SZ[3]AW[aa]AB[ba];B[ab])",
+        drawing: b".X.X.....",
+        banned: false,
+        stone: 1,
+        liberties: 3,
+    },
+    Line {
+        name: "a capture of two stones",
+        record: b"(;SZ[3]AW[aa][ba]AB[ca][ab];B[bb])",
+        drawing: b"..XXX....",
+        banned: false,
+        stone: 4,
+        liberties: 5,
+    },
+    Line {
+        name: "a string loses its stone again",
+        record: b"(;SZ[3]AB[aa]AW[ab][ba]AE[aa])",
+        drawing: b".O.O.....",
+        banned: false,
+        stone: 3,
+        liberties: 3,
+    },
+    Line {
+        name: "variations are passed over",
+        record: b"(;SZ[2](;B[aa](;W[bb])(;W[ab]))(;B[ba]))",
+        drawing: b"X..O",
+        banned: false,
+        stone: 3,
+        liberties: 2,
+    },
+    Line {
+        name: "setup and a play in one node",
+        record: b"(;SZ[2]B[bb]AB[aa])",
+        drawing: b"X..X",
+        banned: false,
+        stone: 0,
+        liberties: 2,
+    },
+    Line {
+        name: "several moves in one node",
+        record: b"(;SZ[2]B[bb]W[aa])",
+        drawing: b"O..X",
+        banned: false,
+        stone: 0,
+        liberties: 2,
+    },
+    Line {
+        name: "two plays of a colour in a row",
+        record: b"(;SZ[2];B[aa];B[bb])",
+        drawing: b"X..X",
+        banned: false,
+        stone: 3,
+        liberties: 2,
+    },
+    // White at C4 is taken from D4, with Black's stones round B3 and White's round C3.
+    Line {
+        name: "a ban is left",
+        record: b"(;SZ[4]AB[ba][ab][bc]AW[ca][cc][db][bb];B[cb])",
+        drawing: KO,
+        banned: true,
+        stone: 6,
+        liberties: 1,
+    },
+    Line {
+        name: "a pass lifts the ban",
+        record: b"(;SZ[4]AB[ba][ab][bc]AW[ca][cc][db][bb];B[cb];W[])",
+        drawing: KO,
+        banned: false,
+        stone: 6,
+        liberties: 1,
+    },
+    Line {
+        name: "a setup lifts the ban",
+        record: b"(;SZ[4]AB[ba][ab][bc]AW[ca][cc][db][bb];B[cb];AE[dd])",
+        drawing: KO,
+        banned: false,
+        stone: 6,
+        liberties: 1,
+    },
+    Line {
+        name: "another node does not lift the ban",
+        record: b"(;SZ[4]AB[ba][ab][bc]AW[ca][cc][db][bb];B[cb];C[dd])",
+        drawing: KO,
+        banned: true,
+        stone: 6,
+        liberties: 1,
+    },
+    // Black plays F5 beside three stones that were set up or played.
+    Line {
+        name: "the main line of a worked record leads to a string of eight liberties",
+        record: b"(;GM[1]FF[4]SZ[9]AB[dd:ed]AW[aa];B[ee](;W[];B[fe])(;W[ab]))",
+        drawing: WORKED,
+        banned: false,
+        stone: 40,
+        liberties: 8,
+    },
+    Line {
+        name: "and leaves the stone in the corner",
+        record: b"(;GM[1]FF[4]SZ[9]AB[dd:ed]AW[aa];B[ee](;W[];B[fe])(;W[ab]))",
+        drawing: WORKED,
+        banned: false,
+        stone: 0,
+        liberties: 2,
+    },
+];
 
 /// The mark of a cell in a drawing.
 fn mark(cell: Cell) -> u8 {
@@ -15,131 +213,32 @@ fn mark(cell: Cell) -> u8 {
 }
 
 /// Whether the position is the one that is drawn, row by row from the top.
-fn is_drawn(pos: &Position, drawing: &str) -> bool {
-    let marks = drawing.as_bytes();
-    if marks.len() != pos.size().points() as usize {
+fn is_drawn(position: &Position, drawing: &[u8]) -> bool {
+    let points = position.size().points();
+    if drawing.len() != points as usize {
         return false;
     }
-    for p in 0..pos.size().points() {
-        if marks[p as usize] != mark(pos.cell(p)) {
+    for p in 0..points {
+        if drawing[p as usize] != mark(position.cell(p)) {
             return false;
         }
     }
     true
 }
 
-/// Whether the record leads to the position that is drawn, and whether that has a ban.
-fn leads_to(record: &str, drawing: &str, banned: bool) -> bool {
-    match read(record.as_bytes()) {
-        Ok(pos) => is_drawn(&pos, drawing) && pos.ban().is_some() == banned,
-        Err(_) => false,
-    }
-}
-
 #[test]
 fn records_lead_to_positions(rt: HostRuntime) -> Result<(), Fail> {
-    let rows = [
-        ("a play", "(;SZ[2];B[ba])", ".X.."),
-        (
-            "the column comes first",
-            "(;SZ[3];B[ca];W[ab])",
-            "..XO.....",
-        ),
-        ("a rectangle", "(;SZ[3]AB[ba:cb])", ".XX.XX..."),
-        (
-            "a later value overrides",
-            "(;SZ[3]AB[aa:ca]AW[ba]AE[ca])",
-            "XO.......",
-        ),
-        (
-            "the later of two properties",
-            "(;SZ[2]AW[aa]AB[aa])",
-            "X...",
-        ),
-        ("AE takes stones away", "(;SZ[2]AB[aa][ba];AE[aa])", ".X.."),
-        ("the old names", "(;SiZe[2]AddBlack[aa];White[bb])", "X..O"),
-        ("a capture", "(;SZ[3]AW[aa]AB[ba];B[ab])", ".X.X....."),
-        (
-            "a capture of two stones",
-            "(;SZ[3]AW[aa][ba]AB[ca][ab];B[bb])",
-            "..XXX....",
-        ),
-        (
-            "a string loses its stone again",
-            "(;SZ[3]AB[aa]AW[ab][ba]AE[aa])",
-            ".O.O.....",
-        ),
-        (
-            "variations are passed over",
-            "(;SZ[2](;B[aa](;W[bb])(;W[ab]))(;B[ba]))",
-            "X..O",
-        ),
-        (
-            "setup and a play in one node",
-            "(;SZ[2]B[bb]AB[aa])",
-            "X..X",
-        ),
-        ("several moves in one node", "(;SZ[2]B[bb]W[aa])", "O..X"),
-        (
-            "two plays of a colour in a row",
-            "(;SZ[2];B[aa];B[bb])",
-            "X..X",
-        ),
-    ];
-    for (what, record, drawing) in rows {
-        assert!(rt; leads_to(record, drawing, false), "{what}");
+    for line in &LINES {
+        let name = line.name;
+        let position = read(line.record).ok().ok_or(name)?;
+        assert!(rt; is_drawn(&position, line.drawing), "{name}");
+        assert!(rt; position.ban().is_some() == line.banned, "{name}");
+        if line.stone >= position.size().points() {
+            return Err("the stone stands on the board")?;
+        }
+        let liberties = position.liberties(line.stone);
+        let refused = position.play(Colour::White, line.stone).is_err();
+        assert!(rt; (liberties, refused) == (line.liberties, true), "{name}");
     }
-    Ok(())
-}
-
-// White at C4 is taken from D4, with Black's stones round B3 and White's round C3.
-#[test]
-fn setups_and_passes_lift_the_ban(rt: HostRuntime) -> Result<(), Fail> {
-    let ko = ".XO.X.XO.XO.....";
-    let rows = [
-        (
-            "a ban is left",
-            "(;SZ[4]AB[ba][ab][bc]AW[ca][cc][db][bb];B[cb])",
-            true,
-        ),
-        (
-            "a pass lifts it",
-            "(;SZ[4]AB[ba][ab][bc]AW[ca][cc][db][bb];B[cb];W[])",
-            false,
-        ),
-        (
-            "a setup lifts it",
-            "(;SZ[4]AB[ba][ab][bc]AW[ca][cc][db][bb];B[cb];AE[dd])",
-            false,
-        ),
-        (
-            "another node does not",
-            "(;SZ[4]AB[ba][ab][bc]AW[ca][cc][db][bb];B[cb];C[dd])",
-            true,
-        ),
-    ];
-    for (what, record, banned) in rows {
-        assert!(rt; leads_to(record, ko, banned), "{what}");
-    }
-    Ok(())
-}
-
-// Black plays F5 beside three stones that were set up or played; the string has eight liberties.
-#[test]
-fn main_line_of_a_worked_record(rt: HostRuntime) -> Result<(), Fail> {
-    let record = "(;GM[1]FF[4]SZ[9]AB[dd:ed]AW[aa];B[ee](;W[];B[fe])(;W[ab]))";
-    let pos = read(record.as_bytes())
-        .ok()
-        .ok_or("the record has no fault")?;
-    let top = "O..........................";
-    let middle = "...XX........XX............";
-    let bottom = "...........................";
-    let drawing = format!(in rt.alloc(); "{top}{middle}{bottom}")?;
-    assert!(rt; is_drawn(&pos, &drawing));
-    let size = pos.size();
-    let stone = size.point(4, 4).ok_or("E5 is on the board")?;
-    assert!(rt; pos.liberties(stone) == 8);
-    let corner = size.point(0, 0).ok_or("A9 is on the board")?;
-    assert!(rt; pos.play(Colour::White, corner).is_err());
     Ok(())
 }
