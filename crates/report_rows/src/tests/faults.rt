@@ -4,39 +4,15 @@ use go_base::Bytes;
 use pattern_report::{Report, report_on};
 use std::test::Fail;
 
-/// The faults of a text, one a line: the number of its line, the place, the kind and the cause.
-fn told(rt: &HostRuntime, text: &[u8]) -> Result<String, Fail> {
-    let alloc = rt.alloc();
-    let mut name = Bytes::new(alloc);
-    name.extend(b"near_edge")?;
-    let mut helpers = Vec::new(alloc);
-    helpers.push(name)?;
-    let report: Report = report_on(alloc, text, helpers.as_slice())?;
-    let mut lines = String::new(alloc);
-    for fault in report.first.iter().chain(report.others.iter()) {
-        let line = format!(in alloc;
-            "{} {}:{} kind {}: {}\n",
-            fault.line, fault.place.line, fault.place.column, fault.kind, fault.cause
-        )?;
-        lines.push_str(line.as_str())?;
-    }
-    Ok(lines)
-}
-
-#[test]
-fn the_reading_goes_on_at_the_next_pattern_line(rt: HostRuntime) -> Result<(), Fail> {
-    let text = b"Pattern A\nO0*\n:8,s\nPattern B\nO*\n:8,s\n Pattern C\nO*\nPattern D\nO*\n:7,s\n";
-    assert!(rt;
-        told(&rt, text)?.as_str()
-            == "2 2:2 kind 6: '0' is no letter of a diagram (O X o x . ? *)\n\
-         9 8:1 kind 10: no colon line, as ':8,s', stands below the diagram\n\
-         11 11:2 kind 11: '7' is no mark (8 | - / \\ + X O)\n"
-    );
-    Ok(())
-}
-
 /// Lines that may not stand where they stand, and Pattern lines.
-const LINES: [(&[u8], &str); 9] = [
+static LINES: [(&[u8], &str); 10] = [
+    // The reading goes on at the next Pattern line.
+    (
+        b"Pattern A\nO0*\n:8,s\nPattern B\nO*\n:8,s\n Pattern C\nO*\nPattern D\nO*\n:7,s\n",
+        "2 2:2 kind 6: '0' is no letter of a diagram (O X o x . ? *)\n\
+         9 8:1 kind 10: no colon line, as ':8,s', stands below the diagram\n\
+         11 11:2 kind 11: '7' is no mark (8 | - / \\ + X O)\n",
+    ),
     (b"# \x07", "1 1:3 kind 1: byte 7 may stand in no line\n"),
     (
         b"\xef\xbb\xbfPattern A\nO*\n:8,s\n",
@@ -76,7 +52,7 @@ const LINES: [(&[u8], &str); 9] = [
 ];
 
 /// Diagrams.
-const DIAGRAMS: [(&[u8], &str); 12] = [
+static DIAGRAMS: [(&[u8], &str); 12] = [
     (
         b"Pattern A\n:8,s\n",
         "2 2:1 kind 4: no row of letters stands above the colon line\n",
@@ -131,7 +107,7 @@ const DIAGRAMS: [(&[u8], &str); 12] = [
 ];
 
 /// Colon lines.
-const COLON_LINES: [(&[u8], &str); 6] = [
+static COLON_LINES: [(&[u8], &str); 6] = [
     (
         b"Pattern A\nO*\n: 7,s\n",
         "3 3:3 kind 11: '7' is no mark (8 | - / \\ + X O)\n",
@@ -159,7 +135,7 @@ const COLON_LINES: [(&[u8], &str); 6] = [
 ];
 
 /// Constraint diagrams.
-const CONSTRAINTS: [(&[u8], &str); 8] = [
+static CONSTRAINTS: [(&[u8], &str); 8] = [
     (
         b"Pattern A\nO*\n:8,s\nA*\nB*\n",
         "5 5:1 kind 14: a constraint diagram has as many lines as its diagram, here 1\n",
@@ -194,113 +170,135 @@ const CONSTRAINTS: [(&[u8], &str); 8] = [
     ),
 ];
 
-#[test]
-fn each_fault_of_a_line_has_its_cause(rt: HostRuntime) -> Result<(), Fail> {
-    let tables: [&[(&[u8], &str)]; 4] = [&LINES, &DIAGRAMS, &COLON_LINES, &CONSTRAINTS];
-    for rows in tables {
-        for (text, want) in rows {
-            assert!(rt; told(&rt, text)?.as_str() == *want);
-        }
-    }
-    Ok(())
-}
-
 /// Expressions of an entry with the label A, whose expression is its fifth line.
-const EXPRESSIONS: [(&str, &str); 20] = [
+static EXPRESSIONS: [(&[u8], &str); 21] = [
     (
-        "lib(B)>1",
-        "5:6 kind 16: the label 'B' does not stand in the constraint diagram",
-    ),
-    ("lib[A]", "5:5 kind 15: '[' may not stand in an expression"),
-    ("1000000", "5:2 kind 15: a number has at most six digits"),
-    (
-        "1 + * 2",
-        "5:6 kind 15: a number, a call, '!', '-' or '(' is wanted here, and '*' stands here",
+        b"Pattern P\nO*\n:8,s\nA*\n;lib(B)>1\n",
+        "5 5:6 kind 16: the label 'B' does not stand in the constraint diagram\n",
     ),
     (
-        "1 2",
-        "5:4 kind 15: the expression may end here or go on with an operator, and '2' stands here",
+        b"Pattern P\nO*\n:8,s\nA*\n;lib[A]\n",
+        "5 5:5 kind 15: '[' may not stand in an expression\n",
     ),
     (
-        "A == 1",
-        "5:2 kind 15: 'A' is the name of no number; a function has its arguments in parentheses behind its name",
+        b"Pattern P\nO*\n:8,s\nA*\n;1000000\n",
+        "5 5:2 kind 15: a number has at most six digits\n",
     ),
     (
-        "1 + A",
-        "5:6 kind 15: 'A' is the name of no number; a function has its arguments in parentheses behind its name",
+        b"Pattern P\nO*\n:8,s\nA*\n;1 + * 2\n",
+        "5 5:6 kind 15: a number, a call, '!', '-' or '(' is wanted here, and '*' stands here\n",
     ),
     (
-        "lib(1)",
-        "5:6 kind 15: an argument is one letter, '*' or '?', and '1' stands here",
+        b"Pattern P\nO*\n:8,s\nA*\n;1 2\n",
+        "5 5:4 kind 15: the expression may end here or go on with an operator, and '2' stands here\n",
     ),
     (
-        "lib(AB)",
-        "5:6 kind 15: an argument is one letter, '*' or '?', and 'AB' stands here",
-    ),
-    ("lib(A;)", "5:7 kind 15: ';' may not stand in an expression"),
-    (
-        "lib(A A)",
-        "5:8 kind 15: ',' or ')' is wanted behind an argument, and 'A' stands here",
-    ),
-    ("1)", "5:3 kind 15: no '(' belongs to this ')'"),
-    (
-        "1 &&",
-        "5:4 kind 15: the expression ends where a number, a call or a parenthesis is wanted",
+        b"Pattern P\nO*\n:8,s\nA*\n;A == 1\n",
+        "5 5:2 kind 15: 'A' is the name of no number; a function has its arguments in parentheses behind its name\n",
     ),
     (
-        "",
-        "5:1 kind 15: the expression ends where a number, a call or a parenthesis is wanted",
-    ),
-    ("(1 + 2", "5:7 kind 15: the expression ends before a ')'"),
-    (
-        "---------------------------------1",
-        "5:1 kind 15: parentheses and signs stand more than 32 deep",
+        b"Pattern P\nO*\n:8,s\nA*\n;1 + A\n",
+        "5 5:6 kind 15: 'A' is the name of no number; a function has its arguments in parentheses behind its name\n",
     ),
     (
-        "1 + libs(A)",
-        "5:6 kind 15: no function has the name 'libs'",
+        b"Pattern P\nO*\n:8,s\nA*\n;lib(1)\n",
+        "5 5:6 kind 15: an argument is one letter, '*' or '?', and '1' stands here\n",
     ),
     (
-        "lib(A)+lib(A,A)",
-        "5:9 kind 15: the number of arguments of lib is 1, and here 2",
+        b"Pattern P\nO*\n:8,s\nA*\n;lib(AB)\n",
+        "5 5:6 kind 15: an argument is one letter, '*' or '?', and 'AB' stands here\n",
     ),
     (
-        "xplay_attack(A)",
-        "5:2 kind 15: the number of arguments of xplay_attack is 2 to 9, and here 1",
+        b"Pattern P\nO*\n:8,s\nA*\n;lib(A;)\n",
+        "5 5:7 kind 15: ';' may not stand in an expression\n",
     ),
     (
-        "oplay_attack(?,?)",
-        "5:17 kind 15: '?' is a pass, and oplay_attack takes none here: it may stand for a move of oplay_.. \
-         and xplay_.. alone",
+        b"Pattern P\nO*\n:8,s\nA*\n;lib(A A)\n",
+        "5 5:8 kind 15: ',' or ')' is wanted behind an argument, and 'A' stands here\n",
+    ),
+    (
+        b"Pattern P\nO*\n:8,s\nA*\n;1)\n",
+        "5 5:3 kind 15: no '(' belongs to this ')'\n",
+    ),
+    (
+        b"Pattern P\nO*\n:8,s\nA*\n;1 &&\n",
+        "5 5:4 kind 15: the expression ends where a number, a call or a parenthesis is wanted\n",
+    ),
+    (
+        b"Pattern P\nO*\n:8,s\nA*\n;\n",
+        "5 5:1 kind 15: the expression ends where a number, a call or a parenthesis is wanted\n",
+    ),
+    (
+        b"Pattern P\nO*\n:8,s\nA*\n;(1 + 2\n",
+        "5 5:7 kind 15: the expression ends before a ')'\n",
+    ),
+    (
+        b"Pattern P\nO*\n:8,s\nA*\n;---------------------------------1\n",
+        "5 5:1 kind 15: parentheses and signs stand more than 32 deep\n",
+    ),
+    (
+        b"Pattern P\nO*\n:8,s\nA*\n;1 + libs(A)\n",
+        "5 5:6 kind 15: no function has the name 'libs'\n",
+    ),
+    (
+        b"Pattern P\nO*\n:8,s\nA*\n;lib(A)+lib(A,A)\n",
+        "5 5:9 kind 15: the number of arguments of lib is 1, and here 2\n",
+    ),
+    (
+        b"Pattern P\nO*\n:8,s\nA*\n;xplay_attack(A)\n",
+        "5 5:2 kind 15: the number of arguments of xplay_attack is 2 to 9, and here 1\n",
+    ),
+    (
+        b"Pattern P\nO*\n:8,s\nA*\n;oplay_attack(?,?)\n",
+        "5 5:17 kind 15: '?' is a pass, and oplay_attack takes none here: it may stand for a move of oplay_.. \
+         and xplay_.. alone\n",
+    ),
+    // A fault of a long expression is seen in its own line.
+    (
+        b"Pattern P\nO*\n:8,s\nA*\n;lib(A) > 1\n;&& libs(A)\n",
+        "5 6:5 kind 15: no function has the name 'libs'\n",
     ),
 ];
 
-#[test]
-fn each_fault_of_an_expression_has_its_cause(rt: HostRuntime) -> Result<(), Fail> {
-    for (expression, want) in EXPRESSIONS {
-        let text = format!(in rt.alloc(); "Pattern P\nO*\n:8,s\nA*\n;{expression}\n")?;
-        let want = format!(in rt.alloc(); "5 {want}\n")?;
-        assert!(rt; told(&rt, text.as_bytes())?.as_str() == want.as_str());
+/// The faults of a text, one a line: the number of its line, the place, the kind and the cause.
+fn told(rt: &HostRuntime, text: &[u8]) -> Result<String, Fail> {
+    let alloc = rt.alloc();
+    let mut helper = Bytes::new(alloc);
+    helper.extend(b"near_edge")?;
+    let report: Report = report_on(alloc, text, &[helper])?;
+    let mut lines = String::new(alloc);
+    for fault in report.first.iter().chain(report.others.iter()) {
+        write!(
+            lines,
+            "{} {}:{} kind {}: {}\n",
+            fault.line, fault.place.line, fault.place.column, fault.kind, fault.cause
+        )?;
     }
-    Ok(())
+    Ok(lines)
 }
 
 #[test]
-fn a_fault_of_a_long_expression_is_seen_in_its_own_line(rt: HostRuntime) -> Result<(), Fail> {
-    let text = b"Pattern P\nO*\n:8,s\nA*\n;lib(A) > 1\n;&& libs(A)\n";
-    assert!(rt; told(&rt, text)?.as_str() == "5 6:5 kind 15: no function has the name 'libs'\n");
-    Ok(())
-}
-
-#[test]
-fn an_entry_too_many_is_told_at_its_line(rt: HostRuntime) -> Result<(), Fail> {
+fn each_fault_has_its_cause(rt: HostRuntime) -> Result<(), Fail> {
+    let tables: [&[(&[u8], &str)]; 5] = [
+        &LINES,
+        &DIAGRAMS,
+        &COLON_LINES,
+        &CONSTRAINTS,
+        &EXPRESSIONS,
+    ];
+    for rows in tables {
+        for (text, want) in rows {
+            assert!(rt; told(&rt, text)?.as_str() == *want, "{want}");
+        }
+    }
     let mut text = Vec::new(rt.alloc());
     for _ in 0..4097 {
         text.extend_from_slice(b"Pattern A\nO*\n:8,s\n")?;
     }
+    let want = "12289 12289:1 kind 18: a text has at most 4096 entries\n";
     assert!(rt;
-        told(&rt, text.as_slice())?.as_str()
-            == "12289 12289:1 kind 18: a text has at most 4096 entries\n"
+        told(&rt, &text)?.as_str() == want,
+        "an entry too many is told at its line"
     );
     Ok(())
 }

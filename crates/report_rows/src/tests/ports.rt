@@ -10,84 +10,106 @@ fn ported(rt: &HostRuntime, text: &[u8]) -> Result<String, Fail> {
     let mut lines = String::new(alloc);
     for fault in report.first.iter().chain(report.others.iter()) {
         if let Some(port) = port_of(fault) {
-            let line = format!(in alloc; "{}: {port}\n", fault.line)?;
-            lines.push_str(line.as_str())?;
+            write!(lines, "{}: {port}\n", fault.line)?;
         }
     }
     for part in &report.entries {
         for note in &port_notes(alloc, *part)? {
-            let line = format!(in alloc;
-                "{}:{}: {}\n",
-                note.place.line, note.place.column, note.port
-            )?;
-            lines.push_str(line.as_str())?;
+            let place = note.place;
+            write!(lines, "{}:{}: {}\n", place.line, place.column, note.port)?;
         }
     }
     Ok(lines)
 }
 
 /// Texts with what of GNU Go's own is told of them.
-const TEXTS: [(&[u8], &str); 17] = [
+static TEXTS: [(&str, &[u8], &str); 17] = [
     (
+        "a letter of another diagram of GNU Go's",
         b"Pattern A\nOY*\n:8,s\n",
         "2: GNU Go has the letter 'Y' in diagrams; gopat has not\n",
     ),
     (
+        "a label's letter in a diagram",
         b"Pattern A\n.*\n.a\n:8,s\n",
         "3: GNU Go has the letter 'a' in diagrams; gopat has not\n",
     ),
     (
+        "a letter of eye shapes",
         b"Pattern 1\n.$*\n:0112\n",
         "2: GNU Go has the letter '$' in eye shapes; gopat has no eye shapes\n",
     ),
     (
+        "a vital point of eye shapes",
         b"Pattern 1\n...\n :0112\n",
         "3: in GNU Go's eye shapes '*' is a vital point, of which there may be none or several; gopat has no \
          eye shapes\n",
     ),
     (
+        "the letter of a point without a move, and a diagram without one",
         b"Pattern A\n.Q\n:8,s\nPattern B\n...\n:8,t\n",
         "2: GNU Go has the letter 'Q' in diagrams; gopat has not\n\
          6: GNU Go has patterns without a move, as those of connections and of influence; gopat has not\n",
     ),
-    (b"Pattern 1\n**.\n:8,s\n", ""),
     (
+        "two stars are nothing of GNU Go's own",
+        b"Pattern 1\n**.\n:8,s\n",
+        "",
+    ),
+    (
+        "a label that stands twice",
         b"Pattern A\nOO*\n:8,s\nAA*\n",
         "4: in GNU Go the first 'A' counts where several stand; here a label stands once\n",
     ),
     (
+        "the eyes of an eye shape",
         b"Pattern 1\n.*.\n:0112\n",
         "3: GNU Go has the eyes of an eye shape, as 0112, in place of a mark; gopat has no eye shapes\n",
     ),
     (
+        "a weight of its playouts",
         b"Pattern 1\nO*O\n:40,x\n",
         "3: GNU Go has a weight of its playouts, as 40, in place of a mark; gopat has no weights\n",
     ),
-    (b"Pattern 1\nO*O\n:,s\n", ""),
     (
+        "no mark at all is nothing of GNU Go's own",
+        b"Pattern 1\nO*O\n:,s\n",
+        "",
+    ),
+    (
+        "a function that gopat lacks",
         b"Pattern A\nO*\n:8,s\nA*\n;dead(A)\n",
         "5: GNU Go has the function dead; gopat has not\n",
     ),
-    (b"Pattern A\nO*\n:8,s\nA*\n;libs(A)\n", ""),
     (
+        "an unknown function is nothing of GNU Go's own",
+        b"Pattern A\nO*\n:8,s\nA*\n;libs(A)\n",
+        "",
+    ),
+    (
+        "a word in place of a number",
         b"Pattern A\nO*\n:8,s\nA*\n;lib(A)==DEAD\n",
         "5: GNU Go compares with words such as DEAD; gopat has numbers alone\n",
     ),
     (
+        "a helper of GNU Go's",
         b"Pattern A\nO*\n:8,s,jump_out_helper\n",
         "3: GNU Go calls its function jump_out_helper here; a helper of this name can be handed to gopat's \
          library\n",
     ),
     (
+        "a play behind whose moves the last argument is taken",
         b"Pattern A\nO*\n:8,s\nA*\n;xplay_attack(*,A)\n",
         "5:2: where the moves take the last argument, xplay_attack is 3 in GNU Go and 0 here\n",
     ),
     (
+        "does_attack of a lost target",
         b"Pattern A\nO*\n:8,s\nA*\n;does_attack(*,A)\n",
         "5:2: does_attack is 0 in GNU Go where the target is lost anyway, and looks at its best defence too; \
          here it is 3 less the defend code behind the play\n",
     ),
     (
+        "ko of a stone",
         b"Pattern A\nO*\n:8,s\nA*\n;1 + ko(A)\n",
         "5:6: ko of a stone is 1 in GNU Go where the stone can be retaken; here it is 0\n",
     ),
@@ -95,8 +117,8 @@ const TEXTS: [(&[u8], &str); 17] = [
 
 #[test]
 fn what_is_gnu_gos_own_has_its_words(rt: HostRuntime) -> Result<(), Fail> {
-    for (text, want) in TEXTS {
-        assert!(rt; ported(&rt, text)?.as_str() == want);
+    for &(what, text, want) in &TEXTS {
+        assert!(rt; ported(&rt, text)?.as_str() == want, "{what}");
     }
     Ok(())
 }

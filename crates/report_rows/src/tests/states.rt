@@ -8,7 +8,7 @@ use pattern_states::added_by_each;
 use std::test::Fail;
 
 /// Entries with one diagram, with fronts in common, and with lengths of their own.
-const ENTRIES: [&[u8]; 7] = [
+static ENTRIES: [&[u8]; 7] = [
     b"Pattern A\nOX*\n:8,s\n",
     b"Pattern B\nOX\n.*\n:8,s\n",
     b"Pattern C\nOX*\n:8,s\n",
@@ -44,10 +44,13 @@ fn an_entry_adds_what_the_list_without_it_lacks(rt: HostRuntime) -> Result<(), F
     let patterns = patterns_without(&rt, ENTRIES.len())?;
     let automaton = automaton_of(&rt, patterns.as_slice())?;
     let added = added_by_each(alloc, &automaton, patterns.len())?;
-    assert!(rt; added.len() == ENTRIES.len());
+    assert!(rt; added.len() == ENTRIES.len(), "each entry has a number");
     for (index, states) in added.iter().enumerate() {
         let others = automaton_of(&rt, patterns_without(&rt, index)?.as_slice())?;
-        assert!(rt; automaton.rows().checked_sub(*states) == Some(others.rows()));
+        assert!(rt;
+            automaton.rows().checked_sub(*states) == Some(others.rows()),
+            "entry {index}"
+        );
     }
     Ok(())
 }
