@@ -18,7 +18,7 @@ pub struct Session {
 }
 
 /// The sessions of the protocol's frame, of the board, of readings and of patterns.
-pub const SESSIONS: [Session; 33] = [
+pub static SESSIONS: [Session; 33] = [
     Session {
         name: "reply_repeats_the_id",
         files: &[],

@@ -36,20 +36,23 @@ fn session_by_another(alloc: Global) -> Result<Session, Fail> {
     Ok(Session::new(alloc, patterns, automaton, helpers, &options)?)
 }
 
+/// Lines with their replies.
+static LINES: [(&str, &str); 4] = [
+    ("boardsize 3", "=\n\n"),
+    ("play b B2", "=\n\n"),
+    ("match_patterns b", "=\n\n"),
+    (
+        "match_patterns w",
+        "= P 0 C2\nP 1 B1\nP 2 A2\nP 3 B3\nP 4 A2\nP 5 B3\nP 6 C2\nP 7 B1\n\n",
+    ),
+];
+
 // The automaton asks for an enemy's stone where the pattern has a friend's.
 #[test]
 fn session_answers_by_the_automaton_given(rt: HostRuntime) -> Result<(), Fail> {
     let mut session = session_by_another(rt.alloc())?;
     let mut files = SureShelf::new(Vec::new(rt.alloc()), Vec::new(rt.alloc()));
-    for (line, want) in [
-        ("boardsize 3", "=\n\n"),
-        ("play b B2", "=\n\n"),
-        ("match_patterns b", "=\n\n"),
-        (
-            "match_patterns w",
-            "= P 0 C2\nP 1 B1\nP 2 A2\nP 3 B3\nP 4 A2\nP 5 B3\nP 6 C2\nP 7 B1\n\n",
-        ),
-    ] {
+    for &(line, want) in &LINES {
         assert!(rt; line.len() <= 65_536);
         match session.line(Raw::Line(line.as_bytes()), &mut files) {
             Reply::Short { text, .. } => assert!(rt; text.as_slice() == want.as_bytes(), "{line}"),

@@ -1,104 +1,109 @@
 //! Words and files that are refused before the first line.
-use super::runs::{ROOM, WHOLE, Way, go};
+use super::runs::{CASE, Case, ROOM, WHOLE, Way, words};
 use crate::run_surely;
 use crate::sessions::File;
 use gtp_io::{Page, SureFeed, SurePage, SureShelf};
 use read_rules::Tree;
-use session::{Outcome, WordsError, run_words};
+use session::{WordsError, run_words};
 use std::test::Fail;
+
+/// Why the words could not be had, the exit status, and the note.
+static UNHAD_WORDS: [(WordsError, u8, &[u8]); 2] = [
+    (
+        WordsError::NotText,
+        2,
+        b"usage: gopat [options] [file ...]\n",
+    ),
+    (WordsError::NoMemory, 3, b"out of memory\n"),
+];
 
 #[test]
 fn words_that_could_not_be_had_are_told(rt: HostRuntime) -> Result<(), Fail> {
-    for (error, status, note) in [
-        (
-            WordsError::NotText,
-            2,
-            b"usage: gopat [options] [file ...]\n".as_slice(),
-        ),
-        (WordsError::NoMemory, 3, b"out of memory\n".as_slice()),
-    ] {
-        let mut shelf = SureShelf::new(Vec::new(rt.alloc()), Vec::new(rt.alloc()));
-        let mut feed = SureFeed::new(Vec::from_slice(rt.alloc(), b"name\n")?, 5);
-        let mut notes = Page::new(rt.alloc(), ROOM, ROOM, Vec::new(rt.alloc()))?;
+    let alloc = rt.alloc();
+    for &(error, status, note) in &UNHAD_WORDS {
+        let mut notes = Page::new(alloc, ROOM, ROOM, Vec::new(alloc))?;
         let outcome = run_words(
-            rt.alloc(),
+            alloc,
             Tree::Stated,
             Err(error),
-            &mut shelf,
-            &mut feed,
+            &mut SureShelf::new(Vec::new(alloc), Vec::new(alloc)),
+            &mut SureFeed::new(Vec::from_slice(alloc, b"name\n")?, 5),
             &mut SurePage::new(),
             &mut notes,
-            Vec::new(rt.alloc()),
+            Vec::new(alloc),
         );
-        assert!(rt; outcome.code() == status);
-        assert!(rt; notes.bytes() == note);
+        assert!(rt;
+            outcome.code() == status && notes.bytes() == note,
+            "exit status {status}"
+        );
     }
     Ok(())
 }
 
+/// Words over objects that never fail, and the exit status.
+static SURE_RUNS: [(&str, &[&str], u8); 2] = [
+    ("a word that names a file", &["file"], 0),
+    ("a word that begins with a hyphen", &["file", "-h"], 2),
+];
+
 #[test]
 fn words_that_begin_with_a_hyphen_are_refused(rt: HostRuntime) -> Result<(), Fail> {
-    let mut words = Vec::new(rt.alloc());
-    words.push(String::from_str(rt.alloc(), "file")?)?;
-    let mut shelf = SureShelf::new(Vec::new(rt.alloc()), Vec::new(rt.alloc()));
-    let mut feed = SureFeed::new(Vec::from_slice(rt.alloc(), b"name\n")?, 5);
-    let outcome = run_surely(
-        rt.alloc(),
-        &words,
-        &mut shelf,
-        &mut feed,
-        &mut SurePage::new(),
-        Vec::new(rt.alloc()),
-    );
-    assert!(rt; outcome == Outcome::Done, "a word that names a file");
-    words.push(String::from_str(rt.alloc(), "-h")?)?;
-    let outcome = run_surely(
-        rt.alloc(),
-        &words,
-        &mut shelf,
-        &mut feed,
-        &mut SurePage::new(),
-        Vec::new(rt.alloc()),
-    );
-    assert!(rt; outcome.code() == 2, "a word that begins with a hyphen");
+    let alloc = rt.alloc();
+    for &(name, options, status) in &SURE_RUNS {
+        let outcome = run_surely(
+            alloc,
+            &words(alloc, &Case { options, ..CASE })?,
+            &mut SureShelf::new(Vec::new(alloc), Vec::new(alloc)),
+            &mut SureFeed::new(Vec::from_slice(alloc, b"name\n")?, 5),
+            &mut SurePage::new(),
+            Vec::new(alloc),
+        );
+        assert!(rt; outcome.code() == status, "{name}");
+    }
     Ok(())
 }
 
-/// Files that are refused, the exit status, and the note.
-const REFUSED: [(&str, &[File<'static>], u64, u8, &[u8]); 6] = [
-    (
-        "no star",
-        &[File {
+/// Files that are refused before the first line.
+pub(super) static REFUSED: [Case<'static>; 6] = [
+    Case {
+        name: "no star",
+        files: &[File {
             name: "p",
             text: b"Pattern A\nOX\n:8,s\n",
         }],
-        0,
-        1,
-        b"bad database: line 3 kind 7\n",
-    ),
-    (
-        "two stars",
-        &[File {
+        input: b"name\n",
+        status: 1,
+        notes: b"bad database: line 3 kind 7\n",
+        left: Some(5),
+        ..CASE
+    },
+    Case {
+        name: "two stars",
+        files: &[File {
             name: "p",
             text: b"Pattern A\n**\n:8,s\n",
         }],
-        0,
-        1,
-        b"bad database: line 3 kind 7\n",
-    ),
-    (
-        "a helper that is not there",
-        &[File {
+        input: b"name\n",
+        status: 1,
+        notes: b"bad database: line 3 kind 7\n",
+        left: Some(5),
+        ..CASE
+    },
+    Case {
+        name: "a helper that is not there",
+        files: &[File {
             name: "p",
             text: b"Pattern P\nO*\n:8,s,far_away\n",
         }],
-        0,
-        1,
-        b"bad database: line 3 kind 17\n",
-    ),
-    (
-        "a faulty expression in the second file",
-        &[
+        input: b"name\n",
+        status: 1,
+        notes: b"bad database: line 3 kind 17\n",
+        left: Some(5),
+        ..CASE
+    },
+    Case {
+        name: "a faulty expression in the second file",
+        files: &[
             File {
                 name: "p",
                 text: b"Pattern P\nO*\n:8,s",
@@ -108,23 +113,31 @@ const REFUSED: [(&str, &[File<'static>], u64, u8, &[u8]); 6] = [
                 text: b"Pattern Q\nO*\n:8,s\n;lib(*\n",
             },
         ],
-        0,
-        1,
-        b"bad database: line 7 kind 15\n",
-    ),
-    (
-        "the first load fails",
-        &[File {
+        input: b"name\n",
+        status: 1,
+        notes: b"bad database: line 7 kind 15\n",
+        left: Some(5),
+        ..CASE
+    },
+    Case {
+        name: "the first load fails",
+        files: &[File {
             name: "p",
             text: b"",
         }],
-        1,
-        6,
-        b"file failed\n",
-    ),
-    (
-        "the second load fails",
-        &[
+        input: b"name\n",
+        way: Way {
+            loader_fails: 1,
+            ..WHOLE
+        },
+        status: 6,
+        notes: b"file failed\n",
+        left: Some(5),
+        ..CASE
+    },
+    Case {
+        name: "the second load fails",
+        files: &[
             File {
                 name: "p",
                 text: b"",
@@ -134,24 +147,14 @@ const REFUSED: [(&str, &[File<'static>], u64, u8, &[u8]); 6] = [
                 text: b"",
             },
         ],
-        2,
-        6,
-        b"file failed\n",
-    ),
-];
-
-#[test]
-fn refused_files_are_told_before_the_first_line(rt: HostRuntime) -> Result<(), Fail> {
-    for (what, files, loader_fails, status, note) in REFUSED {
-        let way = Way {
-            loader_fails,
+        input: b"name\n",
+        way: Way {
+            loader_fails: 2,
             ..WHOLE
-        };
-        let ran = go(&rt, rt.alloc(), files, b"name\n", way)?;
-        assert!(rt; ran.outcome.code() == status, "{what}");
-        assert!(rt; ran.notes.bytes() == note, "{what}");
-        assert!(rt; ran.output.bytes() == b"".as_slice(), "{what}");
-        assert!(rt; ran.left == 5, "{what}");
-    }
-    Ok(())
-}
+        },
+        status: 6,
+        notes: b"file failed\n",
+        left: Some(5),
+        ..CASE
+    },
+];

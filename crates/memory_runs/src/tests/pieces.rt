@@ -1,79 +1,121 @@
-//! The worked sessions, whole and cut into pieces; the longest line; a run that is generated twice.
-use super::runs::{PIECE, ROOM, WHOLE, Way, go, go_with, shelf};
+//! The worked sessions, whole and cut into pieces; the longest line; runs that are made twice.
+use super::runs::{CASE, Case, PIECE, ROOM, WHOLE, Way, assert_case, repeated, run_case};
 use crate::run_in_memory;
 use crate::sessions::SESSIONS;
-use gtp_io::{Feed, Page};
+use gtp_io::{Feed, Page, Shelf};
 use session::Outcome;
 use std::test::Fail;
+
+/// How many bytes a call moves at most: more than any session has, and few.
+static PIECES: [usize; 9] = [4096, 1, 2, 3, 4, 5, 6, 7, 8];
 
 #[test]
 fn sessions_whole_and_in_pieces(rt: HostRuntime) -> Result<(), Fail> {
     for session in &SESSIONS {
-        let name = session.name;
-        for piece in [4096, 1, 2, 3, 4, 5, 6, 7, 8] {
-            let ran = go(
-                &rt,
-                rt.alloc(),
-                session.files,
-                session.input,
-                Way { piece, ..WHOLE },
-            )?;
-            assert!(rt;
-                ran.output.bytes() == session.output,
-                "{name}, pieces of {piece}"
-            );
-            assert!(rt;
-                ran.notes.bytes() == b"".as_slice(),
-                "{name}, pieces of {piece}"
-            );
-            assert!(rt; ran.outcome == Outcome::Done, "{name}, pieces of {piece}");
+        for &piece in &PIECES {
+            let case = Case {
+                name: session.name,
+                files: session.files,
+                input: session.input,
+                way: Way { piece, ..WHOLE },
+                output: session.output,
+                left: None,
+                ..CASE
+            };
+            assert_case(&rt, rt.alloc(), &case)?;
         }
     }
     Ok(())
 }
 
+/// How many letters a line has, and the replies to it and to `name`.
+static LONG_LINES: [(&str, usize, &[u8]); 2] = [
+    (
+        "the longest line",
+        65_536,
+        b"? unknown command\n\n= gopat\n\n",
+    ),
+    ("one byte more", 65_537, b"? line too long\n\n= gopat\n\n"),
+];
+
 #[test]
 fn longest_line_and_one_byte_more(rt: HostRuntime) -> Result<(), Fail> {
-    let cases = [
-        (
-            "the longest line",
-            65_536,
-            b"? unknown command\n\n= gopat\n\n".as_slice(),
-        ),
-        (
-            "one byte more",
-            65_537,
-            b"? line too long\n\n= gopat\n\n".as_slice(),
-        ),
-    ];
-    for (what, letters, output) in cases {
-        let mut input = vec![in rt.alloc(); b'x'; letters]?;
-        input.extend_from_slice(b"\nname\n")?;
-        let mut feed = Feed::new(input, PIECE, Vec::new(rt.alloc()));
-        let mut page = Page::new(rt.alloc(), ROOM, ROOM, Vec::new(rt.alloc()))?;
-        let mut none = shelf(&rt, rt.alloc(), &[], 0)?;
+    let alloc = rt.alloc();
+    for &(what, letters, output) in &LONG_LINES {
+        let input = repeated(alloc, &[(letters, b"x"), (1, b"\nname\n")])?;
+        let mut page = Page::new(alloc, ROOM, ROOM, Vec::new(alloc))?;
         let outcome = run_in_memory(
-            rt.alloc(),
+            alloc,
             &[],
-            &mut none,
-            &mut feed,
+            &mut Shelf::new(Vec::new(alloc), Vec::new(alloc), Vec::new(alloc)),
+            &mut Feed::new(input, PIECE, Vec::new(alloc)),
             &mut page,
-            Vec::new(rt.alloc()),
+            Vec::new(alloc),
         );
-        assert!(rt; page.bytes() == output, "{what}");
-        assert!(rt; outcome == Outcome::Done, "{what}");
+        assert!(rt;
+            outcome == Outcome::Done && page.bytes() == output,
+            "{what}"
+        );
     }
     Ok(())
 }
 
+/// Runs that are made twice: lines that come so many times each, how many bytes a call moves the second time, and more
+/// than how many bytes come out.
+struct Twice {
+    name: &'static str,
+    options: &'static [&'static str],
+    lines: &'static [(usize, &'static [u8])],
+    piece: usize,
+    more_than: usize,
+}
+
+/// The replies to generated lines have three bytes at least. In the other run there are boards of more bytes than may
+/// wait, and more short replies than may wait, each between others; whole pieces, in which replies wait, give the same
+/// as pieces of some bytes, in which none does.
+static RUNS_MADE_TWICE: [Twice; 2] = [
+    Twice {
+        name: "a long generated run repeats",
+        options: &["--stats", "--generate", "2000"],
+        lines: &[],
+        piece: PIECE,
+        more_than: 6000,
+    },
+    Twice {
+        name: "replies that wait keep their order",
+        options: &[],
+        lines: &[
+            (9, b"name\nshowboard\nplay b D4\nundo\nlist_commands\n"),
+            (300, b"12 version\n"),
+        ],
+        piece: 9,
+        more_than: 2 * PIECE,
+    },
+];
+
 #[test]
-fn long_generated_run_repeats(rt: HostRuntime) -> Result<(), Fail> {
-    let options = ["--stats", "--generate", "2000"];
-    let first = go_with(&rt, rt.alloc(), &options, &[], b"", WHOLE)?;
-    let second = go_with(&rt, rt.alloc(), &options, &[], b"", WHOLE)?;
-    assert!(rt; first.outcome == Outcome::Done);
-    assert!(rt; second.outcome == Outcome::Done);
-    assert!(rt; first.output.bytes() == second.output.bytes());
-    assert!(rt; first.notes.bytes() == second.notes.bytes());
+fn runs_come_to_the_same_again(rt: HostRuntime) -> Result<(), Fail> {
+    for run in &RUNS_MADE_TWICE {
+        let input = repeated(rt.alloc(), run.lines)?;
+        let first = Case {
+            name: run.name,
+            options: run.options,
+            input: &input,
+            ..CASE
+        };
+        let ran = run_case(&rt, rt.alloc(), &first)?;
+        let (name, output) = (run.name, ran.output.bytes());
+        assert!(rt; ran.status == 0 && output.len() > run.more_than, "{name}");
+        let again = Case {
+            way: Way {
+                piece: run.piece,
+                ..WHOLE
+            },
+            output,
+            notes: ran.notes.bytes(),
+            ..first
+        };
+        assert_case(&rt, rt.alloc(), &again)?;
+    }
     Ok(())
 }

@@ -1,7 +1,6 @@
 //! Game records that lines load.
-use super::runs::{WHOLE, go_over};
+use super::runs::{CASE, Case};
 use crate::sessions::File;
-use std::test::Fail;
 
 /// Records on a shelf: one without a fault, and one for each kind of fault.
 const RECORDS: &[File<'static>] = &[
@@ -31,44 +30,35 @@ const RECORDS: &[File<'static>] = &[
     },
 ];
 
-/// Lines over these records, and their replies, by the name of what they show.
-struct Load {
-    name: &'static str,
-    input: &'static [u8],
-    output: &'static [u8],
-}
-
 /// What lines load, and what they are refused.
-const LOADS: [Load; 4] = [
-    Load {
-        name: "undo_stops_at_the_loaded_position",
+pub(super) static LOADS: [Case<'static>; 4] = [
+    Case {
+        name: "undo stops at the loaded position",
+        records: RECORDS,
         input: b"loadsgf g\ncountlib E5\nis_legal w A9\nundo\nplay w A1\nundo\nundo\n",
         output: b"=\n\n= 8\n\n= 0\n\n? cannot undo\n\n=\n\n=\n\n? cannot undo\n\n",
+        ..CASE
     },
-    Load {
-        name: "faulty_records_by_kind",
+    Case {
+        name: "faulty records by kind",
+        records: RECORDS,
         input: b"play b D4\nloadsgf k1\nloadsgf k2\nloadsgf k3\nloadsgf k4\nloadsgf k5\nloadsgf\nundo\n",
         output: b"=\n\n? bad sgf kind 1\n\n? bad sgf kind 2\n\n? bad sgf kind 3\n\n? bad sgf kind 4\n\n\
             ? bad sgf kind 5\n\n? syntax error\n\n=\n\n",
+        ..CASE
     },
-    Load {
-        name: "unknown_name_is_missed",
+    Case {
+        name: "unknown name is missed",
+        records: RECORDS,
         input: b"play b D4\n7 loadsgf nothing\nloadsgf \xff\nundo\n",
         output: b"=\n\n?7 cannot load file\n\n? syntax error\n\n=\n\n",
+        ..CASE
     },
-    Load {
-        name: "new_size_ends_the_record",
+    Case {
+        name: "new size ends the record",
+        records: RECORDS,
         input: b"loadsgf g\nboardsize 9\ncaptures b\ncountlib E5\n",
         output: b"=\n\n=\n\n= 0\n\n? vertex must not be empty\n\n",
+        ..CASE
     },
 ];
-
-#[test]
-fn records_are_loaded_by_their_names(rt: HostRuntime) -> Result<(), Fail> {
-    for load in &LOADS {
-        let ran = go_over(&rt, rt.alloc(), &[], RECORDS, load.input, WHOLE)?;
-        let name = load.name;
-        assert!(rt; ran.output.bytes() == load.output, "{name}");
-    }
-    Ok(())
-}

@@ -1,8 +1,8 @@
-//! A run over objects in memory, and how it is to go: which bytes a call moves, and which call fails.
+//! A run over objects in memory: what it is given, and what comes of it.
 use crate::sessions::File;
 use gtp_io::{Feed, Page, Shelf};
 use helpers::{Helper, NearEdge, NoBan};
-use session::{Outcome, run};
+use session::run;
 use std::alloc::Global;
 use std::process::Abort;
 use std::test::Fail;
@@ -28,17 +28,8 @@ pub(super) const TWO_FILES: &[File<'static>] = &[
     },
 ];
 
-/// What came of one run.
-#[derive(Drop)]
-pub(super) struct Ran {
-    pub(super) outcome: Outcome,
-    pub(super) output: Page,
-    pub(super) notes: Page,
-    pub(super) left: usize,
-}
-
-/// How a run is to go: how many bytes a call moves at most, how many a call of the sink takes, and which call fails, if
-/// one is to.
+/// How a run is to go: how many bytes a call moves at most, how many a call of the sink takes, and which call of each
+/// object fails, counted from 1; none does where the number is 0.
 #[derive(Clone, Copy)]
 pub(super) struct Way {
     pub(super) piece: usize,
@@ -59,103 +50,142 @@ pub(super) const WHOLE: Way = Way {
     notes_fail: 0,
 };
 
-pub(super) fn once(alloc: Global, call: u64) -> Result<Vec<u64>, Fail> {
-    let mut list = Vec::new(alloc);
-    if call > 0 {
-        list.push(call)?;
-    }
-    Ok(list)
+/// A run, by the name of what it shows: what it is given, and all that must come of it.
+#[derive(Clone, Copy)]
+pub(super) struct Case<'a> {
+    pub(super) name: &'a str,
+    /// The words before the names of the files.
+    pub(super) options: &'a [&'a str],
+    /// The pattern files, which the words name.
+    pub(super) files: &'a [File<'a>],
+    /// Files that no word names.
+    pub(super) records: &'a [File<'a>],
+    pub(super) input: &'a [u8],
+    pub(super) way: Way,
+    /// The exit status.
+    pub(super) status: u8,
+    pub(super) output: &'a [u8],
+    pub(super) notes: &'a [u8],
+    /// Where this is not empty, the notes begin as told, go on with the number of trial plays, and end so.
+    pub(super) behind_trials: &'a [u8],
+    /// How many bytes of the input are not taken, where that is told.
+    pub(super) left: Option<usize>,
 }
 
-/// The words of a command line with these options that names these files.
-pub(super) fn words(
-    alloc: Global,
-    options: &[&str],
-    files: &[File<'_>],
-) -> Result<Vec<String>, Fail> {
+/// A run without files and input where nothing fails, and of which nothing comes.
+pub(super) const CASE: Case<'static> = Case {
+    name: "",
+    options: &[],
+    files: &[],
+    records: &[],
+    input: b"",
+    way: WHOLE,
+    status: 0,
+    output: b"",
+    notes: b"",
+    behind_trials: b"",
+    left: Some(0),
+};
+
+/// What came of one run.
+#[derive(Drop)]
+pub(super) struct Ran {
+    pub(super) status: u8,
+    pub(super) output: Page,
+    pub(super) notes: Page,
+    pub(super) left: usize,
+}
+
+/// The words of the case's command line.
+pub(super) fn words(alloc: Global, case: &Case<'_>) -> Result<Vec<String>, Fail> {
     let mut words = Vec::new(alloc);
-    for option in options {
+    for option in case.options {
         words.push(String::from_str(alloc, option)?)?;
     }
-    for file in files {
+    for file in case.files {
         words.push(String::from_str(alloc, file.name)?)?;
     }
     Ok(words)
 }
 
-/// A shelf that holds these files, and fails at a call, if one is to fail.
-pub(super) fn shelf(
-    rt: &impl Abort,
-    alloc: Global,
-    files: &[File<'_>],
-    fails: u64,
-) -> Result<Shelf, Fail> {
-    let names = words(alloc, &[], files)?;
+/// A shelf that holds the case's files.
+fn shelf(rt: &impl Abort, alloc: Global, case: &Case<'_>) -> Result<Shelf, Fail> {
+    let mut names = Vec::new(alloc);
     let mut contents = Vec::new(alloc);
-    for file in files {
-        contents.push(Vec::from_slice(alloc, file.text)?)?;
+    for files in [case.files, case.records] {
+        for file in files {
+            names.push(String::from_str(alloc, file.name)?)?;
+            contents.push(Vec::from_slice(alloc, file.text)?)?;
+        }
     }
+    let fails = Vec::from_slice(alloc, &[case.way.loader_fails])?;
     assert!(rt; names.len() == contents.len());
-    Ok(Shelf::new(names, contents, once(alloc, fails)?))
+    Ok(Shelf::new(names, contents, fails))
 }
 
-pub(super) fn go(
-    rt: &impl Abort,
-    alloc: Global,
-    files: &[File<'_>],
-    input: &[u8],
-    way: Way,
-) -> Result<Ran, Fail> {
-    go_with(rt, alloc, &[], files, input, way)
-}
-
-/// The same with options before the names of the files.
-pub(super) fn go_with(
-    rt: &impl Abort,
-    alloc: Global,
-    options: &[&str],
-    files: &[File<'_>],
-    input: &[u8],
-    way: Way,
-) -> Result<Ran, Fail> {
-    let words = words(alloc, options, files)?;
-    go_over(rt, alloc, &words, files, input, way)
-}
-
-/// The same with these words, over a shelf with these files, whether the words name them or not.
-pub(super) fn go_over(
-    rt: &impl Abort,
-    alloc: Global,
-    words: &[String],
-    held: &[File<'_>],
-    input: &[u8],
-    way: Way,
-) -> Result<Ran, Fail> {
-    assert!(rt; way.piece > 0, "a call moves some bytes");
-    let bytes = Vec::from_slice(alloc, input)?;
-    let mut feed = Feed::new(bytes, way.piece, once(alloc, way.source_fails)?);
-    let takes = way.piece.min(way.sink_takes);
-    assert!(rt; takes > 0, "a call of the sink takes some bytes");
-    let mut output = Page::new(alloc, ROOM, takes, once(alloc, way.sink_fails)?)?;
-    let mut notes = Page::new(alloc, ROOM, way.piece, once(alloc, way.notes_fail)?)?;
-    let mut shelf = shelf(rt, alloc, held, way.loader_fails)?;
+/// The program's own helpers.
+fn helpers(alloc: Global) -> Result<Vec<Box<dyn Helper>>, Fail> {
     let mut helpers: Vec<Box<dyn Helper>> = Vec::new(alloc);
     helpers.push(Box::new(alloc, NearEdge::new())?)?;
     helpers.push(Box::new(alloc, NoBan::new())?)?;
+    Ok(helpers)
+}
+
+/// What comes of the case's run.
+pub(super) fn run_case(rt: &impl Abort, alloc: Global, case: &Case<'_>) -> Result<Ran, Fail> {
+    let way = case.way;
+    assert!(rt; way.piece > 0, "a call moves some bytes");
+    let source_fails = Vec::from_slice(alloc, &[way.source_fails])?;
+    let mut feed = Feed::new(Vec::from_slice(alloc, case.input)?, way.piece, source_fails);
+    let takes = way.piece.min(way.sink_takes);
+    assert!(rt; takes > 0, "a call of the sink takes some bytes");
+    let sink_fails = Vec::from_slice(alloc, &[way.sink_fails])?;
+    let mut output = Page::new(alloc, ROOM, takes, sink_fails)?;
+    let notes_fail = Vec::from_slice(alloc, &[way.notes_fail])?;
+    let mut notes = Page::new(alloc, ROOM, way.piece, notes_fail)?;
     let outcome = run(
         alloc,
-        words,
-        &mut shelf,
+        &words(alloc, case)?,
+        &mut shelf(rt, alloc, case)?,
         &mut feed,
         &mut output,
         &mut notes,
-        helpers,
+        helpers(alloc)?,
     );
-    let left = feed.left().len();
     Ok(Ran {
-        outcome,
+        status: outcome.code(),
         output,
         notes,
-        left,
+        left: feed.left().len(),
     })
+}
+
+/// Runs the case, and compares all that came of it.
+pub(super) fn assert_case(rt: &impl Abort, alloc: Global, case: &Case<'_>) -> Result<(), Fail> {
+    let ran = run_case(rt, alloc, case)?;
+    let (name, notes) = (case.name, ran.notes.bytes());
+    let noted = if case.behind_trials.is_empty() {
+        notes == case.notes
+    } else {
+        notes.starts_with(case.notes) && notes.ends_with(case.behind_trials)
+    };
+    assert!(rt; ran.output.bytes() == case.output, "the output of: {name}");
+    assert!(rt; noted, "the notes of: {name}");
+    assert!(rt; ran.status == case.status, "the exit status of: {name}");
+    assert!(rt;
+        ran.left == case.left.unwrap_or(ran.left),
+        "the bytes left by: {name}"
+    );
+    Ok(())
+}
+
+/// These bytes, so many times each.
+pub(super) fn repeated(alloc: Global, parts: &[(usize, &[u8])]) -> Result<Vec<u8>, Fail> {
+    let mut bytes = Vec::new(alloc);
+    for (times, part) in parts {
+        for _ in 0..*times {
+            bytes.extend_from_slice(part)?;
+        }
+    }
+    Ok(bytes)
 }
