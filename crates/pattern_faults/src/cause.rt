@@ -1,6 +1,7 @@
 //! The cause of a fault, in words.
 
-use crate::shown::{Shown, ShownByte};
+use crate::words::Value::{self, Between, Byte, Bytes, Nothing, Number};
+use crate::words::write_words;
 use std::fmt::{self, Display, Formatter, Write};
 
 /// The cause of a fault.
@@ -143,234 +144,177 @@ pub enum Cause<'a> {
     Kind(u8),
 }
 
-impl Cause<'_> {
-    /// The words of a cause of a line out of its place or of a Pattern line, and of the others.
-    fn out_of_place<W: Write>(&self, f: &mut Formatter<W>) -> fmt::Result {
+impl<'a> Cause<'a> {
+    /// The words of a cause, which have a `{}` in the place of each value.
+    fn words(&self) -> &'static str {
         match self {
-            Cause::BadByte(byte) => write!(f, "byte {byte} may stand in no line"),
-            Cause::BeforeEntries => f.write_str(
-                "before the first entry only lines that begin with a letter may stand; an entry begins with a \
-                 Pattern line",
-            ),
-            Cause::ByteOrderMark => f.write_str(
-                "the text begins with a byte order mark, which no editor shows; save it as UTF-8 without one",
-            ),
-            Cause::SecondColonLine => f.write_str("the entry has a colon line already"),
-            Cause::LateExpression => f.write_str("an expression stands before the action lines"),
-            Cause::AfterEntry => f.write_str(
-                "behind an expression or actions only lines with ';' or '>' may stand; an entry begins with \
-                 a Pattern line",
-            ),
-            Cause::NoName => f.write_str("a name is missing behind Pattern"),
-            Cause::LongName(bytes) => write!(f, "the name has {bytes} bytes, and may have 80"),
-            Cause::NameByte(byte) => write!(f, "'{}' may not stand in a name", ShownByte(*byte)),
-            _ => self.drawn(f),
+            Cause::BadByte(_) => "byte {} may stand in no line",
+            Cause::BeforeEntries => {
+                "before the first entry only lines that begin with a letter may stand; an entry begins with a Pattern \
+                 line"
+            }
+            Cause::ByteOrderMark => {
+                "the text begins with a byte order mark, which no editor shows; save it as UTF-8 without one"
+            }
+            Cause::SecondColonLine => "the entry has a colon line already",
+            Cause::LateExpression => "an expression stands before the action lines",
+            Cause::AfterEntry => {
+                "behind an expression or actions only lines with ';' or '>' may stand; an entry begins with a Pattern \
+                 line"
+            }
+            Cause::NoName => "a name is missing behind Pattern",
+            Cause::LongName(_) => "the name has {} bytes, and may have 80",
+            Cause::NameByte(_) => "'{}' may not stand in a name",
+            Cause::ManyEntries => "a text has at most 4096 entries",
+            Cause::Kind(_) => "a fault of kind {}",
+            _ => self.words_of_diagram(),
         }
     }
 
-    /// The words of a cause of a row, and of the others.
-    fn drawn<W: Write>(&self, f: &mut Formatter<W>) -> fmt::Result {
+    /// The words of a cause of the diagram, and of those of what stands below it.
+    fn words_of_diagram(&self) -> &'static str {
         match self {
-            Cause::Letter(byte) => write!(
-                f,
-                "'{}' is no letter of a diagram (O X o x . ? *)",
-                ShownByte(*byte)
-            ),
-            Cause::LabelInDiagram(byte) => write!(
-                f,
-                "'{}' is no letter of a diagram (O X o x . ? *); is the colon line above a constraint diagram missing?",
-                ShownByte(*byte)
-            ),
-            Cause::EdgeWithin(byte) => write!(
-                f,
-                "'{}' is part of an edge, and may not stand within a row",
-                ShownByte(*byte)
-            ),
-            Cause::NoLine => f.write_str(
-                "the line is neither a row of letters (O X o x . ? *), with or without '|' at its ends, nor an \
-                 edge line of '-'",
-            ),
-            _ => self.framed(f),
-        }
-    }
-
-    /// The words of a cause of the diagram as a whole, and of the others.
-    fn framed<W: Write>(&self, f: &mut Formatter<W>) -> fmt::Result {
-        match self {
-            Cause::NoRow => f.write_str("no row of letters stands above the colon line"),
-            Cause::Width { points, first } => {
-                write!(f, "the line is {points} wide, and the first {first}")
+            Cause::NoRow => "no row of letters stands above the colon line",
+            Cause::Width { .. } => "the line is {} wide, and the first {}",
+            Cause::Letter(_) => "'{}' is no letter of a diagram (O X o x . ? *)",
+            Cause::LabelInDiagram(_) => {
+                "'{}' is no letter of a diagram (O X o x . ? *); is the colon line above a constraint diagram missing?"
             }
-            Cause::Stars(stars) => write!(f, "the diagram has {stars} '*', and needs one"),
-            Cause::EdgeBetween => {
-                f.write_str("an edge line stands above all rows or below all of them")
+            Cause::NoLine => {
+                "the line is neither a row of letters (O X o x . ? *), with or without '|' at its ends, nor an edge \
+                 line of '-'"
             }
-            Cause::BelowEdge => f.write_str(
-                "the edge line above ends the diagram; one stands above all rows or below all of them",
-            ),
-            Cause::Sides => f.write_str(
+            Cause::EdgeWithin(_) => "'{}' is part of an edge, and may not stand within a row",
+            Cause::Stars(_) => "the diagram has {} '*', and needs one",
+            Cause::EdgeBetween => "an edge line stands above all rows or below all of them",
+            Cause::BelowEdge => {
+                "the edge line above ends the diagram; one stands above all rows or below all of them"
+            }
+            Cause::Sides => {
                 "an edge at a side is drawn beside every row, with '+' where it meets another; the first line has it \
-                 otherwise",
-            ),
-            Cause::LongLine(bytes) => write!(f, "the line has {bytes} bytes, and may have 25"),
-            Cause::ManyLines => f.write_str("a diagram has at most 25 lines"),
-            Cause::NoColonLine => f.write_str("no colon line, as ':8,s', stands below the diagram"),
-            _ => self.named(f),
-        }
-    }
-
-    /// The words of a cause of a colon line, and of the others.
-    fn named<W: Write>(&self, f: &mut Formatter<W>) -> fmt::Result {
-        match self {
-            Cause::Mark(mark) => write!(f, "'{}' is no mark (8 | - / \\ + X O)", Shown(mark)),
-            Cause::ClassLetter(byte) => write!(f, "'{}' is no class letter", ShownByte(*byte)),
-            Cause::ManyClassLetters(letters) => {
-                write!(f, "{letters} class letters, and at most 32 may stand here")
+                 otherwise"
             }
-            Cause::Item(item) => write!(
-                f,
-                "'{}' is no item: a name, or a name and a text in one pair of parentheses",
-                Shown(item)
-            ),
-            Cause::ManyItems(items) => write!(f, "{items} items, and at most 16 may stand here"),
-            Cause::Helper(name) => write!(
-                f,
-                "no helper has the name '{}'; with a text, as in {}(), it tests nothing",
-                Shown(name),
-                Shown(name)
-            ),
-            _ => self.repeated(f),
+            Cause::LongLine(_) => "the line has {} bytes, and may have 25",
+            Cause::ManyLines => "a diagram has at most 25 lines",
+            Cause::NoColonLine => "no colon line, as ':8,s', stands below the diagram",
+            _ => self.words_of_constraint(),
         }
     }
 
-    /// The words of a cause of a constraint diagram, and of the others.
-    fn repeated<W: Write>(&self, f: &mut Formatter<W>) -> fmt::Result {
+    /// The words of a cause of the colon line or the constraint diagram, and of those of an expression.
+    fn words_of_constraint(&self) -> &'static str {
         match self {
-            Cause::ConstraintEnds(lines) => write!(
-                f,
-                "a constraint diagram has as many lines as its diagram, here {lines}"
-            ),
+            Cause::Mark(_) => "'{}' is no mark (8 | - / \\ + X O)",
+            Cause::ClassLetter(_) => "'{}' is no class letter",
+            Cause::ManyClassLetters(_) => "{} class letters, and at most 32 may stand here",
+            Cause::Item(_) => {
+                "'{}' is no item: a name, or a name and a text in one pair of parentheses"
+            }
+            Cause::ManyItems(_) => "{} items, and at most 16 may stand here",
+            Cause::Helper(_) => {
+                "no helper has the name '{}'; with a text, as in {}(), it tests nothing"
+            }
+            Cause::ConstraintEnds(_) => {
+                "a constraint diagram has as many lines as its diagram, here {}"
+            }
             Cause::NoSemicolon => {
-                f.write_str("no line of a constraint diagram; is it an expression without its ';'?")
+                "no line of a constraint diagram; is it an expression without its ';'?"
             }
-            Cause::ConstraintWidth { bytes, diagram } => write!(
-                f,
-                "the line is {bytes} wide, and its line of the diagram {diagram}"
-            ),
-            Cause::NoLabel { byte, diagram } => write!(
-                f,
-                "'{}' is neither the diagram's '{}' nor a label, a letter other than O X o x",
-                ShownByte(*byte),
-                ShownByte(*diagram)
-            ),
-            Cause::LabelOnEdge(byte) => {
-                write!(f, "the label '{}' stands on an edge", ShownByte(*byte))
+            Cause::ConstraintWidth { .. } => {
+                "the line is {} wide, and its line of the diagram {}"
             }
-            Cause::LabelAgain(byte) => write!(
-                f,
-                "the label '{}' stands in the diagram already",
-                ShownByte(*byte)
-            ),
-            Cause::ConstraintShort { lines, diagram } => write!(
-                f,
-                "the constraint diagram stops after {lines} of {diagram} lines"
-            ),
-            _ => self.spelled(f),
+            Cause::NoLabel { .. } => {
+                "'{}' is neither the diagram's '{}' nor a label, a letter other than O X o x"
+            }
+            Cause::LabelOnEdge(_) => "the label '{}' stands on an edge",
+            Cause::LabelAgain(_) => "the label '{}' stands in the diagram already",
+            Cause::ConstraintShort { .. } => "the constraint diagram stops after {} of {} lines",
+            _ => self.words_of_expression(),
         }
     }
 
-    /// The words of a cause of a word of an expression, and of the others.
-    fn spelled<W: Write>(&self, f: &mut Formatter<W>) -> fmt::Result {
+    /// The words of a cause of an expression.
+    fn words_of_expression(&self) -> &'static str {
         match self {
-            Cause::ExpressionByte(byte) => {
-                write!(f, "'{}' may not stand in an expression", ShownByte(*byte))
+            Cause::ExpressionByte(_) => "'{}' may not stand in an expression",
+            Cause::LongNumber => "a number has at most six digits",
+            Cause::LongExpression => "an expression has at most 4096 bytes",
+            Cause::NoOperand(_) => {
+                "a number, a call, '!', '-' or '(' is wanted here, and '{}' stands here"
             }
-            Cause::NoOperand(word) => write!(
-                f,
-                "a number, a call, '!', '-' or '(' is wanted here, and '{}' stands here",
-                Shown(word)
-            ),
-            Cause::NoOperator(word) => write!(
-                f,
-                "the expression may end here or go on with an operator, and '{}' stands here",
-                Shown(word)
-            ),
-            Cause::NoArguments(word) => write!(
-                f,
-                "'{}' is the name of no number; a function has its arguments in parentheses behind its name",
-                Shown(word)
-            ),
-            Cause::NoArgument(word) => write!(
-                f,
-                "an argument is one letter, '*' or '?', and '{}' stands here",
-                Shown(word)
-            ),
-            Cause::NoComma(word) => write!(
-                f,
-                "',' or ')' is wanted behind an argument, and '{}' stands here",
-                Shown(word)
-            ),
-            _ => self.said(f),
-        }
-    }
-
-    /// The words of a cause of the expression as a whole, and of the others.
-    fn said<W: Write>(&self, f: &mut Formatter<W>) -> fmt::Result {
-        match self {
-            Cause::LongNumber => f.write_str("a number has at most six digits"),
-            Cause::LongExpression => f.write_str("an expression has at most 4096 bytes"),
-            Cause::Unopened => f.write_str("no '(' belongs to this ')'"),
+            Cause::NoOperator(_) => {
+                "the expression may end here or go on with an operator, and '{}' stands here"
+            }
+            Cause::NoArguments(_) => {
+                "'{}' is the name of no number; a function has its arguments in parentheses behind its name"
+            }
+            Cause::NoArgument(_) => "an argument is one letter, '*' or '?', and '{}' stands here",
+            Cause::NoComma(_) => "',' or ')' is wanted behind an argument, and '{}' stands here",
+            Cause::Unopened => "no '(' belongs to this ')'",
             Cause::EndsEarly => {
-                f.write_str("the expression ends where a number, a call or a parenthesis is wanted")
+                "the expression ends where a number, a call or a parenthesis is wanted"
             }
-            Cause::Unclosed => f.write_str("the expression ends before a ')'"),
-            Cause::Deep => f.write_str("parentheses and signs stand more than 32 deep"),
-            _ => self.called(f),
+            Cause::Unclosed => "the expression ends before a ')'",
+            Cause::Deep => "parentheses and signs stand more than 32 deep",
+            Cause::Function(_) => "no function has the name '{}'",
+            Cause::Arity { .. } => "the number of arguments of {} is {}, and here {}",
+            Cause::Pass(_) => {
+                "'?' is a pass, and {} takes none here: it may stand for a move of oplay_.. and xplay_.. alone"
+            }
+            Cause::Label(_) => "the label '{}' does not stand in the constraint diagram",
+            _ => "a fault",
         }
     }
 
-    /// The words of a cause of a call, and of the others.
-    fn called<W: Write>(&self, f: &mut Formatter<W>) -> fmt::Result {
-        match self {
-            Cause::Function(name) => write!(f, "no function has the name '{}'", Shown(name)),
+    /// The values that stand in the words, in their order, and nothing behind them.
+    fn values(&self) -> [Value<'a>; 4] {
+        let (first, second, third) = match *self {
+            Cause::BadByte(number) | Cause::Kind(number) => {
+                (Number(number as usize), Nothing, Nothing)
+            }
+            Cause::LongName(number)
+            | Cause::Stars(number)
+            | Cause::LongLine(number)
+            | Cause::ManyClassLetters(number)
+            | Cause::ManyItems(number)
+            | Cause::ConstraintEnds(number) => (Number(number), Nothing, Nothing),
+            Cause::NameByte(byte)
+            | Cause::Letter(byte)
+            | Cause::LabelInDiagram(byte)
+            | Cause::EdgeWithin(byte)
+            | Cause::ClassLetter(byte)
+            | Cause::LabelOnEdge(byte)
+            | Cause::LabelAgain(byte)
+            | Cause::ExpressionByte(byte)
+            | Cause::Label(byte) => (Byte(byte), Nothing, Nothing),
+            Cause::Mark(word)
+            | Cause::Item(word)
+            | Cause::NoOperand(word)
+            | Cause::NoOperator(word)
+            | Cause::NoArguments(word)
+            | Cause::NoArgument(word)
+            | Cause::NoComma(word)
+            | Cause::Function(word)
+            | Cause::Pass(word) => (Bytes(word), Nothing, Nothing),
+            Cause::Helper(name) => (Bytes(name), Bytes(name), Nothing),
+            Cause::Width { points, first } => (Number(points), Number(first), Nothing),
+            Cause::ConstraintWidth { bytes, diagram } => (Number(bytes), Number(diagram), Nothing),
+            Cause::ConstraintShort { lines, diagram } => (Number(lines), Number(diagram), Nothing),
+            Cause::NoLabel { byte, diagram } => (Byte(byte), Byte(diagram), Nothing),
             Cause::Arity {
                 name,
                 arguments,
                 least,
                 most,
-            } => {
-                write!(f, "the number of arguments of {} is {least}", Shown(name))?;
-                if least != most {
-                    write!(f, " to {most}")?;
-                }
-                write!(f, ", and here {arguments}")
-            }
-            Cause::Pass(name) => write!(
-                f,
-                "'?' is a pass, and {} takes none here: it may stand for a move of oplay_.. and xplay_.. alone",
-                Shown(name)
-            ),
-            Cause::Label(letter) => write!(
-                f,
-                "the label '{}' does not stand in the constraint diagram",
-                ShownByte(*letter)
-            ),
-            _ => self.left(f),
-        }
-    }
-
-    /// The words of a cause of the whole text, and of one that is not known.
-    fn left<W: Write>(&self, f: &mut Formatter<W>) -> fmt::Result {
-        match self {
-            Cause::ManyEntries => f.write_str("a text has at most 4096 entries"),
-            Cause::Kind(kind) => write!(f, "a fault of kind {kind}"),
-            _ => f.write_str("a fault"),
-        }
+            } => (Bytes(name), Between(least, most), Number(arguments)),
+            _ => (Nothing, Nothing, Nothing),
+        };
+        [first, second, third, Nothing]
     }
 }
 
 impl Display for Cause<'_> {
     fn fmt<W: Write>(&self, f: &mut Formatter<W>) -> fmt::Result {
-        self.out_of_place(f)
+        write_words(f, self.words(), &self.values())
     }
 }

@@ -9,8 +9,10 @@ mod cause;
 mod fault;
 mod seen;
 mod shown;
+mod words;
 
 pub use cause::Cause;
 pub use fault::Fault;
 pub use seen::explain;
 pub use shown::{Shown, ShownByte};
+pub use words::{Value, write_words};

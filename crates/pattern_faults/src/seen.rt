@@ -32,19 +32,36 @@ fn seen_at<'a>(line: &Written<'a>, at: usize, cause: Cause<'a>) -> Seen<'a> {
     }
 }
 
-/// Those of the lines that are this.
-fn of_role<'a>(
-    alloc: Global,
-    lines: &[Written<'a>],
+/// The lines of an entry that are this, above the line of this number. They stand one below the other.
+fn of_role_above<'l, 'a: 'l>(
+    lines: &'l [Written<'a>],
     role: Role,
-) -> Result<Vec<Written<'a>>, NoMemory> {
-    let mut all = Vec::new(alloc);
-    for line in lines {
-        if line.role == role {
-            all.push(*line)?;
+    number: u64,
+) -> &'l [Written<'a>] {
+    let mut from: usize = 0;
+    let mut to: usize = 0;
+    for (at, line) in lines.iter().enumerate() {
+        if line.role == role && line.number < number {
+            from = if to == 0 { at } else { from };
+            to = at.saturating_add(1);
         }
     }
-    Ok(all)
+    lines.get(from..to).unwrap_or(&[])
+}
+
+/// The lines of an entry that are this.
+fn of_role<'l, 'a: 'l>(lines: &'l [Written<'a>], role: Role) -> &'l [Written<'a>] {
+    of_role_above(lines, role, u64::MAX)
+}
+
+/// The line of this number, where it is one of these.
+fn line_of<'l, 'a: 'l>(lines: &'l [Written<'a>], number: u64) -> Option<&'l Written<'a>> {
+    for line in lines {
+        if line.number == number {
+            return Some(line);
+        }
+    }
+    None
 }
 
 /// A fault of which nothing more is seen than its kind.
@@ -74,26 +91,6 @@ fn bad_byte<'a>(part: Part<'a>, line: u64) -> Option<Seen<'a>> {
     })
 }
 
-/// What is seen of a fault at a line of the entry.
-fn at_line<'a>(
-    alloc: Global,
-    helpers: &[Bytes],
-    lines: &[Written<'a>],
-    line: &Written<'a>,
-    kind: u8,
-) -> Result<Option<Seen<'a>>, NoMemory> {
-    match kind {
-        2 => Ok(Some(head::stray(line))),
-        3 => Ok(head::name(line)),
-        4 => Ok(Some(seen_at(line, 0, Cause::NoRow))),
-        5 | 6 | 7 | 8 | 9 => diagram::drawn(alloc, lines, line, kind),
-        11 | 12 | 13 | 17 => colon::named(alloc, helpers, line, kind),
-        15 | 16 => expression::said(alloc, lines, kind),
-        18 => Ok(Some(seen_at(line, 0, Cause::ManyEntries))),
-        _ => Ok(None),
-    }
-}
-
 /// What is seen of a fault of this line and kind.
 fn look<'a>(
     alloc: Global,
@@ -103,15 +100,18 @@ fn look<'a>(
     number: u64,
     kind: u8,
 ) -> Result<Option<Seen<'a>>, NoMemory> {
-    match kind {
-        1 => return Ok(bad_byte(part, number)),
-        10 => return Ok(diagram::endless(lines)),
-        14 => return constraint::repeated(alloc, lines, number),
-        _ => {}
-    }
-    match lines.iter().find(|line| line.number == number) {
-        Some(line) => at_line(alloc, helpers, lines, line, kind),
-        None => Ok(None),
+    match (kind, line_of(lines, number)) {
+        (1, _) => Ok(bad_byte(part, number)),
+        (2, Some(line)) => Ok(Some(head::stray(line))),
+        (3, Some(line)) => Ok(head::name(line)),
+        (4, Some(line)) => Ok(Some(seen_at(line, 0, Cause::NoRow))),
+        (5..=9, Some(line)) => Ok(diagram::drawn(lines, line, kind)),
+        (10, _) => Ok(diagram::endless(lines)),
+        (11..=13 | 17, Some(line)) => colon::named(alloc, helpers, line, kind),
+        (14, _) => Ok(constraint::repeated(lines, number)),
+        (15 | 16, Some(_)) => expression::said(alloc, lines, kind),
+        (18, Some(line)) => Ok(Some(seen_at(line, 0, Cause::ManyEntries))),
+        _ => Ok(None),
     }
 }
 

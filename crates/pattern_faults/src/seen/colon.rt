@@ -75,12 +75,12 @@ fn classes<'a>(line: &Written<'a>, field: Field<'a>) -> Option<Seen<'a>> {
         let cause = Cause::ManyClassLetters(field.bytes.len());
         return Some(seen_at(line, field.at, cause));
     }
-    let at = field
-        .bytes
-        .iter()
-        .position(|byte| !byte.is_ascii_alphabetic() && *byte != b'-')?;
-    let byte = *field.bytes.get(at)?;
-    Some(seen_at(line, field.at.saturating_add(at), Cause::ClassLetter(byte)))
+    for (at, byte) in field.bytes.iter().enumerate() {
+        if !byte.is_ascii_alphabetic() && *byte != b'-' {
+            return Some(seen_at(line, field.at.saturating_add(at), Cause::ClassLetter(*byte)));
+        }
+    }
+    None
 }
 
 /// The cause of the first item with a fault of this kind.
@@ -100,10 +100,10 @@ fn items<'a>(
             return Ok(Some(seen_at(line, item.at, cause)));
         }
     }
-    Ok(match items.get(MOST_ITEMS) {
-        Some(item) => Some(seen_at(line, item.at, Cause::ManyItems(items.len()))),
-        None => None,
-    })
+    let Some(item) = items.get(MOST_ITEMS) else {
+        return Ok(None);
+    };
+    Ok(Some(seen_at(line, item.at, Cause::ManyItems(items.len()))))
 }
 
 /// The cause of a fault of a colon line.

@@ -1,10 +1,8 @@
 //! Faults of a constraint diagram.
 
-use super::{Seen, of_role, seen_at};
+use super::{Seen, line_of, of_role, of_role_above, seen_at};
 use crate::cause::Cause;
-use pat_types::NoMemory;
 use pattern_lines::{Role, Written, is_letter};
-use std::alloc::Global;
 
 /// Whether a byte may be a label.
 pub(crate) fn is_label(byte: u8) -> bool {
@@ -13,16 +11,29 @@ pub(crate) fn is_label(byte: u8) -> bool {
 
 /// Whether a line seems to be an expression.
 fn is_said(line: &[u8]) -> bool {
-    line.iter().any(|byte| matches!(*byte, b'(' | b'&' | b'=' | b'<' | b'>' | b'!'))
+    for byte in line {
+        if b"(&=<>!".contains(byte) {
+            return true;
+        }
+    }
+    false
+}
+
+/// Whether a line has a label where its line of the diagram has another letter.
+fn has_label(label: u8, word: &[u8], drawn: &[u8]) -> bool {
+    for (byte, letter) in word.iter().zip(drawn) {
+        if *byte == label && *letter != label {
+            return true;
+        }
+    }
+    false
 }
 
 /// Whether one of the lines has a label that its line of the diagram does not have.
 fn is_above(label: u8, lines: &[Written<'_>], diagram: &[Written<'_>]) -> bool {
     for (line, drawn) in lines.iter().zip(diagram) {
-        for (byte, letter) in line.word().iter().zip(drawn.word()) {
-            if *byte == label && *letter != label {
-                return true;
-            }
+        if has_label(label, line.word(), drawn.word()) {
+            return true;
         }
     }
     false
@@ -54,14 +65,11 @@ fn first_wrong<'a>(
 ) -> Option<Seen<'a>> {
     let word = line.word();
     for (at, (byte, letter)) in word.iter().zip(drawn.word()).enumerate() {
-        if *byte == *letter {
-            continue;
-        }
-        let mut is_used = is_above(*byte, above, diagram);
-        for (earlier, under) in word.iter().zip(drawn.word()).take(at) {
-            is_used = is_used || (*earlier == *byte && *under != *byte);
-        }
-        if let Some(cause) = of_byte(*byte, *letter, is_used) {
+        let before = word.get(..at).unwrap_or(word);
+        let is_used = has_label(*byte, before, drawn.word()) || is_above(*byte, above, diagram);
+        if *byte != *letter
+            && let Some(cause) = of_byte(*byte, *letter, is_used)
+        {
             return Some(seen_at(line, at, cause));
         }
     }
@@ -88,38 +96,23 @@ fn of_line<'a>(
     if is_said(line.bytes) {
         return Some(seen_at(line, 0, Cause::NoSemicolon));
     }
-    Some(seen_at(
-        line,
-        0,
-        Cause::ConstraintWidth {
-            bytes: line.word().len(),
-            diagram: drawn.word().len(),
-        },
-    ))
+    let cause = Cause::ConstraintWidth {
+        bytes: line.word().len(),
+        diagram: drawn.word().len(),
+    };
+    Some(seen_at(line, 0, cause))
 }
 
 /// The cause of a constraint diagram that does not repeat the diagram, by the number of the line at fault.
-pub(crate) fn repeated<'a>(
-    alloc: Global,
-    lines: &[Written<'a>],
-    number: u64,
-) -> Result<Option<Seen<'a>>, NoMemory> {
-    let diagram = of_role(alloc, lines, Role::Diagram)?;
-    let all = of_role(alloc, lines, Role::Constraint)?;
-    let mut above = of_role(alloc, lines, Role::Constraint)?;
-    above.retain(|line| line.number < number);
-    if let Some(line) = all.iter().find(|line| line.number == number) {
-        return Ok(of_line(above.as_slice(), diagram.as_slice(), line));
+pub(crate) fn repeated<'a>(lines: &[Written<'a>], number: u64) -> Option<Seen<'a>> {
+    let diagram = of_role(lines, Role::Diagram);
+    let above = of_role_above(lines, Role::Constraint, number);
+    if let Some(line) = line_of(of_role(lines, Role::Constraint), number) {
+        return of_line(above, diagram, line);
     }
-    Ok(match above.last() {
-        Some(line) => Some(seen_at(
-            line,
-            0,
-            Cause::ConstraintShort {
-                lines: above.len(),
-                diagram: diagram.len(),
-            },
-        )),
-        None => None,
-    })
+    let cause = Cause::ConstraintShort {
+        lines: above.len(),
+        diagram: diagram.len(),
+    };
+    Some(seen_at(above.last()?, 0, cause))
 }

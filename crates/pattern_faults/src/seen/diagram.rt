@@ -1,10 +1,8 @@
 //! Faults of a diagram.
 
-use super::{Seen, of_role, seen_at};
+use super::{Seen, of_role_above, seen_at};
 use crate::cause::Cause;
-use pat_types::NoMemory;
 use pattern_lines::{Role, Written, is_letter};
-use std::alloc::Global;
 
 /// The most bytes of a line, and the most lines.
 const MOST: usize = 25;
@@ -14,20 +12,39 @@ fn is_edge(word: &[u8]) -> bool {
     word.contains(&b'-')
 }
 
-/// How many points a word has, without what is drawn beside them.
-fn points(word: &[u8]) -> usize {
-    word.iter()
-        .filter(|byte| **byte != b'|' && **byte != b'+')
-        .count()
+/// How often a word has a byte.
+fn count_of(word: &[u8], wanted: u8) -> usize {
+    let mut count: usize = 0;
+    for byte in word {
+        if *byte == wanted {
+            count = count.saturating_add(1);
+        }
+    }
+    count
 }
 
-/// The first byte of a word that makes it no row, where it is no edge line either.
-fn first_wrong(word: &[u8]) -> Option<usize> {
+/// How many points a word has, without what is drawn beside them.
+fn points(word: &[u8]) -> usize {
+    let sides = count_of(word, b'|').saturating_add(count_of(word, b'+'));
+    word.len().saturating_sub(sides)
+}
+
+/// How many stars the lines have.
+fn stars(lines: &[Written<'_>]) -> usize {
+    let mut count: usize = 0;
+    for line in lines {
+        count = count.saturating_add(count_of(line.word(), b'*'));
+    }
+    count
+}
+
+/// The index of the first byte of a word that makes it no row, where it is no edge line either, and the byte.
+fn first_wrong(word: &[u8]) -> Option<(usize, u8)> {
     let last = word.len().saturating_sub(1);
     for (at, byte) in word.iter().enumerate() {
         let is_side = *byte == b'|' && (at == 0 || at == last);
         if !is_letter(*byte) && !is_side {
-            return Some(at);
+            return Some((at, *byte));
         }
     }
     None
@@ -38,7 +55,7 @@ fn wrong_byte<'a>(above: &[Written<'a>], byte: u8) -> Cause<'a> {
     if byte == b'|' || byte == b'+' || byte == b'-' {
         return Cause::EdgeWithin(byte);
     }
-    if byte.is_ascii_alphabetic() && above.iter().any(|line| line.word().contains(&b'*')) {
+    if byte.is_ascii_alphabetic() && stars(above) > 0 {
         return Cause::LabelInDiagram(byte);
     }
     Cause::Letter(byte)
@@ -47,10 +64,9 @@ fn wrong_byte<'a>(above: &[Written<'a>], byte: u8) -> Cause<'a> {
 /// The cause of a line that is neither an edge line nor a row.
 fn no_line<'a>(above: &[Written<'a>], line: &Written<'a>) -> Seen<'a> {
     let word = line.word();
-    let at = first_wrong(word).unwrap_or(0);
-    match word.get(at) {
-        Some(byte) if !matches!(word, [b'-' | b'+', ..]) && first_wrong(word).is_some() => {
-            seen_at(line, at, wrong_byte(above, *byte))
+    match first_wrong(word) {
+        Some((at, byte)) if !matches!(word, [b'-' | b'+', ..]) => {
+            seen_at(line, at, wrong_byte(above, byte))
         }
         _ => seen_at(line, 0, Cause::NoLine),
     }
@@ -58,11 +74,12 @@ fn no_line<'a>(above: &[Written<'a>], line: &Written<'a>) -> Seen<'a> {
 
 /// The cause of an edge that is out of its place.
 fn edge_place<'a>(above: &[Written<'a>], line: &Written<'a>) -> Seen<'a> {
-    let has_row = above.iter().any(|other| !is_edge(other.word()));
-    let ends = match above.last() {
-        Some(last) => is_edge(last.word()),
-        None => false,
-    };
+    let mut has_row = false;
+    let mut ends = false;
+    for other in above {
+        ends = is_edge(other.word());
+        has_row = has_row || !ends;
+    }
     let cause = if has_row && ends {
         Cause::BelowEdge
     } else if !has_row && is_edge(line.word()) {
@@ -71,16 +88,6 @@ fn edge_place<'a>(above: &[Written<'a>], line: &Written<'a>) -> Seen<'a> {
         Cause::Sides
     };
     seen_at(line, 0, cause)
-}
-
-/// How many stars the lines have.
-fn stars(lines: &[Written<'_>]) -> usize {
-    let mut count: usize = 0;
-    for line in lines {
-        let here = line.word().iter().filter(|byte| **byte == b'*').count();
-        count = count.saturating_add(here);
-    }
-    count
 }
 
 /// The cause of a line that makes the diagram too large.
@@ -104,23 +111,16 @@ fn width<'a>(above: &[Written<'a>], line: &Written<'a>) -> Seen<'a> {
 }
 
 /// The cause of a fault of the diagram at one of its lines, or at the colon line below it.
-pub(crate) fn drawn<'a>(
-    alloc: Global,
-    lines: &[Written<'a>],
-    line: &Written<'a>,
-    kind: u8,
-) -> Result<Option<Seen<'a>>, NoMemory> {
-    let mut above = of_role(alloc, lines, Role::Diagram)?;
-    above.retain(|other| other.number < line.number);
-    let above = above.as_slice();
-    Ok(match kind {
+pub(crate) fn drawn<'a>(lines: &[Written<'a>], line: &Written<'a>, kind: u8) -> Option<Seen<'a>> {
+    let above = of_role_above(lines, Role::Diagram, line.number);
+    match kind {
         5 => Some(width(above, line)),
         6 => Some(no_line(above, line)),
         7 => Some(seen_at(line, 0, Cause::Stars(stars(above)))),
         8 => Some(edge_place(above, line)),
         9 => Some(too_large(line)),
         _ => None,
-    })
+    }
 }
 
 /// The cause of an entry without a colon line. It is seen at the last line of the diagram.

@@ -11,8 +11,21 @@ use std::alloc::Global;
 /// The most digits of a number.
 const MOST_DIGITS: usize = 6;
 
-/// More arguments than any function takes.
-const MANY_ARGUMENTS: usize = 12;
+/// Arguments, each list with one more than the one above; no function takes more than the last.
+const ARGUMENTS: [&[u8]; 12] = [
+    b"()",
+    b"(*)",
+    b"(*,*)",
+    b"(*,*,*)",
+    b"(*,*,*,*)",
+    b"(*,*,*,*,*)",
+    b"(*,*,*,*,*,*)",
+    b"(*,*,*,*,*,*,*)",
+    b"(*,*,*,*,*,*,*,*)",
+    b"(*,*,*,*,*,*,*,*,*)",
+    b"(*,*,*,*,*,*,*,*,*,*)",
+    b"(*,*,*,*,*,*,*,*,*,*,*)",
+];
 
 /// What is wanted next in an expression that is read from the left.
 #[derive(Clone, Copy, PartialEq, Eq)]
@@ -109,37 +122,23 @@ fn is_called(words: &[Token<'_>], at: usize) -> bool {
     }
 }
 
-/// The arguments of the call whose name has this index, with their commas.
-fn arguments<'a>(
-    alloc: Global,
-    words: &[Token<'a>],
-    name: usize,
-) -> Result<Vec<Token<'a>>, NoMemory> {
-    let mut given = Vec::new(alloc);
-    for (at, word) in words.iter().enumerate() {
-        if at <= name.saturating_add(1) {
-            continue;
-        }
+/// The words between the parentheses of the call whose name has this index: its arguments, with their commas.
+fn arguments<'w, 'a: 'w>(words: &'w [Token<'a>], name: usize) -> &'w [Token<'a>] {
+    let from = name.saturating_add(2);
+    let behind = words.get(from..).unwrap_or(&[]);
+    for (at, word) in behind.iter().enumerate() {
         if word.sort == Sort::Close {
-            break;
+            return behind.get(..at).unwrap_or(behind);
         }
-        given.push(*word)?;
     }
-    Ok(given)
+    behind
 }
 
-/// Whether a call of this name with so many stars as arguments is one.
-fn takes(alloc: Global, name: &[u8], count: usize) -> Result<bool, NoMemory> {
+/// Whether a call of this name with these arguments is one.
+fn takes(alloc: Global, name: &[u8], arguments: &[u8]) -> Result<bool, NoMemory> {
     let mut text = Vec::new(alloc);
     text.extend_from_slice(name)?;
-    text.push(b'(')?;
-    for at in 0..count {
-        if at > 0 {
-            text.push(b',')?;
-        }
-        text.push(b'*')?;
-    }
-    text.push(b')')?;
+    text.extend_from_slice(arguments)?;
     match parse(alloc, text.as_slice(), &[]) {
         Ok(_) => Ok(true),
         Err(ConsError::NoMemory) => Err(NoMemory),
@@ -150,25 +149,23 @@ fn takes(alloc: Global, name: &[u8], count: usize) -> Result<bool, NoMemory> {
 /// The least and the greatest number of arguments that a function takes, where there is one of this name.
 fn arity(alloc: Global, name: &[u8]) -> Result<Option<(usize, usize)>, NoMemory> {
     let mut found: Option<(usize, usize)> = None;
-    for count in 0..MANY_ARGUMENTS {
-        if takes(alloc, name, count)? {
-            found = match found {
-                Some((least, _)) => Some((least, count)),
-                None => Some((count, count)),
-            };
+    for (count, arguments) in ARGUMENTS.iter().enumerate() {
+        if takes(alloc, name, arguments)? {
+            let (least, _) = found.unwrap_or((count, count));
+            found = Some((least, count));
         }
     }
     Ok(found)
 }
 
-/// The cause of a call that is at fault.
+/// The cause of a call that is at fault. A comma stands between two arguments of those given.
 fn miscalled<'a>(
     alloc: Global,
     name: &Token<'a>,
     given: &[Token<'a>],
     wrong: ConsError,
 ) -> Result<Option<Seen<'a>>, NoMemory> {
-    let count = given.iter().filter(|word| word.sort != Sort::Comma).count();
+    let count = given.len().saturating_add(1) / 2;
     let cause = match (arity(alloc, name.bytes)?, wrong) {
         (None, ConsError::UnknownFunction) => Cause::Function(name.bytes),
         (Some((least, most)), ConsError::Arity) if count < least || most < count => Cause::Arity {
@@ -198,7 +195,12 @@ fn stray_pass<'a>(name: &Token<'a>, given: &[Token<'a>]) -> Option<Seen<'a>> {
 
 /// Whether one of the constraint lines has this label.
 fn has_label(constraint: &[Written<'_>], label: u8) -> bool {
-    is_label(label) && constraint.iter().any(|line| line.word().contains(&label))
+    for line in constraint {
+        if is_label(label) && line.word().contains(&label) {
+            return true;
+        }
+    }
+    false
 }
 
 /// The first argument of these that is a letter and no label.
@@ -226,10 +228,10 @@ fn first_call<'a>(
         if !is_called(words, at) {
             continue;
         }
-        let given = arguments(alloc, words, at)?;
+        let given = arguments(words, at);
         let found = match wrong {
-            ConsError::UnknownLabel => unlabelled(constraint, given.as_slice()),
-            _ => miscalled(alloc, word, given.as_slice(), wrong)?,
+            ConsError::UnknownLabel => unlabelled(constraint, given),
+            _ => miscalled(alloc, word, given, wrong)?,
         };
         if found.is_some() {
             return Ok(found);
@@ -267,22 +269,21 @@ pub(crate) fn said<'a>(
     lines: &[Written<'a>],
     kind: u8,
 ) -> Result<Option<Seen<'a>>, NoMemory> {
-    let own = of_role(alloc, lines, Role::Expression)?;
-    let constraint = of_role(alloc, lines, Role::Constraint)?;
-    let words = tokens(alloc, lines)?;
-    let text = joined(alloc, own.as_slice())?;
+    let own = of_role(lines, Role::Expression);
     let Some(first) = own.first() else {
         return Ok(None);
     };
+    let constraint = of_role(lines, Role::Constraint);
+    let words = tokens(alloc, lines)?;
     if kind == 16 {
-        let wrong = ConsError::UnknownLabel;
-        return first_call(alloc, words.as_slice(), constraint.as_slice(), wrong);
+        return first_call(alloc, words.as_slice(), constraint, ConsError::UnknownLabel);
     }
+    let text = joined(alloc, own)?;
     match parse(alloc, text.as_slice(), &[]) {
         Err(ConsError::NoMemory) => Err(NoMemory),
         Err(ConsError::Syntax) => Ok(no_expression(text.as_slice(), first, words.as_slice())),
         Err(ConsError::TooDeep) => Ok(Some(seen_at(first, 0, Cause::Deep))),
-        Err(wrong) => first_call(alloc, words.as_slice(), constraint.as_slice(), wrong),
+        Err(wrong) => first_call(alloc, words.as_slice(), constraint, wrong),
         Ok(_) => Ok(None),
     }
 }

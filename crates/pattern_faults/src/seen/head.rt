@@ -31,7 +31,10 @@ pub(crate) fn name<'a>(line: &Written<'a>) -> Option<Seen<'a>> {
     if name.len() > 80 {
         return Some(seen_at(line, before, Cause::LongName(name.len())));
     }
-    let at = name.iter().position(|byte| !byte.is_ascii_graphic())?;
-    let byte = *name.get(at)?;
-    Some(seen_at(line, before.saturating_add(at), Cause::NameByte(byte)))
+    for (at, byte) in name.iter().enumerate() {
+        if !byte.is_ascii_graphic() {
+            return Some(seen_at(line, before.saturating_add(at), Cause::NameByte(*byte)));
+        }
+    }
+    None
 }
