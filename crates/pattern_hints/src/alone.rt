@@ -3,18 +3,28 @@
 use go_base::{Cell, Colour};
 use pat_types::{Drawn, Letter, Mark, Pattern, drawn_in, letter_fits, mark_count};
 
-/// The offset of a cell from the star, turned and mirrored by one of the eight transformations.
-fn turned(by: u8, down: i16, right: i16) -> (i16, i16) {
-    match by {
-        0 => (down, right),
-        1 => (right, down.wrapping_neg()),
-        2 => (down.wrapping_neg(), right.wrapping_neg()),
-        3 => (right.wrapping_neg(), down),
-        4 => (down, right.wrapping_neg()),
-        5 => (right.wrapping_neg(), down.wrapping_neg()),
-        6 => (down.wrapping_neg(), right),
-        _ => (right, down),
-    }
+/// The eight transformations, each by how often the offsets down and right of a cell count in its new offset down, and
+/// in its new offset right.
+const TURNS: [[i16; 4]; 8] = [
+    [1, 0, 0, 1],
+    [0, 1, -1, 0],
+    [-1, 0, 0, -1],
+    [0, -1, 1, 0],
+    [1, 0, 0, -1],
+    [0, -1, -1, 0],
+    [-1, 0, 0, 1],
+    [0, 1, 1, 0],
+];
+
+/// The offset of a cell from the star, turned and mirrored by a transformation.
+fn turned(turn: &[i16; 4], down: i16, right: i16) -> (i16, i16) {
+    let [down_down, right_down, down_right, right_right] = *turn;
+    (
+        down.wrapping_mul(down_down)
+            .wrapping_add(right.wrapping_mul(right_down)),
+        down.wrapping_mul(down_right)
+            .wrapping_add(right.wrapping_mul(right_right)),
+    )
 }
 
 /// Whether a letter admits a cell only where another admits it.
@@ -38,7 +48,7 @@ fn cell_implies(drawn: Drawn, other: Drawn) -> bool {
 }
 
 /// Whether a diagram fits only where another, turned in this way, fits with its star at the same point.
-fn diagram_implies(pattern: &Pattern, other: &Pattern, by: u8) -> bool {
+fn diagram_implies(pattern: &Pattern, other: &Pattern, turn: &[i16; 4]) -> bool {
     let (star_row, star_column) = (other.star.0 as i16, other.star.1 as i16);
     let (down, right) = (pattern.star.0 as i16, pattern.star.1 as i16);
     for row in -1..=other.rows as i16 {
@@ -48,7 +58,7 @@ fn diagram_implies(pattern: &Pattern, other: &Pattern, by: u8) -> bool {
                 continue;
             }
             let (r, c) = turned(
-                by,
+                turn,
                 row.wrapping_sub(star_row),
                 column.wrapping_sub(star_column),
             );
@@ -66,13 +76,32 @@ fn has_class(pattern: &Pattern, letter: u8) -> bool {
     pattern.classes.as_slice().contains(&letter)
 }
 
+/// Whether a pattern names a helper that is asked.
+fn asks_helper(pattern: &Pattern) -> bool {
+    for item in pattern.items.as_slice() {
+        if item.text.is_none() && item.name.as_slice() != b"NULL".as_slice() {
+            return true;
+        }
+    }
+    false
+}
+
 /// Whether a pattern asks nothing that another does not ask too, but for its diagram.
 fn asks_no_more(other: &Pattern, pattern: &Pattern) -> bool {
-    let asks_helper = other.items.as_slice().iter().any(|item| item.text.is_none()
-        && item.name.as_slice() != b"NULL".as_slice());
     let is_safe = has_class(other, b's') || !has_class(pattern, b's');
     let is_open = !has_class(other, b'n') || has_class(pattern, b'n');
-    other.constraint.is_none() && !asks_helper && is_safe && is_open
+    other.constraint.is_none() && !asks_helper(other) && is_safe && is_open
+}
+
+/// How many of the transformations may turn a pattern so that it is tried wherever another is, the first ones.
+fn tried_turns(pattern: &Pattern, other: &Pattern) -> usize {
+    if other.mark == Mark::Eight {
+        TURNS.len()
+    } else if mark_count(pattern.mark) <= mark_count(other.mark) {
+        1
+    } else {
+        0
+    }
 }
 
 /// Whether a pattern matches only where another matches at the same point. Where this is not seen it may still be so.
@@ -80,9 +109,10 @@ pub(crate) fn never_alone(pattern: &Pattern, other: &Pattern) -> bool {
     if !asks_no_more(other, pattern) {
         return false;
     }
-    if other.mark != Mark::Eight {
-        let tried = mark_count(pattern.mark) <= mark_count(other.mark);
-        return tried && diagram_implies(pattern, other, 0);
+    for turn in TURNS.iter().take(tried_turns(pattern, other)) {
+        if diagram_implies(pattern, other, turn) {
+            return true;
+        }
     }
-    (0..8u8).any(|by| diagram_implies(pattern, other, by))
+    false
 }

@@ -1,6 +1,7 @@
 //! What is told of a text that is no fault, in words.
 
-use pattern_faults::{Shown, ShownByte};
+use pattern_faults::Value::{self, Byte, Bytes, Line, Nothing};
+use pattern_faults::write_words;
 use std::fmt::{self, Display, Formatter, Write};
 
 /// What an author may not have meant.
@@ -35,41 +36,42 @@ pub enum Caution<'a> {
     NoEntry,
 }
 
+impl<'a> Caution<'a> {
+    /// The words of a caution, which have a `{}` in the place of each value.
+    fn words(&self) -> &'static str {
+        match self {
+            Caution::BehindRow(_) => "a row ends at its first blank; '{}' is passed over",
+            Caution::NearPattern(_) => {
+                "a line before the first entry is passed over; is Pattern meant by '{}'?"
+            }
+            Caution::UnusedLabel(_) => "no expression uses the label '{}'",
+            Caution::ClassCase { .. } => "the class letter '{}' tests nothing; is '{}' meant?",
+            Caution::SameName { .. } => "the entry of line {} has the same name",
+            Caution::NeverAlone { .. } => {
+                "wherever this entry matches, that of line {} matches at the same point"
+            }
+            Caution::LineEnds => {
+                "some lines end with a carriage return before the line feed, and others do not"
+            }
+            Caution::NoEntry => "the text has no entry",
+        }
+    }
+
+    /// The values that stand in the words, in their order, and nothing behind them.
+    fn values(&self) -> [Value<'a>; 3] {
+        let (first, second) = match *self {
+            Caution::BehindRow(word) | Caution::NearPattern(word) => (Bytes(word), Nothing),
+            Caution::UnusedLabel(label) => (Byte(label), Nothing),
+            Caution::ClassCase { letter, other } => (Byte(letter), Byte(other)),
+            Caution::SameName { line } | Caution::NeverAlone { line } => (Line(line), Nothing),
+            Caution::LineEnds | Caution::NoEntry => (Nothing, Nothing),
+        };
+        [first, second, Nothing]
+    }
+}
+
 impl Display for Caution<'_> {
     fn fmt<W: Write>(&self, f: &mut Formatter<W>) -> fmt::Result {
-        match self {
-            Caution::BehindRow(rest) => write!(
-                f,
-                "a row ends at its first blank; '{}' is passed over",
-                Shown(rest)
-            ),
-            Caution::NearPattern(word) => write!(
-                f,
-                "a line before the first entry is passed over; is Pattern meant by '{}'?",
-                Shown(word)
-            ),
-            Caution::UnusedLabel(label) => {
-                write!(f, "no expression uses the label '{}'", ShownByte(*label))
-            }
-            Caution::ClassCase { letter, other } => write!(
-                f,
-                "the class letter '{}' tests nothing; is '{}' meant?",
-                ShownByte(*letter),
-                ShownByte(*other)
-            ),
-            Caution::SameName { line } => {
-                write!(f, "the entry of line {line} has the same name")
-            }
-            Caution::NeverAlone { line } => write!(
-                f,
-                "wherever this entry matches, that of line {line} matches at the same point"
-            ),
-            Caution::LineEnds => {
-                f.write_str(
-                    "some lines end with a carriage return before the line feed, and others do not",
-                )
-            }
-            Caution::NoEntry => f.write_str("the text has no entry"),
-        }
+        write_words(f, self.words(), &self.values())
     }
 }

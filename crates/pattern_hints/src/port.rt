@@ -3,7 +3,7 @@
 use crate::gnu_go::{EYE_LETTERS, FUNCTIONS, LETTERS};
 use db_lex::trim;
 use pat_types::NoMemory;
-use pattern_faults::{Cause, Fault, Shown, ShownByte};
+use pattern_faults::{Cause, Fault, Value, write_words};
 use pattern_lines::{Part, Place, Sort, lines_in, tokens};
 use std::alloc::Global;
 use std::fmt::{self, Display, Formatter, Write};
@@ -39,69 +39,66 @@ pub enum Port<'a> {
     Ko,
 }
 
+impl<'a> Port<'a> {
+    /// The words of what is told, which have a `{}` in the place of its value.
+    fn words(&self) -> &'static str {
+        match self {
+            Port::Letter(_) => "GNU Go has the letter '{}' in diagrams; gopat has not",
+            Port::EyeLetter(_) => {
+                "GNU Go has the letter '{}' in eye shapes; gopat has no eye shapes"
+            }
+            Port::EyeStars => {
+                "in GNU Go's eye shapes '*' is a vital point, of which there may be none or several; gopat has no eye \
+                 shapes"
+            }
+            Port::EyeValue(_) => {
+                "GNU Go has the eyes of an eye shape, as {}, in place of a mark; gopat has no eye shapes"
+            }
+            Port::Weight(_) => {
+                "GNU Go has a weight of its playouts, as {}, in place of a mark; gopat has no weights"
+            }
+            Port::NoMove => {
+                "GNU Go has patterns without a move, as those of connections and of influence; gopat has not"
+            }
+            Port::LabelAgain(_) => {
+                "in GNU Go the first '{}' counts where several stand; here a label stands once"
+            }
+            Port::Function(_) => "GNU Go has the function {}; gopat has not",
+            Port::Word(_) => { "GNU Go compares with words such as {}; gopat has numbers alone" }
+            Port::Helper(_) => {
+                "GNU Go calls its function {} here; a helper of this name can be handed to gopat's library"
+            }
+            Port::TakenTarget(_) => {
+                "where the moves take the last argument, {} is 3 in GNU Go and 0 here"
+            }
+            Port::DoesAttack => {
+                "does_attack is 0 in GNU Go where the target is lost anyway, and looks at its best defence too; here \
+                 it is 3 less the defend code behind the play"
+            }
+            Port::Ko => "ko of a stone is 1 in GNU Go where the stone can be retaken; here it is 0",
+        }
+    }
+
+    /// The value that stands in the words.
+    fn value(&self) -> Value<'a> {
+        match *self {
+            Port::Letter(letter) | Port::EyeLetter(letter) | Port::LabelAgain(letter) => {
+                Value::Byte(letter)
+            }
+            Port::EyeValue(word)
+            | Port::Weight(word)
+            | Port::Function(word)
+            | Port::Word(word)
+            | Port::Helper(word)
+            | Port::TakenTarget(word) => Value::Bytes(word),
+            Port::EyeStars | Port::NoMove | Port::DoesAttack | Port::Ko => Value::Nothing,
+        }
+    }
+}
+
 impl Display for Port<'_> {
     fn fmt<W: Write>(&self, f: &mut Formatter<W>) -> fmt::Result {
-        match self {
-            Port::Letter(letter) => write!(
-                f,
-                "GNU Go has the letter '{}' in diagrams; gopat has not",
-                ShownByte(*letter)
-            ),
-            Port::EyeLetter(letter) => write!(
-                f,
-                "GNU Go has the letter '{}' in eye shapes; gopat has no eye shapes",
-                ShownByte(*letter)
-            ),
-            Port::EyeStars => f.write_str(
-                "in GNU Go's eye shapes '*' is a vital point, of which there may be none or several; gopat has no eye \
-                 shapes",
-            ),
-            Port::EyeValue(value) => write!(
-                f,
-                "GNU Go has the eyes of an eye shape, as {}, in place of a mark; gopat has no eye shapes",
-                Shown(value)
-            ),
-            Port::Weight(weight) => write!(
-                f,
-                "GNU Go has a weight of its playouts, as {}, in place of a mark; gopat has no weights",
-                Shown(weight)
-            ),
-            Port::NoMove => f.write_str(
-                "GNU Go has patterns without a move, as those of connections and of influence; gopat has not",
-            ),
-            Port::LabelAgain(label) => write!(
-                f,
-                "in GNU Go the first '{}' counts where several stand; here a label stands once",
-                ShownByte(*label)
-            ),
-            Port::Function(name) => write!(
-                f,
-                "GNU Go has the function {}; gopat has not",
-                Shown(name)
-            ),
-            Port::Word(word) => write!(
-                f,
-                "GNU Go compares with words such as {}; gopat has numbers alone",
-                Shown(word)
-            ),
-            Port::Helper(name) => write!(
-                f,
-                "GNU Go calls its function {} here; a helper of this name can be handed to gopat's library",
-                Shown(name)
-            ),
-            Port::TakenTarget(name) => write!(
-                f,
-                "where the moves take the last argument, {} is 3 in GNU Go and 0 here",
-                Shown(name)
-            ),
-            Port::DoesAttack => f.write_str(
-                "does_attack is 0 in GNU Go where the target is lost anyway, and looks at its best defence too; here \
-                 it is 3 less the defend code behind the play",
-            ),
-            Port::Ko => f.write_str(
-                "ko of a stone is 1 in GNU Go where the stone can be retaken; here it is 0",
-            ),
-        }
+        write_words(f, self.words(), &[self.value(), Value::Nothing])
     }
 }
 
@@ -124,18 +121,30 @@ fn is_among(name: &[u8], names: &[&[u8]]) -> bool {
     false
 }
 
+/// Whether all bytes of a field are digits up to this.
+fn are_digits(field: &[u8], most: u8) -> bool {
+    for digit in field {
+        if *digit < b'0' || most < *digit {
+            return false;
+        }
+    }
+    true
+}
+
 /// Whether a first field is the value of an eye shape: a digit from 0 to 2 for each of four cases.
 fn is_eye_value(field: &[u8]) -> bool {
-    field.len() == 4 && field.iter().all(|digit| matches!(*digit, b'0'..=b'2'))
+    field.len() == 4 && are_digits(field, b'2')
 }
 
 /// What a first field is that is no mark, where GNU Go has such fields.
 fn of_mark<'a>(field: &'a [u8]) -> Option<Port<'a>> {
     if is_eye_value(field) {
-        return Some(Port::EyeValue(field));
+        Some(Port::EyeValue(field))
+    } else if !field.is_empty() && are_digits(field, b'9') {
+        Some(Port::Weight(field))
+    } else {
+        None
     }
-    let is_number = !field.is_empty() && field.iter().all(u8::is_ascii_digit);
-    is_number.then_some(Port::Weight(field))
 }
 
 /// What of GNU Go's own a letter of no diagram is.
@@ -167,7 +176,12 @@ pub fn port_of<'a>(fault: &Fault<'a>) -> Option<Port<'a>> {
 /// The first field of a colon line.
 fn first_field(line: &[u8]) -> &[u8] {
     let fields = trim(line).strip_prefix(b":".as_slice()).unwrap_or(&[]);
-    trim(fields.split(|byte| *byte == b',').next().unwrap_or(&[]))
+    for (at, byte) in fields.iter().enumerate() {
+        if *byte == b',' {
+            return trim(fields.get(..at).unwrap_or(fields));
+        }
+    }
+    trim(fields)
 }
 
 /// What a function of this name values otherwise than GNU Go's.

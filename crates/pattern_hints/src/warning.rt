@@ -5,7 +5,7 @@ use crate::caution::Caution;
 use db_lex::is_blank;
 use pat_types::{NoMemory, Pattern};
 use pattern_lines::{
-    Part, Place, Role, Sort, Written, head_of, is_feed, is_letter, lines_in, name_in, tokens,
+    Part, Place, Role, Sort, Token, Written, head_of, is_feed, is_letter, lines_in, name_in, tokens,
 };
 use std::alloc::Global;
 
@@ -40,21 +40,41 @@ fn warning_at<'a>(
     }
 }
 
+/// The warning that is told of the whole text at this line.
+fn warning_of_text<'a>(line: u64, caution: Caution<'a>) -> Warning<'a> {
+    Warning {
+        entry: &[],
+        place: Place {
+            line,
+            column: 1,
+            text: &[],
+        },
+        caution,
+    }
+}
+
 /// How many bytes at the front of both are the same letters, whatever their case.
 fn same_front(word: &[u8], other: &[u8]) -> usize {
-    word.iter()
-        .zip(other)
-        .take_while(|(a, b)| a.eq_ignore_ascii_case(b))
-        .count()
+    let mut count: usize = 0;
+    for (letter, same) in word.iter().zip(other) {
+        if !letter.eq_ignore_ascii_case(same) {
+            break;
+        }
+        count = count.saturating_add(1);
+    }
+    count
 }
 
 /// How many bytes at the end of both are the same letters, whatever their case.
 fn same_end(word: &[u8], other: &[u8]) -> usize {
-    word.iter()
-        .rev()
-        .zip(other.iter().rev())
-        .take_while(|(a, b)| a.eq_ignore_ascii_case(b))
-        .count()
+    let mut count: usize = 0;
+    for (letter, same) in word.iter().rev().zip(other.iter().rev()) {
+        if !letter.eq_ignore_ascii_case(same) {
+            break;
+        }
+        count = count.saturating_add(1);
+    }
+    count
 }
 
 /// Whether a word is `Pattern` but for the case, or but for a letter or two next to each other.
@@ -71,13 +91,20 @@ fn of_front<'a>(line: &Written<'a>) -> Option<Warning<'a>> {
     None
 }
 
+/// Whether all bytes are letters of a diagram, blanks or parts of an edge.
+fn are_drawn(bytes: &[u8]) -> bool {
+    for byte in bytes {
+        if !is_letter(*byte) && !is_blank(*byte) && !b"|+-".contains(byte) {
+            return false;
+        }
+    }
+    true
+}
+
 /// What is told of a row.
 fn of_row<'a>(entry: &'a [u8], line: &Written<'a>) -> Option<Warning<'a>> {
     let rest = line.behind_word();
-    let drawn = rest.iter().all(|byte| is_letter(*byte)
-        || is_blank(*byte)
-        || matches!(*byte, b'|' | b'+' | b'-'));
-    if rest.is_empty() || !drawn {
+    if rest.is_empty() || !are_drawn(rest) {
         return None;
     }
     let at = line.bytes.len().saturating_sub(rest.len());
@@ -93,19 +120,15 @@ fn other_case(letter: u8) -> u8 {
     }
 }
 
-/// What is told of the class letters of a colon line.
+/// What is told of the class letters of a colon line, which stand behind its first comma.
 fn of_classes<'a>(entry: &'a [u8], line: &Written<'a>) -> Option<Warning<'a>> {
-    let from = line.bytes.iter().position(|byte| *byte == b',')?;
-    for (at, letter) in line.bytes.iter().enumerate() {
-        if at <= from {
-            continue;
-        }
-        if *letter == b',' {
-            return None;
-        }
-        let other = other_case(*letter);
-        if !CLASSES.contains(letter) && CLASSES.contains(&other) {
-            let letter = *letter;
+    let mut commas: usize = 0;
+    for (at, byte) in line.bytes.iter().enumerate() {
+        let letter = *byte;
+        let other = other_case(letter);
+        if letter == b',' {
+            commas = commas.saturating_add(1);
+        } else if commas == 1 && !CLASSES.contains(&letter) && CLASSES.contains(&other) {
             return Some(warning_at(entry, line, at, Caution::ClassCase { letter, other }));
         }
     }
@@ -144,11 +167,23 @@ fn label_place<'a>(lines: &[Written<'a>], label: u8) -> Option<Place<'a>> {
         if line.role != Role::Constraint {
             continue;
         }
-        if let Some(at) = line.word().iter().position(|byte| *byte == label) {
-            return Some(line.place(at));
+        for (at, byte) in line.word().iter().enumerate() {
+            if *byte == label {
+                return Some(line.place(at));
+            }
         }
     }
     None
+}
+
+/// Whether one of the words of an expression is this label.
+fn is_named(words: &[Token<'_>], label: u8) -> bool {
+    for word in words {
+        if word.sort == Sort::Name && word.bytes == [label].as_slice() {
+            return true;
+        }
+    }
+    false
 }
 
 /// Puts the labels of an entry that its expression does not name.
@@ -164,13 +199,9 @@ fn push_labels<'a>(
     let lines = lines_in(alloc, part)?;
     let words = tokens(alloc, lines.as_slice())?;
     for label in pattern.labels.as_slice() {
-        let named = words.iter().any(|word| word.sort == Sort::Name
-            && word.bytes.len() == 1
-            && word.bytes.contains(&label.letter));
-        if named {
-            continue;
-        }
-        if let Some(place) = label_place(lines.as_slice(), label.letter) {
+        if !is_named(words.as_slice(), label.letter)
+            && let Some(place) = label_place(lines.as_slice(), label.letter)
+        {
             all.push(Warning {
                 entry: name_in(lines.as_slice()),
                 place,
@@ -181,11 +212,14 @@ fn push_labels<'a>(
     Ok(())
 }
 
-/// The name and the line of an entry.
-#[derive(Clone, Copy, PartialEq, Eq, PartialOrd, Ord)]
-struct Named<'a> {
-    name: &'a [u8],
-    line: u64,
+/// The line of the first of these Pattern lines that has this name.
+fn line_of_name(heads: &[Written<'_>], name: &[u8]) -> Option<u64> {
+    for head in heads {
+        if head.name() == name {
+            return Some(head.number);
+        }
+    }
+    None
 }
 
 /// Puts the entries that have the name of one above.
@@ -194,28 +228,16 @@ fn push_names<'a>(
     all: &mut Vec<Warning<'a>>,
     parts: &[Part<'a>],
 ) -> Result<(), NoMemory> {
-    let mut named: Vec<Named> = Vec::new(alloc);
-    for part in parts {
-        if let Some(head) = head_of(part) {
-            named.push(Named {
-                name: head.name(),
-                line: head.number,
-            })?;
-        }
-    }
-    named.sort_unstable();
+    let mut above = Vec::new(alloc);
     for part in parts {
         let Some(head) = head_of(part) else {
             continue;
         };
-        let first = named.partition_point(|other| other.name < head.name());
-        if let Some(other) = named.get(first)
-            && other.name == head.name()
-            && other.line < head.number
-            && !other.name.is_empty()
-        {
-            let caution = Caution::SameName { line: other.line };
-            all.push(warning_at(head.name(), &head, 0, caution))?;
+        let name = head.name();
+        if let Some(line) = line_of_name(above.as_slice(), name) {
+            all.push(warning_at(name, &head, 0, Caution::SameName { line }))?;
+        } else if !name.is_empty() {
+            above.push(head)?;
         }
     }
     Ok(())
@@ -262,15 +284,7 @@ fn push_ends<'a>(all: &mut Vec<Warning<'a>>, text: &'a [u8]) -> Result<(), NoMem
         let has_return = line.ends_with(b"\r\n".as_slice());
         let is_first = *first.get_or_insert(has_return) == has_return;
         if !is_first && line.ends_with(b"\n".as_slice()) {
-            all.push(Warning {
-                entry: &[],
-                place: Place {
-                    line: number,
-                    column: 1,
-                    text: &[],
-                },
-                caution: Caution::LineEnds,
-            })?;
+            all.push(warning_of_text(number, Caution::LineEnds))?;
             return Ok(());
         }
         number = number.saturating_add(1);
@@ -301,15 +315,7 @@ pub fn warnings<'a>(
     push_never_alone(&mut all, entries, patterns)?;
     push_ends(&mut all, text)?;
     if parts.len() < 2 {
-        all.push(Warning {
-            entry: &[],
-            place: Place {
-                line: 1,
-                column: 1,
-                text: &[],
-            },
-            caution: Caution::NoEntry,
-        })?;
+        all.push(warning_of_text(1, Caution::NoEntry))?;
     }
     all.sort_by_key(|warning| warning.place.line)?;
     Ok(all)
