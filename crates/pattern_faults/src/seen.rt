@@ -14,6 +14,7 @@ use go_base::Bytes;
 use pat_types::NoMemory;
 use pattern_lines::{Part, Place, Role, Written, is_bad, lines_in, name_in};
 use std::alloc::Global;
+use std::ops::Range;
 
 /// A cause and where it is seen.
 #[derive(Clone, Copy)]
@@ -32,12 +33,8 @@ fn seen_at<'a>(line: &Written<'a>, at: usize, cause: Cause<'a>) -> Seen<'a> {
     }
 }
 
-/// The lines of an entry that are this, above the line of this number. They stand one below the other.
-fn of_role_above<'l, 'a: 'l>(
-    lines: &'l [Written<'a>],
-    role: Role,
-    number: u64,
-) -> &'l [Written<'a>] {
+/// Where the lines of an entry that are this stand, above the line of this number: one below the other.
+fn places_above(lines: &[Written<'_>], role: Role, number: u64) -> Range<usize> {
     let mut from: usize = 0;
     let mut to: usize = 0;
     for (at, line) in lines.iter().enumerate() {
@@ -46,12 +43,12 @@ fn of_role_above<'l, 'a: 'l>(
             to = at.saturating_add(1);
         }
     }
-    lines.get(from..to).unwrap_or(&[])
+    from..to
 }
 
-/// The lines of an entry that are this.
-fn of_role<'l, 'a: 'l>(lines: &'l [Written<'a>], role: Role) -> &'l [Written<'a>] {
-    of_role_above(lines, role, u64::MAX)
+/// Where the lines of an entry that are this stand.
+fn places_of(lines: &[Written<'_>], role: Role) -> Range<usize> {
+    places_above(lines, role, u64::MAX)
 }
 
 /// The line of this number, where it is one of these.

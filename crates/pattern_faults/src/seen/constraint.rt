@@ -1,6 +1,6 @@
 //! Faults of a constraint diagram.
 
-use super::{Seen, line_of, of_role, of_role_above, seen_at};
+use super::{Seen, line_of, places_above, places_of, seen_at};
 use crate::cause::Cause;
 use pattern_lines::{Role, Written, is_letter};
 
@@ -105,9 +105,12 @@ fn of_line<'a>(
 
 /// The cause of a constraint diagram that does not repeat the diagram, by the number of the line at fault.
 pub(crate) fn repeated<'a>(lines: &[Written<'a>], number: u64) -> Option<Seen<'a>> {
-    let diagram = of_role(lines, Role::Diagram);
-    let above = of_role_above(lines, Role::Constraint, number);
-    if let Some(line) = line_of(of_role(lines, Role::Constraint), number) {
+    let diagram = lines.get(places_of(lines, Role::Diagram)).unwrap_or(&[]);
+    let above = lines
+        .get(places_above(lines, Role::Constraint, number))
+        .unwrap_or(&[]);
+    let own = lines.get(places_of(lines, Role::Constraint)).unwrap_or(&[]);
+    if let Some(line) = line_of(own, number) {
         return of_line(above, diagram, line);
     }
     let cause = Cause::ConstraintShort {

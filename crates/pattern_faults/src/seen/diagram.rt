@@ -1,6 +1,6 @@
 //! Faults of a diagram.
 
-use super::{Seen, of_role_above, seen_at};
+use super::{Seen, places_above, seen_at};
 use crate::cause::Cause;
 use pattern_lines::{Role, Written, is_letter};
 
@@ -112,7 +112,9 @@ fn width<'a>(above: &[Written<'a>], line: &Written<'a>) -> Seen<'a> {
 
 /// The cause of a fault of the diagram at one of its lines, or at the colon line below it.
 pub(crate) fn drawn<'a>(lines: &[Written<'a>], line: &Written<'a>, kind: u8) -> Option<Seen<'a>> {
-    let above = of_role_above(lines, Role::Diagram, line.number);
+    let above = lines
+        .get(places_above(lines, Role::Diagram, line.number))
+        .unwrap_or(&[]);
     match kind {
         5 => Some(width(above, line)),
         6 => Some(no_line(above, line)),

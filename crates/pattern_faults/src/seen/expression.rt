@@ -1,7 +1,7 @@
 //! Faults of an expression.
 
 use super::constraint::is_label;
-use super::{Seen, of_role, seen_at};
+use super::{Seen, places_of, seen_at};
 use crate::cause::Cause;
 use cons_parse::{ConsError, parse};
 use pat_types::NoMemory;
@@ -122,16 +122,14 @@ fn is_called(words: &[Token<'_>], at: usize) -> bool {
     }
 }
 
-/// The words between the parentheses of the call whose name has this index: its arguments, with their commas.
-fn arguments<'w, 'a: 'w>(words: &'w [Token<'a>], name: usize) -> &'w [Token<'a>] {
-    let from = name.saturating_add(2);
-    let behind = words.get(from..).unwrap_or(&[]);
-    for (at, word) in behind.iter().enumerate() {
-        if word.sort == Sort::Close {
-            return behind.get(..at).unwrap_or(behind);
+/// The index behind the arguments of the call whose name has this index.
+fn end_of_arguments(words: &[Token<'_>], name: usize) -> usize {
+    for (at, word) in words.iter().enumerate() {
+        if at > name.saturating_add(1) && word.sort == Sort::Close {
+            return at;
         }
     }
-    behind
+    words.len()
 }
 
 /// Whether a call of this name with these arguments is one.
@@ -228,7 +226,8 @@ fn first_call<'a>(
         if !is_called(words, at) {
             continue;
         }
-        let given = arguments(words, at);
+        let arguments = at.saturating_add(2)..end_of_arguments(words, at);
+        let given = words.get(arguments).unwrap_or(&[]);
         let found = match wrong {
             ConsError::UnknownLabel => unlabelled(constraint, given),
             _ => miscalled(alloc, word, given, wrong)?,
@@ -269,11 +268,11 @@ pub(crate) fn said<'a>(
     lines: &[Written<'a>],
     kind: u8,
 ) -> Result<Option<Seen<'a>>, NoMemory> {
-    let own = of_role(lines, Role::Expression);
+    let own = lines.get(places_of(lines, Role::Expression)).unwrap_or(&[]);
     let Some(first) = own.first() else {
         return Ok(None);
     };
-    let constraint = of_role(lines, Role::Constraint);
+    let constraint = lines.get(places_of(lines, Role::Constraint)).unwrap_or(&[]);
     let words = tokens(alloc, lines)?;
     if kind == 16 {
         return first_call(alloc, words.as_slice(), constraint, ConsError::UnknownLabel);
