@@ -52,7 +52,7 @@ fn words_that_begin_with_a_hyphen_are_refused(rt: HostRuntime) -> Result<(), Fai
     for &(name, options, status) in &SURE_RUNS {
         let outcome = run_surely(
             alloc,
-            &words(alloc, &Case { options, ..CASE })?,
+            &words(alloc, options, &[])?,
             &mut SureShelf::new(Vec::new(alloc), Vec::new(alloc)),
             &mut SureFeed::new(Vec::from_slice(alloc, b"name\n")?, 5),
             &mut SurePage::new(),

@@ -1,9 +1,11 @@
 //! The worked sessions, whole and cut into pieces; the longest line; runs that are made twice.
-use super::runs::{CASE, Case, PIECE, ROOM, WHOLE, Way, assert_case, repeated, run_case};
+use super::runs::{CASE, Case, PIECE, ROOM, Ran, WHOLE, Way, assert_case, repeated, run_on};
 use crate::run_in_memory;
 use crate::sessions::SESSIONS;
 use gtp_io::{Feed, Page, Shelf};
 use session::Outcome;
+use std::alloc::Global;
+use std::process::Abort;
 use std::test::Fail;
 
 /// How many bytes a call moves at most: more than any session has, and few.
@@ -93,29 +95,29 @@ static RUNS_MADE_TWICE: [Twice; 2] = [
     },
 ];
 
+/// What comes of the run's lines, where a call moves so many bytes.
+fn ran_by(rt: &impl Abort, alloc: Global, run: &Twice, piece: usize) -> Result<Ran, Fail> {
+    let input = repeated(alloc, run.lines)?;
+    let case = Case {
+        name: run.name,
+        options: run.options,
+        way: Way { piece, ..WHOLE },
+        ..CASE
+    };
+    run_on(rt, alloc, &case, &[], &input)
+}
+
 #[test]
 fn runs_come_to_the_same_again(rt: HostRuntime) -> Result<(), Fail> {
     for run in &RUNS_MADE_TWICE {
-        let input = repeated(rt.alloc(), run.lines)?;
-        let first = Case {
-            name: run.name,
-            options: run.options,
-            input: &input,
-            ..CASE
-        };
-        let ran = run_case(&rt, rt.alloc(), &first)?;
-        let (name, output) = (run.name, ran.output.bytes());
-        assert!(rt; ran.status == 0 && output.len() > run.more_than, "{name}");
-        let again = Case {
-            way: Way {
-                piece: run.piece,
-                ..WHOLE
-            },
-            output,
-            notes: ran.notes.bytes(),
-            ..first
-        };
-        assert_case(&rt, rt.alloc(), &again)?;
+        let name = run.name;
+        let first = ran_by(&rt, rt.alloc(), run, PIECE)?;
+        let again = ran_by(&rt, rt.alloc(), run, run.piece)?;
+        assert!(rt; first.output.bytes().len() > run.more_than, "{name}");
+        assert!(rt; first.output.bytes() == again.output.bytes(), "{name}");
+        assert!(rt; first.notes.bytes() == again.notes.bytes(), "{name}");
+        assert!(rt; [first.status, again.status] == [0, 0], "{name}");
+        assert!(rt; [first.left, again.left] == [0, 0], "{name}");
     }
     Ok(())
 }

@@ -58,7 +58,7 @@ pub(super) struct Case<'a> {
     pub(super) options: &'a [&'a str],
     /// The pattern files, which the words name.
     pub(super) files: &'a [File<'a>],
-    /// Files that no word names.
+    /// Files that no word names, in a run without pattern files.
     pub(super) records: &'a [File<'a>],
     pub(super) input: &'a [u8],
     pub(super) way: Way,
@@ -96,28 +96,46 @@ pub(super) struct Ran {
     pub(super) left: usize,
 }
 
-/// The words of the case's command line.
-pub(super) fn words(alloc: Global, case: &Case<'_>) -> Result<Vec<String>, Fail> {
+/// The words of a command line with these options that names these files.
+pub(super) fn words(
+    alloc: Global,
+    options: &[&str],
+    files: &[File<'_>],
+) -> Result<Vec<String>, Fail> {
     let mut words = Vec::new(alloc);
-    for option in case.options {
+    for option in options {
         words.push(String::from_str(alloc, option)?)?;
     }
-    for file in case.files {
+    for file in files {
         words.push(String::from_str(alloc, file.name)?)?;
     }
     Ok(words)
 }
 
-/// A shelf that holds the case's files.
-fn shelf(rt: &impl Abort, alloc: Global, case: &Case<'_>) -> Result<Shelf, Fail> {
-    let mut names = Vec::new(alloc);
-    let mut contents = Vec::new(alloc);
-    for files in [case.files, case.records] {
-        for file in files {
-            names.push(String::from_str(alloc, file.name)?)?;
-            contents.push(Vec::from_slice(alloc, file.text)?)?;
-        }
+/// What the files hold, one after another.
+fn texts(alloc: Global, files: &[File<'_>]) -> Result<Vec<Vec<u8>>, Fail> {
+    let mut texts = Vec::new(alloc);
+    for file in files {
+        texts.push(Vec::from_slice(alloc, file.text)?)?;
     }
+    Ok(texts)
+}
+
+/// A shelf that holds these files, and the case's records where there are none.
+fn shelf(
+    rt: &impl Abort,
+    alloc: Global,
+    case: &Case<'_>,
+    files: &[File<'_>],
+) -> Result<Shelf, Fail> {
+    let (names, contents) = if files.is_empty() {
+        (
+            words(alloc, &[], case.records)?,
+            texts(alloc, case.records)?,
+        )
+    } else {
+        (words(alloc, &[], files)?, texts(alloc, files)?)
+    };
     let fails = Vec::from_slice(alloc, &[case.way.loader_fails])?;
     assert!(rt; names.len() == contents.len());
     Ok(Shelf::new(names, contents, fails))
@@ -133,10 +151,21 @@ fn helpers(alloc: Global) -> Result<Vec<Box<dyn Helper>>, Fail> {
 
 /// What comes of the case's run.
 pub(super) fn run_case(rt: &impl Abort, alloc: Global, case: &Case<'_>) -> Result<Ran, Fail> {
+    run_on(rt, alloc, case, case.files, case.input)
+}
+
+/// What comes of the case's run with these files and this input in the place of its own.
+pub(super) fn run_on(
+    rt: &impl Abort,
+    alloc: Global,
+    case: &Case<'_>,
+    files: &[File<'_>],
+    input: &[u8],
+) -> Result<Ran, Fail> {
     let way = case.way;
     assert!(rt; way.piece > 0, "a call moves some bytes");
     let source_fails = Vec::from_slice(alloc, &[way.source_fails])?;
-    let mut feed = Feed::new(Vec::from_slice(alloc, case.input)?, way.piece, source_fails);
+    let mut feed = Feed::new(Vec::from_slice(alloc, input)?, way.piece, source_fails);
     let takes = way.piece.min(way.sink_takes);
     assert!(rt; takes > 0, "a call of the sink takes some bytes");
     let sink_fails = Vec::from_slice(alloc, &[way.sink_fails])?;
@@ -145,8 +174,8 @@ pub(super) fn run_case(rt: &impl Abort, alloc: Global, case: &Case<'_>) -> Resul
     let mut notes = Page::new(alloc, ROOM, way.piece, notes_fail)?;
     let outcome = run(
         alloc,
-        &words(alloc, case)?,
-        &mut shelf(rt, alloc, case)?,
+        &words(alloc, case.options, files)?,
+        &mut shelf(rt, alloc, case, files)?,
         &mut feed,
         &mut output,
         &mut notes,
@@ -163,20 +192,25 @@ pub(super) fn run_case(rt: &impl Abort, alloc: Global, case: &Case<'_>) -> Resul
 /// Runs the case, and compares all that came of it.
 pub(super) fn assert_case(rt: &impl Abort, alloc: Global, case: &Case<'_>) -> Result<(), Fail> {
     let ran = run_case(rt, alloc, case)?;
+    compare(rt, case, &ran, case.output);
+    Ok(())
+}
+
+/// Compares all that came of a run with what the case says, but for this output in the place of its own.
+pub(super) fn compare(rt: &impl Abort, case: &Case<'_>, ran: &Ran, output: &[u8]) {
     let (name, notes) = (case.name, ran.notes.bytes());
     let noted = if case.behind_trials.is_empty() {
         notes == case.notes
     } else {
         notes.starts_with(case.notes) && notes.ends_with(case.behind_trials)
     };
-    assert!(rt; ran.output.bytes() == case.output, "the output of: {name}");
+    assert!(rt; ran.output.bytes() == output, "the output of: {name}");
     assert!(rt; noted, "the notes of: {name}");
     assert!(rt; ran.status == case.status, "the exit status of: {name}");
     assert!(rt;
         ran.left == case.left.unwrap_or(ran.left),
         "the bytes left by: {name}"
     );
-    Ok(())
 }
 
 /// These bytes, so many times each.

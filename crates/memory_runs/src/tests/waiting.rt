@@ -1,7 +1,9 @@
 //! Replies that wait: in which call they go out, and what is counted where one is cut.
 use super::counts::STATS;
-use super::runs::{CASE, Case, WHOLE, Way, assert_case, repeated};
+use super::runs::{CASE, Case, WHOLE, Way, compare, repeated, run_on};
 use crate::sessions::File;
+use std::alloc::Global;
+use std::process::Abort;
 use std::test::Fail;
 
 /// Readings of a stone, the second one kept, with a quick line between them and the third.
@@ -673,31 +675,38 @@ static LONG_RUNS: [Long; 11] = [
     },
 ];
 
+/// Runs a run of many replies, and compares all that came of it.
+fn assert_long(rt: &impl Abort, alloc: Global, run: &Long) -> Result<(), Fail> {
+    let case = Case {
+        name: run.name,
+        way: Way {
+            sink_fails: run.sink_fails,
+            ..WHOLE
+        },
+        status: run.status,
+        notes: run.notes,
+        ..CASE
+    };
+    let text = repeated(alloc, run.patterns)?;
+    let input = repeated(alloc, run.lines)?;
+    let output = repeated(alloc, run.output)?;
+    let ran = if text.is_empty() {
+        run_on(rt, alloc, &case, &[], &input)?
+    } else {
+        let file = File {
+            name: "p",
+            text: &text,
+        };
+        run_on(rt, alloc, &case, &[file], &input)?
+    };
+    compare(rt, &case, &ran, &output);
+    Ok(())
+}
+
 #[test]
 fn as_much_waits_as_there_is_room_for(rt: HostRuntime) -> Result<(), Fail> {
     for run in &LONG_RUNS {
-        let text = repeated(rt.alloc(), run.patterns)?;
-        let input = repeated(rt.alloc(), run.lines)?;
-        let output = repeated(rt.alloc(), run.output)?;
-        let file = [File {
-            name: "p",
-            text: &text,
-        }];
-        let files: &[File<'_>] = if text.is_empty() { &[] } else { &file };
-        let case = Case {
-            name: run.name,
-            files,
-            input: &input,
-            way: Way {
-                sink_fails: run.sink_fails,
-                ..WHOLE
-            },
-            status: run.status,
-            output: &output,
-            notes: run.notes,
-            ..CASE
-        };
-        assert_case(&rt, rt.alloc(), &case)?;
+        assert_long(&rt, rt.alloc(), run)?;
     }
     Ok(())
 }
