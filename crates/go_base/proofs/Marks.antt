@@ -173,6 +173,14 @@ marked-difference one other new apart = same_nat_set _ _ (λ q.
     over_not true b c = refl
     over_not false b c = refl
 
+-- a set without members has none that another has not
+pub difference-none : (one other : sets.FinSet nat_cmp) → sets.len one ≡ 0
+    → sets.empty ≡ sets.difference one other
+difference-none one other none = rw (sets.empty_of_len one none) (same_nat_set _ _ (λ q.
+    sets.contains-empty nat_cmp q
+    ∙ sym (sets.contains-difference nat_cmp_total sets.empty other q
+    ∙ ap (λ b. b && not (sets.contains other q)) (sets.contains-empty nat_cmp q))))
+
 -- no number above the points of the largest board is in the set
 pub contains-above : (words : List ℕ) (q : ℕ) → largest_points ≤ q → sets.contains (marked words) q ≡ false
 contains-above words q h = contains-marked words q ∙ ap (λ b. b && is_marked words q) (le-ltb q largest_points h)
