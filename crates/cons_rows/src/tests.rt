@@ -3,12 +3,12 @@
 
 use crate::LibertyCodes;
 use cons_eval::eval;
-use cons_parse::parse;
+use cons_parse::{ConsError, parse};
 use go_base::{Point, Position, Size};
 use go_rules::Colour;
 use pat_types::LabelAt;
 use std::alloc::Global;
-use std::test::Fail;
+use std::process::Abort;
 
 const LABELS: [LabelAt; 2] = [
     LabelAt {
@@ -30,33 +30,33 @@ const ATARI: &str = ".X...XO....X......OO.....";
 const KO: &str = ".OX..O.OX..OX............";
 
 /// The position after a stone is put, with the ban dropped.
-fn played(position: &Position, colour: Colour, p: usize) -> Result<Position, Fail> {
+fn played(position: &Position, colour: Colour, p: usize) -> Option<Position> {
     if p >= usize::from(position.size().points()) {
-        return Err("the point is on the board")?;
+        return None;
     }
-    let next = position
-        .play_free(colour, p as u16)
-        .map_err(|_| "a stone may stand there")?;
-    Ok(next)
+    position.play_free(colour, p as u16).ok()
+}
+
+/// The position after the point of a drawing that has this mark.
+fn marked(position: &Position, mark: u8, p: usize) -> Option<Position> {
+    match mark {
+        b'X' => played(position, Colour::Black, p),
+        b'O' => played(position, Colour::White, p),
+        _ => Some(*position),
+    }
 }
 
 /// The position of a drawing.
-fn drawn(drawing: &str) -> Result<Position, Fail> {
-    let size = Size::new(5).ok_or("five rows are a size")?;
-    let mut position = Position::new(size);
-    for (p, b) in drawing.bytes().enumerate() {
-        let colour = match b {
-            b'X' => Colour::Black,
-            b'O' => Colour::White,
-            _ => continue,
-        };
-        position = played(&position, colour, p)?;
+fn drawn(drawing: &str) -> Option<Position> {
+    let mut position = Position::new(Size::new(5)?);
+    for (p, mark) in drawing.bytes().enumerate() {
+        position = marked(&position, mark, p)?;
     }
-    Ok(position)
+    Some(position)
 }
 
 /// The value of an expression.
-fn value(alloc: Global, env: &mut LibertyCodes, text: &str) -> Result<i64, Fail> {
+fn value(alloc: Global, env: &mut LibertyCodes, text: &str) -> Result<i64, ConsError> {
     let expr = parse(alloc, text.as_bytes(), &LABELS)?;
     Ok(eval(&expr, env))
 }
@@ -135,25 +135,39 @@ static AFTER_KO: [Row; 3] = [
     ("legal_xmove(A)", [0, 7, 0], 1),
 ];
 
-#[test]
-fn functions_on_a_stone_in_atari_and_on_a_ko(rt: HostRuntime) -> Result<(), Fail> {
-    let before = drawn(KO)?;
-    for (position, rows) in [
-        (drawn(ATARI)?, ON_ATARI.as_slice()),
-        (before, BEFORE_KO.as_slice()),
-        (played(&before, Colour::Black, 6)?, AFTER_KO.as_slice()),
-    ] {
-        for &(text, [star, a, b], want) in rows {
-            let mut env = LibertyCodes::new(position, star, a, b).ok_or(
-                "the points are on the board",
-            )?;
-            assert!(rt;
-                value(rt.alloc(), &mut env, text)? == want,
-                "{text} with {star}, {a}, {b}"
-            );
-        }
+/// The value of an expression with the star and the labels A and B at these points.
+fn value_at(
+    alloc: Global,
+    position: Position,
+    [star, a, b]: [Point; 3],
+    text: &str,
+) -> Option<i64> {
+    let mut env = LibertyCodes::new(position, star, a, b)?;
+    value(alloc, &mut env, text).ok()
+}
+
+/// Looks at the values on a position.
+fn compare(rt: &impl Abort, alloc: Global, position: Option<Position>, rows: &[Row]) {
+    let position = position.expect(rt, "the drawing is a position");
+    for &(text, points, want) in rows {
+        let [star, a, b] = points;
+        assert!(rt;
+            value_at(alloc, position, points, text) == Some(want),
+            "{text} with {star}, {a}, {b}"
+        );
     }
-    Ok(())
+}
+
+/// The position of the ko after it is taken.
+fn after_ko() -> Option<Position> {
+    played(&drawn(KO)?, Colour::Black, 6)
+}
+
+#[test]
+fn functions_on_a_stone_in_atari_and_on_a_ko(rt: HostRuntime) {
+    compare(&rt, rt.alloc(), drawn(ATARI), &ON_ATARI);
+    compare(&rt, rt.alloc(), drawn(KO), &BEFORE_KO);
+    compare(&rt, rt.alloc(), after_ko(), &AFTER_KO);
 }
 
 /// An expression with the star at 7 and the labels at 6 and 18, its value where a stone is in atari, and how many codes
@@ -174,13 +188,19 @@ static READINGS: [(&str, i64, u64); 13] = [
     ("does_attack(*,*)", 0, 0),
 ];
 
+/// The value of an expression where a stone is in atari, and how many codes are asked for.
+fn read_on_atari(alloc: Global, text: &str) -> Option<(i64, u64)> {
+    let mut env = LibertyCodes::new(drawn(ATARI)?, 7, 6, 18)?;
+    let got = value(alloc, &mut env, text).ok()?;
+    Some((got, env.asked))
+}
+
 #[test]
-fn a_side_that_is_not_needed_asks_for_no_reading(rt: HostRuntime) -> Result<(), Fail> {
-    let position = drawn(ATARI)?;
+fn a_side_that_is_not_needed_asks_for_no_reading(rt: HostRuntime) {
     for &(text, want, asked) in &READINGS {
-        let mut env = LibertyCodes::new(position, 7, 6, 18).ok_or("the points are on the board")?;
-        let got = value(rt.alloc(), &mut env, text)?;
-        assert!(rt; got == want && env.asked == asked, "{text}");
+        assert!(rt;
+            read_on_atari(rt.alloc(), text) == Some((want, asked)),
+            "{text}"
+        );
     }
-    Ok(())
 }
