@@ -1,6 +1,7 @@
 //! Words and what they give, as `clap` 4 takes them.
 use go_options::{Files, Options, OptionsError, read_options};
 use std::alloc::Global;
+use std::process::Abort;
 use std::test::Fail;
 
 /// Words of a command line, by what they show, and the options that they give.
@@ -146,18 +147,24 @@ fn options_of(alloc: Global, words: &[&str]) -> Result<Options, OptionsError> {
     read_options(alloc, owned.as_slice())
 }
 
+/// Compares all but the files.
+fn compare_values(rt: &impl Abort, options: &Options, given: &Given) {
+    let name = given.name;
+    assert!(rt; options.depth == given.depth, "{name}");
+    assert!(rt; options.branch == given.branch, "{name}");
+    assert!(rt; options.cache == given.cache, "{name}");
+    assert!(rt; options.states == given.states, "{name}");
+    assert!(rt; options.stats == given.stats, "{name}");
+    assert!(rt; options.generate == given.generate, "{name}");
+}
+
 #[test]
 fn words_give_their_options(rt: HostRuntime) -> Result<(), Fail> {
     let alloc = rt.alloc();
     for given in &GIVEN {
         let name = given.name;
         let options = options_of(alloc, given.words)?;
-        assert!(rt; options.depth == given.depth, "{name}");
-        assert!(rt; options.branch == given.branch, "{name}");
-        assert!(rt; options.cache == given.cache, "{name}");
-        assert!(rt; options.states == given.states, "{name}");
-        assert!(rt; options.stats == given.stats, "{name}");
-        assert!(rt; options.generate == given.generate, "{name}");
+        compare_values(&rt, &options, given);
         let files = options.files.as_slice();
         assert!(rt; files.len() == given.files.len(), "{name}");
         assert!(rt;
@@ -168,13 +175,18 @@ fn words_give_their_options(rt: HostRuntime) -> Result<(), Fail> {
     Ok(())
 }
 
+/// Whether words are refused as words that are wrong.
+fn are_refused(alloc: Global, words: &[&str]) -> bool {
+    match options_of(alloc, words) {
+        Ok(_) => false,
+        Err(error) => error == OptionsError::Usage,
+    }
+}
+
 #[test]
 fn wrong_words_are_refused(rt: HostRuntime) {
     for &(name, words) in &REFUSED {
-        match options_of(rt.alloc(), words) {
-            Ok(_) => assert!(rt; false, "{name}"),
-            Err(error) => assert!(rt; error == OptionsError::Usage, "{name}"),
-        }
+        assert!(rt; are_refused(rt.alloc(), words), "{name}");
     }
 }
 

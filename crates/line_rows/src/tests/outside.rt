@@ -3,8 +3,10 @@ use gtp_io::{
     Failed, Feed, FileLoader, LoadError, Loader, Page, Shelf, Sink, Source, StdSink, StdSource,
     SureFeed, SurePage, SureShelf,
 };
-use std::alloc::Global;
+use std::alloc::{AllocError, Global};
 use std::io::{Read, Write};
+use std::process::Abort;
+use std::rt::Files;
 use std::test::Fail;
 use std::{fs, io};
 
@@ -50,55 +52,110 @@ impl Write for OneByOne {
     }
 }
 
-/// A call of a feed and one of a page, and what they come to.
-struct Call {
-    name: &'static str,
-    given: Result<usize, Failed>,
-    taken: Result<usize, Failed>,
-}
+/// What the calls of a source give, one behind the other, each to a buffer of eight bytes.
+type Given = (&'static str, Result<usize, Failed>);
 
-/// The calls of a feed of five bytes and of a page with room for five, each by three bytes, of which the second fails.
-static CALLS: [Call; 4] = [
-    Call {
-        name: "a piece",
-        given: Ok(3),
-        taken: Ok(3),
-    },
-    Call {
-        name: "the call that is listed",
-        given: Err(Failed),
-        taken: Err(Failed),
-    },
-    Call {
-        name: "the rest of the bytes, and the room left",
-        given: Ok(2),
-        taken: Ok(2),
-    },
-    Call {
-        name: "the end of the bytes, and no room left",
-        given: Ok(0),
-        taken: Err(Failed),
-    },
+/// Calls of a feed of five bytes, by three, of which the second fails.
+static FEED: [Given; 4] = [
+    ("a piece", Ok(3)),
+    ("the call that is listed", Err(Failed)),
+    ("the rest of the bytes", Ok(2)),
+    ("the end of the bytes", Ok(0)),
 ];
 
-#[test]
-fn feeds_and_pages_go_by_pieces_and_fail_where_told(rt: HostRuntime) -> Result<(), Fail> {
-    let alloc = rt.alloc();
+/// Calls of a feed of five bytes, by four, that never fails.
+static SURE_FEED: [Given; 1] = [("a piece of a feed that never fails", Ok(4))];
+
+/// Calls of the standard source of a reader of four bytes.
+static READER: [Given; 2] = [("all bytes of a reader", Ok(4)), ("its end", Ok(0))];
+
+/// Calls of the standard source of a reader that fails.
+static BROKEN_READER: [Given; 1] = [("a reader that fails", Err(Failed))];
+
+/// Takes the bytes of a source call by call.
+fn compare_given(rt: &impl Abort, source: &mut impl Source, calls: &[Given]) {
     let mut buf = [0u8; 8];
-    let text = Vec::from_slice(alloc, b"name\n")?;
-    let mut feed = Feed::new(text, 3, Vec::from_slice(alloc, &[2])?);
-    let mut page = Page::new(alloc, 5, 3, Vec::from_slice(alloc, &[2])?)?;
-    for call in &CALLS {
-        let name = call.name;
-        assert!(rt; feed.next(&mut buf) == call.given, "{name}");
-        assert!(rt; page.put(b"name") == call.taken, "{name}");
+    for &(name, want) in calls {
+        assert!(rt; source.next(&mut buf) == want, "{name}");
     }
+}
+
+/// What is put on a sink by its calls, one behind the other, and how many bytes each takes.
+type Taken = (&'static str, &'static [u8], Result<usize, Failed>);
+
+/// Calls of a page with room for five bytes, by three, of which the second fails.
+static PAGE: [Taken; 4] = [
+    ("a piece", b"name", Ok(3)),
+    ("the call that is listed", b"name", Err(Failed)),
+    ("the room left", b"name", Ok(2)),
+    ("no room left", b"name", Err(Failed)),
+];
+
+/// Calls of the page that never fails.
+static SURE_PAGE: [Taken; 1] = [("a page that never fails", b"name", Ok(4))];
+
+/// Calls of the standard sink of a list of bytes.
+static WRITER: [Taken; 1] = [("all bytes of a piece", b"name", Ok(4))];
+
+/// Calls of the standard sink of a writer that fails.
+static BROKEN_WRITER: [Taken; 1] = [("a writer that fails", b"name", Err(Failed))];
+
+/// Calls of the standard sink of a writer that takes one byte of a call.
+static ONE_BY_ONE: [Taken; 2] = [
+    ("a sink tells how many bytes were taken", b"name", Ok(1)),
+    ("the next byte", b"ame", Ok(1)),
+];
+
+/// Puts pieces on a sink call by call.
+fn compare_taken(rt: &impl Abort, sink: &mut impl Sink, calls: &[Taken]) {
+    for &(name, piece, want) in calls {
+        assert!(rt; sink.put(piece) == want, "{name}");
+    }
+}
+
+/// A feed of five bytes, by three, whose second call fails.
+fn feed(alloc: Global) -> Result<Feed, AllocError> {
+    let fails = Vec::from_slice(alloc, &[2])?;
+    Ok(Feed::new(Vec::from_slice(alloc, b"name\n")?, 3, fails))
+}
+
+#[test]
+fn feeds_go_by_pieces_and_fail_where_told(rt: HostRuntime) -> Result<(), Fail> {
+    let mut feed = feed(rt.alloc())?;
+    compare_given(&rt, &mut feed, &FEED);
     assert!(rt; feed.left() == b"".as_slice());
-    assert!(rt; page.bytes() == b"namna".as_slice());
-    let mut sure = SureFeed::new(Vec::from_slice(alloc, b"name\n")?, 4);
-    assert!(rt; sure.next(&mut buf) == Ok(4));
-    assert!(rt; SurePage::new().put(b"name") == Ok(4));
+    let mut sure = SureFeed::new(Vec::from_slice(rt.alloc(), b"name\n")?, 4);
+    compare_given(&rt, &mut sure, &SURE_FEED);
     Ok(())
+}
+
+#[test]
+fn pages_go_by_pieces_and_fail_where_told(rt: HostRuntime) -> Result<(), Fail> {
+    let fails = Vec::from_slice(rt.alloc(), &[2])?;
+    let mut page = Page::new(rt.alloc(), 5, 3, fails)?;
+    compare_taken(&rt, &mut page, &PAGE);
+    assert!(rt; page.bytes() == b"namna".as_slice());
+    compare_taken(&rt, &mut SurePage::new(), &SURE_PAGE);
+    Ok(())
+}
+
+#[test]
+fn standard_streams_pass_bytes_on(rt: HostRuntime) {
+    compare_given(&rt, &mut StdSource::new(b"name".as_slice()), &READER);
+    compare_given(&rt, &mut StdSource::new(Broken), &BROKEN_READER);
+    compare_taken(&rt, &mut StdSink::new(Vec::new(rt.alloc())), &WRITER);
+    compare_taken(&rt, &mut StdSink::new(Broken), &BROKEN_WRITER);
+}
+
+#[test]
+fn standard_sinks_flush_each_time(rt: HostRuntime) {
+    let mut writer = OneByOne {
+        bytes: Vec::new(rt.alloc()),
+        flushes: 0,
+    };
+    compare_taken(&rt, &mut StdSink::new(&mut writer), &ONE_BY_ONE);
+    assert!(rt; writer.bytes.as_slice() == b"na".as_slice());
+    assert!(rt; writer.flushes == 2);
 }
 
 /// Names and the contents that stand by them on a shelf.
@@ -112,148 +169,200 @@ fn shelved(alloc: Global, list: &[(&str, &[u8])]) -> Result<(Vec<String>, Vec<Ve
     Ok((names, contents))
 }
 
-/// Loads that fail: why, and the name.
-static MISSED: [(&str, &str); 2] = [
-    ("a name that is not there", "c"),
-    ("the call that is listed", "b"),
-];
+/// What stands on the shelves.
+static SHELVED: [(&str, &[u8]); 3] = [("a", b"one"), ("b", b"two"), ("a", b"three")];
 
-#[test]
-fn shelf_gives_the_first_of_equal_names(rt: HostRuntime) -> Result<(), Fail> {
-    let alloc = rt.alloc();
-    let (names, contents) = shelved(alloc, &[("a", b"one"), ("b", b"two"), ("a", b"three")])?;
-    assert!(rt; names.len() == contents.len());
-    let mut shelf = Shelf::new(names, contents, Vec::from_slice(alloc, &[3])?);
-    let joined = shelf.load("a", Vec::from_slice(alloc, b"zero ")?)?;
-    assert!(rt; joined.as_slice() == b"zero one".as_slice());
-    for &(call, name) in &MISSED {
-        let missed = shelf.load(name, Vec::new(alloc));
-        assert!(rt; missed == Err(LoadError::Failed), "{call}");
-    }
-    let (names, contents) = shelved(alloc, &[("a", b"one")])?;
-    assert!(rt; names.len() == contents.len());
-    let mut sure = SureShelf::new(names, contents);
-    for (name, want) in [("a", b"one".as_slice()), ("c", b"")] {
-        let loaded = sure.load(name, Vec::new(alloc))?;
-        assert!(rt; loaded.as_slice() == want, "{name}");
-    }
-    Ok(())
-}
-
-#[test]
-fn standard_streams_pass_bytes_on_and_sinks_flush_each_time(rt: HostRuntime) -> Result<(), Fail> {
-    let alloc = rt.alloc();
-    let mut buf = [0u8; 8];
-    let mut source = StdSource::new(b"name".as_slice());
-    assert!(rt; source.next(&mut buf) == Ok(4));
-    assert!(rt; source.next(&mut buf) == Ok(0));
-    assert!(rt; StdSource::new(Broken).next(&mut buf) == Err(Failed));
-    assert!(rt; StdSink::new(Vec::new(alloc)).put(b"name") == Ok(4));
-    assert!(rt; StdSink::new(Broken).put(b"name") == Err(Failed));
-    let mut writer = OneByOne {
-        bytes: Vec::new(alloc),
-        flushes: 0,
-    };
-    let mut sink = StdSink::new(&mut writer);
-    assert!(rt;
-        sink.put(b"name") == Ok(1),
-        "a sink tells how many bytes were taken"
-    );
-    assert!(rt; sink.put(b"ame") == Ok(1));
-    assert!(rt; writer.bytes.as_slice() == b"na".as_slice());
-    assert!(rt; writer.flushes == 2);
-    Ok(())
-}
-
-/// A file that is written, the path that is loaded behind some bytes by a loader that reads so many bytes of a file,
-/// and what is loaded then, unless the load fails.
+/// A name that is loaded behind some bytes, and what is loaded then, unless the load fails.
 struct Load {
+    what: &'static str,
     name: &'static str,
-    text: &'static str,
-    path: &'static str,
     front: &'static [u8],
-    most: Option<usize>,
     want: Option<&'static [u8]>,
 }
 
-static LOADS: [Load; 7] = [
+/// Loads from a shelf whose third call fails, one behind the other.
+static FROM_SHELF: [Load; 3] = [
     Load {
-        name: "a file by its path",
-        text: "text",
-        path: "gtp_io_sample.txt",
-        front: b"some ",
-        most: None,
-        want: Some(b"some text"),
+        what: "the first of equal names, behind others",
+        name: "a",
+        front: b"zero ",
+        want: Some(b"zero one"),
     },
     Load {
-        name: "no file by another path",
-        text: "text",
-        path: "no_such_file",
+        what: "a name that is not there",
+        name: "c",
         front: b"",
-        most: None,
         want: None,
     },
     Load {
-        name: "a file of the greatest length",
-        text: "text",
-        path: "gtp_io_sample.txt",
+        what: "the call that is listed",
+        name: "b",
         front: b"",
-        most: Some(4),
-        want: Some(b"text"),
-    },
-    Load {
-        name: "a file that is longer by a byte",
-        text: "text",
-        path: "gtp_io_sample.txt",
-        front: b"",
-        most: Some(3),
-        want: None,
-    },
-    Load {
-        name: "a byte less than the greatest length, behind others",
-        text: "abc",
-        path: "gtp_io_sample.txt",
-        front: b"# ",
-        most: Some(4),
-        want: Some(b"# abc"),
-    },
-    Load {
-        name: "all bytes of the greatest length, behind others",
-        text: "abcd",
-        path: "gtp_io_sample.txt",
-        front: b"# ",
-        most: Some(4),
-        want: Some(b"# abcd"),
-    },
-    Load {
-        name: "a byte more than the greatest length",
-        text: "abcde",
-        path: "gtp_io_sample.txt",
-        front: b"# ",
-        most: Some(4),
         want: None,
     },
 ];
 
+/// Loads from a shelf that never fails.
+static FROM_SURE_SHELF: [Load; 2] = [
+    Load {
+        what: "the first of equal names",
+        name: "a",
+        front: b"",
+        want: Some(b"one"),
+    },
+    Load {
+        what: "nothing for a name that is not there",
+        name: "c",
+        front: b"",
+        want: Some(b""),
+    },
+];
+
+/// Whether what is loaded is what is wanted.
+fn is_wanted(loaded: &Result<Vec<u8>, LoadError>, want: Option<&[u8]>) -> bool {
+    match loaded {
+        Ok(bytes) => want == Some(bytes.as_slice()),
+        Err(error) => want.is_none() && *error == LoadError::Failed,
+    }
+}
+
+/// Loads a name, and compares.
+fn compare_loaded(
+    rt: &impl Abort,
+    alloc: Global,
+    loader: &mut impl Loader,
+    load: &Load,
+) -> Result<(), AllocError> {
+    let what = load.what;
+    let loaded = loader.load(load.name, Vec::from_slice(alloc, load.front)?);
+    assert!(rt; is_wanted(&loaded, load.want), "{what}");
+    Ok(())
+}
+
+#[test]
+fn shelf_gives_the_first_of_equal_names(rt: HostRuntime) -> Result<(), Fail> {
+    let fails = Vec::from_slice(rt.alloc(), &[3])?;
+    let (names, contents) = shelved(rt.alloc(), &SHELVED)?;
+    assert!(rt; names.len() == contents.len());
+    let mut shelf = Shelf::new(names, contents, fails);
+    for load in &FROM_SHELF {
+        compare_loaded(&rt, rt.alloc(), &mut shelf, load)?;
+    }
+    Ok(())
+}
+
+#[test]
+fn sure_shelf_is_empty_for_other_names(rt: HostRuntime) -> Result<(), Fail> {
+    let (names, contents) = shelved(rt.alloc(), &SHELVED)?;
+    assert!(rt; names.len() == contents.len());
+    let mut shelf = SureShelf::new(names, contents);
+    for load in &FROM_SURE_SHELF {
+        compare_loaded(&rt, rt.alloc(), &mut shelf, load)?;
+    }
+    Ok(())
+}
+
+/// A file that is written, and a load of a path by a loader that reads so many bytes of a file.
+struct Written {
+    text: &'static str,
+    most: Option<usize>,
+    load: Load,
+}
+
+static WRITTEN: [Written; 7] = [
+    Written {
+        text: "text",
+        most: None,
+        load: Load {
+            what: "a file by its path",
+            name: "gtp_io_sample.txt",
+            front: b"some ",
+            want: Some(b"some text"),
+        },
+    },
+    Written {
+        text: "text",
+        most: None,
+        load: Load {
+            what: "no file by another path",
+            name: "no_such_file",
+            front: b"",
+            want: None,
+        },
+    },
+    Written {
+        text: "text",
+        most: Some(4),
+        load: Load {
+            what: "a file of the greatest length",
+            name: "gtp_io_sample.txt",
+            front: b"",
+            want: Some(b"text"),
+        },
+    },
+    Written {
+        text: "text",
+        most: Some(3),
+        load: Load {
+            what: "a file that is longer by a byte",
+            name: "gtp_io_sample.txt",
+            front: b"",
+            want: None,
+        },
+    },
+    Written {
+        text: "abc",
+        most: Some(4),
+        load: Load {
+            what: "a byte less than the greatest length, behind others",
+            name: "gtp_io_sample.txt",
+            front: b"# ",
+            want: Some(b"# abc"),
+        },
+    },
+    Written {
+        text: "abcd",
+        most: Some(4),
+        load: Load {
+            what: "all bytes of the greatest length, behind others",
+            name: "gtp_io_sample.txt",
+            front: b"# ",
+            want: Some(b"# abcd"),
+        },
+    },
+    Written {
+        text: "abcde",
+        most: Some(4),
+        load: Load {
+            what: "a byte more than the greatest length",
+            name: "gtp_io_sample.txt",
+            front: b"# ",
+            want: None,
+        },
+    },
+];
+
+/// A loader of files that reads so many bytes of a file, or as many as it may.
+fn file_loader<'a, R: Files + Abort>(
+    rt: &'a R,
+    alloc: Global,
+    most: Option<usize>,
+) -> FileLoader<'a, R> {
+    match most {
+        Some(most) => {
+            assert!(rt; most <= 4);
+            FileLoader::up_to(alloc, rt, most)
+        }
+        None => FileLoader::new(alloc, rt),
+    }
+}
+
 #[test]
 fn files_are_loaded_by_their_paths_up_to_the_greatest_length(rt: HostRuntime) -> Result<(), Fail> {
-    let alloc = rt.alloc();
-    for load in &LOADS {
-        let name = load.name;
-        fs::write(&rt, "gtp_io_sample.txt", load.text)?;
-        let mut files = match load.most {
-            Some(most) => {
-                assert!(rt; most <= 4, "{name}");
-                FileLoader::up_to(alloc, &rt, most)
-            }
-            None => FileLoader::new(alloc, &rt),
-        };
-        let loaded = files.load(load.path, Vec::from_slice(alloc, load.front)?);
-        let want = match load.want {
-            Some(bytes) => Ok(Vec::from_slice(alloc, bytes)?),
-            None => Err(LoadError::Failed),
-        };
-        assert!(rt; loaded == want, "{name}");
+    for written in &WRITTEN {
+        fs::write(&rt, "gtp_io_sample.txt", written.text)?;
+        let mut files = file_loader(&rt, rt.alloc(), written.most);
+        compare_loaded(&rt, rt.alloc(), &mut files, &written.load)?;
     }
     fs::remove_file(&rt, "gtp_io_sample.txt")?;
     Ok(())

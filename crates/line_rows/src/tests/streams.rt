@@ -1,5 +1,6 @@
 //! What no contract tells: that the room for a line is found, and that the limit is the one that is meant.
 use gtp_lex::{Lines, Taken};
+use std::process::Abort;
 use std::test::Fail;
 
 // One line of letters, fed in pieces of some length, and then the line `name`.
@@ -37,26 +38,43 @@ static CASES: [Case; 4] = [
     },
 ];
 
+/// Bytes that are fed behind the letters of a case, and how many of them are taken.
+static ENDS: [(&str, &[u8], usize); 2] = [
+    ("the line feed ends the line", b"\nname\n", 1),
+    ("the line feed waits", b"name\n", 0),
+];
+
+/// Feeds the letters of a case, which end no line.
+fn feed_letters(rt: &impl Abort, lines: &mut Lines, case: &Case, letters: &[u8]) {
+    let what = case.what;
+    assert!(rt; case.piece > 0);
+    for piece in letters.chunks(case.piece) {
+        assert!(rt; lines.feed(piece) == piece.len(), "{what}");
+        assert!(rt; lines.take().is_none(), "{what}");
+    }
+}
+
+/// Feeds two lines `name` behind the letters of a case, of which the first ends its line.
+fn feed_ends(rt: &impl Abort, lines: &mut Lines, case: &Case) {
+    let what = case.what;
+    for &(step, bytes, count) in &ENDS {
+        assert!(rt; lines.feed(bytes) == count, "{what}: {step}");
+    }
+    assert!(rt; lines.take() == Some(case.want), "{what}");
+    assert!(rt; lines.feed(b"name\n") == 5, "{what}");
+    assert!(rt;
+        lines.take() == Some(Taken::Line),
+        "{what}: the next line is whole"
+    );
+}
+
 #[test]
 fn longest_line_and_one_byte_more(rt: HostRuntime) -> Result<(), Fail> {
-    let alloc = rt.alloc();
     for case in &CASES {
-        let what = case.what;
-        let letters = vec![in alloc; b'x'; case.letters]?;
-        let mut lines = Lines::new(alloc)?;
-        assert!(rt; case.piece > 0);
-        for piece in letters.chunks(case.piece) {
-            assert!(rt; lines.feed(piece) == piece.len(), "{what}");
-            assert!(rt; lines.take().is_none(), "{what}");
-        }
-        assert!(rt; lines.feed(b"\nname\n") == 1, "{what}");
-        assert!(rt; lines.feed(b"name\n") == 0, "{what}: the line feed waits");
-        assert!(rt; lines.take() == Some(case.want), "{what}");
-        assert!(rt; lines.feed(b"name\n") == 5, "{what}");
-        assert!(rt;
-            lines.take() == Some(Taken::Line),
-            "{what}: the next line is whole"
-        );
+        let letters = vec![in rt.alloc(); b'x'; case.letters]?;
+        let mut lines = Lines::new(rt.alloc())?;
+        feed_letters(&rt, &mut lines, case, letters.as_slice());
+        feed_ends(&rt, &mut lines, case);
     }
     Ok(())
 }

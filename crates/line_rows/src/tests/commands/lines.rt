@@ -1,107 +1,61 @@
 //! Ids, blanks, comments, and commands of one word or number.
 
-use super::{LONGEST_LINE, MALFORMED, Row, UNKNOWN, compare};
+use super::{Asks, LONGEST_LINE, Row, Says, compare};
 use go_base::Size;
-use gtp_cmd::{Command, KomiText, Parsed, RefuseText, parse};
+use gtp_cmd::{Command, KomiText, Parsed, parse};
 use std::panic::Expect;
 
-const IDS_BLANKS_AND_COMMENTS: [Row; 10] = [
-    ("no words", " \t \r", Parsed::Nothing),
-    ("a comment alone", "# x", Parsed::Nothing),
+static IDS_BLANKS_AND_COMMENTS: [Row; 10] = [
+    ("no words", " \t \r", Says::Nothing),
+    ("a comment alone", "# x", Says::Nothing),
     (
         "the greatest id",
         "2147483647\tname \r# hi",
-        Parsed::Command {
-            id: Some(2_147_483_647),
-            command: Command::Name,
-        },
+        Says::IdAndCommand(2_147_483_647, Asks::Name),
     ),
-    ("a larger number", "2147483648 name", UNKNOWN),
+    ("a larger number", "2147483648 name", Says::Unknown),
     (
         "an id with leading zeros",
         "0000000000007 quit",
-        Parsed::Command {
-            id: Some(7),
-            command: Command::Quit,
-        },
+        Says::IdAndCommand(7, Asks::Quit),
     ),
-    (
-        "an id alone",
-        "5",
-        Parsed::Refused {
-            id: Some(5),
-            text: RefuseText::UnknownCommand,
-        },
-    ),
-    ("no id", "-5 name", UNKNOWN),
-    ("a command in capitals", "Name", UNKNOWN),
+    ("an id alone", "5", Says::IdAlone(5)),
+    ("no id", "-5 name", Says::Unknown),
+    ("a command in capitals", "Name", Says::Unknown),
     (
         "control bytes in a word",
         "na\u{1}m\u{7f}e",
-        Parsed::Command {
-            id: None,
-            command: Command::Name,
-        },
+        Says::Command(Asks::Name),
     ),
-    (
-        "a comment in a word",
-        "name#x",
-        Parsed::Command {
-            id: None,
-            command: Command::Name,
-        },
-    ),
+    ("a comment in a word", "name#x", Says::Command(Asks::Name)),
 ];
 
-const SIZES_KOMI_AND_KNOWN_COMMANDS: [Row; 10] = [
-    (
-        "too small",
-        "boardsize 1",
-        Parsed::Command {
-            id: None,
-            command: Command::BoardSize(None),
-        },
-    ),
-    (
-        "too large",
-        "boardsize 26",
-        Parsed::Command {
-            id: None,
-            command: Command::BoardSize(None),
-        },
-    ),
+static SIZES_KOMI_AND_KNOWN_COMMANDS: [Row; 10] = [
+    ("too small", "boardsize 1", Says::Command(Asks::NoSize)),
+    ("too large", "boardsize 26", Says::Command(Asks::NoSize)),
     (
         "thirty digits",
         "boardsize 100000000000000000000000000019",
-        Parsed::Command {
-            id: None,
-            command: Command::BoardSize(None),
-        },
+        Says::Command(Asks::NoSize),
     ),
-    ("no digits", "boardsize x", MALFORMED),
-    ("no size", "boardsize", MALFORMED),
+    ("no digits", "boardsize x", Says::Malformed),
+    ("no size", "boardsize", Says::Malformed),
     (
         "a known command",
         "known_command undo",
-        Parsed::Command {
-            id: None,
-            command: Command::KnownCommand(true),
-        },
+        Says::Command(Asks::KnownCommand(true)),
     ),
     (
         "an unknown one",
         "known_command x",
-        Parsed::Command {
-            id: None,
-            command: Command::KnownCommand(false),
-        },
+        Says::Command(Asks::KnownCommand(false)),
     ),
-    ("a word", "komi six", MALFORMED),
-    ("no digits after the point", "komi 6.", MALFORMED),
+    ("a word", "komi six", Says::Malformed),
+    ("no digits after the point", "komi 6.", Says::Malformed),
     (
         "33 bytes",
         "komi 000000000000000000000000000000000",
-        MALFORMED,
+        Says::Malformed,
     ),
 ];
 

@@ -1,175 +1,146 @@
 //! Colours and vertices.
 
-use super::{MALFORMED, Row, compare};
+use super::{Asks, Row, Says, compare};
 use go_base::{Colour, Size};
-use gtp_cmd::{Command, Parsed, vertex_text};
+use gtp_cmd::vertex_text;
 use std::panic::Expect;
 
-const COLOURS_AND_VERTICES: [Row; 14] = [
+static COLOURS_AND_VERTICES: [Row; 14] = [
     (
         "the corner at the top left",
         "play b A9",
-        Parsed::Command {
-            id: None,
-            command: Command::Play(Colour::Black, Some(0)),
-        },
+        Says::Command(Asks::Play(Colour::Black, Some(0))),
     ),
     (
         "no column is called I",
         "play w J1",
-        Parsed::Command {
-            id: None,
-            command: Command::Play(Colour::White, Some(80)),
-        },
+        Says::Command(Asks::Play(Colour::White, Some(80))),
     ),
     (
         "either case, leading zero",
         "play WhitE d04",
-        Parsed::Command {
-            id: None,
-            command: Command::Play(Colour::White, Some(48)),
-        },
+        Says::Command(Asks::Play(Colour::White, Some(48))),
     ),
     (
         "a pass",
         "is_legal BLACK PaSS",
-        Parsed::Command {
-            id: None,
-            command: Command::IsLegal(Colour::Black, None),
-        },
+        Says::Command(Asks::IsLegal(Colour::Black, None)),
     ),
     (
         "words after the arguments",
         "countlib D4 E5",
-        Parsed::Command {
-            id: None,
-            command: Command::CountLib(48),
-        },
+        Says::Command(Asks::CountLib(48)),
     ),
-    ("the column I", "play b I5", MALFORMED),
-    ("a column past the board", "play b K1", MALFORMED),
-    ("row 0", "play b A0", MALFORMED),
-    ("a row past the board", "play b A10", MALFORMED),
-    ("three digits", "play b A001", MALFORMED),
-    ("no row", "play b A", MALFORMED),
-    ("no vertex", "play b", MALFORMED),
-    ("no colour", "all_legal grey", MALFORMED),
-    ("a pass where none may be", "findlib pass", MALFORMED),
+    ("the column I", "play b I5", Says::Malformed),
+    ("a column past the board", "play b K1", Says::Malformed),
+    ("row 0", "play b A0", Says::Malformed),
+    ("a row past the board", "play b A10", Says::Malformed),
+    ("three digits", "play b A001", Says::Malformed),
+    ("no row", "play b A", Says::Malformed),
+    ("no vertex", "play b", Says::Malformed),
+    ("no colour", "all_legal grey", Says::Malformed),
+    ("a pass where none may be", "findlib pass", Says::Malformed),
 ];
 
-const VERTICES_OF_THE_LARGEST_BOARD: [Row; 5] = [
+static VERTICES_OF_THE_LARGEST_BOARD: [Row; 5] = [
     (
         "the corner at the top right",
         "countlib Z25",
-        Parsed::Command {
-            id: None,
-            command: Command::CountLib(24),
-        },
+        Says::Command(Asks::CountLib(24)),
     ),
     (
         "the corner at the bottom right",
         "countlib z1",
-        Parsed::Command {
-            id: None,
-            command: Command::CountLib(624),
-        },
+        Says::Command(Asks::CountLib(624)),
     ),
     (
         "no column of the largest board is called I",
         "countlib J25",
-        Parsed::Command {
-            id: None,
-            command: Command::CountLib(8),
-        },
+        Says::Command(Asks::CountLib(8)),
     ),
     (
         "the column I of the largest board",
         "countlib I25",
-        MALFORMED,
+        Says::Malformed,
     ),
-    ("a row past the largest board", "countlib A26", MALFORMED),
+    (
+        "a row past the largest board",
+        "countlib A26",
+        Says::Malformed,
+    ),
 ];
 
 /// On the smallest board, of two rows.
-const TWO_POINTS_TO_CONNECT: [Row; 7] = [
+static TWO_POINTS_TO_CONNECT: [Row; 7] = [
     (
         "two points",
         "connect A2 B1",
-        Parsed::Command {
-            id: None,
-            command: Command::Connect(0, 3),
-        },
+        Says::Command(Asks::Connect(0, 3)),
     ),
     (
         "two points in their order",
         "disconnect b1 a2",
-        Parsed::Command {
-            id: None,
-            command: Command::Disconnect(3, 0),
-        },
+        Says::Command(Asks::Disconnect(3, 0)),
     ),
     (
         "one point twice",
         "connect A1 A1",
-        Parsed::Command {
-            id: None,
-            command: Command::Connect(2, 2),
-        },
+        Says::Command(Asks::Connect(2, 2)),
     ),
-    ("the first is off the board", "connect C1 A1", MALFORMED),
-    ("the second is off the board", "connect A1 A3", MALFORMED),
-    ("one point", "connect A1", MALFORMED),
-    ("no point", "disconnect", MALFORMED),
+    (
+        "the first is off the board",
+        "connect C1 A1",
+        Says::Malformed,
+    ),
+    (
+        "the second is off the board",
+        "connect A1 A3",
+        Says::Malformed,
+    ),
+    ("one point", "connect A1", Says::Malformed),
+    ("no point", "disconnect", Says::Malformed),
 ];
 
-const TWO_POINTS_OF_THE_LARGEST_BOARD: [Row; 3] = [
+static TWO_POINTS_OF_THE_LARGEST_BOARD: [Row; 3] = [
     (
         "two points of the largest board",
         "connect Z1 J25 A1",
-        Parsed::Command {
-            id: None,
-            command: Command::Connect(624, 8),
-        },
+        Says::Command(Asks::Connect(624, 8)),
     ),
     (
         "a first point in the column I",
         "disconnect I1 A1",
-        MALFORMED,
+        Says::Malformed,
     ),
     (
         "a pass as the second point",
         "disconnect A1 pass",
-        MALFORMED,
+        Says::Malformed,
     ),
 ];
 
-const MOVES_THAT_ARE_CHOSEN: [Row; 5] = [
+static MOVES_THAT_ARE_CHOSEN: [Row; 5] = [
     (
         "a colour",
         "genmove b",
-        Parsed::Command {
-            id: None,
-            command: Command::GenMove(Colour::Black),
-        },
+        Says::Command(Asks::GenMove(Colour::Black)),
     ),
     (
         "a colour in capitals",
         "reg_genmove WHITE",
-        Parsed::Command {
-            id: None,
-            command: Command::RegGenMove(Colour::White),
-        },
+        Says::Command(Asks::RegGenMove(Colour::White)),
     ),
     (
         "words after the colour",
         "genmove w b",
-        Parsed::Command {
-            id: None,
-            command: Command::GenMove(Colour::White),
-        },
+        Says::Command(Asks::GenMove(Colour::White)),
     ),
-    ("no colour to choose for", "genmove", MALFORMED),
-    ("a word that is no colour", "reg_genmove green", MALFORMED),
+    ("no colour to choose for", "genmove", Says::Malformed),
+    (
+        "a word that is no colour",
+        "reg_genmove green",
+        Says::Malformed,
+    ),
 ];
 
 #[test]

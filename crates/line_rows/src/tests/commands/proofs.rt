@@ -1,143 +1,123 @@
 //! Proofs of readings, and what they claim.
 
-use super::{LONGEST_LINE, MALFORMED, Row, compare};
+use super::{Asks, LONGEST_LINE, Row, Says, compare};
 use go_base::Size;
 use gtp_cmd::{Command, Parsed, Span, parse};
 use std::panic::Expect;
 use std::test::Fail;
 
-const PROOFS_THAT_ARE_ASKED_FOR: [Row; 4] = [
+static PROOFS_THAT_ARE_ASKED_FOR: [Row; 4] = [
     (
         "a proof of an attack",
         "attack_proof D4",
-        Parsed::Command {
-            id: None,
-            command: Command::AttackProof(48),
-        },
+        Says::Command(Asks::AttackProof(48)),
     ),
     (
         "a proof of a defence",
         "defend_proof d4 e5",
-        Parsed::Command {
-            id: None,
-            command: Command::DefendProof(48),
-        },
+        Says::Command(Asks::DefendProof(48)),
     ),
-    ("a proof for a pass", "attack_proof pass", MALFORMED),
-    ("a proof for no vertex", "defend_proof", MALFORMED),
+    ("a proof for a pass", "attack_proof pass", Says::Malformed),
+    ("a proof for no vertex", "defend_proof", Says::Malformed),
 ];
 
 /// The point D4 is the number 48 on a board of nine rows.
-const PROOFS_AND_THEIR_CLAIMS: [Row; 17] = [
+static PROOFS_AND_THEIR_CLAIMS: [Row; 17] = [
     (
         "an attack",
         "check_proof attack D4 3 W D3 .",
-        Parsed::Command {
-            id: None,
-            command: Command::CheckProof {
-                attack: true,
-                target: 48,
-                code: 3,
-                tokens: Span { from: 24, to: 30 },
-            },
-        },
+        Says::Command(Asks::CheckProof {
+            attack: true,
+            target: 48,
+            code: 3,
+            tokens: Span { from: 24, to: 30 },
+        }),
     ),
     (
         "a defence",
         "check_proof defend D4 0 N . N . N .",
-        Parsed::Command {
-            id: None,
-            command: Command::CheckProof {
-                attack: false,
-                target: 48,
-                code: 0,
-                tokens: Span { from: 24, to: 35 },
-            },
-        },
+        Says::Command(Asks::CheckProof {
+            attack: false,
+            target: 48,
+            code: 0,
+            tokens: Span { from: 24, to: 35 },
+        }),
     ),
     (
         "a claim behind an id",
         "7 check_proof attack D4 1 W",
-        Parsed::Command {
-            id: Some(7),
-            command: Command::CheckProof {
+        Says::IdAndCommand(
+            7,
+            Asks::CheckProof {
                 attack: true,
                 target: 48,
                 code: 1,
                 tokens: Span { from: 26, to: 27 },
             },
-        },
+        ),
     ),
     (
         "blanks and a comment",
         "check_proof attack D4 2 \t W \t . \t #.",
-        Parsed::Command {
-            id: None,
-            command: Command::CheckProof {
-                attack: true,
-                target: 48,
-                code: 2,
-                tokens: Span { from: 26, to: 31 },
-            },
-        },
+        Says::Command(Asks::CheckProof {
+            attack: true,
+            target: 48,
+            code: 2,
+            tokens: Span { from: 26, to: 31 },
+        }),
     ),
     (
         "dropped bytes",
         "check_proof attack D4 2 \u{1}W .\u{2}",
-        Parsed::Command {
-            id: None,
-            command: Command::CheckProof {
-                attack: true,
-                target: 48,
-                code: 2,
-                tokens: Span { from: 25, to: 28 },
-            },
-        },
+        Says::Command(Asks::CheckProof {
+            attack: true,
+            target: 48,
+            code: 2,
+            tokens: Span { from: 25, to: 28 },
+        }),
     ),
     (
         "no words of a proof",
         "check_proof attack D4 2",
-        Parsed::Command {
-            id: None,
-            command: Command::CheckProof {
-                attack: true,
-                target: 48,
-                code: 2,
-                tokens: Span { from: 0, to: 0 },
-            },
-        },
+        Says::Command(Asks::CheckProof {
+            attack: true,
+            target: 48,
+            code: 2,
+            tokens: Span { from: 0, to: 0 },
+        }),
     ),
     (
         "blanks alone as a proof",
         "check_proof attack D4 2 \t #W",
-        Parsed::Command {
-            id: None,
-            command: Command::CheckProof {
-                attack: true,
-                target: 48,
-                code: 2,
-                tokens: Span { from: 0, to: 0 },
-            },
-        },
+        Says::Command(Asks::CheckProof {
+            attack: true,
+            target: 48,
+            code: 2,
+            tokens: Span { from: 0, to: 0 },
+        }),
     ),
-    ("capitals", "check_proof Attack D4 2 W", MALFORMED),
-    ("another kind", "check_proof attacks D4 2 W", MALFORMED),
-    ("no kind", "check_proof", MALFORMED),
-    ("no vertex to check", "check_proof attack", MALFORMED),
+    ("capitals", "check_proof Attack D4 2 W", Says::Malformed),
+    (
+        "another kind",
+        "check_proof attacks D4 2 W",
+        Says::Malformed,
+    ),
+    ("no kind", "check_proof", Says::Malformed),
+    ("no vertex to check", "check_proof attack", Says::Malformed),
     (
         "a vertex in the column I",
         "check_proof attack I4 2 W",
-        MALFORMED,
+        Says::Malformed,
     ),
     (
         "a vertex off the board",
         "check_proof attack D10 2 W",
-        MALFORMED,
+        Says::Malformed,
     ),
-    ("no code", "check_proof attack D4", MALFORMED),
-    ("the digit 4", "check_proof attack D4 4 W", MALFORMED),
-    ("two digits", "check_proof attack D4 03 W", MALFORMED),
-    ("no digit", "check_proof attack D4 W", MALFORMED),
+    ("no code", "check_proof attack D4", Says::Malformed),
+    ("the digit 4", "check_proof attack D4 4 W", Says::Malformed),
+    ("two digits", "check_proof attack D4 03 W", Says::Malformed),
+    ("no digit", "check_proof attack D4 W", Says::Malformed),
 ];
 
 #[test]

@@ -1,106 +1,80 @@
 //! Words that are told by their places in the line.
 
-use super::{MALFORMED, Row, UNKNOWN, compare};
+use super::{Asks, Row, Says, compare};
 use go_base::Bytes;
-use gtp_cmd::{Command, Parsed, Span, text};
+use gtp_cmd::{Span, text};
 use std::test::Fail;
 
-const WORDS_ARE_TOLD_BY_THEIR_PLACES: [Row; 12] = [
+static WORDS_ARE_TOLD_BY_THEIR_PLACES: [Row; 12] = [
     (
         "a name",
         "loadsgf game",
-        Parsed::Command {
-            id: None,
-            command: Command::LoadSgf(Span { from: 8, to: 12 }),
-        },
+        Says::Command(Asks::LoadSgf(Span { from: 8, to: 12 })),
     ),
     (
         "blanks at both ends",
         "  loadsgf\t a.sgf \t",
-        Parsed::Command {
-            id: None,
-            command: Command::LoadSgf(Span { from: 11, to: 16 }),
-        },
+        Says::Command(Asks::LoadSgf(Span { from: 11, to: 16 })),
     ),
     (
         "a name behind an id",
         "7 loadsgf a",
-        Parsed::Command {
-            id: Some(7),
-            command: Command::LoadSgf(Span { from: 10, to: 11 }),
-        },
+        Says::IdAndCommand(7, Asks::LoadSgf(Span { from: 10, to: 11 })),
     ),
     (
         "a name behind an id of many digits",
         "0000000007 loadsgf ab",
-        Parsed::Command {
-            id: Some(7),
-            command: Command::LoadSgf(Span { from: 19, to: 21 }),
-        },
+        Says::IdAndCommand(7, Asks::LoadSgf(Span { from: 19, to: 21 })),
     ),
     (
         "more words",
         "loadsgf a b c",
-        Parsed::Command {
-            id: None,
-            command: Command::LoadSgf(Span { from: 8, to: 9 }),
-        },
+        Says::Command(Asks::LoadSgf(Span { from: 8, to: 9 })),
     ),
     (
         "a comment behind a name",
         "loadsgf ab#c",
-        Parsed::Command {
-            id: None,
-            command: Command::LoadSgf(Span { from: 8, to: 10 }),
-        },
+        Says::Command(Asks::LoadSgf(Span { from: 8, to: 10 })),
     ),
     (
         "dropped bytes about a word",
         "load\u{1}sgf \u{1}a\u{2}b\u{3} c",
-        Parsed::Command {
-            id: None,
-            command: Command::LoadSgf(Span { from: 10, to: 13 }),
-        },
+        Says::Command(Asks::LoadSgf(Span { from: 10, to: 13 })),
     ),
-    ("dropped bytes alone", "loadsgf \u{1} \u{2}", MALFORMED),
-    ("no name", "loadsgf", MALFORMED),
-    ("blanks alone", "loadsgf \t ", MALFORMED),
-    ("a comment alone as a name", "loadsgf #a", MALFORMED),
+    (
+        "dropped bytes alone",
+        "loadsgf \u{1} \u{2}",
+        Says::Malformed,
+    ),
+    ("no name", "loadsgf", Says::Malformed),
+    ("blanks alone", "loadsgf \t ", Says::Malformed),
+    ("a comment alone as a name", "loadsgf #a", Says::Malformed),
     (
         "a command that names a file in capitals",
         "LOADSGF a",
-        UNKNOWN,
+        Says::Unknown,
     ),
 ];
 
-const HELPERS_THAT_ARE_NAMED: [Row; 6] = [
+static HELPERS_THAT_ARE_NAMED: [Row; 6] = [
     (
         "one to switch off",
         "helper_off near_edge",
-        Parsed::Command {
-            id: None,
-            command: Command::HelperOff(Span { from: 11, to: 20 }),
-        },
+        Says::Command(Asks::HelperOff(Span { from: 11, to: 20 })),
     ),
     (
         "one whose calls are asked for",
         "helper_calls\tnear_edge far",
-        Parsed::Command {
-            id: None,
-            command: Command::HelperCalls(Span { from: 13, to: 22 }),
-        },
+        Says::Command(Asks::HelperCalls(Span { from: 13, to: 22 })),
     ),
     (
         "one to drop",
         " helper_drop  a \t",
-        Parsed::Command {
-            id: None,
-            command: Command::HelperDrop(Span { from: 14, to: 15 }),
-        },
+        Says::Command(Asks::HelperDrop(Span { from: 14, to: 15 })),
     ),
-    ("no name to switch off", "helper_off", MALFORMED),
-    ("no name to ask for", "helper_calls \t", MALFORMED),
-    ("no name to drop", "helper_drop #a", MALFORMED),
+    ("no name to switch off", "helper_off", Says::Malformed),
+    ("no name to ask for", "helper_calls \t", Says::Malformed),
+    ("no name to drop", "helper_drop #a", Says::Malformed),
 ];
 
 /// Words of a line, by what they are, as they stand in it and as they are told.
