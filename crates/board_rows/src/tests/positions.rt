@@ -1,48 +1,37 @@
 //! What the rules give on drawn positions: `.` is empty, `X` black, `O` white, and the rows are drawn from the top.
 
-use super::Play;
+use super::{Play, after, on};
 use go_base::Colour::{self, Black, White};
 use go_base::{
     Bytes, Cell, Facts, Illegal, Look, Point, PointSet, Position, Size, Transform, Watch,
 };
-use std::alloc::{AllocError, Global};
 use std::panic::Expect;
-use std::test::Fail;
 
-/// The play on the position, and None where its place is off the board.
-fn played(position: &Position, play: Play) -> Option<Result<Position, Illegal>> {
+/// Why the play on the position is refused, and None where it is done or its place is off the board.
+fn refusal(position: &Position, play: Play) -> Option<Illegal> {
     let (colour, row, column) = play;
-    let p = position.size().point(row, column)?;
-    if p >= position.size().points() {
-        return None;
-    }
-    Some(position.play(colour, p))
+    let p = on(position, row, column)?;
+    position.play(colour, p).err()
 }
 
-/// The position after the plays from the empty board, and None where one is refused.
-fn after(rows: u8, plays: &[Play]) -> Option<Position> {
-    let size = Size::new(rows)?;
-    let mut position = Position::new(size);
-    for play in plays {
-        match played(&position, *play) {
-            Some(Ok(next)) => position = next,
-            _ => return None,
+/// What stands on a point, as it is drawn.
+fn drawn(cell: Cell) -> u8 {
+    match cell {
+        Cell::Empty => b'.',
+        Cell::Black => b'X',
+        Cell::White => b'O',
+    }
+}
+
+/// Whether the rows of the position, one after another, are the drawing.
+fn shows(position: &Position, drawing: &[u8]) -> bool {
+    let points = position.size().points();
+    for p in 0..points {
+        if drawing.get(p as usize) != Some(&drawn(position.cell(p))) {
+            return false;
         }
     }
-    Some(position)
-}
-
-/// The rows of the position, one after another.
-fn drawn(alloc: Global, position: &Position) -> Result<String, AllocError> {
-    let mut text = String::new(alloc);
-    for p in 0..position.size().points() {
-        text.push(match position.cell(p) {
-            Cell::Empty => '.',
-            Cell::Black => 'X',
-            Cell::White => 'O',
-        })?;
-    }
-    Ok(text)
+    drawing.len() == usize::from(points)
 }
 
 /// The transformations by their numbers, and where each puts the offset (1, 2).
@@ -72,7 +61,7 @@ struct Drawing {
     name: &'static str,
     rows: u8,
     plays: &'static [Play],
-    want: &'static str,
+    want: &'static [u8],
     ban: Option<(Point, Colour)>,
 }
 
@@ -98,7 +87,7 @@ static DRAWINGS: [Drawing; 12] = [
         name: "a stone in the corner is taken",
         rows: 3,
         plays: &[(White, 0, 0), (Black, 0, 1), (Black, 1, 0)],
-        want: ".X.X.....",
+        want: b".X.X.....",
         ban: None,
     },
     Drawing {
@@ -112,7 +101,7 @@ static DRAWINGS: [Drawing; 12] = [
             (Black, 1, 2),
             (Black, 0, 3),
         ],
-        want: "X..X.XX.........",
+        want: b"X..X.XX.........",
         ban: None,
     },
     Drawing {
@@ -127,7 +116,7 @@ static DRAWINGS: [Drawing; 12] = [
             (Black, 1, 3),
             (Black, 0, 2),
         ],
-        want: "X.X.X.X.X................",
+        want: b"X.X.X.X.X................",
         ban: None,
     },
     Drawing {
@@ -141,7 +130,7 @@ static DRAWINGS: [Drawing; 12] = [
             (White, 2, 0),
             (White, 0, 0),
         ],
-        want: "O.O.O.O..",
+        want: b"O.O.O.O..",
         ban: None,
     },
     Drawing {
@@ -155,14 +144,14 @@ static DRAWINGS: [Drawing; 12] = [
             (Black, 2, 0),
             (Black, 1, 1),
         ],
-        want: "..X.X.X..",
+        want: b"..X.X.X..",
         ban: None,
     },
     Drawing {
         name: "a stone is taken on the smallest board",
         rows: 2,
         plays: &[(White, 0, 0), (Black, 0, 1), (Black, 1, 0)],
-        want: ".XX.",
+        want: b".XX.",
         ban: None,
     },
     // . . O X .        Black throws in at the second point of the first row, and White takes it from the corner.
@@ -184,7 +173,7 @@ static DRAWINGS: [Drawing; 12] = [
             (Black, 0, 1),
             (White, 0, 0),
         ],
-        want: "O.OX.OOOX.XXX............",
+        want: b"O.OX.OOOX.XXX............",
         ban: None,
     },
     Drawing {
@@ -204,14 +193,14 @@ static DRAWINGS: [Drawing; 12] = [
             (White, 0, 0),
             (Black, 0, 1),
         ],
-        want: ".X.X....X.XXX............",
+        want: b".X.X....X.XXX............",
         ban: None,
     },
     Drawing {
         name: "a stone that takes one and has one liberty leaves a ban",
         rows: 4,
         plays: &KO_OF_FOUR_ROWS,
-        want: ".XO.X.XO.XO.....",
+        want: b".XO.X.XO.XO.....",
         ban: Some((5, White)),
     },
     Drawing {
@@ -228,7 +217,7 @@ static DRAWINGS: [Drawing; 12] = [
             (Black, 1, 2),
             (Black, 1, 1),
         ],
-        want: ".XO.XXXO.XO.....",
+        want: b".XO.XXXO.XO.....",
         ban: None,
     },
     Drawing {
@@ -246,7 +235,7 @@ static DRAWINGS: [Drawing; 12] = [
             (White, 3, 0),
             (White, 1, 1),
         ],
-        want: ".XO.XO.O.XO.O...",
+        want: b".XO.XO.O.XO.O...",
         ban: Some((6, Black)),
     },
     Drawing {
@@ -264,23 +253,19 @@ static DRAWINGS: [Drawing; 12] = [
             (Black, 3, 3),
             (White, 1, 1),
         ],
-        want: ".XO.XO.O.XO....X",
+        want: b".XO.XO.O.XO....X",
         ban: Some((6, Black)),
     },
 ];
 
 #[test]
-fn plays_give_the_drawings_and_the_bans(rt: HostRuntime) -> Result<(), Fail> {
+fn plays_give_the_drawings_and_the_bans(rt: HostRuntime) {
     for row in &DRAWINGS {
         let name = row.name;
         let position = after(row.rows, row.plays).expect(&rt, "each play is legal");
-        assert!(rt;
-            drawn(rt.alloc(), &position)?.as_str() == row.want,
-            "{name}"
-        );
+        assert!(rt; shows(&position, row.want), "{name}");
         assert!(rt; position.ban() == row.ban, "{name}");
     }
-    Ok(())
 }
 
 /// A play behind others on a board of so many rows, and why it is refused.
@@ -335,38 +320,71 @@ fn plays_are_refused(rt: HostRuntime) {
     for row in &REFUSED {
         let name = row.name;
         let position = after(row.rows, row.plays).expect(&rt, "each play is legal");
-        assert!(rt; played(&position, row.last) == Some(Err(row.why)), "{name}");
+        assert!(rt; refusal(&position, row.last) == Some(row.why), "{name}");
     }
 }
 
+/// The plays of that ko, after which white may not play at the second point of the second row, point 5.
+static BANNED: [Play; 8] = KO_OF_FOUR_ROWS;
+
 #[test]
 fn a_ban_ends_with_a_pass_and_can_be_dropped(rt: HostRuntime) {
-    let position = after(4, &KO_OF_FOUR_ROWS).expect(&rt, "each play is legal");
+    let position = after(4, &BANNED).expect(&rt, "each play is legal");
     assert!(rt; 5 < position.size().points());
     assert!(rt; position.play_free(White, 5).is_ok(), "the ban dropped");
-    let retaken = played(&position.pass(), (White, 1, 1));
-    assert!(rt; matches!(retaken, Some(Ok(_))), "after a pass");
+    assert!(rt; position.pass().play(White, 5).is_ok(), "after a pass");
 }
+
+/// Whether the set has just these points, which are given in their order.
+fn has_just(set: &PointSet, points: &[Point]) -> bool {
+    let mut least = 0;
+    for &p in points {
+        if set.first_from(least) != Some(p) {
+            return false;
+        }
+        least = p.saturating_add(1);
+    }
+    usize::from(set.count()) == points.len() && set.first_from(least).is_none()
+}
+
+// X X . .
+// O X . .
+/// The plays of a string of three stones beside one of the other colour.
+static BESIDE: [Play; 4] = [(Black, 0, 0), (Black, 0, 1), (Black, 1, 1), (White, 1, 0)];
 
 #[test]
 fn strings_and_liberties_are_told(rt: HostRuntime) {
-    // X X . .
-    // O X . .
-    let plays = [(Black, 0, 0), (Black, 0, 1), (Black, 1, 1), (White, 1, 0)];
-    let position = after(4, &plays).expect(&rt, "each play is legal");
+    let position = after(4, &BESIDE).expect(&rt, "each play is legal");
     assert!(rt; 5 < position.size().points());
-    let string = position.string(5);
-    assert!(rt; string.count() == 3);
-    assert!(rt; string.first_from(1) == Some(1));
-    assert!(rt; string.first_from(2) == Some(5));
-    assert!(rt; string.first_from(6).is_none());
+    assert!(rt; has_just(&position.string(5), &[0, 1, 5]));
     assert!(rt; position.liberties(5) == 3);
     assert!(rt; position.liberties(3) == 0, "an empty point has none");
 }
 
+/// The plays before the watch was asked.
+static WATCHED: [Play; 1] = [(Black, 0, 0)];
+
+/// Plays on a board of so many rows, and whether what was asked of the watch is there as it was.
+static CHANGED: [(&str, u8, &[Play], bool); 4] = [
+    ("the position itself", 3, &[(Black, 0, 0)], true),
+    (
+        "a point that was not asked for may change",
+        3,
+        &[(Black, 0, 0), (White, 2, 2)],
+        true,
+    ),
+    (
+        "a point that was asked for may not",
+        3,
+        &[(Black, 0, 1)],
+        false,
+    ),
+    ("nor the size", 4, &[(Black, 0, 0)], false),
+];
+
 #[test]
 fn a_watch_records_what_it_was_asked(rt: HostRuntime) {
-    let before = after(3, &[(Black, 0, 0)]).expect(&rt, "each play is legal");
+    let before = after(3, &WATCHED).expect(&rt, "each play is legal");
     let mut watch = Watch::new(&before);
     assert!(rt; 4 < watch.size().points());
     let seen = watch.cell(0);
@@ -374,42 +392,34 @@ fn a_watch_records_what_it_was_asked(rt: HostRuntime) {
     assert!(rt; seen == Cell::Black);
     assert!(rt; !banned);
     let facts: Facts = watch.facts();
-    assert!(rt; facts.stands(&before));
     assert!(rt; facts.points().count() == 2);
-    let elsewhere = after(3, &[(Black, 0, 0), (White, 2, 2)]).expect(&rt, "each play is legal");
-    let moved = after(3, &[(Black, 0, 1)]).expect(&rt, "each play is legal");
-    let larger = after(4, &[(Black, 0, 0)]).expect(&rt, "each play is legal");
-    assert!(rt;
-        facts.stands(&elsewhere),
-        "a point that was not asked for may change"
-    );
-    assert!(rt; !facts.stands(&moved), "a point that was asked for may not");
-    assert!(rt; !facts.stands(&larger), "nor the size");
+    for &(name, rows, plays, stands) in &CHANGED {
+        let position = after(rows, plays).expect(&rt, "each play is legal");
+        assert!(rt; facts.stands(&position) == stands, "{name}");
+    }
 }
 
 #[test]
-fn bytes_and_sets_grow(rt: HostRuntime) {
+fn bytes_grow(rt: HostRuntime) {
     let mut bytes = Bytes::new(rt.alloc());
     assert!(rt; bytes.push(b'D').is_ok());
     assert!(rt; bytes.extend(b"4 E5").is_ok());
     assert!(rt; bytes.as_slice() == b"D4 E5".as_slice());
+}
+
+#[test]
+fn sets_of_points_grow_meet_and_differ(rt: HostRuntime) {
     let mut points = PointSet::new();
     points.add(624);
     points.add(64);
     points.add(64);
-    assert!(rt; points.count() == 2);
+    assert!(rt; has_just(&points, &[64, 624]));
     assert!(rt; !points.has(63));
-    assert!(rt; points.first_from(0) == Some(64));
-    assert!(rt; points.first_from(65) == Some(624));
     let mut others = PointSet::new();
     others.add(64);
     others.add(65);
-    let shared = points.intersection(&others);
-    assert!(rt; shared.count() == 1);
-    assert!(rt; shared.first_from(0) == Some(64));
-    let left = points.difference(&others);
-    assert!(rt; left.count() == 1);
-    assert!(rt; left.first_from(0) == Some(624));
+    assert!(rt; has_just(&points.intersection(&others), &[64]));
+    assert!(rt; has_just(&points.difference(&others), &[624]));
 }
 
 /// Plays on a board of so many rows, and how many points a colour may play at then.
@@ -456,10 +466,8 @@ fn legal_points_are_those_that_can_be_played(rt: HostRuntime) {
         let position = after(row.rows, row.plays).expect(&rt, "each play is legal");
         let legal = position.legal_points(row.colour);
         for p in 0..position.size().points() {
-            assert!(rt;
-                legal.has(p) == position.play(row.colour, p).is_ok(),
-                "{name}: {p}"
-            );
+            let is_legal = position.play(row.colour, p).is_ok();
+            assert!(rt; legal.has(p) == is_legal, "{name}: {p}");
         }
         assert!(rt; legal.count() == row.count, "{name}");
     }
