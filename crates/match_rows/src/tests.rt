@@ -10,14 +10,14 @@ mod sizes;
 mod spirals;
 
 use db_read::read;
-use dfa_join::compile;
+use dfa_join::{JoinError, compile};
 use dfa_match::Scanner;
-use go_base::{Colour, Point, Position, Size};
+use go_base::{Colour, NoMemory, Point, Position, Size};
 use helpers::{Helper, Helpers, NearEdge, NoBan};
-use match_engine::{Readings, matches};
+use match_engine::{Match, Readings, matches};
 use pat_types::Pattern;
 use read_rules::Depths;
-use std::test::Fail;
+use std::alloc::{AllocError, Global};
 
 /// The smallest pattern: a friend's stone, and the move beside it.
 const SMALLEST: &[u8] = b"Pattern P\nO*\n:8,s";
@@ -53,69 +53,85 @@ struct Asked {
 }
 
 /// New readings, three plies deep, two of them wide.
-fn new_readings(rt: &HostRuntime) -> Result<Readings, Fail> {
-    let depths = Depths::new(3, 2).ok_or("the depths are in range")?;
-    Ok(Readings::new(rt.alloc(), depths, 4096)?)
+fn new_readings(alloc: Global) -> Option<Readings> {
+    Readings::new(alloc, Depths::new(3, 2)?, 4096).ok()
 }
 
 /// The helpers `near_edge` and `no_ban`.
-fn new_helpers(rt: &HostRuntime) -> Result<Helpers, Fail> {
-    let mut list: Vec<Box<dyn Helper>> = Vec::new(rt.alloc());
-    list.push(Box::new(rt.alloc(), NearEdge::new())?)?;
-    list.push(Box::new(rt.alloc(), NoBan::new())?)?;
-    Ok(Helpers::new(rt.alloc(), list)?)
+fn new_helpers(alloc: Global) -> Result<Helpers, NoMemory> {
+    let mut list: Vec<Box<dyn Helper>> = Vec::new(alloc);
+    list.push(Box::new(alloc, NearEdge::new())?)?;
+    list.push(Box::new(alloc, NoBan::new())?)?;
+    Helpers::new(alloc, list)
 }
 
 /// Readings and helpers that were not asked yet.
-fn new_asked(rt: &HostRuntime) -> Result<Asked, Fail> {
-    Ok(Asked {
-        readings: new_readings(rt)?,
-        helpers: new_helpers(rt)?,
+fn new_asked(alloc: Global) -> Option<Asked> {
+    Some(Asked {
+        readings: new_readings(alloc)?,
+        helpers: new_helpers(alloc).ok()?,
     })
 }
 
 /// The patterns that a text spells.
-fn patterns_of(rt: &HostRuntime, text: &[u8]) -> Result<Vec<Pattern>, Fail> {
-    let names = new_helpers(rt)?.names(rt.alloc())?;
-    Ok(read(rt.alloc(), text, names.as_slice(), Vec::new(rt.alloc()))?)
+fn patterns_of(alloc: Global, text: &[u8]) -> Option<Vec<Pattern>> {
+    let names = new_helpers(alloc).ok()?.names(alloc).ok()?;
+    read(alloc, text, names.as_slice(), Vec::new(alloc)).ok()
+}
+
+/// A position with one stone more.
+fn with_stone(position: &Position, colour: Colour, p: Point) -> Option<Position> {
+    if p >= position.size().points() {
+        return None;
+    }
+    position.play(colour, p).ok()
 }
 
 /// A position with stones of one colour more.
-fn with_more(position: Position, colour: Colour, stones: &[Point]) -> Result<Position, Fail> {
+fn with_more(position: Position, colour: Colour, stones: &[Point]) -> Option<Position> {
     let mut position = position;
     for p in stones {
-        if *p >= position.size().points() {
-            return Err("the stone stands on the board")?;
-        }
-        position = position.play(colour, *p)?;
+        position = with_stone(&position, colour, *p)?;
     }
-    Ok(position)
+    Some(position)
 }
 
 /// A board with stones of both colours.
-fn with_both(side: u8, black: &[Point], white: &[Point]) -> Result<Position, Fail> {
-    let size = Size::new(side).ok_or("the size is one of a board")?;
-    let position = with_more(Position::new(size), Colour::Black, black)?;
-    with_more(position, Colour::White, white)
+fn with_both(side: u8, black: &[Point], white: &[Point]) -> Option<Position> {
+    let position = Position::new(Size::new(side)?);
+    with_more(
+        with_more(position, Colour::Black, black)?,
+        Colour::White,
+        white,
+    )
 }
 
-/// The matches of a list of patterns for a friend, in their order, by the automaton of another list. The other list may
-/// not be longer.
+/// These matches as they stand in a row.
+fn listed(alloc: Global, found: &[Match]) -> Result<Vec<Found>, AllocError> {
+    let mut list = Vec::new(alloc);
+    for z in found {
+        list.push((z.pattern, z.transform.get(), z.at))?;
+    }
+    Ok(list)
+}
+
+/// The matches of a list of patterns for a friend, in their order, by the automaton of another list. Of a longer list
+/// no automaton is made.
 fn matches_reading(
-    rt: &HostRuntime,
+    alloc: Global,
     patterns: &[Pattern],
     others: &[Pattern],
     position: &Position,
     friend: Colour,
     asked: &mut Asked,
-) -> Result<Vec<Found>, Fail> {
+) -> Result<Vec<Found>, JoinError> {
     if others.len() > patterns.len() || others.len() > 4096 {
-        return Err("the other list is no longer")?;
+        return Err(JoinError::TooManyStates { limit: 0 });
     }
-    let automaton = compile(rt.alloc(), others, MOST_ROWS)?;
-    let scanner = Scanner::new(rt.alloc(), automaton)?;
+    let automaton = compile(alloc, others, MOST_ROWS)?;
+    let scanner = Scanner::new(alloc, automaton)?;
     let found = matches(
-        rt.alloc(),
+        alloc,
         patterns,
         &scanner,
         position,
@@ -123,20 +139,16 @@ fn matches_reading(
         &mut asked.readings,
         &mut asked.helpers,
     )?;
-    let mut list = Vec::new(rt.alloc());
-    for z in &found {
-        list.push((z.pattern, z.transform.get(), z.at))?;
-    }
-    Ok(list)
+    Ok(listed(alloc, &found)?)
 }
 
 /// The matches of a list of patterns for a friend, by its own automaton.
 fn matches_in(
-    rt: &HostRuntime,
+    alloc: Global,
     patterns: &[Pattern],
     position: &Position,
     friend: Colour,
-) -> Result<Vec<Found>, Fail> {
-    let mut asked = new_asked(rt)?;
-    matches_reading(rt, patterns, patterns, position, friend, &mut asked)
+) -> Option<Vec<Found>> {
+    let mut asked = new_asked(alloc)?;
+    matches_reading(alloc, patterns, patterns, position, friend, &mut asked).ok()
 }

@@ -3,6 +3,7 @@ use db_read::read;
 use go_base::{Bytes, Point, Transform};
 use move_choice::{Match, choose, worth_of};
 use pat_types::Pattern;
+use std::alloc::{AllocError, Global};
 use std::test::Fail;
 
 /// Patterns of a star alone, whose worth is the first number that an item says: their items, and that worth. Choices
@@ -51,27 +52,32 @@ static CHOICES: [(&str, &[(u16, Point)], Option<Point>); 9] = [
     ("none has a worth", &[(2, 7), (5, 4), (2, 1)], Some(7)),
 ];
 
-/// The patterns of the list, as they are read. Without a text `value` is the name of a helper.
-fn patterns_with_items(rt: &HostRuntime) -> Result<Vec<Pattern>, Fail> {
-    let mut helper = Bytes::new(rt.alloc());
-    helper.extend(b"value")?;
-    let mut text = Vec::new(rt.alloc());
+/// The text of the list.
+fn text_of_worths(alloc: Global) -> Result<Vec<u8>, AllocError> {
+    let mut text = Vec::new(alloc);
     for &(items, _) in &WORTHS {
         text.extend_from_slice(b"Pattern P\n*\n:O,s,")?;
         text.extend_from_slice(items.as_bytes())?;
         text.extend_from_slice(b"\n")?;
     }
-    Ok(read(rt.alloc(), &text, &[helper], Vec::new(rt.alloc()))?)
+    Ok(text)
+}
+
+/// The patterns of the list, as they are read. Without a text `value` is the name of a helper.
+fn patterns_with_items(alloc: Global) -> Result<Vec<Pattern>, Fail> {
+    let mut helper = Bytes::new(alloc);
+    helper.extend(b"value")?;
+    Ok(read(alloc, &text_of_worths(alloc)?, &[helper], Vec::new(alloc))?)
 }
 
 /// The point of the choice among matches of these patterns. A match is its pattern's place in the list, and its point.
 fn chosen(
-    rt: &HostRuntime,
+    alloc: Global,
     patterns: &[Pattern],
     found: &[(u16, Point)],
 ) -> Result<Option<Point>, Fail> {
     let transform = Transform::new(0).ok_or("there is a first transformation")?;
-    let mut matches = Vec::new(rt.alloc());
+    let mut matches = Vec::new(alloc);
     'matches: for (pattern, at) in found {
         if usize::from(*pattern) >= patterns.len() {
             return Err("a match names one of the patterns")?;
@@ -86,14 +92,20 @@ fn chosen(
 }
 
 #[test]
-fn first_match_of_the_greatest_worth_is_chosen(rt: HostRuntime) -> Result<(), Fail> {
-    let patterns = patterns_with_items(&rt)?;
+fn first_number_of_an_item_is_the_worth(rt: HostRuntime) -> Result<(), Fail> {
+    let patterns = patterns_with_items(rt.alloc())?;
     assert!(rt; patterns.len() == WORTHS.len(), "each is read");
     for (pattern, &(items, want)) in patterns.iter().zip(&WORTHS) {
         assert!(rt; worth_of(pattern) == want, "{items}");
     }
+    Ok(())
+}
+
+#[test]
+fn first_match_of_the_greatest_worth_is_chosen(rt: HostRuntime) -> Result<(), Fail> {
+    let patterns = patterns_with_items(rt.alloc())?;
     for &(what, found, want) in &CHOICES {
-        assert!(rt; chosen(&rt, &patterns, found)? == want, "{what}");
+        assert!(rt; chosen(rt.alloc(), &patterns, found)? == want, "{what}");
     }
     Ok(())
 }

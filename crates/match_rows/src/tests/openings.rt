@@ -2,15 +2,14 @@
 use super::{Found, MOST_ROWS, matches_in, patterns_of, with_both};
 use dfa_join::compile;
 use dfa_shortcuts::Shortcuts;
-use go_base::{Colour, Point, Position};
+use go_base::{Colour, Point};
 use pat_types::Pattern;
-use std::test::Fail;
+use std::alloc::Global;
+use std::panic::Expect;
+use std::process::Abort;
 
 /// How many openings there are: words of nine letters, of which there are four.
 const OPENINGS: u32 = 262_144;
-
-/// How many patterns the long list has.
-const PATTERNS: u16 = 18;
 
 /// A pattern of the long list. How often it matches in the game was counted by a plain program, which compares each
 /// diagram with the board.
@@ -39,13 +38,13 @@ struct Shape {
 // . . O X . . O . .
 
 /// Its black stones.
-const BLACK: [Point; 14] = [4, 12, 20, 32, 36, 40, 48, 51, 55, 60, 64, 67, 71, 75];
+static BLACK: [Point; 14] = [4, 12, 20, 32, 36, 40, 48, 51, 55, 60, 64, 67, 71, 75];
 
 /// Its white stones.
-const WHITE: [Point; 14] = [2, 14, 23, 25, 31, 41, 50, 52, 56, 63, 66, 68, 74, 78];
+static WHITE: [Point; 14] = [2, 14, 23, 25, 31, 41, 50, 52, 56, 63, 66, 68, 74, 78];
 
 /// The long list. `Edge` and `Corner` draw an edge beside the stone that is read first, so it lies within an opening.
-static SHAPES: [Shape; PATTERNS as usize] = [
+static SHAPES: [Shape; 18] = [
     Shape {
         text: b"Pattern Hane\nOX\n*?\n:8,s\n",
         rows: 9,
@@ -157,30 +156,22 @@ static SHAPES: [Shape; PATTERNS as usize] = [
 ];
 
 /// The patterns of the long list.
-fn long_list(rt: &HostRuntime) -> Result<Vec<Pattern>, Fail> {
-    let mut text = Vec::new(rt.alloc());
+fn long_list(alloc: Global) -> Option<Vec<Pattern>> {
+    let mut text = Vec::new(alloc);
     for shape in &SHAPES {
-        text.extend_from_slice(shape.text)?;
+        text.extend_from_slice(shape.text).ok()?;
     }
-    patterns_of(rt, &text)
-}
-
-/// One pattern of a list, as a list.
-fn one_of(patterns: &[Pattern], number: usize) -> Result<&[Pattern], Fail> {
-    if number >= patterns.len() {
-        return Err("the list has the pattern")?;
-    }
-    Ok(&patterns[number..number + 1])
+    patterns_of(alloc, &text)
 }
 
 /// How many rows the automaton of a list has, and its shortcuts.
-fn rows_and_shortcuts(rt: &HostRuntime, patterns: &[Pattern]) -> Result<(u32, Shortcuts), Fail> {
+fn rows_and_shortcuts(alloc: Global, patterns: &[Pattern]) -> Option<(u32, Shortcuts)> {
     if patterns.len() > 4096 {
-        return Err("the list is short")?;
+        return None;
     }
-    let automaton = compile(rt.alloc(), patterns, MOST_ROWS)?;
-    let shortcuts = Shortcuts::of(rt.alloc(), &automaton)?;
-    Ok((automaton.rows(), shortcuts))
+    let automaton = compile(alloc, patterns, MOST_ROWS).ok()?;
+    let shortcuts = Shortcuts::of(alloc, &automaton).ok()?;
+    Some((automaton.rows(), shortcuts))
 }
 
 /// How many openings have a row behind them that is known.
@@ -192,26 +183,10 @@ fn known_openings(shortcuts: &Shortcuts) -> u32 {
     known
 }
 
-/// The matches of the long list. They have to be what each pattern finds by its own automaton, one pattern after the
-/// other.
-fn found_both_ways(
-    rt: &HostRuntime,
-    patterns: &[Pattern],
-    position: &Position,
-    friend: Colour,
-) -> Result<Vec<Found>, Fail> {
-    let mut alone = Vec::new(rt.alloc());
-    for number in 0..PATTERNS {
-        let one = one_of(patterns, number as usize)?;
-        for (_, transform, at) in &matches_in(rt, one, position, friend)? {
-            alone.push((number, *transform, *at))?;
-        }
-    }
-    let found = matches_in(rt, patterns, position, friend)?;
-    if found.as_slice() != alone.as_slice() {
-        return Err("the list finds what each of its patterns finds alone")?;
-    }
-    Ok(found)
+/// The matches of these patterns in the game.
+fn found_in_the_game(alloc: Global, patterns: &[Pattern], friend: Colour) -> Option<Vec<Found>> {
+    let position = with_both(9, &BLACK, &WHITE)?;
+    matches_in(alloc, patterns, &position, friend)
 }
 
 /// How many of these matches are of one pattern, under each transformation.
@@ -226,23 +201,61 @@ fn counted(found: &[Found], number: usize) -> [usize; 8] {
     counts
 }
 
-// Of the 262,144 openings, 5,336 have a word that the list accepts behind their first letter. A pattern alone has no
-// table of openings.
-#[test]
-fn openings_lead_to_the_matches_of_a_plain_program(rt: HostRuntime) -> Result<(), Fail> {
-    let patterns = long_list(&rt)?;
-    let (rows, shortcuts) = rows_and_shortcuts(&rt, &patterns)?;
-    let whole = (rows, known_openings(&shortcuts));
-    assert!(rt; whole == (4923, 256_808), "the whole list");
-    let position = with_both(9, &BLACK, &WHITE)?;
-    let black = found_both_ways(&rt, &patterns, &position, Colour::Black)?;
-    let white = found_both_ways(&rt, &patterns, &position, Colour::White)?;
-    for (number, shape) in SHAPES.iter().enumerate() {
-        let (rows, shortcuts) = rows_and_shortcuts(&rt, one_of(&patterns, number)?)?;
-        let alone = (rows, shortcuts.openings.is_empty());
-        assert!(rt; alone == (shape.rows, true), "pattern {number} alone");
-        let counts = (counted(&black, number), counted(&white, number));
-        assert!(rt; counts == (shape.black, shape.white), "pattern {number}");
+/// How often a pattern matches for a friend under each transformation.
+fn wanted(shape: &Shape, friend: Colour) -> [usize; 8] {
+    match friend {
+        Colour::Black => shape.black,
+        Colour::White => shape.white,
     }
-    Ok(())
+}
+
+/// The patterns match for the friend as often as the plain program counted.
+fn check_counts(rt: &impl Abort, found: &[Found], friend: Colour) {
+    for (number, shape) in SHAPES.iter().enumerate() {
+        assert!(rt;
+            counted(found, number) == wanted(shape, friend),
+            "pattern {number}"
+        );
+    }
+}
+
+#[test]
+fn openings_lead_to_the_matches_of_a_plain_program(rt: HostRuntime) {
+    let patterns = long_list(rt.alloc()).expect(&rt, "the list is one of patterns");
+    let black = found_in_the_game(rt.alloc(), &patterns, Colour::Black).expect(&rt, "black");
+    check_counts(&rt, &black, Colour::Black);
+    let white = found_in_the_game(rt.alloc(), &patterns, Colour::White).expect(&rt, "white");
+    check_counts(&rt, &white, Colour::White);
+}
+
+/// How many rows the automaton of the long list has, and how many of its openings have a row behind them that is known.
+fn rows_and_openings(alloc: Global) -> Option<(u32, u32)> {
+    let (rows, shortcuts) = rows_and_shortcuts(alloc, &long_list(alloc)?)?;
+    Some((rows, known_openings(&shortcuts)))
+}
+
+// Of the 262,144 openings, 5,336 have a word that the list accepts behind their first letter.
+#[test]
+fn openings_of_the_long_list_are_known(rt: HostRuntime) {
+    assert!(rt; rows_and_openings(rt.alloc()) == Some((4923, 256_808)));
+}
+
+/// How many rows the automaton of a pattern alone has; nothing where it has a table of openings.
+fn rows_alone(alloc: Global, text: &[u8]) -> Option<u32> {
+    let (rows, shortcuts) = rows_and_shortcuts(alloc, &patterns_of(alloc, text)?)?;
+    if shortcuts.openings.is_empty() {
+        Some(rows)
+    } else {
+        None
+    }
+}
+
+#[test]
+fn a_pattern_alone_has_no_table_of_openings(rt: HostRuntime) {
+    for (number, shape) in SHAPES.iter().enumerate() {
+        assert!(rt;
+            rows_alone(rt.alloc(), shape.text) == Some(shape.rows),
+            "pattern {number}"
+        );
+    }
 }
