@@ -2,7 +2,7 @@
 
 use super::repeated;
 use db_read::{DbError, read};
-use std::test::Fail;
+use std::alloc::{AllocError, Global};
 
 /// The realistic file of a pattern collection.
 const REALISTIC: &[u8] = b"# sample patterns
@@ -141,8 +141,8 @@ static TEXTS: [(&str, &[u8], (u64, u8)); 34] = [
 ];
 
 /// The line and the kind of a text's first fault, and line 0 where it has none.
-fn fault_of(rt: &HostRuntime, text: &[u8]) -> (u64, u8) {
-    match read(rt.alloc(), text, &[], Vec::new(rt.alloc())) {
+fn fault_of(alloc: Global, text: &[u8]) -> (u64, u8) {
+    match read(alloc, text, &[], Vec::new(alloc)) {
         Ok(_) => (0, 0),
         Err(DbError::NoMemory) => (0, 99),
         Err(DbError::Fault { line, kind }) => (line, kind),
@@ -150,18 +150,21 @@ fn fault_of(rt: &HostRuntime, text: &[u8]) -> (u64, u8) {
 }
 
 #[test]
-fn first_faults_of_texts(rt: HostRuntime) -> Result<(), Fail> {
+fn first_faults_of_texts(rt: HostRuntime) {
     for &(what, text, want) in &TEXTS {
-        assert!(rt; fault_of(&rt, text) == want, "{what}");
+        assert!(rt; fault_of(rt.alloc(), text) == want, "{what}");
     }
-    // As many entries as there may be, and then one more.
-    let mut text = repeated(rt.alloc(), 4096, b"Pattern P\nO*\n:8,s\n")?;
-    let most = fault_of(&rt, &text);
-    text.extend_from_slice(b"Pattern P")?;
-    let more = fault_of(&rt, &text);
-    assert!(rt;
-        (most, more) == ((0, 0), (12289, 18)),
-        "4096 entries, and one more"
-    );
-    Ok(())
+}
+
+/// The first fault of as many entries as there may be, with this line behind them.
+fn fault_behind(alloc: Global, line: &[u8]) -> Result<(u64, u8), AllocError> {
+    let mut text = repeated(alloc, 4096, b"Pattern P\nO*\n:8,s\n")?;
+    text.extend_from_slice(line)?;
+    Ok(fault_of(alloc, &text))
+}
+
+#[test]
+fn a_text_has_at_most_4096_entries(rt: HostRuntime) {
+    assert!(rt; fault_behind(rt.alloc(), b"") == Ok((0, 0)));
+    assert!(rt; fault_behind(rt.alloc(), b"Pattern P") == Ok((12289, 18)));
 }

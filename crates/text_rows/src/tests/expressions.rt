@@ -3,7 +3,6 @@
 use cons_parse::{ConsError, parse};
 use pat_types::{Arg, Expr, Function, LabelAt, Op};
 use std::alloc::{AllocError, Global};
-use std::test::Fail;
 
 pub(super) static LABELS: [LabelAt; 2] = [
     LabelAt {
@@ -33,62 +32,63 @@ fn sign(op: Op) -> &'static str {
     }
 }
 
-/// The word of a function in the code.
-fn word_of(alloc: Global, function: Function) -> Result<String, AllocError> {
+/// Writes the word of a function in the code.
+fn show_function(out: &mut String, function: Function) -> Result<(), AllocError> {
     match function {
-        Function::OfPoint(f) => format!(in alloc; "{f:?}"),
-        Function::OfPair(f) => format!(in alloc; "{f:?}"),
-        Function::OfPoints(f) => format!(in alloc; "{f:?}"),
-        Function::OfMoves(f) => format!(in alloc; "{f:?}"),
+        Function::OfPoint(f) => write!(out, "{f:?}"),
+        Function::OfPair(f) => write!(out, "{f:?}"),
+        Function::OfPoints(f) => write!(out, "{f:?}"),
+        Function::OfMoves(f) => write!(out, "{f:?}"),
     }
 }
 
+/// Writes an argument behind a full stop.
+fn show_argument(out: &mut String, arg: Arg) -> Result<(), AllocError> {
+    match arg {
+        Arg::Label(letter) => write!(out, ".{letter}"),
+        Arg::Star => out.push_str(".*"),
+        Arg::Nowhere => out.push_str(".?"),
+    }
+}
+
+/// Writes a call.
+fn show_call(out: &mut String, function: Function, args: &[Arg]) -> Result<(), AllocError> {
+    show_function(out, function)?;
+    for arg in args {
+        show_argument(out, *arg)?;
+    }
+    Ok(())
+}
+
 /// Writes an expression with all of its parentheses.
-fn show(alloc: Global, out: &mut String, e: &Expr) -> Result<(), AllocError> {
+fn show(out: &mut String, e: &Expr) -> Result<(), AllocError> {
     match e {
-        Expr::Num(n) => {
-            let text = format!(in alloc; "{n}")?;
-            out.push_str(text.as_str())
-        }
-        Expr::Call(function, args) => {
-            let text = word_of(alloc, *function)?;
-            out.push_str(text.as_str())?;
-            for arg in args.as_slice() {
-                match arg {
-                    Arg::Label(letter) => {
-                        let text = format!(in alloc; ".{letter}")?;
-                        out.push_str(text.as_str())?;
-                    }
-                    Arg::Star => out.push_str(".*")?,
-                    Arg::Nowhere => out.push_str(".?")?,
-                }
-            }
-            Ok(())
-        }
+        Expr::Num(n) => write!(out, "{n}"),
+        Expr::Call(function, args) => show_call(out, *function, args.as_slice()),
         Expr::Not(e) => {
             out.push_str("!")?;
-            show(alloc, out, e)
+            show(out, e)
         }
         Expr::Neg(e) => {
             out.push_str("-")?;
-            show(alloc, out, e)
+            show(out, e)
         }
         Expr::Bin(op, a, b) => {
             out.push_str("(")?;
-            show(alloc, out, a)?;
+            show(out, a)?;
             out.push_str(sign(*op))?;
-            show(alloc, out, b)?;
+            show(out, b)?;
             out.push_str(")")
         }
     }
 }
 
 /// The expression that a text spells, with all of its parentheses, or the word of its first fault in the code.
-pub(super) fn told(alloc: Global, text: &[u8]) -> Result<String, AllocError> {
+fn told(alloc: Global, text: &[u8]) -> Result<String, AllocError> {
     match parse(alloc, text, &LABELS) {
         Ok(e) => {
             let mut out = String::new(alloc);
-            show(alloc, &mut out, &e)?;
+            show(&mut out, &e)?;
             Ok(out)
         }
         Err(e) => format!(in alloc; "{e:?}"),
@@ -174,11 +174,17 @@ static EXPRESSIONS: [(&str, &str); 67] = [
     ("oplay_attack(?,Z)", "UnknownLabel"),
 ];
 
-#[test]
-fn expressions_of_texts(rt: HostRuntime) -> Result<(), Fail> {
-    for &(text, want) in &EXPRESSIONS {
-        let told = told(rt.alloc(), text.as_bytes())?;
-        assert!(rt; told.as_str() == want, "{text}");
+/// Whether the text spells this expression, or has this first fault.
+pub(super) fn is_told(alloc: Global, text: &[u8], want: &str) -> bool {
+    match told(alloc, text) {
+        Ok(told) => told.as_str() == want,
+        Err(AllocError) => false,
     }
-    Ok(())
+}
+
+#[test]
+fn expressions_of_texts(rt: HostRuntime) {
+    for &(text, want) in &EXPRESSIONS {
+        assert!(rt; is_told(rt.alloc(), text.as_bytes(), want), "{text}");
+    }
 }

@@ -2,7 +2,7 @@
 
 use db_read::read;
 use pat_types::{Expr, Item, LabelAt, Letter, Mark, Op, Pattern};
-use std::test::Fail;
+use std::alloc::Global;
 
 /// What a pattern's text spells, beside what both texts have in common.
 struct Spelled {
@@ -61,12 +61,10 @@ static LABELS: [LabelAt; 2] = [
 static ITEMS: [(&[u8], &[u8]); 2] = [(b"NULL", b"no text"), (b"value", b"3, 4")];
 
 /// The only pattern of a text without a fault.
-fn only_pattern(rt: &HostRuntime, text: &[u8]) -> Result<Pattern, Fail> {
-    let mut patterns = read(rt.alloc(), text, &[], Vec::new(rt.alloc()))?;
-    match patterns.pop() {
-        Some(p) if patterns.is_empty() => Ok(p),
-        _ => Err("the text has one pattern")?,
-    }
+fn only_pattern(alloc: Global, text: &[u8]) -> Option<Pattern> {
+    let mut patterns = read(alloc, text, &[], Vec::new(alloc)).ok()?;
+    let last = patterns.pop()?;
+    patterns.is_empty().then_some(last)
 }
 
 /// Whether the pattern has the name, the mark, the class letters and the constraint that are spelled.
@@ -107,14 +105,14 @@ fn has_items(p: &Pattern) -> bool {
 }
 
 #[test]
-fn patterns_are_read_as_they_are_written(rt: HostRuntime) -> Result<(), Fail> {
+fn patterns_are_read_as_they_are_written(rt: HostRuntime) {
     for spelled in &SPELLED {
         let what = spelled.what;
-        let p = only_pattern(&rt, spelled.text)?;
+        let p = only_pattern(rt.alloc(), spelled.text);
+        let p = p.expect(&rt, "the text has one pattern");
         assert!(rt; is_named(&p, spelled), "{what}");
         assert!(rt; is_outlined(&p), "size, star, edges: {what}");
         assert!(rt; is_lettered(&p), "letters, labels: {what}");
         assert!(rt; has_items(&p), "items: {what}");
     }
-    Ok(())
 }

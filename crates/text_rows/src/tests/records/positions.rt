@@ -3,7 +3,6 @@
 use go_base::{Point, Position};
 use go_rules::{Cell, Colour};
 use sgf_read::read;
-use std::test::Fail;
 
 /// A record, and the position that its main line leads to.
 struct Line {
@@ -226,19 +225,31 @@ fn is_drawn(position: &Position, drawing: &[u8]) -> bool {
     true
 }
 
-#[test]
-fn records_lead_to_positions(rt: HostRuntime) -> Result<(), Fail> {
-    for line in &LINES {
-        let name = line.name;
-        let position = read(line.record).ok().ok_or(name)?;
-        assert!(rt; is_drawn(&position, line.drawing), "{name}");
-        assert!(rt; position.ban().is_some() == line.banned, "{name}");
-        if line.stone >= position.size().points() {
-            return Err("the stone stands on the board")?;
-        }
-        let liberties = position.liberties(line.stone);
-        let refused = position.play(Colour::White, line.stone).is_err();
-        assert!(rt; (liberties, refused) == (line.liberties, true), "{name}");
+/// Whether a stone stands at the point, where White may not play, and its string has so many liberties.
+fn is_string(position: &Position, stone: Point, liberties: u16) -> bool {
+    if stone >= position.size().points() {
+        return false;
     }
-    Ok(())
+    let refused = position.play(Colour::White, stone).is_err();
+    refused && position.liberties(stone) == liberties
+}
+
+/// Whether the position is the one of the row.
+fn is_reached(position: &Position, line: &Line) -> bool {
+    let banned = position.ban().is_some();
+    is_drawn(position, line.drawing)
+        && banned == line.banned
+        && is_string(position, line.stone, line.liberties)
+}
+
+#[test]
+fn records_lead_to_positions(rt: HostRuntime) {
+    for line in &LINES {
+        let position = read(line.record).ok();
+        assert!(rt;
+            position.is_some_and(|p| is_reached(&p, line)),
+            "{}",
+            line.name
+        );
+    }
 }
