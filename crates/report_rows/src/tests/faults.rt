@@ -1,8 +1,9 @@
 //! The faults that are told of texts, one row for each cause.
 
-use go_base::Bytes;
-use pattern_report::{Report, report_on};
-use std::test::Fail;
+use go_base::{Bytes, NoMemory};
+use pattern_report::{Fault, report_on};
+use std::alloc::{AllocError, Global};
+use std::process::Abort;
 
 /// Lines that may not stand where they stand, and Pattern lines.
 static LINES: [(&[u8], &str); 10] = [
@@ -260,45 +261,61 @@ static EXPRESSIONS: [(&[u8], &str); 21] = [
     ),
 ];
 
-/// The faults of a text, one a line: the number of its line, the place, the kind and the cause.
-fn told(rt: &HostRuntime, text: &[u8]) -> Result<String, Fail> {
-    let alloc = rt.alloc();
+/// Writes a fault: the number of its line, the place, the kind and the cause.
+fn write_fault(lines: &mut String, fault: &Fault<'_>) -> Result<(), AllocError> {
+    let place = fault.place;
+    write!(lines, "{} {}:{} ", fault.line, place.line, place.column)?;
+    write!(lines, "kind {}: {}\n", fault.kind, fault.cause)
+}
+
+/// The faults of a text, one a line.
+fn told(alloc: Global, text: &[u8]) -> Result<String, NoMemory> {
     let mut helper = Bytes::new(alloc);
     helper.extend(b"near_edge")?;
-    let report: Report = report_on(alloc, text, &[helper])?;
+    let report = report_on(alloc, text, &[helper])?;
     let mut lines = String::new(alloc);
     for fault in report.first.iter().chain(report.others.iter()) {
-        write!(
-            lines,
-            "{} {}:{} kind {}: {}\n",
-            fault.line, fault.place.line, fault.place.column, fault.kind, fault.cause
-        )?;
+        write_fault(&mut lines, fault)?;
     }
     Ok(lines)
 }
 
-#[test]
-fn each_fault_has_its_cause(rt: HostRuntime) -> Result<(), Fail> {
-    let tables: [&[(&[u8], &str)]; 5] = [
-        &LINES,
-        &DIAGRAMS,
-        &COLON_LINES,
-        &CONSTRAINTS,
-        &EXPRESSIONS,
-    ];
-    for rows in tables {
-        for (text, want) in rows {
-            assert!(rt; told(&rt, text)?.as_str() == *want, "{want}");
-        }
+/// Whether a text has these faults.
+fn is_told(alloc: Global, text: &[u8], want: &str) -> bool {
+    match told(alloc, text) {
+        Ok(lines) => lines.as_str() == want,
+        Err(NoMemory) => false,
     }
-    let mut text = Vec::new(rt.alloc());
-    for _ in 0..4097 {
+}
+
+/// Looks at the faults of a table.
+fn compare(rt: &impl Abort, alloc: Global, rows: &[(&[u8], &str)]) {
+    for &(text, want) in rows {
+        assert!(rt; is_told(alloc, text, want), "{want}");
+    }
+}
+
+#[test]
+fn each_fault_has_its_cause(rt: HostRuntime) {
+    compare(&rt, rt.alloc(), &LINES);
+    compare(&rt, rt.alloc(), &DIAGRAMS);
+    compare(&rt, rt.alloc(), &COLON_LINES);
+    compare(&rt, rt.alloc(), &CONSTRAINTS);
+    compare(&rt, rt.alloc(), &EXPRESSIONS);
+}
+
+/// A text of so many entries.
+fn entries(alloc: Global, count: usize) -> Result<Vec<u8>, AllocError> {
+    let mut text = Vec::new(alloc);
+    for _ in 0..count {
         text.extend_from_slice(b"Pattern A\nO*\n:8,s\n")?;
     }
+    Ok(text)
+}
+
+#[test]
+fn an_entry_too_many_is_told_at_its_line(rt: HostRuntime) {
+    let text = entries(rt.alloc(), 4097).expect(&rt, "there is memory");
     let want = "12289 12289:1 kind 18: a text has at most 4096 entries\n";
-    assert!(rt;
-        told(&rt, &text)?.as_str() == want,
-        "an entry too many is told at its line"
-    );
-    Ok(())
+    assert!(rt; is_told(rt.alloc(), &text, want));
 }

@@ -5,7 +5,7 @@ use dfa_core::Automaton;
 use dfa_join::compile;
 use pat_types::Pattern;
 use pattern_states::added_by_each;
-use std::test::Fail;
+use std::alloc::{AllocError, Global};
 
 /// Entries with one diagram, with fronts in common, and with lengths of their own.
 static ENTRIES: [&[u8]; 7] = [
@@ -18,39 +18,59 @@ static ENTRIES: [&[u8]; 7] = [
     b"Pattern G\nO.?\n.*o\n?O?\n:8,s\n",
 ];
 
-/// The patterns of the entries but for the one at this index.
-fn patterns_without(rt: &HostRuntime, left_out: usize) -> Result<Vec<Pattern>, Fail> {
-    let alloc = rt.alloc();
+/// The text of the entries but for the one at this index.
+fn text_without(alloc: Global, left_out: usize) -> Result<Vec<u8>, AllocError> {
     let mut text = Vec::new(alloc);
     for (index, entry) in ENTRIES.iter().enumerate() {
         if index != left_out {
             text.extend_from_slice(entry)?;
         }
     }
-    Ok(read(alloc, text.as_slice(), &[], Vec::new(alloc))?)
+    Ok(text)
+}
+
+/// The patterns of the entries but for the one at this index.
+fn patterns_without(alloc: Global, left_out: usize) -> Option<Vec<Pattern>> {
+    let text = text_without(alloc, left_out).ok()?;
+    read(alloc, text.as_slice(), &[], Vec::new(alloc)).ok()
 }
 
 /// The automaton of patterns.
-fn automaton_of(rt: &HostRuntime, patterns: &[Pattern]) -> Result<Automaton, Fail> {
+fn automaton_of(alloc: Global, patterns: &[Pattern]) -> Option<Automaton> {
     if patterns.len() > 4096 {
-        return Err("the list is short")?;
+        return None;
     }
-    Ok(compile(rt.alloc(), patterns, 1000)?)
+    compile(alloc, patterns, 1000).ok()
+}
+
+/// How many states the entries have but for the one at this index.
+fn states_without(alloc: Global, left_out: usize) -> Option<u32> {
+    let patterns = patterns_without(alloc, left_out)?;
+    let automaton = automaton_of(alloc, patterns.as_slice())?;
+    Some(automaton.rows())
+}
+
+/// How many states each of the entries adds.
+fn added(alloc: Global) -> Option<Vec<u32>> {
+    let patterns = patterns_without(alloc, ENTRIES.len())?;
+    let automaton = automaton_of(alloc, patterns.as_slice())?;
+    added_by_each(alloc, &automaton, patterns.len()).ok()
+}
+
+/// How many states the entries have without one of them, and those that it adds.
+fn sum_of(alloc: Global, index: usize, states: u32) -> Option<u32> {
+    states_without(alloc, index)?.checked_add(states)
 }
 
 #[test]
-fn an_entry_adds_what_the_list_without_it_lacks(rt: HostRuntime) -> Result<(), Fail> {
-    let alloc = rt.alloc();
-    let patterns = patterns_without(&rt, ENTRIES.len())?;
-    let automaton = automaton_of(&rt, patterns.as_slice())?;
-    let added = added_by_each(alloc, &automaton, patterns.len())?;
+fn an_entry_adds_what_the_list_without_it_lacks(rt: HostRuntime) {
+    let all = states_without(rt.alloc(), ENTRIES.len()).expect(&rt, "the entries are read");
+    let added = added(rt.alloc()).expect(&rt, "there is memory");
     assert!(rt; added.len() == ENTRIES.len(), "each entry has a number");
     for (index, states) in added.iter().enumerate() {
-        let others = automaton_of(&rt, patterns_without(&rt, index)?.as_slice())?;
         assert!(rt;
-            automaton.rows().checked_sub(*states) == Some(others.rows()),
+            sum_of(rt.alloc(), index, *states) == Some(all),
             "entry {index}"
         );
     }
-    Ok(())
 }
