@@ -5,7 +5,6 @@ use helpers::Helper;
 use session::{Outcome, run};
 use std::alloc::Global;
 use std::process::Abort;
-use std::test::Fail;
 
 /// The most bytes of one call, and room for the replies.
 const ROOM: usize = 4096;
@@ -19,44 +18,55 @@ const LINES: &[u8] = b"boardsize 5\nplay b B5\nplay w D2\nplay b D1\nplay w C1\n
 /// The replies to these lines: E1 would be a match without the helper.
 const REPLIES: &[u8] = b"=\n\n=\n\n=\n\n=\n\n=\n\n= P 0 C5\n\n";
 
+/// What the test says that ends for want of memory.
+const MEMORY: &str = "memory is found";
+
 /// The name of the pattern file, as the one word of the command line and on the shelf.
-fn names(alloc: Global) -> Result<Vec<String>, Fail> {
+fn names(rt: &impl Abort, alloc: Global) -> Vec<String> {
+    let name = String::from_str(alloc, "patterns").expect(rt, MEMORY);
     let mut names = Vec::new(alloc);
-    names.push(String::from_str(alloc, "patterns")?)?;
-    Ok(names)
+    names.push(name).expect(rt, MEMORY);
+    names
 }
 
 /// A shelf that holds the pattern file.
-fn shelf(rt: &impl Abort, alloc: Global) -> Result<Shelf, Fail> {
+fn shelf(rt: &impl Abort, alloc: Global) -> Shelf {
+    let patterns = Vec::from_slice(alloc, PATTERNS).expect(rt, MEMORY);
     let mut contents = Vec::new(alloc);
-    contents.push(Vec::from_slice(alloc, PATTERNS)?)?;
-    let names = names(alloc)?;
+    contents.push(patterns).expect(rt, MEMORY);
+    let names = names(rt, alloc);
     assert!(rt; names.len() == contents.len());
-    Ok(Shelf::new(names, contents, Vec::new(alloc)))
+    Shelf::new(names, contents, Vec::new(alloc))
+}
+
+/// An empty page.
+fn page(rt: &impl Abort, alloc: Global) -> Page {
+    Page::new(alloc, ROOM, ROOM, Vec::new(alloc)).expect(rt, MEMORY)
 }
 
 /// The caller's helper, in a box.
-fn helpers(alloc: Global) -> Result<Vec<Box<dyn Helper>>, Fail> {
+fn helpers(rt: &impl Abort, alloc: Global) -> Vec<Box<dyn Helper>> {
+    let helper = Box::new(alloc, TwoLiberties::new()).expect(rt, MEMORY);
     let mut helpers: Vec<Box<dyn Helper>> = Vec::new(alloc);
-    helpers.push(Box::new(alloc, TwoLiberties::new())?)?;
-    Ok(helpers)
+    helpers.push(helper).expect(rt, MEMORY);
+    helpers
 }
 
 #[test]
-fn helper_of_the_caller_is_asked(rt: HostRuntime) -> Result<(), Fail> {
+fn helper_of_the_caller_is_asked(rt: HostRuntime) {
     let alloc = rt.alloc();
-    let mut output = Page::new(alloc, ROOM, ROOM, Vec::new(alloc))?;
-    let mut notes = Page::new(alloc, ROOM, ROOM, Vec::new(alloc))?;
+    let lines = Vec::from_slice(alloc, LINES).expect(&rt, MEMORY);
+    let mut output = page(&rt, alloc);
+    let mut notes = page(&rt, alloc);
     let outcome = run(
         alloc,
-        &names(alloc)?,
-        &mut shelf(&rt, alloc)?,
-        &mut Feed::new(Vec::from_slice(alloc, LINES)?, ROOM, Vec::new(alloc)),
+        &names(&rt, alloc),
+        &mut shelf(&rt, alloc),
+        &mut Feed::new(lines, ROOM, Vec::new(alloc)),
         &mut output,
         &mut notes,
-        helpers(alloc)?,
+        helpers(&rt, alloc),
     );
     assert!(rt; output.bytes() == REPLIES);
     assert!(rt; outcome == Outcome::Done && notes.bytes().is_empty());
-    Ok(())
 }
