@@ -9,30 +9,3 @@ mod pieces;
 mod records;
 mod runs;
 mod waiting;
-
-use runs::{Case, assert_case};
-use std::test::Fail;
-
-// The tables of the runs that are told by one row each.
-#[test]
-fn each_run_comes_to_what_its_row_tells(rt: HostRuntime) -> Result<(), Fail> {
-    let tables: [&[Case<'_>]; 11] = [
-        &counts::COUNTED_READINGS,
-        &counts::MOST_KEPT,
-        &counts::KEPT_CONNECTIONS,
-        &faults::FAULTS,
-        &faults::UNMADE_CALLS,
-        &files_and_words::REFUSED,
-        &option_runs::OPTION_RUNS,
-        &records::LOADS,
-        &waiting::CUT_REPLIES,
-        &waiting::CUT_CONNECTIONS,
-        &waiting::CALLS_OF_THE_OUTPUT,
-    ];
-    for table in tables {
-        for case in table {
-            assert_case(&rt, rt.alloc(), case)?;
-        }
-    }
-    Ok(())
-}

@@ -1,6 +1,7 @@
 //! What is counted of readings and of connections.
-use super::runs::{CASE, Case, assert_case};
-use std::test::Fail;
+use super::runs::{CASE, Case, Told, assert_cases, compare, run_on};
+use std::alloc::Global;
+use std::process::Abort;
 
 /// The option that asks for the counts.
 pub(super) const STATS: &[&str] = &["--stats"];
@@ -15,7 +16,7 @@ pub(super) const STATS: &[&str] = &["--stats"];
 ///
 /// Without a wide ply the attacker tries D3 alone. With one he tries C3 before it, in reading order: black then gets
 /// out at D3, to more liberties than the last ply can fill, which is seen without a play.
-pub(super) static COUNTED_READINGS: [Case<'static>; 8] = [
+static COUNTED_READINGS: [Case<'static>; 8] = [
     Case {
         name: "a refused question counts nothing, and the first that is answered is kept for the second",
         options: STATS,
@@ -118,7 +119,7 @@ const NINE_JOINS: &[u8] =
         \n= 1 PASS\n\n";
 
 /// As many questions are kept as the option says; the one used longest ago makes room for the ninth.
-pub(super) static MOST_KEPT: [Case<'static>; 4] = [
+static MOST_KEPT: [Case<'static>; 4] = [
     Case {
         name: "eight questions are kept of nine",
         options: &["--depth", "3", "--branch", "2", "--cache", "8", "--stats"],
@@ -160,7 +161,7 @@ pub(super) static MOST_KEPT: [Case<'static>; 4] = [
 /// Connections are used again where what they looked at is as it was, and their note stands behind that of readings.
 ///
 /// Black stones at C5 and E5 of 9 by 9, with D5 between them, where White cuts.
-pub(super) static KEPT_CONNECTIONS: [Case<'static>; 7] = [
+static KEPT_CONNECTIONS: [Case<'static>; 7] = [
     Case {
         name: "a distant move keeps a connection",
         options: STATS,
@@ -224,15 +225,29 @@ pub(super) static KEPT_CONNECTIONS: [Case<'static>; 7] = [
     },
 ];
 
+// What the rows of the three tables tell.
 #[test]
-fn nothing_is_noted_where_no_counts_are_asked_for(rt: HostRuntime) -> Result<(), Fail> {
+fn readings_and_connections_are_counted(rt: HostRuntime) {
+    assert_cases(&rt, rt.alloc(), &COUNTED_READINGS);
+    assert_cases(&rt, rt.alloc(), &MOST_KEPT);
+    assert_cases(&rt, rt.alloc(), &KEPT_CONNECTIONS);
+}
+
+/// Runs the case without its options, and compares all that came of it.
+fn assert_silent(rt: &impl Abort, alloc: Global, case: &Case<'_>) {
+    let ran = run_on(rt, alloc, &[], case.files, case.input, case.way);
+    let told = Told {
+        output: case.output,
+        noted: ran.notes.bytes().is_empty(),
+        status: case.status,
+        left: case.left,
+    };
+    compare(rt, case.name, &ran, told);
+}
+
+#[test]
+fn nothing_is_noted_where_no_counts_are_asked_for(rt: HostRuntime) {
     for case in &KEPT_CONNECTIONS {
-        let silent = Case {
-            options: &[],
-            notes: b"",
-            ..*case
-        };
-        assert_case(&rt, rt.alloc(), &silent)?;
+        assert_silent(&rt, rt.alloc(), case);
     }
-    Ok(())
 }

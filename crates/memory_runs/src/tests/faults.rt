@@ -1,7 +1,10 @@
 //! What happens where an object fails, and which calls are not made.
-use super::runs::{CASE, Case, MANY_CALLS, TWO_FILES, WHOLE, Way, run_case};
-use crate::sessions::{File, SESSIONS};
-use std::test::Fail;
+use super::runs::{
+    CASE, Case, MANY_CALLS, Ran, TWO_FILES, WHOLE, Way, assert_cases, run_on, words,
+};
+use crate::sessions::{File, SESSIONS, Session};
+use std::alloc::Global;
+use std::process::Abort;
 
 /// A file with a fault in its third line.
 const BAD_FILE: &[File<'static>] = &[File {
@@ -10,7 +13,7 @@ const BAD_FILE: &[File<'static>] = &[File {
 }];
 
 /// Runs in which an object fails.
-pub(super) static FAULTS: [Case<'static>; 4] = [
+static FAULTS: [Case<'static>; 4] = [
     Case {
         name: "the source fails",
         input: b"name\nversion\nname\n",
@@ -22,7 +25,7 @@ pub(super) static FAULTS: [Case<'static>; 4] = [
         status: 4,
         output: b"= gopat\n\n",
         notes: b"input failed\n",
-        left: Some(8),
+        left: 8,
         ..CASE
     },
     Case {
@@ -48,7 +51,7 @@ pub(super) static FAULTS: [Case<'static>; 4] = [
         },
         status: 5,
         notes: b"output failed\n",
-        left: Some(8),
+        left: 8,
         ..CASE
     },
     Case {
@@ -60,13 +63,13 @@ pub(super) static FAULTS: [Case<'static>; 4] = [
             ..WHOLE
         },
         status: 4,
-        left: Some(5),
+        left: 5,
         ..CASE
     },
 ];
 
 /// Runs in which one call is set to fail that is not to be made.
-pub(super) static UNMADE_CALLS: [Case<'static>; 9] = [
+static UNMADE_CALLS: [Case<'static>; 9] = [
     Case {
         name: "each file is loaded once",
         files: TWO_FILES,
@@ -109,7 +112,7 @@ pub(super) static UNMADE_CALLS: [Case<'static>; 9] = [
         status: 4,
         output: b"= gopat\n\n",
         notes: b"input failed\n",
-        left: Some(5),
+        left: 5,
         ..CASE
     },
     Case {
@@ -122,7 +125,7 @@ pub(super) static UNMADE_CALLS: [Case<'static>; 9] = [
         },
         status: 5,
         notes: b"output failed\n",
-        left: Some(5),
+        left: 5,
         ..CASE
     },
     Case {
@@ -155,7 +158,7 @@ pub(super) static UNMADE_CALLS: [Case<'static>; 9] = [
         },
         status: 1,
         notes: b"bad database: line 3 kind 7\n",
-        left: Some(5),
+        left: 5,
         ..CASE
     },
     Case {
@@ -168,10 +171,17 @@ pub(super) static UNMADE_CALLS: [Case<'static>; 9] = [
         },
         status: 1,
         notes: b"bad database: line 3 kind 7\n",
-        left: Some(5),
+        left: 5,
         ..CASE
     },
 ];
+
+// What the rows of the two tables tell.
+#[test]
+fn a_fault_ends_the_run_and_other_calls_are_not_made(rt: HostRuntime) {
+    assert_cases(&rt, rt.alloc(), &FAULTS);
+    assert_cases(&rt, rt.alloc(), &UNMADE_CALLS);
+}
 
 /// How a run goes whose calls move seven bytes, where this call fails: one of the object whose fault ends a run with
 /// this exit status.
@@ -196,55 +206,74 @@ fn failing(status: u8, call: u64) -> Way {
 /// The objects that may fail, with the exit status that tells so.
 static OBJECTS: [(&str, u8); 3] = [("loader", 6), ("source", 4), ("sink", 5)];
 
-// Where a call fails, what is out is a front of the replies, and the outcome tells the fault.
-#[test]
-fn each_call_fails_in_turn(rt: HostRuntime) -> Result<(), Fail> {
-    for session in &SESSIONS {
-        for &(object, status) in &OBJECTS {
-            for call in 1..MANY_CALLS {
-                let case = Case {
-                    files: session.files,
-                    input: session.input,
-                    way: failing(status, call),
-                    ..CASE
-                };
-                let ran = run_case(&rt, rt.alloc(), &case)?;
-                let (name, out) = (session.name, ran.output.bytes());
-                if ran.status != status {
-                    assert!(rt;
-                        ran.status == 0 && out == session.output,
-                        "{name}, {object} call {call}"
-                    );
-                    break;
-                }
-                assert!(rt;
-                    session.output.starts_with(out),
-                    "{name}, {object} call {call}"
-                );
-            }
-        }
-    }
-    Ok(())
+/// Runs the session where this call of the object fails, if it is made, and tells whether it is. What is out is a front
+/// of the replies, and all of them where no call fails.
+fn is_made(
+    rt: &impl Abort,
+    alloc: Global,
+    session: &Session,
+    (object, status): (&str, u8),
+    call: u64,
+) -> bool {
+    let name = session.name;
+    let words = words(rt, alloc, &[], session.files);
+    let ran = run_on(
+        rt,
+        alloc,
+        &words,
+        session.files,
+        session.input,
+        failing(status, call),
+    );
+    let (out, all) = (ran.output.bytes(), session.output);
+    let made = ran.status == status;
+    let right = if made {
+        all.starts_with(out)
+    } else {
+        ran.status == 0 && out == all
+    };
+    assert!(rt; right, "{name}, {object} call {call}");
+    made
 }
 
-/// A run that notes its counts and its generated lines, seven bytes a call.
-const NOTED: Case<'static> = Case {
-    name: "notes that fail",
-    options: &["--stats", "--generate", "1"],
-    way: Way { piece: 7, ..WHOLE },
-    ..CASE
-};
+/// Runs the session with each call of the object failing in turn.
+fn assert_failing(rt: &impl Abort, alloc: Global, session: &Session, object: (&str, u8)) {
+    for call in 1..MANY_CALLS {
+        if !is_made(rt, alloc, session, object, call) {
+            break;
+        }
+    }
+}
+
+// Where a call fails, what is out is a front of the replies, and the outcome tells the fault.
+#[test]
+fn each_call_fails_in_turn(rt: HostRuntime) {
+    for session in &SESSIONS {
+        for &object in &OBJECTS {
+            assert_failing(&rt, rt.alloc(), session, object);
+        }
+    }
+}
+
+/// The options of a run that notes its counts and its generated lines.
+static NOTED: [&str; 3] = ["--stats", "--generate", "1"];
+
+/// What comes of that run, seven bytes a call, where this call of the notes fails.
+fn noted(rt: &impl Abort, alloc: Global, call: u64) -> Ran {
+    let way = Way {
+        piece: 7,
+        notes_fail: call,
+        ..WHOLE
+    };
+    run_on(rt, alloc, &words(rt, alloc, &NOTED, &[]), &[], b"", way)
+}
 
 // The notes are then a front of their text, and nothing else changes.
 #[test]
-fn each_call_of_the_notes_fails_in_turn(rt: HostRuntime) -> Result<(), Fail> {
-    let all = run_case(&rt, rt.alloc(), &NOTED)?;
+fn each_call_of_the_notes_fails_in_turn(rt: HostRuntime) {
+    let all = noted(&rt, rt.alloc(), 0);
     for call in 1..MANY_CALLS {
-        let way = Way {
-            notes_fail: call,
-            ..NOTED.way
-        };
-        let ran = run_case(&rt, rt.alloc(), &Case { way, ..NOTED })?;
+        let ran = noted(&rt, rt.alloc(), call);
         let (notes, want) = (ran.notes.bytes(), all.notes.bytes());
         assert!(rt;
             ran.status == 0 && ran.output.bytes() == all.output.bytes() && want.starts_with(notes),
@@ -252,8 +281,8 @@ fn each_call_of_the_notes_fails_in_turn(rt: HostRuntime) -> Result<(), Fail> {
         );
         if notes == want {
             assert!(rt; call > 1, "the first call fails");
-            return Ok(());
+            return;
         }
     }
-    Err(Fail::from("some call is the last"))
+    panic!(rt; "some call is the last")
 }

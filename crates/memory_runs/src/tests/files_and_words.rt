@@ -1,11 +1,10 @@
 //! Words and files that are refused before the first line.
-use super::runs::{CASE, Case, ROOM, WHOLE, Way, words};
+use super::runs::{CASE, Case, MEMORY, ROOM, WHOLE, Way, assert_cases, words};
 use crate::run_surely;
 use crate::sessions::File;
 use gtp_io::{Page, SureFeed, SurePage, SureShelf};
 use read_rules::Tree;
 use session::{WordsError, run_words};
-use std::test::Fail;
 
 /// Why the words could not be had, the exit status, and the note.
 static UNHAD_WORDS: [(WordsError, u8, &[u8]); 2] = [
@@ -18,16 +17,16 @@ static UNHAD_WORDS: [(WordsError, u8, &[u8]); 2] = [
 ];
 
 #[test]
-fn words_that_could_not_be_had_are_told(rt: HostRuntime) -> Result<(), Fail> {
+fn words_that_could_not_be_had_are_told(rt: HostRuntime) {
     let alloc = rt.alloc();
     for &(error, status, note) in &UNHAD_WORDS {
-        let mut notes = Page::new(alloc, ROOM, ROOM, Vec::new(alloc))?;
+        let mut notes = Page::new(alloc, ROOM, ROOM, Vec::new(alloc)).expect(&rt, MEMORY);
         let outcome = run_words(
             alloc,
             Tree::Stated,
             Err(error),
             &mut SureShelf::new(Vec::new(alloc), Vec::new(alloc)),
-            &mut SureFeed::new(Vec::from_slice(alloc, b"name\n")?, 5),
+            &mut SureFeed::new(Vec::from_slice(alloc, b"name\n").expect(&rt, MEMORY), 5),
             &mut SurePage::new(),
             &mut notes,
             Vec::new(alloc),
@@ -37,7 +36,6 @@ fn words_that_could_not_be_had_are_told(rt: HostRuntime) -> Result<(), Fail> {
             "exit status {status}"
         );
     }
-    Ok(())
 }
 
 /// Words over objects that never fail, and the exit status.
@@ -47,24 +45,23 @@ static SURE_RUNS: [(&str, &[&str], u8); 2] = [
 ];
 
 #[test]
-fn words_that_begin_with_a_hyphen_are_refused(rt: HostRuntime) -> Result<(), Fail> {
+fn words_that_begin_with_a_hyphen_are_refused(rt: HostRuntime) {
     let alloc = rt.alloc();
     for &(name, options, status) in &SURE_RUNS {
         let outcome = run_surely(
             alloc,
-            &words(alloc, options, &[])?,
+            &words(&rt, alloc, options, &[]),
             &mut SureShelf::new(Vec::new(alloc), Vec::new(alloc)),
-            &mut SureFeed::new(Vec::from_slice(alloc, b"name\n")?, 5),
+            &mut SureFeed::new(Vec::from_slice(alloc, b"name\n").expect(&rt, MEMORY), 5),
             &mut SurePage::new(),
             Vec::new(alloc),
         );
         assert!(rt; outcome.code() == status, "{name}");
     }
-    Ok(())
 }
 
 /// Files that are refused before the first line.
-pub(super) static REFUSED: [Case<'static>; 6] = [
+static REFUSED: [Case<'static>; 6] = [
     Case {
         name: "no star",
         files: &[File {
@@ -74,7 +71,7 @@ pub(super) static REFUSED: [Case<'static>; 6] = [
         input: b"name\n",
         status: 1,
         notes: b"bad database: line 3 kind 7\n",
-        left: Some(5),
+        left: 5,
         ..CASE
     },
     Case {
@@ -86,7 +83,7 @@ pub(super) static REFUSED: [Case<'static>; 6] = [
         input: b"name\n",
         status: 1,
         notes: b"bad database: line 3 kind 7\n",
-        left: Some(5),
+        left: 5,
         ..CASE
     },
     Case {
@@ -98,7 +95,7 @@ pub(super) static REFUSED: [Case<'static>; 6] = [
         input: b"name\n",
         status: 1,
         notes: b"bad database: line 3 kind 17\n",
-        left: Some(5),
+        left: 5,
         ..CASE
     },
     Case {
@@ -116,7 +113,7 @@ pub(super) static REFUSED: [Case<'static>; 6] = [
         input: b"name\n",
         status: 1,
         notes: b"bad database: line 7 kind 15\n",
-        left: Some(5),
+        left: 5,
         ..CASE
     },
     Case {
@@ -132,7 +129,7 @@ pub(super) static REFUSED: [Case<'static>; 6] = [
         },
         status: 6,
         notes: b"file failed\n",
-        left: Some(5),
+        left: 5,
         ..CASE
     },
     Case {
@@ -154,7 +151,12 @@ pub(super) static REFUSED: [Case<'static>; 6] = [
         },
         status: 6,
         notes: b"file failed\n",
-        left: Some(5),
+        left: 5,
         ..CASE
     },
 ];
+
+#[test]
+fn files_with_a_fault_are_refused(rt: HostRuntime) {
+    assert_cases(&rt, rt.alloc(), &REFUSED);
+}

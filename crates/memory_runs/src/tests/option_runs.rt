@@ -1,5 +1,5 @@
 //! The effects of the options.
-use super::runs::{CASE, Case, TWO_FILES, WHOLE, Way};
+use super::runs::{CASE, Case, TWO_FILES, WHOLE, Way, assert_cases};
 use crate::sessions::File;
 
 /// The smallest pattern, with seven states.
@@ -13,14 +13,14 @@ const IN_ATARI: &[u8] = b"boardsize 9\nplay b D4\nplay w C4\nplay w E4\nplay w D
 
 /// Generated runs, their first lines, the ranges of the options, the limit of states, and what goes out where an object
 /// fails.
-pub(super) static OPTION_RUNS: [Case<'static>; 13] = [
+static OPTION_RUNS: [Case<'static>; 13] = [
     Case {
         name: "one generated line, and the input is left alone",
         options: &["--generate", "1"],
         input: b"name\n",
         output: b"=\n\n=\n\n=\n\n",
         notes: b"lines 3 bytes 9\n",
-        left: Some(5),
+        left: 5,
         ..CASE
     },
     Case {
@@ -29,7 +29,7 @@ pub(super) static OPTION_RUNS: [Case<'static>; 13] = [
         input: b"name\n",
         output: b"=\n\n=\n\n=\n\n=\n\n",
         notes: b"readings 0 fresh 0 trials 0 refused 0\nlines 4 bytes 12\n",
-        left: Some(5),
+        left: 5,
         ..CASE
     },
     Case {
@@ -42,7 +42,7 @@ pub(super) static OPTION_RUNS: [Case<'static>; 13] = [
         },
         output: b"=\n\n=\n\n=\n\n",
         notes: b"lines 3 bytes 9\n",
-        left: Some(5),
+        left: 5,
         ..CASE
     },
     Case {
@@ -74,7 +74,7 @@ pub(super) static OPTION_RUNS: [Case<'static>; 13] = [
         input: b"name\n",
         status: 2,
         notes: b"usage: gopat [options] [file ...]\n",
-        left: Some(5),
+        left: 5,
         ..CASE
     },
     Case {
@@ -83,7 +83,7 @@ pub(super) static OPTION_RUNS: [Case<'static>; 13] = [
         input: b"name\n",
         status: 2,
         notes: b"usage: gopat [options] [file ...]\n",
-        left: Some(5),
+        left: 5,
         ..CASE
     },
     Case {
@@ -101,7 +101,7 @@ pub(super) static OPTION_RUNS: [Case<'static>; 13] = [
         input: b"name\n",
         status: 7,
         notes: b"too many states: limit 6\n",
-        left: Some(5),
+        left: 5,
         ..CASE
     },
     Case {
@@ -119,7 +119,7 @@ pub(super) static OPTION_RUNS: [Case<'static>; 13] = [
         input: b"name\n",
         status: 7,
         notes: b"too many states: limit 11\n",
-        left: Some(5),
+        left: 5,
         ..CASE
     },
     Case {
@@ -137,3 +137,8 @@ pub(super) static OPTION_RUNS: [Case<'static>; 13] = [
         ..CASE
     },
 ];
+
+#[test]
+fn options_have_their_effects(rt: HostRuntime) {
+    assert_cases(&rt, rt.alloc(), &OPTION_RUNS);
+}

@@ -1,33 +1,36 @@
 //! The worked sessions, whole and cut into pieces; the longest line; runs that are made twice.
-use super::runs::{CASE, Case, PIECE, ROOM, Ran, WHOLE, Way, assert_case, repeated, run_on};
+use super::runs::{MEMORY, PIECE, ROOM, Ran, Told, WHOLE, Way, compare, repeated, run_on, words};
 use crate::run_in_memory;
-use crate::sessions::SESSIONS;
+use crate::sessions::{SESSIONS, Session};
 use gtp_io::{Feed, Page, Shelf};
 use session::Outcome;
 use std::alloc::Global;
 use std::process::Abort;
-use std::test::Fail;
 
 /// How many bytes a call moves at most: more than any session has, and few.
 static PIECES: [usize; 9] = [4096, 1, 2, 3, 4, 5, 6, 7, 8];
 
+/// Runs the session so many bytes a call, and compares all that came of it but the bytes left.
+fn assert_session(rt: &impl Abort, alloc: Global, session: &Session, piece: usize) {
+    let words = words(rt, alloc, &[], session.files);
+    let way = Way { piece, ..WHOLE };
+    let ran = run_on(rt, alloc, &words, session.files, session.input, way);
+    let told = Told {
+        output: session.output,
+        noted: ran.notes.bytes().is_empty(),
+        status: 0,
+        left: ran.left,
+    };
+    compare(rt, session.name, &ran, told);
+}
+
 #[test]
-fn sessions_whole_and_in_pieces(rt: HostRuntime) -> Result<(), Fail> {
+fn sessions_whole_and_in_pieces(rt: HostRuntime) {
     for session in &SESSIONS {
         for &piece in &PIECES {
-            let case = Case {
-                name: session.name,
-                files: session.files,
-                input: session.input,
-                way: Way { piece, ..WHOLE },
-                output: session.output,
-                left: None,
-                ..CASE
-            };
-            assert_case(&rt, rt.alloc(), &case)?;
+            assert_session(&rt, rt.alloc(), session, piece);
         }
     }
-    Ok(())
 }
 
 /// How many letters a line has, and the replies to it and to `name`.
@@ -41,11 +44,11 @@ static LONG_LINES: [(&str, usize, &[u8]); 2] = [
 ];
 
 #[test]
-fn longest_line_and_one_byte_more(rt: HostRuntime) -> Result<(), Fail> {
+fn longest_line_and_one_byte_more(rt: HostRuntime) {
     let alloc = rt.alloc();
     for &(what, letters, output) in &LONG_LINES {
-        let input = repeated(alloc, &[(letters, b"x"), (1, b"\nname\n")])?;
-        let mut page = Page::new(alloc, ROOM, ROOM, Vec::new(alloc))?;
+        let input = repeated(&rt, alloc, &[(letters, b"x"), (1, b"\nname\n")]);
+        let mut page = Page::new(alloc, ROOM, ROOM, Vec::new(alloc)).expect(&rt, MEMORY);
         let outcome = run_in_memory(
             alloc,
             &[],
@@ -59,7 +62,6 @@ fn longest_line_and_one_byte_more(rt: HostRuntime) -> Result<(), Fail> {
             "{what}"
         );
     }
-    Ok(())
 }
 
 /// Runs that are made twice: lines that come so many times each, how many bytes a call moves the second time, and more
@@ -96,28 +98,33 @@ static RUNS_MADE_TWICE: [Twice; 2] = [
 ];
 
 /// What comes of the run's lines, where a call moves so many bytes.
-fn ran_by(rt: &impl Abort, alloc: Global, run: &Twice, piece: usize) -> Result<Ran, Fail> {
-    let input = repeated(alloc, run.lines)?;
-    let case = Case {
-        name: run.name,
-        options: run.options,
-        way: Way { piece, ..WHOLE },
-        ..CASE
+fn ran_by(rt: &impl Abort, alloc: Global, run: &Twice, piece: usize) -> Ran {
+    let input = repeated(rt, alloc, run.lines);
+    let words = words(rt, alloc, run.options, &[]);
+    run_on(rt, alloc, &words, &[], &input, Way { piece, ..WHOLE })
+}
+
+/// Makes the run twice, and compares all that came of it.
+fn assert_twice(rt: &impl Abort, alloc: Global, run: &Twice) {
+    let first = ran_by(rt, alloc, run, PIECE);
+    let again = ran_by(rt, alloc, run, run.piece);
+    let told = Told {
+        output: first.output.bytes(),
+        noted: again.notes.bytes() == first.notes.bytes(),
+        status: 0,
+        left: 0,
     };
-    run_on(rt, alloc, &case, &[], &input)
+    compare(rt, run.name, &again, told);
+    assert!(rt;
+        first.status == 0 && first.left == 0 && first.output.bytes().len() > run.more_than,
+        "the first run of: {}",
+        run.name
+    );
 }
 
 #[test]
-fn runs_come_to_the_same_again(rt: HostRuntime) -> Result<(), Fail> {
+fn runs_come_to_the_same_again(rt: HostRuntime) {
     for run in &RUNS_MADE_TWICE {
-        let name = run.name;
-        let first = ran_by(&rt, rt.alloc(), run, PIECE)?;
-        let again = ran_by(&rt, rt.alloc(), run, run.piece)?;
-        assert!(rt; first.output.bytes().len() > run.more_than, "{name}");
-        assert!(rt; first.output.bytes() == again.output.bytes(), "{name}");
-        assert!(rt; first.notes.bytes() == again.notes.bytes(), "{name}");
-        assert!(rt; [first.status, again.status] == [0, 0], "{name}");
-        assert!(rt; [first.left, again.left] == [0, 0], "{name}");
+        assert_twice(&rt, rt.alloc(), run);
     }
-    Ok(())
 }

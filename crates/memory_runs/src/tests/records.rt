@@ -1,5 +1,5 @@
 //! Game records that lines load.
-use super::runs::{CASE, Case};
+use super::runs::{CASE, Case, assert_cases};
 use crate::sessions::File;
 
 /// Records on a shelf: one without a fault, and one for each kind of fault.
@@ -31,7 +31,7 @@ const RECORDS: &[File<'static>] = &[
 ];
 
 /// What lines load, and what they are refused.
-pub(super) static LOADS: [Case<'static>; 4] = [
+static LOADS: [Case<'static>; 4] = [
     Case {
         name: "undo stops at the loaded position",
         records: RECORDS,
@@ -62,3 +62,8 @@ pub(super) static LOADS: [Case<'static>; 4] = [
         ..CASE
     },
 ];
+
+#[test]
+fn records_are_loaded_or_refused(rt: HostRuntime) {
+    assert_cases(&rt, rt.alloc(), &LOADS);
+}

@@ -5,7 +5,6 @@ use helpers::{Helper, NearEdge, NoBan};
 use session::run;
 use std::alloc::Global;
 use std::process::Abort;
-use std::test::Fail;
 
 /// The most bytes of one call.
 pub(super) const PIECE: usize = 4096;
@@ -15,6 +14,9 @@ pub(super) const ROOM: usize = 65_536;
 
 /// The longest session has fewer calls than this, also where each call moves one byte.
 pub(super) const MANY_CALLS: u64 = 400;
+
+/// What a test says that ends for want of memory.
+pub(super) const MEMORY: &str = "memory is found";
 
 /// Two files, each without a fault.
 pub(super) const TWO_FILES: &[File<'static>] = &[
@@ -68,8 +70,8 @@ pub(super) struct Case<'a> {
     pub(super) notes: &'a [u8],
     /// Where this is not empty, the notes begin as told, go on with the number of trial plays, and end so.
     pub(super) behind_trials: &'a [u8],
-    /// How many bytes of the input are not taken, where that is told.
-    pub(super) left: Option<usize>,
+    /// How many bytes of the input are not taken.
+    pub(super) left: usize,
 }
 
 /// A run without files and input where nothing fails, and of which nothing comes.
@@ -84,7 +86,7 @@ pub(super) const CASE: Case<'static> = Case {
     output: b"",
     notes: b"",
     behind_trials: b"",
-    left: Some(0),
+    left: 0,
 };
 
 /// What came of one run.
@@ -98,128 +100,170 @@ pub(super) struct Ran {
 
 /// The words of a command line with these options that names these files.
 pub(super) fn words(
+    rt: &impl Abort,
     alloc: Global,
     options: &[&str],
     files: &[File<'_>],
-) -> Result<Vec<String>, Fail> {
+) -> Vec<String> {
     let mut words = Vec::new(alloc);
     for option in options {
-        words.push(String::from_str(alloc, option)?)?;
+        let word = String::from_str(alloc, option).expect(rt, MEMORY);
+        words.push(word).expect(rt, MEMORY);
     }
     for file in files {
-        words.push(String::from_str(alloc, file.name)?)?;
+        let word = String::from_str(alloc, file.name).expect(rt, MEMORY);
+        words.push(word).expect(rt, MEMORY);
     }
-    Ok(words)
+    words
 }
 
 /// What the files hold, one after another.
-fn texts(alloc: Global, files: &[File<'_>]) -> Result<Vec<Vec<u8>>, Fail> {
+fn texts(rt: &impl Abort, alloc: Global, files: &[File<'_>]) -> Vec<Vec<u8>> {
     let mut texts = Vec::new(alloc);
     for file in files {
-        texts.push(Vec::from_slice(alloc, file.text)?)?;
+        let text = Vec::from_slice(alloc, file.text).expect(rt, MEMORY);
+        texts.push(text).expect(rt, MEMORY);
     }
-    Ok(texts)
+    texts
 }
 
-/// A shelf that holds these files, and the case's records where there are none.
-fn shelf(
-    rt: &impl Abort,
-    alloc: Global,
-    case: &Case<'_>,
-    files: &[File<'_>],
-) -> Result<Shelf, Fail> {
-    let (names, contents) = if files.is_empty() {
-        (
-            words(alloc, &[], case.records)?,
-            texts(alloc, case.records)?,
-        )
-    } else {
-        (words(alloc, &[], files)?, texts(alloc, files)?)
-    };
-    let fails = Vec::from_slice(alloc, &[case.way.loader_fails])?;
+/// A shelf that holds these files, and fails at this call.
+fn shelf(rt: &impl Abort, alloc: Global, files: &[File<'_>], fails: u64) -> Shelf {
+    let names = words(rt, alloc, &[], files);
+    let contents = texts(rt, alloc, files);
     assert!(rt; names.len() == contents.len());
-    Ok(Shelf::new(names, contents, fails))
+    Shelf::new(names, contents, calls(rt, alloc, fails))
+}
+
+/// A list of this one call.
+fn calls(rt: &impl Abort, alloc: Global, call: u64) -> Vec<u64> {
+    Vec::from_slice(alloc, &[call]).expect(rt, MEMORY)
+}
+
+/// A feed that gives these bytes, at most so many a call, and fails at this call.
+fn feed(rt: &impl Abort, alloc: Global, input: &[u8], most: usize, fails: u64) -> Feed {
+    assert!(rt; most > 0, "a call moves some bytes");
+    let bytes = Vec::from_slice(alloc, input).expect(rt, MEMORY);
+    Feed::new(bytes, most, calls(rt, alloc, fails))
+}
+
+/// A page that takes at most so many bytes a call, and fails at this call.
+fn page(rt: &impl Abort, alloc: Global, most: usize, fails: u64) -> Page {
+    assert!(rt; most > 0, "a call takes some bytes");
+    Page::new(alloc, ROOM, most, calls(rt, alloc, fails)).expect(rt, MEMORY)
 }
 
 /// The program's own helpers.
-fn helpers(alloc: Global) -> Result<Vec<Box<dyn Helper>>, Fail> {
+fn helpers(rt: &impl Abort, alloc: Global) -> Vec<Box<dyn Helper>> {
     let mut helpers: Vec<Box<dyn Helper>> = Vec::new(alloc);
-    helpers.push(Box::new(alloc, NearEdge::new())?)?;
-    helpers.push(Box::new(alloc, NoBan::new())?)?;
-    Ok(helpers)
+    let near_edge = Box::new(alloc, NearEdge::new()).expect(rt, MEMORY);
+    helpers.push(near_edge).expect(rt, MEMORY);
+    let no_ban = Box::new(alloc, NoBan::new()).expect(rt, MEMORY);
+    helpers.push(no_ban).expect(rt, MEMORY);
+    helpers
 }
 
-/// What comes of the case's run.
-pub(super) fn run_case(rt: &impl Abort, alloc: Global, case: &Case<'_>) -> Result<Ran, Fail> {
-    run_on(rt, alloc, case, case.files, case.input)
-}
-
-/// What comes of the case's run with these files and this input in the place of its own.
+/// What comes of a run with these words and this input, over a shelf that holds these files.
 pub(super) fn run_on(
     rt: &impl Abort,
     alloc: Global,
-    case: &Case<'_>,
+    words: &[String],
     files: &[File<'_>],
     input: &[u8],
-) -> Result<Ran, Fail> {
-    let way = case.way;
-    assert!(rt; way.piece > 0, "a call moves some bytes");
-    let source_fails = Vec::from_slice(alloc, &[way.source_fails])?;
-    let mut feed = Feed::new(Vec::from_slice(alloc, input)?, way.piece, source_fails);
+    way: Way,
+) -> Ran {
+    let mut feed = feed(rt, alloc, input, way.piece, way.source_fails);
     let takes = way.piece.min(way.sink_takes);
-    assert!(rt; takes > 0, "a call of the sink takes some bytes");
-    let sink_fails = Vec::from_slice(alloc, &[way.sink_fails])?;
-    let mut output = Page::new(alloc, ROOM, takes, sink_fails)?;
-    let notes_fail = Vec::from_slice(alloc, &[way.notes_fail])?;
-    let mut notes = Page::new(alloc, ROOM, way.piece, notes_fail)?;
+    let mut output = page(rt, alloc, takes, way.sink_fails);
+    let mut notes = page(rt, alloc, way.piece, way.notes_fail);
     let outcome = run(
         alloc,
-        &words(alloc, case.options, files)?,
-        &mut shelf(rt, alloc, case, files)?,
+        words,
+        &mut shelf(rt, alloc, files, way.loader_fails),
         &mut feed,
         &mut output,
         &mut notes,
-        helpers(alloc)?,
+        helpers(rt, alloc),
     );
-    Ok(Ran {
+    Ran {
         status: outcome.code(),
         output,
         notes,
         left: feed.left().len(),
-    })
+    }
 }
 
-/// Runs the case, and compares all that came of it.
-pub(super) fn assert_case(rt: &impl Abort, alloc: Global, case: &Case<'_>) -> Result<(), Fail> {
-    let ran = run_case(rt, alloc, case)?;
-    compare(rt, case, &ran, case.output);
-    Ok(())
+/// What comes of the case's run.
+fn run_case(rt: &impl Abort, alloc: Global, case: &Case<'_>) -> Ran {
+    let words = words(rt, alloc, case.options, case.files);
+    if case.files.is_empty() {
+        run_on(rt, alloc, &words, case.records, case.input, case.way)
+    } else {
+        run_on(rt, alloc, &words, case.files, case.input, case.way)
+    }
 }
 
-/// Compares all that came of a run with what the case says, but for this output in the place of its own.
-pub(super) fn compare(rt: &impl Abort, case: &Case<'_>, ran: &Ran, output: &[u8]) {
-    let (name, notes) = (case.name, ran.notes.bytes());
-    let noted = if case.behind_trials.is_empty() {
+/// Whether the notes are those that the case tells.
+fn are_notes_of(case: &Case<'_>, notes: &[u8]) -> bool {
+    if case.behind_trials.is_empty() {
         notes == case.notes
     } else {
         notes.starts_with(case.notes) && notes.ends_with(case.behind_trials)
+    }
+}
+
+/// What is told of a run: its output, whether its notes are the right ones, its exit status, and how many bytes of the
+/// input are left.
+#[derive(Clone, Copy)]
+pub(super) struct Told<'a> {
+    pub(super) output: &'a [u8],
+    pub(super) noted: bool,
+    pub(super) status: u8,
+    pub(super) left: usize,
+}
+
+/// Compares all that came of a run with what is told of it.
+pub(super) fn compare(rt: &impl Abort, name: &str, ran: &Ran, told: Told<'_>) {
+    let other = if ran.output.bytes() != told.output {
+        "the output"
+    } else if !told.noted {
+        "the notes"
+    } else if ran.status != told.status {
+        "the exit status"
+    } else if ran.left != told.left {
+        "the bytes left"
+    } else {
+        return;
     };
-    assert!(rt; ran.output.bytes() == output, "the output of: {name}");
-    assert!(rt; noted, "the notes of: {name}");
-    assert!(rt; ran.status == case.status, "the exit status of: {name}");
-    assert!(rt;
-        ran.left == case.left.unwrap_or(ran.left),
-        "the bytes left by: {name}"
-    );
+    panic!(rt; "{other} of: {name}")
+}
+
+/// Runs the case, and compares all that came of it.
+fn assert_case(rt: &impl Abort, alloc: Global, case: &Case<'_>) {
+    let ran = run_case(rt, alloc, case);
+    let told = Told {
+        output: case.output,
+        noted: are_notes_of(case, ran.notes.bytes()),
+        status: case.status,
+        left: case.left,
+    };
+    compare(rt, case.name, &ran, told);
+}
+
+/// Runs the cases, and compares all that came of them.
+pub(super) fn assert_cases(rt: &impl Abort, alloc: Global, cases: &[Case<'_>]) {
+    for case in cases {
+        assert_case(rt, alloc, case);
+    }
 }
 
 /// These bytes, so many times each.
-pub(super) fn repeated(alloc: Global, parts: &[(usize, &[u8])]) -> Result<Vec<u8>, Fail> {
+pub(super) fn repeated(rt: &impl Abort, alloc: Global, parts: &[(usize, &[u8])]) -> Vec<u8> {
     let mut bytes = Vec::new(alloc);
     for (times, part) in parts {
         for _ in 0..*times {
-            bytes.extend_from_slice(part)?;
+            bytes.extend_from_slice(part).expect(rt, MEMORY);
         }
     }
-    Ok(bytes)
+    bytes
 }

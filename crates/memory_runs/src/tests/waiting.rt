@@ -1,17 +1,18 @@
 //! Replies that wait: in which call they go out, and what is counted where one is cut.
 use super::counts::STATS;
-use super::runs::{CASE, Case, WHOLE, Way, compare, repeated, run_on};
+use super::runs::{
+    CASE, Case, Ran, Told, WHOLE, Way, assert_cases, compare, repeated, run_on, words,
+};
 use crate::sessions::File;
 use std::alloc::Global;
 use std::process::Abort;
-use std::test::Fail;
 
 /// Readings of a stone, the second one kept, with a quick line between them and the third.
 const CUT_LINES: &[u8] = b"play b D4\nattack D4\nattack D4\nname\nattack D4\n";
 
 /// The counts at a fault are those of the line whose reply is cut. All lines are one piece, so later ones are answered
 /// before the output fails.
-pub(super) static CUT_REPLIES: [Case<'static>; 10] = [
+static CUT_REPLIES: [Case<'static>; 10] = [
     Case {
         name: "no byte is out",
         options: STATS,
@@ -166,7 +167,7 @@ pub(super) static CUT_REPLIES: [Case<'static>; 10] = [
 const CUT_JOINS: &[u8] = b"play b D4\nconnect D4 D4\nconnect D4 D4\nname\ndisconnect D4 D4\n";
 
 /// A connection counts also where its own reply is cut, and one whose line was answered behind the cut does not.
-pub(super) static CUT_CONNECTIONS: [Case<'static>; 7] = [
+static CUT_CONNECTIONS: [Case<'static>; 7] = [
     Case {
         name: "the last byte before the first connection's reply",
         options: STATS,
@@ -274,7 +275,7 @@ const PATTERN: &[File<'static>] = &[File {
 
 /// Lines that come together, the call of the output that fails, and what is out then. A call that is not made cannot
 /// fail, so the failing call shows how the replies were put together.
-pub(super) static CALLS_OF_THE_OUTPUT: [Case<'static>; 18] = [
+static CALLS_OF_THE_OUTPUT: [Case<'static>; 18] = [
     Case {
         name: "what waits goes out before a fresh reading of an attack",
         files: PATTERN,
@@ -500,6 +501,14 @@ pub(super) static CALLS_OF_THE_OUTPUT: [Case<'static>; 18] = [
     },
 ];
 
+// What the rows of the three tables tell.
+#[test]
+fn replies_that_wait_go_out_and_are_counted(rt: HostRuntime) {
+    assert_cases(&rt, rt.alloc(), &CUT_REPLIES);
+    assert_cases(&rt, rt.alloc(), &CUT_CONNECTIONS);
+    assert_cases(&rt, rt.alloc(), &CALLS_OF_THE_OUTPUT);
+}
+
 /// The reply to `showboard` on nine lines, of 214 bytes.
 const BOARD: &[u8] =
     b"= \n 9 . . . . . . . . .\n 8 . . . . . . . . .\n 7 . . . . . . . . .\n 6 . . . . . . . . .\n\
@@ -675,38 +684,38 @@ static LONG_RUNS: [Long; 11] = [
     },
 ];
 
+/// What comes of a run of many replies, over this pattern file, if it is not empty.
+fn ran_long(rt: &impl Abort, alloc: Global, run: &Long, text: &[u8]) -> Ran {
+    let way = Way {
+        sink_fails: run.sink_fails,
+        ..WHOLE
+    };
+    let input = repeated(rt, alloc, run.lines);
+    if text.is_empty() {
+        return run_on(rt, alloc, &[], &[], &input, way);
+    }
+    let files = [File { name: "p", text }];
+    let words = words(rt, alloc, &[], &files);
+    run_on(rt, alloc, &words, &files, &input, way)
+}
+
 /// Runs a run of many replies, and compares all that came of it.
-fn assert_long(rt: &impl Abort, alloc: Global, run: &Long) -> Result<(), Fail> {
-    let case = Case {
-        name: run.name,
-        way: Way {
-            sink_fails: run.sink_fails,
-            ..WHOLE
-        },
+fn assert_long(rt: &impl Abort, alloc: Global, run: &Long) {
+    let text = repeated(rt, alloc, run.patterns);
+    let ran = ran_long(rt, alloc, run, &text);
+    let output = repeated(rt, alloc, run.output);
+    let told = Told {
+        output: &output,
+        noted: ran.notes.bytes() == run.notes,
         status: run.status,
-        notes: run.notes,
-        ..CASE
+        left: 0,
     };
-    let text = repeated(alloc, run.patterns)?;
-    let input = repeated(alloc, run.lines)?;
-    let output = repeated(alloc, run.output)?;
-    let ran = if text.is_empty() {
-        run_on(rt, alloc, &case, &[], &input)?
-    } else {
-        let file = File {
-            name: "p",
-            text: &text,
-        };
-        run_on(rt, alloc, &case, &[file], &input)?
-    };
-    compare(rt, &case, &ran, &output);
-    Ok(())
+    compare(rt, run.name, &ran, told);
 }
 
 #[test]
-fn as_much_waits_as_there_is_room_for(rt: HostRuntime) -> Result<(), Fail> {
+fn as_much_waits_as_there_is_room_for(rt: HostRuntime) {
     for run in &LONG_RUNS {
-        assert_long(&rt, rt.alloc(), run)?;
+        assert_long(&rt, rt.alloc(), run);
     }
-    Ok(())
 }
