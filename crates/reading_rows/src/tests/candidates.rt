@@ -7,6 +7,7 @@ use further_moves::further_candidates;
 use go_base::{Point, PointSet, Position, Size, Watch};
 use read_moves::{candidates, empty_sides, wide_candidates};
 use read_rules::Tree;
+use std::process::Abort;
 use trial_board::Trial;
 
 /// Which candidates of a target are asked for.
@@ -117,7 +118,7 @@ fn points_of(size: Size, names: &str) -> Option<PointSet> {
 }
 
 /// Whether a target has the candidates that its row says, and no others.
-pub(super) fn is_right(row: &Row) -> Option<bool> {
+fn is_right(row: &Row) -> Option<bool> {
     let position = position(row.stones)?;
     let target = vertex(position.size(), row.target)?;
     let found = candidates_of(&position, &row.which, target);
@@ -125,11 +126,16 @@ pub(super) fn is_right(row: &Row) -> Option<bool> {
     Some(found.difference(&wanted).count() == 0 && wanted.difference(&found).count() == 0)
 }
 
-#[test]
-fn liberties_their_neighbours_and_captures_are_tried(rt: HostRuntime) {
-    for row in &CANDIDATES {
+/// Each target of the table has the candidates that its row says, and no others.
+pub(super) fn check_table(rt: &impl Abort, table: &[Row]) {
+    for row in table {
         assert!(rt; is_right(row) == Some(true), "{}", row.name);
     }
+}
+
+#[test]
+fn liberties_their_neighbours_and_captures_are_tried(rt: HostRuntime) {
+    check_table(&rt, &CANDIDATES);
 }
 
 /// How many sides of a point are empty, where stones of both colours stand around C3.

@@ -1,17 +1,20 @@
 //! First proofs of small positions. They are the worked rows, or were found by hand.
 
-use super::questions::question_on;
 use super::wider_proofs::THREE_LIBERTIES;
-use super::{IN_ATARI, KO, Stones, position};
-use read_proof::check;
+use super::{IN_ATARI, KO, Question, Stones, position, stone};
+use read_rules::Depths;
+use read_rules::Kind::{Attack, Defend};
+use read_rules::Tree::{self, Stated, Wider};
 use std::alloc::Global;
 use write_proof::{Proof, ProofError, first_proof};
 
-/// A first proof: what it shows, the stones, the question, its code and the text; neither where the proof is too long.
+/// A first proof: what it shows, the stones, the question, the tree in which it is read, its code and the text; neither
+/// where the proof is too long.
 struct Row {
     name: &'static str,
     stones: Stones,
-    question: &'static str,
+    question: Question,
+    tree: Tree,
     proof: Option<(u8, &'static [u8])>,
 }
 
@@ -20,56 +23,65 @@ static FIRST_PROOFS: [Row; 9] = [
     Row {
         name: "a capture is printed",
         stones: IN_ATARI,
-        question: "attack D4 3 2",
+        question: (Attack, "D4", 3, 2),
+        tree: Stated,
         proof: Some((3, b"W D3 .")),
     },
     Row {
         name: "an extension is printed",
         stones: IN_ATARI,
-        question: "defend D4 3 2",
+        question: (Defend, "D4", 3, 2),
+        tree: Stated,
         proof: Some((3, b"N D3 .")),
     },
     Row {
         name: "too many liberties are printed",
         stones: (9, "D4", ""),
-        question: "attack D4 3 2",
+        question: (Attack, "D4", 3, 2),
+        tree: Stated,
         proof: Some((0, b"N . N . N .")),
     },
     Row {
         name: "a capture against the ban is printed",
         stones: KO,
-        question: "attack C3 3 4",
+        question: (Attack, "C3", 3, 4),
+        tree: Stated,
         proof: Some((1, b"N * N * W D3 .")),
     },
     Row {
         name: "every child has its proof with the pass first",
         stones: (5, "A1", "B1 B2"),
-        question: "defend A1 2 0",
+        question: (Defend, "A1", 2, 0),
+        tree: Stated,
         proof: Some((0, b"W * A2 . A3 . W * A2 . A3 . W * A2 . A3 .")),
     },
     Row {
         name: "the pass that saves comes first",
         stones: (9, "D4", "C4 E4"),
-        question: "defend D4 4 0",
+        question: (Defend, "D4", 4, 0),
+        tree: Stated,
         proof: Some((3, b"N PASS * D3 . D5 .")),
     },
     Row {
         name: "three liberties are too many in the stated tree",
         stones: (9, "D1", ""),
-        question: "attack D1 5 0",
+        question: (Attack, "D1", 5, 0),
+        tree: Stated,
         proof: Some((0, b"N . N . N .")),
     },
     Row {
         name: "three liberties may be filled in the wider tree",
         stones: (9, "D1", ""),
-        question: "attack D1 5 0 wider",
+        question: (Attack, "D1", 5, 0),
+        tree: Wider,
         proof: Some((0, THREE_LIBERTIES)),
     },
     Row {
         // Black D2 has room on all sides, and a reading of it that is deep and wide has many moves.
         name: "a proof of more than 60,000 bytes is not told",
         stones: (9, "B2 D2", "G2 A2"),
-        question: "attack D2 16 12",
+        question: (Attack, "D2", 16, 12),
+        tree: Stated,
         proof: None,
     },
 ];
@@ -82,28 +94,20 @@ fn is_same(found: &Proof, want: Option<(u8, &[u8])>) -> bool {
     }
 }
 
-/// Whether the proof that is found is the row's and is accepted, or is too long where the row has none.
+/// Whether the proof that is found is the row's, or is too long where the row has none.
 fn is_right(alloc: Global, row: &Row) -> Option<bool> {
+    let (kind, name, plies, wide) = row.question;
     let position = position(row.stones)?;
-    let question = question_on(&position, row.question)?;
-    let (kind, target, depths) = (question.kind, question.target, question.depths);
+    let target = stone(&position, name)?;
+    let depths = Depths::new(plies, wide)?.in_tree(row.tree);
     match first_proof(alloc, &position, kind, target, depths) {
-        Ok(found) => Some(
-            check(
-                &position,
-                kind,
-                target,
-                depths,
-                found.code,
-                found.text.as_slice(),
-            ) && is_same(&found, row.proof),
-        ),
+        Ok(found) => Some(is_same(&found, row.proof)),
         Err(why) => Some(why == ProofError::TooLong && row.proof.is_none()),
     }
 }
 
 #[test]
-fn first_proofs_are_printed_and_accepted(rt: HostRuntime) {
+fn first_proofs_are_printed(rt: HostRuntime) {
     for row in &FIRST_PROOFS {
         assert!(rt; is_right(rt.alloc(), row) == Some(true), "{}", row.name);
     }

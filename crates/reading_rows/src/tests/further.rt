@@ -1,6 +1,6 @@
 //! The further candidates of small positions, counted by hand from the sentences of the definitions.
 
-use super::candidates::{Row, Which, is_right};
+use super::candidates::{Row, Which, check_table};
 
 /// Targets with their further candidates.
 static FURTHER: [Row; 22] = [
@@ -162,7 +162,5 @@ static FURTHER: [Row; 22] = [
 
 #[test]
 fn further_candidates_are_net_beside_rescue_join_and_cut(rt: HostRuntime) {
-    for row in &FURTHER {
-        assert!(rt; is_right(row) == Some(true), "{}", row.name);
-    }
+    check_table(&rt, &FURTHER);
 }

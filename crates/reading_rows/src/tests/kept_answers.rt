@@ -2,10 +2,9 @@
 
 use go_base::{Position, Size, Watch};
 use read_cache::{Cache, Question};
-use std::test::Fail;
 
 /// A number, which is its own answer on each position.
-#[derive(Clone, Copy, Debug, PartialEq, Eq, Hash)]
+#[derive(Clone, Copy, PartialEq, Eq, Hash)]
 struct Number {
     n: u8,
 }
@@ -21,7 +20,6 @@ impl Question for Number {
 }
 
 /// What is done with a number on the empty board of so many rows.
-#[derive(Drop)]
 enum Step {
     /// It is kept.
     Keep(u8, u8),
@@ -82,10 +80,11 @@ fn is_right(cache: &mut Cache<Number>, step: &Step) -> Option<bool> {
 }
 
 #[test]
-fn last_used_questions_and_variants_stay(rt: HostRuntime) -> Result<(), Fail> {
-    let mut cache = Cache::new(rt.alloc(), 8)?;
+fn last_used_questions_and_variants_stay(rt: HostRuntime) {
+    let mut cache = Cache::new(rt.alloc(), 8)
+        .ok()
+        .expect(&rt, "there is memory");
     for (step, why) in &STEPS {
         assert!(rt; is_right(&mut cache, step) == Some(true), "{why}");
     }
-    Ok(())
 }

@@ -1,20 +1,19 @@
 //! Which questions are answered from what is kept, on a board of 9 by 9. The answers are those of the worked rows.
 
-use super::link_questions::{answer, question_on};
-use super::{Stones, position};
+use super::connections::linkage;
+use super::{LinkQuestion, Stones, position, two_stones};
 use link_readings::Connections;
-use std::test::Fail;
+use link_rules::LinkKind::{Connect, Disconnect};
 
-/// A step: what is special about it, the stones, the question, whether its plies are set before it, which else are 3,
-/// whether it is answered from what is kept or not at all, the answer, which is empty where there is none, and how many
-/// answers were fresh by then. No answer is refused for want of memory.
+/// A step: what is special about it, the stones, the question, whose plies are set before it, whether it is answered
+/// from what is kept or not at all, the move of its answer, which is empty where the side that is asked about has not
+/// its way, and how many answers were fresh by then. No answer is refused for want of memory.
 struct Step {
     name: &'static str,
     stones: Stones,
-    question: &'static str,
-    sets: bool,
+    question: LinkQuestion,
     kept_alone: bool,
-    want: &'static str,
+    want: Option<&'static str>,
     fresh: u64,
 }
 
@@ -33,19 +32,17 @@ static SESSIONS: [&[Step]; 5] = [
         Step {
             name: "the point between joins",
             stones: JUMP,
-            question: "connect C5 E5 3",
-            sets: false,
+            question: (Connect, "C5", "E5", 3),
             kept_alone: false,
-            want: "1 D5",
+            want: Some("D5"),
             fresh: 1,
         },
         Step {
             name: "the point between parts",
             stones: JUMP,
-            question: "disconnect C5 E5 3",
-            sets: false,
+            question: (Disconnect, "C5", "E5", 3),
             kept_alone: false,
-            want: "1 D5",
+            want: Some("D5"),
             fresh: 2,
         },
     ],
@@ -53,19 +50,17 @@ static SESSIONS: [&[Step]; 5] = [
         Step {
             name: "no move is left where a jump is cut",
             stones: CUT,
-            question: "connect C5 E5 3",
-            sets: false,
+            question: (Connect, "C5", "E5", 3),
             kept_alone: false,
-            want: "0",
+            want: Some(""),
             fresh: 1,
         },
         Step {
             name: "no stone is needed where a jump is cut",
             stones: CUT,
-            question: "disconnect C5 E5 3",
-            sets: false,
+            question: (Disconnect, "C5", "E5", 3),
             kept_alone: false,
-            want: "1 PASS",
+            want: Some("PASS"),
             fresh: 2,
         },
     ],
@@ -73,46 +68,41 @@ static SESSIONS: [&[Step]; 5] = [
         Step {
             name: "a connection is kept: the first time",
             stones: JUMP,
-            question: "connect C5 E5 3",
-            sets: false,
+            question: (Connect, "C5", "E5", 3),
             kept_alone: false,
-            want: "1 D5",
+            want: Some("D5"),
             fresh: 1,
         },
         Step {
             name: "a connection is kept: after a distant move",
             stones: DISTANT,
-            question: "connect C5 E5 3",
-            sets: false,
+            question: (Connect, "C5", "E5", 3),
             kept_alone: false,
-            want: "1 D5",
+            want: Some("D5"),
             fresh: 1,
         },
         Step {
             name: "a connection is kept: after a move in the area",
             stones: CUT,
-            question: "connect C5 E5 3",
-            sets: false,
+            question: (Connect, "C5", "E5", 3),
             kept_alone: false,
-            want: "0",
+            want: Some(""),
             fresh: 2,
         },
         Step {
             name: "a connection is kept: after undo",
             stones: JUMP,
-            question: "connect C5 E5 3",
-            sets: false,
+            question: (Connect, "C5", "E5", 3),
             kept_alone: false,
-            want: "1 D5",
+            want: Some("D5"),
             fresh: 2,
         },
         Step {
             name: "a connection is kept: and again after that move",
             stones: CUT,
-            question: "connect C5 E5 3",
-            sets: false,
+            question: (Connect, "C5", "E5", 3),
             kept_alone: false,
-            want: "0",
+            want: Some(""),
             fresh: 2,
         },
     ],
@@ -120,55 +110,49 @@ static SESSIONS: [&[Step]; 5] = [
         Step {
             name: "each question is kept for itself: the first",
             stones: JUMP,
-            question: "connect C5 E5 3",
-            sets: false,
+            question: (Connect, "C5", "E5", 3),
             kept_alone: false,
-            want: "1 D5",
+            want: Some("D5"),
             fresh: 1,
         },
         Step {
             name: "each question is kept for itself: the other kind",
             stones: JUMP,
-            question: "disconnect C5 E5 3",
-            sets: false,
+            question: (Disconnect, "C5", "E5", 3),
             kept_alone: false,
-            want: "1 D5",
+            want: Some("D5"),
             fresh: 2,
         },
         Step {
             name: "each question is kept for itself: another second point",
             stones: JUMP,
-            question: "connect C5 C5 3",
-            sets: false,
+            question: (Connect, "C5", "C5", 3),
             kept_alone: false,
-            want: "1 PASS",
+            want: Some("PASS"),
             fresh: 3,
         },
         Step {
             name: "each question is kept for itself: another first point",
             stones: JUMP,
-            question: "connect E5 C5 3",
-            sets: false,
+            question: (Connect, "E5", "C5", 3),
             kept_alone: false,
-            want: "1 D5",
+            want: Some("D5"),
             fresh: 4,
         },
         Step {
             name: "each question is kept for itself: other plies",
             stones: JUMP,
-            question: "connect C5 E5 2",
-            sets: true,
+            question: (Connect, "C5", "E5", 2),
             kept_alone: false,
-            want: "1 D5",
+            want: Some("D5"),
             fresh: 5,
         },
         Step {
             name: "each question is kept for itself: the first again",
             stones: JUMP,
-            question: "connect C5 E5 3",
-            sets: true,
+            question: (Connect, "C5", "E5", 3),
             kept_alone: false,
-            want: "1 D5",
+            want: Some("D5"),
             fresh: 5,
         },
     ],
@@ -176,46 +160,41 @@ static SESSIONS: [&[Step]; 5] = [
         Step {
             name: "nothing was asked, so nothing is found",
             stones: JUMP,
-            question: "connect C5 E5 3",
-            sets: false,
+            question: (Connect, "C5", "E5", 3),
             kept_alone: true,
-            want: "",
+            want: None,
             fresh: 0,
         },
         Step {
             name: "it is asked",
             stones: JUMP,
-            question: "connect C5 E5 3",
-            sets: false,
+            question: (Connect, "C5", "E5", 3),
             kept_alone: false,
-            want: "1 D5",
+            want: Some("D5"),
             fresh: 1,
         },
         Step {
             name: "what was asked is found",
             stones: JUMP,
-            question: "connect C5 E5 3",
-            sets: false,
+            question: (Connect, "C5", "E5", 3),
             kept_alone: true,
-            want: "1 D5",
+            want: Some("D5"),
             fresh: 1,
         },
         Step {
             name: "it is not found after a play in the area",
             stones: CUT,
-            question: "connect C5 E5 3",
-            sets: false,
+            question: (Connect, "C5", "E5", 3),
             kept_alone: true,
-            want: "",
+            want: None,
             fresh: 1,
         },
         Step {
             name: "it is not found at other plies",
             stones: JUMP,
-            question: "connect C5 E5 2",
-            sets: true,
+            question: (Connect, "C5", "E5", 2),
             kept_alone: true,
-            want: "",
+            want: None,
             fresh: 1,
         },
     ],
@@ -223,27 +202,33 @@ static SESSIONS: [&[Step]; 5] = [
 
 /// Whether a step gives what it says.
 fn is_right(links: &mut Connections, step: &Step) -> Option<bool> {
+    let (kind, a, b, plies) = step.question;
     let position = position(step.stones)?;
-    let question = question_on(&position, step.question)?;
-    if step.sets {
-        links.set(question.plies);
+    let (a, b) = two_stones(&position, a, b)?;
+    if plies == 0 || plies > 200 {
+        return None;
     }
+    links.set(plies);
     let found = if step.kept_alone {
-        links.find_kept(question.kind, &position, question.a, question.b)
+        links.find_kept(kind, &position, a, b)
     } else {
-        Some(links.ask(question.kind, &position, question.a, question.b))
+        Some(links.ask(kind, &position, a, b))
     };
-    let want = answer(position.size(), step.want);
+    let want = match step.want {
+        Some(at) => Some(linkage(position.size(), at)),
+        None => None,
+    };
     Some(found == want && links.fresh() == step.fresh && links.refused() == 0)
 }
 
 #[test]
-fn connections_are_answered_from_what_is_kept(rt: HostRuntime) -> Result<(), Fail> {
+fn connections_are_answered_from_what_is_kept(rt: HostRuntime) {
     for &steps in &SESSIONS {
-        let mut links = Connections::new(rt.alloc(), 3, 8)?;
+        let mut links = Connections::new(rt.alloc(), 3, 8)
+            .ok()
+            .expect(&rt, "there is memory");
         for step in steps {
             assert!(rt; is_right(&mut links, step) == Some(true), "{}", step.name);
         }
     }
-    Ok(())
 }

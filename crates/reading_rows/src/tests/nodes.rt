@@ -1,18 +1,19 @@
 //! Nodes of the game tree of small positions, at which the attacker wins or does not.
 
-ghost use Rattle.std.specs.Prelude.{◌*◌, ◌<◌, ◌≤◌, IfSome};
-
 use super::{IN_ATARI, KO, Stones, position, vertex};
-use go_base::{Cell, Colour, Position, Watch};
+use go_base::Colour::{self, Black, White};
+use go_base::Watch;
 use read_tree::{NodeAt, Tree, wins};
 use trial_board::Trial;
 
-/// A node: what is special about it, the stones, the target, whether it is the attacker's turn, the plies and wide
-/// plies that are left, the allowances of the attacker and of the defender, and whether the attacker wins there.
+/// A node: what is special about it, the stones, the target, the defender's colour, whether it is the attacker's turn,
+/// the plies and wide plies that are left, the allowances of the attacker and of the defender, and whether the attacker
+/// wins there.
 struct Row {
     name: &'static str,
     stones: Stones,
     target: &'static str,
+    defender: Colour,
     attacker_turn: bool,
     numbers: [u8; 4],
     won: bool,
@@ -24,6 +25,7 @@ static NODES: [Row; 9] = [
         name: "attack of a stone in atari, code 3",
         stones: IN_ATARI,
         target: "D4",
+        defender: Black,
         attacker_turn: true,
         numbers: [3, 2, 0, 1],
         won: true,
@@ -32,6 +34,7 @@ static NODES: [Row; 9] = [
         name: "defence of a stone in atari, code 3",
         stones: IN_ATARI,
         target: "D4",
+        defender: Black,
         attacker_turn: false,
         numbers: [3, 2, 1, 0],
         won: false,
@@ -40,6 +43,7 @@ static NODES: [Row; 9] = [
         name: "no ply is left for a stone in atari",
         stones: IN_ATARI,
         target: "D4",
+        defender: Black,
         attacker_turn: true,
         numbers: [0, 0, 0, 1],
         won: false,
@@ -48,6 +52,7 @@ static NODES: [Row; 9] = [
         name: "the target's point is empty",
         stones: IN_ATARI,
         target: "D3",
+        defender: Black,
         attacker_turn: true,
         numbers: [0, 0, 0, 0],
         won: true,
@@ -56,6 +61,7 @@ static NODES: [Row; 9] = [
         name: "and so at the defender's turn",
         stones: IN_ATARI,
         target: "D3",
+        defender: Black,
         attacker_turn: false,
         numbers: [5, 2, 1, 1],
         won: true,
@@ -64,6 +70,7 @@ static NODES: [Row; 9] = [
         name: "attack in a ko, code 2",
         stones: KO,
         target: "C3",
+        defender: White,
         attacker_turn: true,
         numbers: [3, 4, 0, 0],
         won: false,
@@ -72,6 +79,7 @@ static NODES: [Row; 9] = [
         name: "attack in a ko, code 1",
         stones: KO,
         target: "C3",
+        defender: White,
         attacker_turn: true,
         numbers: [3, 4, 1, 0],
         won: true,
@@ -80,6 +88,7 @@ static NODES: [Row; 9] = [
         name: "both sides may ignore the ban",
         stones: KO,
         target: "C3",
+        defender: White,
         attacker_turn: true,
         numbers: [3, 4, 1, 1],
         won: true,
@@ -88,42 +97,32 @@ static NODES: [Row; 9] = [
         name: "both may, and no ply is left",
         stones: KO,
         target: "C3",
+        defender: White,
         attacker_turn: true,
         numbers: [0, 4, 1, 1],
         won: false,
     },
 ];
 
-/// The node of the stated tree at which the string of the row's target is read, or black's where no stone stands there.
-fn node(position: &Position, row: &Row) -> Option<NodeAt>
-    ensures { IfSome result (λ node. (node.target < position.now.size * position.now.size) × (node.n ≤ 200)) }
-{
+/// Whether the attacker wins at the row's node of the stated tree.
+fn won(row: &Row) -> Option<bool> {
     let [n, k, a, d] = row.numbers;
+    let position = position(row.stones)?;
     let target = vertex(position.size(), row.target)?;
     if n > 200 {
         return None;
     }
-    let defender = match position.cell(target) {
-        Cell::White => Colour::White,
-        Cell::Black | Cell::Empty => Colour::Black,
-    };
-    Some(NodeAt {
+    let mut board = Trial::new(Watch::new(&position));
+    let node = NodeAt {
         tree: Tree::Stated,
         target,
-        defender,
+        defender: row.defender,
         attacker_turn: row.attacker_turn,
         n,
         k,
         a,
         d,
-    })
-}
-
-/// Whether the attacker wins at the row's node.
-fn won(row: &Row) -> Option<bool> {
-    let position = position(row.stones)?;
-    let node = node(&position, row)?;
-    let mut board = Trial::new(Watch::new(&position));
+    };
     let won = wins(&mut board, node);
     board.finish();
     Some(won)

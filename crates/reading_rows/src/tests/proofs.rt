@@ -1,8 +1,9 @@
 //! Proofs of small positions. Those that are true are the worked rows or were found by hand.
 
-use super::questions::question_on;
-use super::{IN_ATARI, KO, Stones, position};
-use read_proof::{Tree, check};
+use super::{IN_ATARI, KO, Question, Stones, position, stone};
+use read_proof::check;
+use read_rules::Kind::{Attack, Defend};
+use read_rules::{Depths, Tree};
 use std::process::Abort;
 
 /// Texts about the code of one question: what they show, the stones, the question and the code, and each text by what
@@ -10,7 +11,7 @@ use std::process::Abort;
 pub(super) struct Texts {
     pub(super) name: &'static str,
     pub(super) stones: Stones,
-    pub(super) question: &'static str,
+    pub(super) question: Question,
     pub(super) code: u8,
     pub(super) rows: &'static [(&'static str, &'static [u8], In)],
 }
@@ -32,7 +33,7 @@ static IN_THE_STATED_TREE: [Texts; 18] = [
     Texts {
         name: "a stone in atari is captured",
         stones: IN_ATARI,
-        question: "attack D4 3 2",
+        question: (Attack, "D4", 3, 2),
         code: 3,
         rows: &[
             ("the capture", b"W D3 .", PROOF),
@@ -46,7 +47,7 @@ static IN_THE_STATED_TREE: [Texts; 18] = [
     Texts {
         name: "a stone in atari is captured in one ply",
         stones: IN_ATARI,
-        question: "attack D4 1 0",
+        question: (Attack, "D4", 1, 0),
         code: 3,
         rows: &[
             ("one ply is enough", b"W D3 .", PROOF),
@@ -56,7 +57,7 @@ static IN_THE_STATED_TREE: [Texts; 18] = [
     Texts {
         name: "no lower code is proved of a stone in atari",
         stones: IN_ATARI,
-        question: "attack D4 3 2",
+        question: (Attack, "D4", 3, 2),
         code: 2,
         rows: &[
             ("another code", b"W D3 .", NONE),
@@ -66,7 +67,7 @@ static IN_THE_STATED_TREE: [Texts; 18] = [
     Texts {
         name: "a stone in atari is saved by its extension",
         stones: IN_ATARI,
-        question: "defend D4 3 2",
+        question: (Defend, "D4", 3, 2),
         code: 3,
         rows: &[
             ("the extension", b"N D3 .", PROOF),
@@ -78,7 +79,7 @@ static IN_THE_STATED_TREE: [Texts; 18] = [
     Texts {
         name: "words stand apart, and vertices in either case",
         stones: IN_ATARI,
-        question: "attack D4 3 2",
+        question: (Attack, "D4", 3, 2),
         code: 3,
         rows: &[
             ("small letters in a vertex", b"W d3 .", PROOF),
@@ -98,21 +99,21 @@ static IN_THE_STATED_TREE: [Texts; 18] = [
     Texts {
         name: "a long word says nothing about an attack",
         stones: IN_ATARI,
-        question: "attack D4 200 12",
+        question: (Attack, "D4", 200, 12),
         code: 3,
         rows: &[("65,000 stars", &STARS, NONE)],
     },
     Texts {
         name: "a long word says nothing about a defence",
         stones: IN_ATARI,
-        question: "defend D4 200 12",
+        question: (Defend, "D4", 200, 12),
         code: 3,
         rows: &[("65,000 stars", &STARS, NONE)],
     },
     Texts {
         name: "a free stone is not captured",
         stones: (9, "D4", ""),
-        question: "attack D4 3 2",
+        question: (Attack, "D4", 3, 2),
         code: 0,
         rows: &[
             ("too many liberties", b"N . N . N .", PROOF),
@@ -123,42 +124,42 @@ static IN_THE_STATED_TREE: [Texts; 18] = [
     Texts {
         name: "a free stone has not too many liberties for seven plies",
         stones: (9, "D4", ""),
-        question: "attack D4 7 2",
+        question: (Attack, "D4", 7, 2),
         code: 0,
         rows: &[("four liberties in time", b"N . N . N .", NONE)],
     },
     Texts {
         name: "a free stone has too many liberties for seven plies without a wide one",
         stones: (9, "D4", ""),
-        question: "attack D4 7 0",
+        question: (Attack, "D4", 7, 0),
         code: 0,
         rows: &[("four liberties without a wide ply", b"N . N . N .", PROOF)],
     },
     Texts {
         name: "three liberties are enough without a wide ply",
         stones: (9, "D4", "C4"),
-        question: "attack D4 9 0",
+        question: (Attack, "D4", 9, 0),
         code: 0,
         rows: &[("three liberties without a wide ply", b"N . N . N .", PROOF)],
     },
     Texts {
         name: "three liberties are not enough with a wide ply",
         stones: (9, "D4", "C4"),
-        question: "attack D4 9 1",
+        question: (Attack, "D4", 9, 1),
         code: 0,
         rows: &[("three liberties with one", b"N . N . N .", NONE)],
     },
     Texts {
         name: "a free stone needs no defence",
         stones: (9, "D4", ""),
-        question: "defend D4 3 2",
+        question: (Defend, "D4", 3, 2),
         code: 3,
         rows: &[("the defence needs no move", b"N .", PROOF)],
     },
     Texts {
         name: "a free stone is saved by the pass",
         stones: (9, "D4", ""),
-        question: "defend D4 9 0",
+        question: (Defend, "D4", 9, 0),
         code: 3,
         rows: &[
             ("no move with many plies", b"N .", NONE),
@@ -173,7 +174,7 @@ static IN_THE_STATED_TREE: [Texts; 18] = [
     Texts {
         name: "an allowance permits what the ban forbids",
         stones: KO,
-        question: "attack C3 3 4",
+        question: (Attack, "C3", 3, 4),
         code: 1,
         rows: &[
             ("by the allowance of code 1", b"N * N * W D3 .", PROOF),
@@ -183,14 +184,14 @@ static IN_THE_STATED_TREE: [Texts; 18] = [
     Texts {
         name: "the ban forbids where there is no allowance",
         stones: KO,
-        question: "attack C3 3 4",
+        question: (Attack, "C3", 3, 4),
         code: 2,
         rows: &[("code 2 has none", b"N * W D3 .", NONE)],
     },
     Texts {
         name: "no code is proved where no ply is left",
         stones: KO,
-        question: "attack C3 3 4",
+        question: (Attack, "C3", 3, 4),
         code: 0,
         rows: &[("no ply is left below it", b"N * N * N *", NONE)],
     },
@@ -198,7 +199,7 @@ static IN_THE_STATED_TREE: [Texts; 18] = [
         // Black A1 has one liberty, A2, and cannot be saved: the pass and the play there lead to a capture.
         name: "each child has its proof",
         stones: (5, "A1", "B1 B2"),
-        question: "defend A1 2 0",
+        question: (Defend, "A1", 2, 0),
         code: 0,
         rows: &[
             (
@@ -218,38 +219,45 @@ static IN_THE_STATED_TREE: [Texts; 18] = [
 
 /// Whether the text is a proof in the tree that the question has the code.
 fn is_proof(texts: &Texts, tree: Tree, text: &[u8]) -> Option<bool> {
+    let (kind, name, plies, wide) = texts.question;
     let position = position(texts.stones)?;
-    let question = question_on(&position, texts.question)?;
+    let target = stone(&position, name)?;
+    let depths = Depths::new(plies, wide)?.in_tree(tree);
     if texts.code > 3 {
         return None;
     }
-    let depths = question.depths.in_tree(tree);
-    Some(check(
-        &position,
-        question.kind,
-        question.target,
-        depths,
-        texts.code,
-        text,
-    ))
+    Some(check(&position, kind, target, depths, texts.code, text))
 }
 
-/// Each text is a proof or none in each tree, as its row says.
-pub(super) fn check_rows(rt: &impl Abort, texts: &Texts) {
-    for (what, text, trees) in texts.rows {
-        for (tree, want) in *trees {
-            assert!(rt;
-                is_proof(texts, *tree, text) == Some(*want),
-                "{}: {what}",
-                texts.name
-            );
+/// Whether the text is a proof in each of these trees or none, as it is said.
+fn is_told(texts: &Texts, text: &[u8], trees: In) -> bool {
+    for &(tree, want) in trees {
+        if is_proof(texts, tree, text) != Some(want) {
+            return false;
         }
+    }
+    true
+}
+
+/// What is special about the first text that is not what its row says; empty where each is that.
+fn first_wrong(texts: &Texts) -> &'static str {
+    for &(special, text, trees) in texts.rows {
+        if !is_told(texts, text, trees) {
+            return special;
+        }
+    }
+    ""
+}
+
+/// Each text of the table is a proof or none in each tree, as its row says.
+pub(super) fn check_table(rt: &impl Abort, table: &[Texts]) {
+    for texts in table {
+        let wrong = first_wrong(texts);
+        assert!(rt; wrong.is_empty(), "{}: {wrong}", texts.name);
     }
 }
 
 #[test]
 fn texts_are_proofs_or_none_in_the_stated_tree(rt: HostRuntime) {
-    for texts in &IN_THE_STATED_TREE {
-        check_rows(&rt, texts);
-    }
+    check_table(&rt, &IN_THE_STATED_TREE);
 }

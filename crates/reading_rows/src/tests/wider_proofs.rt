@@ -1,7 +1,8 @@
 //! Proofs of small positions in the stated tree and in the wider one, found by hand.
 
-use super::proofs::{In, Texts, check_rows};
-use read_proof::Tree;
+use super::proofs::{In, Texts, check_table};
+use read_rules::Kind::{Attack, Defend};
+use read_rules::Tree;
 
 /// A proof in the stated tree alone.
 const STATED: In = &[(Tree::Stated, true), (Tree::Wider, false)];
@@ -28,7 +29,7 @@ static IN_BOTH_TREES: [Texts; 12] = [
     Texts {
         name: "the defender has the liberties of stones beside the target",
         stones: (5, "B2 B3", "C2"),
-        question: "defend B2 1 1",
+        question: (Defend, "B2", 1, 1),
         code: 3,
         rows: &[
             (
@@ -42,14 +43,14 @@ static IN_BOTH_TREES: [Texts; 12] = [
     Texts {
         name: "the defender has no liberty of stones with many beside the target",
         stones: (5, "B2 B3", "C2 D2"),
-        question: "defend B2 1 1",
+        question: (Defend, "B2", 1, 1),
         code: 3,
         rows: &[("a liberty of two stones that have five", b"N D3 .", NEITHER)],
     },
     Texts {
         name: "the defender has no net",
         stones: (5, "D1", "E2"),
-        question: "defend E2 1 1",
+        question: (Defend, "E2", 1, 1),
         code: 3,
         rows: &[(
             "no point of a net at the defender's turn",
@@ -60,14 +61,14 @@ static IN_BOTH_TREES: [Texts; 12] = [
     Texts {
         name: "the defender joins where a wide ply is left",
         stones: (5, "B5 D5 A4", "C4 B3"),
-        question: "defend A4 1 1",
+        question: (Defend, "A4", 1, 1),
         code: 3,
         rows: &[("a liberty of a linked string", b"N C5 .", WIDER)],
     },
     Texts {
         name: "the defender takes a stone that would cut where a wide ply is left",
         stones: (5, "A5 C5 A3", "A4 D4 C3"),
-        question: "defend C5 1 1",
+        question: (Defend, "C5", 1, 1),
         code: 3,
         rows: &[(
             "the last liberty of a stone that would cut",
@@ -78,14 +79,14 @@ static IN_BOTH_TREES: [Texts; 12] = [
     Texts {
         name: "the defender does not join where no wide ply is left",
         stones: (5, "B5 D5 A4", "C4 B3"),
-        question: "defend A4 1 0",
+        question: (Defend, "A4", 1, 0),
         code: 3,
         rows: &[("none of them without a wide ply", b"N C5 .", NEITHER)],
     },
     Texts {
         name: "the attacker has a net around three liberties",
         stones: (5, "D1", "E2"),
-        question: "attack E2 1 1",
+        question: (Attack, "E2", 1, 1),
         code: 0,
         rows: &[
             (
@@ -103,7 +104,7 @@ static IN_BOTH_TREES: [Texts; 12] = [
     Texts {
         name: "the attacker has the liberties of stones beside the target",
         stones: (5, "B2 B3", "B1"),
-        question: "attack B2 1 1",
+        question: (Attack, "B2", 1, 1),
         code: 0,
         rows: &[
             (
@@ -121,7 +122,7 @@ static IN_BOTH_TREES: [Texts; 12] = [
     Texts {
         name: "the attacker has no liberty of stones with three beside the target",
         stones: (5, "B2 B3", "C2"),
-        question: "attack B2 1 1",
+        question: (Attack, "B2", 1, 1),
         code: 0,
         rows: &[(
             "no liberty of a stone next to the target that has three",
@@ -132,7 +133,7 @@ static IN_BOTH_TREES: [Texts; 12] = [
     Texts {
         name: "the attacker has beside and rescue",
         stones: (5, "B3 D3 C2", "C3 D2"),
-        question: "attack D2 1 1",
+        question: (Attack, "D2", 1, 1),
         code: 0,
         rows: &[
             (
@@ -150,7 +151,7 @@ static IN_BOTH_TREES: [Texts; 12] = [
     Texts {
         name: "three liberties may be filled in the wider tree",
         stones: (9, "D1", ""),
-        question: "attack D1 5 0",
+        question: (Attack, "D1", 5, 0),
         code: 0,
         rows: &[
             ("three liberties without a wide ply", b"N . N . N .", STATED),
@@ -164,7 +165,7 @@ static IN_BOTH_TREES: [Texts; 12] = [
     Texts {
         name: "four liberties may not be filled in either tree",
         stones: (9, "D4", ""),
-        question: "attack D4 9 0",
+        question: (Attack, "D4", 9, 0),
         code: 0,
         rows: &[("four liberties without a wide ply", b"N . N . N .", BOTH)],
     },
@@ -172,7 +173,5 @@ static IN_BOTH_TREES: [Texts; 12] = [
 
 #[test]
 fn texts_are_proofs_or_none_in_each_tree(rt: HostRuntime) {
-    for texts in &IN_BOTH_TREES {
-        check_rows(&rt, texts);
-    }
+    check_table(&rt, &IN_BOTH_TREES);
 }
