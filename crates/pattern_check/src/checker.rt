@@ -7,10 +7,11 @@ use crate::page::{
     print_counts, print_fault, print_port, print_port_note, print_states, print_warning,
 };
 use go_base::Bytes;
-use pattern_report::{NoMemory, Report, parts, port_notes, port_of, report_on, warnings};
+use pattern_report::{
+    Fault, NoMemory, Part, Report, Warning, parts, port_notes, port_of, report_on, warnings,
+};
 use pattern_states::states_of;
 use std::alloc::Global;
-use std::io::{self, Write};
 
 /// The exit status where a file has a fault.
 const FAULTY: u8 = 1;
@@ -31,11 +32,6 @@ pub(crate) struct Checker {
     missed: bool,
 }
 
-/// Want of memory as an error of printing.
-fn no_memory(_error: NoMemory) -> io::Error {
-    io::Error::from(io::ErrorKind::OutOfMemory)
-}
-
 /// The names of the helpers that an entry may name.
 fn helper_names(alloc: Global) -> Result<Vec<Bytes>, NoMemory> {
     let mut names = Vec::new(alloc);
@@ -47,46 +43,114 @@ fn helper_names(alloc: Global) -> Result<Vec<Bytes>, NoMemory> {
     Ok(names)
 }
 
+/// Prints a fault, and what of GNU Go's own it comes from where this is asked for.
+fn print_fault_and_port(
+    page: &mut String,
+    is_asked: bool,
+    file: &str,
+    fault: &Fault<'_>,
+) -> Result<(), NoMemory> {
+    print_fault(page, file, fault)?;
+    if is_asked && let Some(port) = port_of(fault) {
+        print_port(page, file, fault.line, &port)?;
+    }
+    Ok(())
+}
+
 /// Prints the faults of a text, and counts them.
-fn print_faults<W: Write>(
-    page: &mut W,
-    options: &Options,
+fn print_faults(
+    page: &mut String,
+    port: bool,
     file: &str,
     report: &Report<'_>,
     counts: &mut Counts,
-) -> io::Result<()> {
+) -> Result<(), NoMemory> {
     for fault in report.first.iter().chain(report.others.iter()) {
-        print_fault(page, file, fault)?;
+        print_fault_and_port(page, port, file, fault)?;
         counts.refuse(fault.kind);
-        if options.port
-            && let Some(port) = port_of(fault)
-        {
-            print_port(page, file, fault.line, &port)?;
-        }
+    }
+    Ok(())
+}
+
+/// Prints where the values of an entry differ from GNU Go's.
+fn print_notes(
+    page: &mut String,
+    alloc: Global,
+    file: &str,
+    part: Part<'_>,
+) -> Result<(), NoMemory> {
+    for note in &port_notes(alloc, part)? {
+        print_port_note(page, file, note)?;
     }
     Ok(())
 }
 
 /// Prints where the values of the entries that are taken differ from GNU Go's.
-fn print_notes<W: Write>(
-    page: &mut W,
+fn print_all_notes(
+    page: &mut String,
     alloc: Global,
     file: &str,
-    report: &Report<'_>,
-) -> io::Result<()> {
-    for part in &report.entries {
-        for note in &port_notes(alloc, *part).map_err(no_memory)? {
-            print_port_note(page, file, note)?;
-        }
+    entries: &[Part<'_>],
+) -> Result<(), NoMemory> {
+    for part in entries {
+        print_notes(page, alloc, file, *part)?;
     }
     Ok(())
 }
 
+/// The warnings of a text that has this report.
+fn warnings_of<'a>(
+    alloc: Global,
+    text: &'a [u8],
+    report: &Report<'a>,
+) -> Result<Vec<Warning<'a>>, NoMemory> {
+    let parts = parts(alloc, text)?;
+    warnings(alloc, text, parts.as_slice(), report)
+}
+
+/// Prints the warnings of a text that has this report, and counts them.
+fn print_warnings<'a>(
+    page: &mut String,
+    alloc: Global,
+    file: &str,
+    text: &'a [u8],
+    report: &Report<'a>,
+    counts: &mut Counts,
+) -> Result<(), NoMemory> {
+    for warning in &warnings_of(alloc, text, report)? {
+        print_warning(page, file, warning)?;
+        counts.warn();
+    }
+    Ok(())
+}
+
+/// Prints what is told of a text that has this report, and counts it.
+fn print_report<'a>(
+    page: &mut String,
+    alloc: Global,
+    options: &Options,
+    file: &str,
+    text: &'a [u8],
+    report: &Report<'a>,
+) -> Result<Counts, NoMemory> {
+    let mut counts = Counts::new();
+    counts.take(report.entries.len());
+    print_faults(page, options.port, file, report, &mut counts)?;
+    if options.port {
+        print_all_notes(page, alloc, file, report.entries.as_slice())?;
+    }
+    if !options.quiet {
+        print_warnings(page, alloc, file, text, report, &mut counts)?;
+    }
+    print_counts(page, file, &counts)?;
+    Ok(counts)
+}
+
 impl Checker {
     /// Nothing is checked yet.
-    pub(crate) fn new(alloc: Global) -> io::Result<Checker> {
+    pub(crate) fn new(alloc: Global) -> Result<Checker, NoMemory> {
         Ok(Checker {
-            helpers: helper_names(alloc).map_err(no_memory)?,
+            helpers: helper_names(alloc)?,
             all: Counts::new(),
             list: List::new(alloc),
             missed: false,
@@ -98,60 +162,37 @@ impl Checker {
         self.missed = true;
     }
 
-    /// Prints what is told of the text of the file at this index, and keeps what the list needs.
-    pub(crate) fn check<W: Write>(
+    /// Prints what is told of the text of a file, which has this index, and keeps what the list needs.
+    pub(crate) fn check(
         &mut self,
         alloc: Global,
         options: &Options,
         index: usize,
+        file: &str,
         text: &[u8],
-        page: &mut W,
-    ) -> io::Result<()> {
-        let Some(file) = options.files.get(index) else {
-            return Ok(());
-        };
-        let file = file.as_str();
-        let mut counts = Counts::new();
-        let parts = parts(alloc, text).map_err(no_memory)?;
-        let report: Report = report_on(alloc, text, self.helpers.as_slice()).map_err(no_memory)?;
-        print_faults(page, options, file, &report, &mut counts)?;
-        if options.port {
-            print_notes(page, alloc, file, &report)?;
-        }
-        if !options.quiet {
-            for warning in &warnings(alloc, text, parts.as_slice(), &report).map_err(no_memory)? {
-                print_warning(page, file, warning)?;
-                counts.warn();
-            }
-        }
-        counts.take(report.entries.len());
-        print_counts(page, file, &counts)?;
+        page: &mut String,
+    ) -> Result<(), NoMemory> {
+        let report: Report = report_on(alloc, text, self.helpers.as_slice())?;
+        let counts = print_report(page, alloc, options, file, text, &report)?;
         self.all.add(&counts);
         if options.states.is_some() {
-            let Report {
-                entries,
-                patterns,
-                ..
-            } = report;
-            self.list
-                .extend(index, entries.as_slice(), patterns)
-                .map_err(no_memory)?;
+            self.list.extend(index, report)?;
         }
         Ok(())
     }
 
     /// Prints what all files come to.
-    pub(crate) fn finish<W: Write>(
+    pub(crate) fn finish(
         &self,
         alloc: Global,
         options: &Options,
-        page: &mut W,
-    ) -> io::Result<()> {
+        page: &mut String,
+    ) -> Result<(), NoMemory> {
         if options.files.len() > 1 {
             print_counts(page, "all files", &self.all)?;
         }
         if let Some(limit) = options.states {
-            let states = states_of(alloc, self.list.patterns.as_slice(), limit).map_err(no_memory)?;
+            let states = states_of(alloc, self.list.patterns.as_slice(), limit)?;
             print_states(page, options.files.as_slice(), limit, &self.list, &states)?;
         }
         Ok(())

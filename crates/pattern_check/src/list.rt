@@ -1,7 +1,7 @@
 //! The entries of all files in one list, as `gopat` loads them.
 
 use pat_types::{NoMemory, Pattern};
-use pattern_report::Part;
+use pattern_report::Report;
 use std::alloc::Global;
 
 /// Where an entry of the list stands.
@@ -32,20 +32,15 @@ impl List {
     }
 
     /// Puts the entries of a file behind those of the files before.
-    pub(crate) fn extend(
-        &mut self,
-        file: usize,
-        parts: &[Part<'_>],
-        patterns: Vec<Pattern>,
-    ) -> Result<(), NoMemory> {
-        for pattern in patterns {
-            self.patterns.push(pattern)?;
-        }
-        for part in parts {
+    pub(crate) fn extend(&mut self, file: usize, report: Report<'_>) -> Result<(), NoMemory> {
+        for part in &report.entries {
             self.origins.push(Origin {
                 file,
                 line: part.number,
             })?;
+        }
+        for pattern in report.patterns {
+            self.patterns.push(pattern)?;
         }
         Ok(())
     }

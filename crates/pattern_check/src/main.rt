@@ -16,6 +16,7 @@ mod progress;
 use crate::checker::{Checker, NOT_CHECKED};
 use crate::options::{Options, options_of};
 use crate::progress::Progress;
+use pattern_report::NoMemory;
 use std::fs::Files;
 use std::io::{IsTerminal, Read, Write};
 use std::process::ExitCode;
@@ -40,6 +41,35 @@ fn text_of<R: Files + Input + AllocGlobal>(rt: &R, file: &str) -> io::Result<Vec
     Ok(text)
 }
 
+/// Want of memory as an error of the program.
+fn no_memory(_error: NoMemory) -> io::Error {
+    io::Error::from(io::ErrorKind::OutOfMemory)
+}
+
+/// Prints a page in the place of what is told of the progress.
+fn print_page<R: Print + Eprint>(rt: &R, progress: &mut Progress, page: &str) -> io::Result<()> {
+    progress.clear(rt)?;
+    io::writer(rt).write_all(page.as_bytes())
+}
+
+/// Checks the text of the file at this index and prints what is told of it.
+fn check_text<R: Print + Eprint + Clock + AllocGlobal>(
+    rt: &R,
+    options: &Options,
+    checker: &mut Checker,
+    progress: &mut Progress,
+    index: usize,
+    file: &str,
+    text: &[u8],
+) -> io::Result<()> {
+    progress.tell(rt, text.len() > LONG_TEXT, "checking", file)?;
+    let mut page = String::new(rt.alloc());
+    checker
+        .check(rt.alloc(), options, index, file, text, &mut page)
+        .map_err(no_memory)?;
+    print_page(rt, progress, page.as_str())
+}
+
 /// Checks the file at this index and prints what is told of it, or that it cannot be read.
 fn check_file<R: Files + Input + Print + Eprint + Clock + AllocGlobal>(
     rt: &R,
@@ -49,21 +79,31 @@ fn check_file<R: Files + Input + Print + Eprint + Clock + AllocGlobal>(
     index: usize,
     file: &str,
 ) -> io::Result<()> {
-    let mut page = Vec::new(rt.alloc());
     match text_of(rt, file) {
-        Ok(text) => {
-            let words = format!(in rt.alloc(); "checking {file}")?;
-            progress.tell(rt, text.len() > LONG_TEXT, words.as_str())?;
-            checker.check(rt.alloc(), options, index, text.as_slice(), &mut page)?;
-            progress.clear(rt)?;
-        }
+        Ok(text) => check_text(rt, options, checker, progress, index, file, text.as_slice()),
         Err(error) => {
-            progress.clear(rt)?;
-            eprintln!(rt; "{file}: {error}")?;
             checker.miss();
+            progress.clear(rt)?;
+            eprintln!(rt; "{file}: {error}")
         }
     }
-    io::writer(rt).write_all(page.as_slice())
+}
+
+/// Prints what all files come to.
+fn finish<R: Print + Eprint + Clock + AllocGlobal>(
+    rt: &R,
+    options: &Options,
+    checker: &Checker,
+    progress: &mut Progress,
+) -> io::Result<()> {
+    if options.states.is_some() {
+        progress.tell(rt, true, "counting", "states")?;
+    }
+    let mut page = String::new(rt.alloc());
+    checker
+        .finish(rt.alloc(), options, &mut page)
+        .map_err(no_memory)?;
+    print_page(rt, progress, page.as_str())
 }
 
 /// Checks the files in their order: the exit status.
@@ -72,9 +112,8 @@ fn check_files<R: Files + Input + Print + Eprint + Clock + AllocGlobal>(
     options: &Options,
     is_terminal: bool,
 ) -> io::Result<ExitCode> {
-    let alloc = rt.alloc();
     let mut progress = Progress::begin(rt, is_terminal)?;
-    let mut checker = Checker::new(alloc)?;
+    let mut checker = Checker::new(rt.alloc()).map_err(no_memory)?;
     for (index, file) in options.files.iter().enumerate() {
         check_file(
             rt,
@@ -85,13 +124,7 @@ fn check_files<R: Files + Input + Print + Eprint + Clock + AllocGlobal>(
             file.as_str(),
         )?;
     }
-    if options.states.is_some() {
-        progress.tell(rt, true, "counting states")?;
-    }
-    let mut page = Vec::new(alloc);
-    checker.finish(alloc, options, &mut page)?;
-    progress.clear(rt)?;
-    io::writer(rt).write_all(page.as_slice())?;
+    finish(rt, options, &checker, &mut progress)?;
     Ok(ExitCode::from(checker.status()))
 }
 
@@ -104,12 +137,14 @@ fn words_of<R: Env + AllocGlobal>(rt: &R) -> io::Result<Vec<String>> {
     Ok(words)
 }
 
+/// What the command line asks for. None where its words are no command line, or cannot be had.
+fn options_asked<R: Env + AllocGlobal>(rt: &R) -> Option<Options> {
+    let words = words_of(rt).ok()?;
+    options_of(rt.alloc(), words.as_slice())
+}
+
 fn main(rt: HostRuntime) -> ExitCode {
-    let Ok(words) = words_of(&rt) else {
-        let _ = eprintln!(rt; "{USAGE}");
-        return ExitCode::from(NOT_CHECKED);
-    };
-    let Some(options) = options_of(rt.alloc(), words.as_slice()) else {
+    let Some(options) = options_asked(&rt) else {
         let _ = eprintln!(rt; "{USAGE}");
         return ExitCode::from(NOT_CHECKED);
     };

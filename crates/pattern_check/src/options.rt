@@ -19,28 +19,40 @@ pub(crate) struct Options {
     pub(crate) files: Vec<String>,
 }
 
+/// A flag of the command line.
+fn flag<'a>(alloc: Global, name: &'a str) -> Arg<'a> {
+    Arg::new(alloc, name).long(name).action(ArgAction::SetTrue)
+}
+
+/// The limit of the states.
+fn states<'a>(alloc: Global) -> Arg<'a> {
+    Arg::new(alloc, "states")
+        .long("states")
+        .action(ArgAction::Set)
+}
+
+/// The names of the files.
+fn files<'a>(alloc: Global) -> Arg<'a> {
+    Arg::new(alloc, "files")
+        .action(ArgAction::Append)
+        .num_args(0..)
+}
+
 /// The command line of the program.
 fn command<'a>(alloc: Global) -> Result<Command<'a>, AllocError> {
-    let quiet = Arg::new(alloc, "quiet")
-        .long("quiet")
-        .action(ArgAction::SetTrue);
-    let port = Arg::new(alloc, "port")
-        .long("port")
-        .action(ArgAction::SetTrue);
-    let states = Arg::new(alloc, "states")
-        .long("states")
-        .action(ArgAction::Set);
-    let files = Arg::new(alloc, "files")
-        .action(ArgAction::Append)
-        .num_args(0..);
     Command::new(alloc, "pattern_check")
         .no_binary_name(true)
         .disable_help_flag(true)
         .disable_version_flag(true)
-        .arg(quiet)?
-        .arg(port)?
-        .arg(states)?
-        .arg(files)
+        .arg(flag(alloc, "quiet"))?
+        .arg(flag(alloc, "port"))?
+        .arg(states(alloc))?
+        .arg(files(alloc))
+}
+
+/// Whether a flag is set.
+fn is_set(matches: &ArgMatches<'_>, flag: &str) -> bool {
+    matches.get_str(flag) == Some("true")
 }
 
 /// The names of the files.
@@ -63,21 +75,24 @@ fn states_in(matches: &ArgMatches<'_>) -> Option<Option<u32>> {
     }
 }
 
-/// The options that the words of a command line give, which are without the program's name. None where they are no
-/// command line with a file.
-pub(crate) fn options_of(alloc: Global, words: &[String]) -> Option<Options> {
-    let matches = command(alloc).ok()?.try_get_matches_from(words).ok()?;
-    let quiet = matches.get_str("quiet") == Some("true");
-    let port = matches.get_str("port") == Some("true");
-    let states = states_in(&matches)?;
-    let files = files_in(alloc, &matches)?;
+/// What the matches of a command line ask for. None where it has no file.
+fn options_in(alloc: Global, matches: &ArgMatches<'_>) -> Option<Options> {
+    let states = states_in(matches)?;
+    let files = files_in(alloc, matches)?;
     if files.is_empty() {
         return None;
     }
     Some(Options {
-        quiet,
-        port,
+        quiet: is_set(matches, "quiet"),
+        port: is_set(matches, "port"),
         states,
         files,
     })
+}
+
+/// The options that the words of a command line give, which are without the program's name. None where they are no
+/// command line with a file.
+pub(crate) fn options_of(alloc: Global, words: &[String]) -> Option<Options> {
+    let matches = command(alloc).ok()?.try_get_matches_from(words).ok()?;
+    options_in(alloc, &matches)
 }

@@ -4,15 +4,8 @@ use crate::counts::Counts;
 use crate::list::List;
 use pattern_report::{Fault, Place, Port, PortNote, Shown, Warning};
 use pattern_states::{Added, States};
-use std::io::{self, Write};
-
-/// Prints blanks.
-fn print_blanks<W: Write>(page: &mut W, count: usize) -> io::Result<()> {
-    for _ in 0..count {
-        page.write_all(b" ")?;
-    }
-    Ok(())
-}
+use std::alloc::AllocError;
+use std::fmt::Display;
 
 /// How many letters the first bytes of a line are shown by.
 fn shown_width(text: &[u8], bytes: usize) -> usize {
@@ -28,94 +21,127 @@ fn shown_width(text: &[u8], bytes: usize) -> usize {
     width
 }
 
+/// Prints blanks.
+fn print_blanks(page: &mut String, count: usize) -> Result<(), AllocError> {
+    for _ in 0..count {
+        page.push_str(" ")?;
+    }
+    Ok(())
+}
+
 /// Prints the line of a place and a caret under its column. An empty line is not printed.
-fn print_line<W: Write>(page: &mut W, place: &Place<'_>) -> io::Result<()> {
+fn print_line(page: &mut String, place: &Place<'_>) -> Result<(), AllocError> {
     if place.text.is_empty() {
         return Ok(());
     }
-    writeln!(page, "{:>6} | {}", place.line, Shown(place.text))?;
-    page.write_all(b"       | ")?;
-    print_blanks(
-        page,
-        shown_width(place.text, place.column.saturating_sub(1)),
-    )?;
-    page.write_all(b"^\n")
+    let blanks = shown_width(place.text, place.column.saturating_sub(1));
+    write!(page, "{:>6} | {}\n       | ", place.line, Shown(place.text))?;
+    print_blanks(page, blanks)?;
+    page.push_str("^\n")
 }
 
-/// Prints the end of a message: its kind, where it has one, and the name of its entry, where it has one.
-fn print_end<W: Write>(page: &mut W, kind: Option<u8>, entry: &[u8]) -> io::Result<()> {
-    match (kind, entry) {
-        (Some(kind), []) => writeln!(page, " [kind {kind}]"),
-        (Some(kind), _) => writeln!(page, " [kind {kind}, Pattern {}]", Shown(entry)),
-        (None, []) => writeln!(page, ""),
-        (None, _) => writeln!(page, " [Pattern {}]", Shown(entry)),
+/// Prints where something is told, of which kind it is, and its words.
+fn print_words<D: Display>(
+    page: &mut String,
+    file: &str,
+    line: u64,
+    column: usize,
+    kind: &str,
+    words: &D,
+) -> Result<(), AllocError> {
+    write!(page, "{file}:{line}:{column}: {kind}: {words}")
+}
+
+/// Ends the first line of a fault: its kind, and the name of its entry, where it has one.
+fn end_fault(page: &mut String, kind: u8, entry: &[u8]) -> Result<(), AllocError> {
+    if entry.is_empty() {
+        writeln!(page, " [kind {kind}]")
+    } else {
+        writeln!(page, " [kind {kind}, Pattern {}]", Shown(entry))
+    }
+}
+
+/// Ends the first line of a warning: the name of its entry, where it has one.
+fn end_warning(page: &mut String, entry: &[u8]) -> Result<(), AllocError> {
+    if entry.is_empty() {
+        page.push_str("\n")
+    } else {
+        writeln!(page, " [Pattern {}]", Shown(entry))
     }
 }
 
 /// Prints a fault.
-pub(crate) fn print_fault<W: Write>(page: &mut W, file: &str, fault: &Fault<'_>) -> io::Result<()> {
+pub(crate) fn print_fault(
+    page: &mut String,
+    file: &str,
+    fault: &Fault<'_>,
+) -> Result<(), AllocError> {
     let column = if fault.line == fault.place.line {
         fault.place.column
     } else {
         1
     };
-    write!(
-        page,
-        "{file}:{}:{column}: error: {}",
-        fault.line, fault.cause
-    )?;
-    print_end(page, Some(fault.kind), fault.entry)?;
+    print_words(page, file, fault.line, column, "error", &fault.cause)?;
+    end_fault(page, fault.kind, fault.entry)?;
     print_line(page, &fault.place)
 }
 
 /// Prints a warning.
-pub(crate) fn print_warning<W: Write>(
-    page: &mut W,
+pub(crate) fn print_warning(
+    page: &mut String,
     file: &str,
     warning: &Warning<'_>,
-) -> io::Result<()> {
+) -> Result<(), AllocError> {
     let Place { line, column, .. } = warning.place;
-    write!(page, "{file}:{line}:{column}: warning: {}", warning.caution)?;
-    print_end(page, None, warning.entry)?;
+    print_words(page, file, line, column, "warning", &warning.caution)?;
+    end_warning(page, warning.entry)?;
     print_line(page, &warning.place)
 }
 
 /// Prints what of GNU Go's own a fault comes from.
-pub(crate) fn print_port<W: Write>(
-    page: &mut W,
+pub(crate) fn print_port(
+    page: &mut String,
     file: &str,
     line: u64,
     port: &Port<'_>,
-) -> io::Result<()> {
+) -> Result<(), AllocError> {
     writeln!(page, "{file}:{line}: note: {port}")
 }
 
 /// Prints a note on an entry that is taken.
-pub(crate) fn print_port_note<W: Write>(
-    page: &mut W,
+pub(crate) fn print_port_note(
+    page: &mut String,
     file: &str,
     note: &PortNote<'_>,
-) -> io::Result<()> {
+) -> Result<(), AllocError> {
     let Place { line, column, .. } = note.place;
-    writeln!(page, "{file}:{line}:{column}: note: {}", note.port)?;
+    print_words(page, file, line, column, "note", &note.port)?;
+    page.push_str("\n")?;
     print_line(page, &note.place)
 }
 
-/// Prints how many entries were taken and refused.
-pub(crate) fn print_counts<W: Write>(page: &mut W, file: &str, counts: &Counts) -> io::Result<()> {
-    write!(
-        page,
-        "{file}: taken {}, faults {}, warnings {}",
-        counts.taken,
-        counts.refused(),
-        counts.warnings
-    )?;
-    for (kind, count) in counts.kinds.iter().enumerate() {
+/// Prints how many faults of each kind there are, where there is one.
+fn print_kinds(page: &mut String, kinds: &[u64]) -> Result<(), AllocError> {
+    for (kind, count) in kinds.iter().enumerate() {
         if *count > 0 {
             write!(page, "; kind {kind}: {count}")?;
         }
     }
-    writeln!(page, "")
+    page.push_str("\n")
+}
+
+/// Prints how many entries were taken and refused.
+pub(crate) fn print_counts(
+    page: &mut String,
+    file: &str,
+    counts: &Counts,
+) -> Result<(), AllocError> {
+    let (taken, faults, warnings) = (counts.taken, counts.refused(), counts.warnings);
+    write!(
+        page,
+        "{file}: taken {taken}, faults {faults}, warnings {warnings}"
+    )?;
+    print_kinds(page, counts.kinds.as_slice())
 }
 
 /// How the files are named whose entries are one list.
@@ -127,13 +153,13 @@ fn list_name(files: &[String]) -> &str {
 }
 
 /// Prints the states of the entries of all files, up to so many, and the entries that add most.
-pub(crate) fn print_states<W: Write>(
-    page: &mut W,
+pub(crate) fn print_states(
+    page: &mut String,
     files: &[String],
     limit: u32,
     list: &List,
     states: &States,
-) -> io::Result<()> {
+) -> Result<(), AllocError> {
     let name = list_name(files);
     match states {
         States::TooManyPatterns => {
@@ -148,35 +174,37 @@ pub(crate) fn print_states<W: Write>(
                 page,
                 "{name}: states {all}; gopat needs --states {all} or more"
             )?;
-            for added in most {
-                print_added(page, files, list, added)?;
-            }
-            Ok(())
+            print_most(page, files, list, most.as_slice())
         }
     }
 }
 
+/// Prints how many states each of these entries adds.
+fn print_most(
+    page: &mut String,
+    files: &[String],
+    list: &List,
+    most: &[Added],
+) -> Result<(), AllocError> {
+    for added in most {
+        print_added(page, files, list, added)?;
+    }
+    Ok(())
+}
+
 /// Prints how many states an entry adds.
-fn print_added<W: Write>(
-    page: &mut W,
+fn print_added(
+    page: &mut String,
     files: &[String],
     list: &List,
     added: &Added,
-) -> io::Result<()> {
-    let (Some(origin), Some(pattern)) = (
-        list.origins.get(added.pattern),
-        list.patterns.get(added.pattern),
-    ) else {
-        return Ok(());
-    };
-    let Some(file) = files.get(origin.file) else {
-        return Ok(());
-    };
-    writeln!(
-        page,
-        "{file}:{}: {} adds {} states",
-        origin.line,
-        Shown(pattern.name.as_slice()),
-        added.states
-    )
+) -> Result<(), AllocError> {
+    if let Some(origin) = list.origins.get(added.pattern)
+        && let Some(pattern) = list.patterns.get(added.pattern)
+        && let Some(file) = files.get(origin.file)
+    {
+        let (line, name, states) = (origin.line, pattern.name.as_slice(), added.states);
+        return writeln!(page, "{file}:{line}: {} adds {states} states", Shown(name));
+    }
+    Ok(())
 }

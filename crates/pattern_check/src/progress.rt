@@ -34,13 +34,14 @@ impl Progress {
         &mut self,
         rt: &R,
         is_long: bool,
-        words: &str,
+        doing: &str,
+        what: &str,
     ) -> io::Result<()> {
         let Some(begun) = &self.begun else {
             return Ok(());
         };
         if is_long || begun.elapsed(rt)? >= Duration::from_secs(PATIENCE) {
-            eprint!(rt; "\r{words}\x1b[K")?;
+            eprint!(rt; "\r{doing} {what}\x1b[K")?;
             self.stands = true;
         }
         Ok(())
