@@ -118,7 +118,6 @@ fn append_targets(targets: &mut Vec<u32>, of_row: [u32; 4])
 }
 
 /// Appends numbers for which there is room. Most rows have none.
-#[inline(always)]
 fn append(numbers: &mut Vec<u16>, more: &[u16])
     requires { vec_len numbers.old + length more.now ≤ vec_capacity numbers.old }
     ensures items { numbers.new.items ≡ numbers.old.items ++ more.now }

@@ -67,6 +67,7 @@ fn searched_without_liberty<V: View>(board: &mut V, p: Point) -> Option<PointSet
 
 /// The stones of the string of the stone at p, where it has no liberty; else None. It looks at the stones and their
 /// neighbours, and no further once it has seen a liberty. It takes no memory.
+#[inline(always)]
 pub(crate) fn string_without_liberty<V: View>(board: &mut V, p: Point) -> Option<PointSet>
     requires { p < V.rows board.old * V.rows board.old }
     ensures looks { Looks V.cells V.asks board.old board.new anywhere }

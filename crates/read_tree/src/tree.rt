@@ -40,6 +40,7 @@ const LEAST_PLIES: u8 = 4;
 
 /// The liberties of the target after the play at p, by those before it: an attacker's play that does not take the
 /// target takes no liberty but its own point. None where they are to be found on the board.
+#[inline(always)]
 fn liberties_after<L: Look>(
     board: &mut Trial<L>,
     turn: Turn,
