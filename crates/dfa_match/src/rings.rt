@@ -61,7 +61,6 @@ impl Ring {
 }
 
 /// The number of the ring that is read around a corner's anchor by these steps.
-#[inline(always)]
 fn ring_number(sights: &Sights, steps: &[u16], corner: u16) -> u16
     requires corner { corner ≤ last_corner }
     requires steps { (t : ℕ) × AreSteps t steps.now }

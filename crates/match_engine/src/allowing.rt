@@ -21,7 +21,6 @@ const UNSAFE_CLASS: u8 = b's';
 const ENEMY_CLASS: u8 = b'n';
 
 /// Whether a pattern has a class letter.
-#[inline(always)]
 fn has_class(p: &Pattern, letter: u8) -> bool
     ensures { result ≡ has_class p.now letter }
 {
