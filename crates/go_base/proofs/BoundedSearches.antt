@@ -1,6 +1,6 @@
 -- What a search has found that stops where it sees more liberties than its bound.
-use Rattle.std.proofs.Common.{◌≡◌, ◌≢◌, ℕ, ◌+◌, ◌*◌, ◌<◌, ◌≤◌, ◌&&◌, true, false, eqb, refl, Some, List, sym, ap, subst}
-use Rattle.std.proofs.Common.{arith, inl, inr, ◌∙◌}
+use Rattle.std.proofs.Common.{◌≡◌, ◌≢◌, ℕ, ◌+◌, ◌*◌, ◌<◌, ◌≤◌, ◌&&◌, Bool, true, false, eqb, refl, Some, List, sym, ap}
+use Rattle.std.proofs.Common.{subst, arith, inl, inr, ◌∙◌}
 use Rattle.std.proofs.lemmas.Bool.{cases_eq, cases_lt, ne_eqb, and_parts, and_from, lt-ltb}
 use Rattle.std.specs.Ordering.{nat_cmp}
 use Rattle.std.specs.FinSet as sets
@@ -15,70 +15,71 @@ use Rattle.go_rules.proofs.Paths.{same_cell-true, is_liberty-from_fact}
 use Rattle.go_rules.proofs.Links.{path_same}
 use Rattle.go_rules.proofs.Tests.{same_tests, and-false}
 use Rattle.go_base.specs.Sides.{neighbour_at}
-use Rattle.go_base.specs.Floods.{Visits, SpreadsOut, SpreadsUnder, Searches}
+use Rattle.go_base.specs.Floods.{Visits, SpreadsOut, SpreadsUnder, Searches, FindsEnemies, with_enemies}
 use Rattle.go_base.specs.declared.flood.Found.{Found}
+use Rattle.go_base.specs.declared.flood.Searched.{Searched}
 use Rattle.go_base.proofs.Liberties.{len-liberty_points}
 use Rattle.go_base.proofs.FloodResults.{Begins, Steps, string_is, string_is_none, string_has, stone_from}
 use Rattle.go_base.proofs.FloodVisits.{SpreadsOut-none, SpreadsOut-skip, SpreadsOut-visit}
 use Rattle.go_base.proofs.FloodVisits.{FloodsOut, FloodsOut-start, FloodsOut-next, flood_liberties, flood_enemies}
-use Rattle.go_base.proofs.FloodVisits.{no_liberties, no_enemies, none_at}
+use Rattle.go_base.proofs.FloodVisits.{no_liberties, none_at}
 
 -- l is empty and next to a point that a path leads to from p
 abbrev pub IsSeen : ℕ → List Cell → ℕ → ℕ → Type 0
 IsSeen s cells p l =
     (l < s * s) × (cell_at cells l ≡ Empty) × (q : ℕ) × Path s cells p q × (are_neighbours s q l ≡ true)
 
-module _ (s : ℕ) (cells : List Cell) (own : Cell) (q most : ℕ) where
+module _ (asked : Bool) (s : ℕ) (cells : List Cell) (own : Cell) (q most : ℕ) where
   -- no side was visited
-  pub SpreadsUnder-none : (old : Found) → SpreadsUnder s cells own q 0 most old old
-  SpreadsUnder-none old = record { sides = 0; whole = λ few. refl; spreads = SpreadsOut-none s cells own q old }
+  pub SpreadsUnder-none : (old : Found) → SpreadsUnder asked s cells own q 0 most old old
+  SpreadsUnder-none old = record { sides = 0; whole = λ few. refl; spreads = SpreadsOut-none asked s cells own q old }
 
   -- where no more liberties than most were seen, the first n sides were visited
-  sides_so_far : (n : ℕ) (old new : Found) → SpreadsUnder s cells own q n most old new → sets.len new.liberties ≤ most
-      → SpreadsOut s cells own q n old new
-  sides_so_far n old new h few = subst (λ k. SpreadsOut s cells own q k old new) (h.whole few) h.spreads
+  sides_so_far : (n : ℕ) (old new : Found) → SpreadsUnder asked s cells own q n most old new
+      → sets.len new.liberties ≤ most → SpreadsOut asked s cells own q n old new
+  sides_so_far n old new h few = subst (λ k. SpreadsOut asked s cells own q k old new) (h.whole few) h.spreads
 
   -- the next side gave nothing
-  pub SpreadsUnder-skip : (n : ℕ) (old new : Found) → SpreadsUnder s cells own q n most old new
+  pub SpreadsUnder-skip : (n : ℕ) (old new : Found) → SpreadsUnder asked s cells own q n most old new
       → sets.len new.liberties ≤ most → ((r : ℕ) → neighbour_at s q n ≡ Some r → ⊥)
-      → SpreadsUnder s cells own q (n + 1) most old new
+      → SpreadsUnder asked s cells own q (n + 1) most old new
   SpreadsUnder-skip n old new h few none = record {
     sides = n + 1;
     whole = λ still. refl;
-    spreads = SpreadsOut-skip s cells own q n old new (sides_so_far n old new h few) none;
+    spreads = SpreadsOut-skip asked s cells own q n old new (sides_so_far n old new h few) none;
   }
 
   -- the next side gave a point, which was visited
-  pub SpreadsUnder-visit : (n r : ℕ) (old mid new : Found) → SpreadsUnder s cells own q n most old mid
+  pub SpreadsUnder-visit : (n r : ℕ) (old mid new : Found) → SpreadsUnder asked s cells own q n most old mid
       → sets.len mid.liberties ≤ most → q < s * s → neighbour_at s q n ≡ Some r
-      → Visits own (cell_at cells r) r mid new → SpreadsUnder s cells own q (n + 1) most old new
+      → Visits asked own (cell_at cells r) r mid new → SpreadsUnder asked s cells own q (n + 1) most old new
   SpreadsUnder-visit n r old mid new h few on at v = record {
     sides = n + 1;
     whole = λ still. refl;
-    spreads = SpreadsOut-visit s cells own q n r old mid new (sides_so_far n old mid h few) on at v;
+    spreads = SpreadsOut-visit asked s cells own q n r old mid new (sides_so_far n old mid h few) on at v;
   }
 
 -- the stones that do not wait were visited, all whole where no more liberties than most were seen
-pub record FloodsUnder (s : ℕ) (cells : List Cell) (own : Cell) (p most : ℕ) (found : Found)
+pub record FloodsUnder (asked : Bool) (s : ℕ) (cells : List Cell) (own : Cell) (p most : ℕ) (found : Found)
     (wait : sets.FinSet nat_cmp) : Type 0 where
   pub part : (r : ℕ) → sets.contains found.stones r ≡ true → Path s cells p r
   pub seen : (l : ℕ) → sets.contains found.liberties l ≡ true → IsSeen s cells p l
-  pub whole : sets.len found.liberties ≤ most → FloodsOut s cells own p found wait
+  pub whole : sets.len found.liberties ≤ most → FloodsOut asked s cells own p found wait
 
 -- at first nothing but the point is known
-pub FloodsUnder-start : (s : ℕ) (cells : List Cell) (own : Cell) (p most : ℕ) (found : Found)
+pub FloodsUnder-start : (asked : Bool) (s : ℕ) (cells : List Cell) (own : Cell) (p most : ℕ) (found : Found)
     (wait : sets.FinSet nat_cmp) → Begins p found.stones wait → found.liberties ≡ sets.empty
-    → found.enemies ≡ sets.empty → FloodsUnder s cells own p most found wait
-FloodsUnder-start s cells own p most found wait b f e =
-    let out = FloodsOut-start s cells own p found wait b f e in
+    → found.enemies ≡ sets.empty → FloodsUnder asked s cells own p most found wait
+FloodsUnder-start asked s cells own p most found wait b f e =
+    let out = FloodsOut-start asked s cells own p found wait b f e in
     record { part = out.stones.only; seen = λ l h. absurd (none_at found.liberties l f h); whole = λ few. out }
 
 -- one more stone was visited
-pub FloodsUnder-next : (s : ℕ) (cells : List Cell) (own : Cell) (p q most : ℕ) (old new : Found)
-    (wait held waits : sets.FinSet nat_cmp) → p < s * s → FloodsUnder s cells own p most old wait
+pub FloodsUnder-next : (asked : Bool) (s : ℕ) (cells : List Cell) (own : Cell) (p q most : ℕ) (old new : Found)
+    (wait held waits : sets.FinSet nat_cmp) → p < s * s → FloodsUnder asked s cells own p most old wait
     → Steps s q old.stones new.stones wait held waits → sets.len old.liberties ≤ most → cell_at cells q ≡ own
-    → SpreadsUnder s cells own q 4 most old new → FloodsUnder s cells own p most new waits
-FloodsUnder-next s cells own p q most old new wait held waits on h st few like sp =
+    → SpreadsUnder asked s cells own q 4 most old new → FloodsUnder asked s cells own p most new waits
+FloodsUnder-next asked s cells own p q most old new wait held waits on h st few like sp =
     let path : Path s cells p q = h.part q st.waited in
     record {
       part = λ r b. elim (sp.spreads.stones.only r b) [
@@ -89,8 +90,8 @@ FloodsUnder-next s cells own p q most old new wait held waits on h st few like s
         | inl before ↦ h.seen x before
         | inr fresh ↦ (fresh.0, same_cell-true _ _ fresh.2, q, path, fresh.1)
       ];
-      whole = λ still. FloodsOut-next s cells own p q old new wait held waits on (h.whole few) st like
-          (subst (λ k. SpreadsOut s cells own q k old new) (sp.whole still) sp.spreads);
+      whole = λ still. FloodsOut-next asked s cells own p q old new wait held waits on (h.whole few) st like
+          (subst (λ k. SpreadsOut asked s cells own q k old new) (sp.whole still) sp.spreads);
     }
 
 -- points that were seen lie on the board
@@ -119,40 +120,46 @@ seen_are_liberties s cells p free on stone seen =
     omega arith
 
 -- where no stone is left to visit, or more liberties than most were seen, the search has what it tells
-pub FloodsUnder-all : (s : ℕ) (cells : List Cell) (own : Cell) (p most : ℕ) (found : Found)
-    (wait : sets.FinSet nat_cmp) → p < s * s → own ≡ cell_at cells p → own ≢ Empty
-    → FloodsUnder s cells own p most found wait → (sets.len found.liberties ≤ most → wait ≡ sets.empty)
-    → Searches s cells p most found
-FloodsUnder-all s cells own p most found wait on like stone h done =
+pub FloodsUnder-all : (asked : Bool) (s : ℕ) (cells : List Cell) (own : Cell) (p most : ℕ) (found : Searched)
+    (met wait : sets.FinSet nat_cmp) → p < s * s → own ≡ cell_at cells p → own ≢ Empty
+    → FloodsUnder asked s cells own p most (with_enemies found met) wait
+    → (sets.len found.liberties ≤ most → wait ≡ sets.empty) → Searches s cells p most found
+FloodsUnder-all asked s cells own p most found met wait on like stone h done =
     let is = stone_from (cell_at cells p) (λ e. stone (like ∙ e)) in
     record {
       stones = λ few. string_is s cells p found.stones wait on is (h.whole few).stones (done few);
-      liberties = λ few. flood_liberties s cells own p found wait on like stone (h.whole few) (done few);
-      enemies = λ few. flood_enemies s cells own p found wait on like stone (h.whole few) (done few);
+      liberties = λ few. flood_liberties asked s cells own p (with_enemies found met) wait on like stone (h.whole few)
+          (done few);
       part = λ q b. string_has s cells p q on is (h.part q b);
       more = λ over. omega (arith, over, seen_are_liberties s cells p found.liberties on is h.seen);
     }
 
+-- and the enemies, where they are asked for
+pub FloodsUnder-enemies : (asked : Bool) (s : ℕ) (cells : List Cell) (own : Cell) (p most : ℕ) (found : Searched)
+    (met wait : sets.FinSet nat_cmp) → p < s * s → own ≡ cell_at cells p → own ≢ Empty
+    → FloodsUnder asked s cells own p most (with_enemies found met) wait
+    → (sets.len found.liberties ≤ most → wait ≡ sets.empty) → asked ≡ true → FindsEnemies s cells p most found met
+FloodsUnder-enemies asked s cells own p most found met wait on like stone h done wanted =
+    λ few. flood_enemies asked s cells own p (with_enemies found met) wait on like stone (h.whole few) (done few) wanted
+
 -- of an empty point nothing is found
-pub Searches-none : (s : ℕ) (cells : List Cell) (p most : ℕ) (found : Found) → cell_at cells p ≡ Empty
-    → found.stones ≡ sets.empty → found.liberties ≡ sets.empty → found.enemies ≡ sets.empty
-    → Searches s cells p most found
-Searches-none s cells p most found e stones free foes = record {
+pub Searches-none : (s : ℕ) (cells : List Cell) (p most : ℕ) (found : Searched) → cell_at cells p ≡ Empty
+    → found.stones ≡ sets.empty → found.liberties ≡ sets.empty → Searches s cells p most found
+Searches-none s cells p most found e stones free = record {
   stones = λ few. string_is_none s cells p found.stones e stones;
   liberties = λ few. no_liberties s cells p found.liberties e free;
-  enemies = λ few. no_enemies s cells p found.enemies e foes;
   part = λ q b. absurd (none_at found.stones q stones b);
   more = λ over. absurd (omega (arith, over, ap sets.len free ∙ sets.len-empty nat_cmp));
 }
 
 -- a search that saw no more liberties than most has counted those of the string
-pub Searches-count : (s : ℕ) (cells : List Cell) (p most n : ℕ) (found : Found) → Searches s cells p most found
+pub Searches-count : (s : ℕ) (cells : List Cell) (p most n : ℕ) (found : Searched) → Searches s cells p most found
     → n ≡ sets.len found.liberties → n ≤ most → n ≡ liberties s cells p
 Searches-count s cells p most n found h count few =
     count ∙ ap sets.len (h.liberties (omega (arith, count, few))) ∙ len-liberty_points s cells p
 
 -- a search for one liberty has seen none exactly where the string has none
-pub none_seen : (s : ℕ) (cells : List Cell) (p n : ℕ) (found : Found) → Searches s cells p 0 found
+pub none_seen : (s : ℕ) (cells : List Cell) (p n : ℕ) (found : Searched) → Searches s cells p 0 found
     → n ≡ sets.len found.liberties → eqb n 0 ≡ eqb (liberties s cells p) 0
 none_seen s cells p n found h count = elim (cases_eq n 0) [
   | inl z ↦ ap (λ k. eqb k 0) (Searches-count s cells p 0 n found h count (omega arith))
@@ -162,7 +169,7 @@ none_seen s cells p n found h count = elim (cases_eq n 0) [
 ]
 
 -- a search for two liberties has seen one where the string has one
-pub one_seen : (s : ℕ) (cells : List Cell) (p n : ℕ) (found : Found) → Searches s cells p 1 found
+pub one_seen : (s : ℕ) (cells : List Cell) (p n : ℕ) (found : Searched) → Searches s cells p 1 found
     → n ≡ sets.len found.liberties → liberties s cells p ≡ 1 → n ≡ 1
 one_seen s cells p n found h count one = elim (cases_lt 1 n) [
   | inl more ↦ (let over = h.more (omega (arith, count, more)) in absurd (omega (arith, over, one)))
@@ -170,7 +177,7 @@ one_seen s cells p n found h count one = elim (cases_lt 1 n) [
 ]
 
 -- a search for two liberties tells whether the string is one stone with one liberty
-pub one_of_each : (s : ℕ) (cells : List Cell) (p stones free : ℕ) (found : Found) → Searches s cells p 1 found
+pub one_of_each : (s : ℕ) (cells : List Cell) (p stones free : ℕ) (found : Searched) → Searches s cells p 1 found
     → stones ≡ sets.len found.stones → free ≡ sets.len found.liberties
     → (eqb stones 1 && eqb free 1) ≡ (eqb (sets.len (string_at s cells p)) 1 && eqb (liberties s cells p) 1)
 one_of_each s cells p stones free found h counted count = elim (cases_lt 1 free) [

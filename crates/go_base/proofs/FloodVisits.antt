@@ -1,6 +1,6 @@
 -- What a flood gathers as it visits the neighbours of its stones.
-use Rattle.std.proofs.Common.{◌≡◌, ◌≢◌, ℕ, ◌+◌, ◌*◌, ◌<◌, ◌&&◌, Bool, true, false, cond, ltb, Some, List, refl, sym, ap}
-use Rattle.std.proofs.Common.{subst, arith, inl, inr, ◌∙◌}
+use Rattle.std.proofs.Common.{◌≡◌, ◌≢◌, ℕ, ◌+◌, ◌*◌, ◌<◌, ◌&&◌, ◌⊎◌, Bool, true, false, cond, ltb, Some, List, refl}
+use Rattle.std.proofs.Common.{sym, ap, subst, arith, inl, inr, ◌∙◌}
 use Rattle.std.proofs.lemmas.Bool.{cases_Bool, eq-eqb, eqb-true, or_cases, or_left, or_right, both_ways}
 use Rattle.std.proofs.lemmas.Bool.{and_parts, and_from, lt-ltb, ltb-true}
 use Rattle.std.specs.Ordering.{nat_cmp}
@@ -19,7 +19,7 @@ use Rattle.go_rules.proofs.Tests.{same_tests, and-false}
 use Rattle.go_base.specs.Views.{alone}
 use Rattle.go_base.proofs.PointNeighbourhoods.{close_next, whole_string, alone_self}
 use Rattle.go_base.specs.Sides.{neighbour_at}
-use Rattle.go_base.specs.Floods.{Gathers, Visits, SpreadsOut, enemy_points}
+use Rattle.go_base.specs.Floods.{Gathers, Visits, SpreadsOut, is_asked_enemy, enemy_points}
 use Rattle.go_base.specs.declared.flood.Found.{Found}
 use Rattle.go_base.proofs.SidesOfPoints.{neighbour_at-all, neighbour_at-near}
 use Rattle.go_base.proofs.FloodResults.{Flooded, Flooded-start, Flooded-next, Flooded-all, Begins, Steps, none_visited}
@@ -72,9 +72,19 @@ module _ (s : ℕ) (cells : List Cell) (test : Cell → Bool) (q : ℕ) where
             (ap (λ y. test (cell_at cells y)) (sym (same_side (sym e ∙ e'))) ∙ f) t'))
       ])
 
-module _ (s : ℕ) (cells : List Cell) (own : Cell) (q : ℕ) where
+-- where enemies are asked for one came, and else none
+pub met_alone : (asked : Bool) (r : ℕ) (old new : sets.FinSet nat_cmp) → new ≡ cond asked (sets.insert old r) old
+    → (q : ℕ) → sets.contains new q ≡ true → (sets.contains old q ≡ true) ⊎ (q ≡ r)
+met_alone true r old new is q h =
+    elim (or_cases _ _ (sym (ap (λ t. sets.contains t q) is ∙ contains-insert_nat old r q) ∙ h)) [
+      | inl here ↦ inr (eqb-true q r here)
+      | inr before ↦ inl before
+    ]
+met_alone false r old new is q h = inl (ap (λ t. sets.contains t q) (sym is) ∙ h)
+
+module _ (asked : Bool) (s : ℕ) (cells : List Cell) (own : Cell) (q : ℕ) where
   -- no side was visited
-  pub SpreadsOut-none : (old : Found) → SpreadsOut s cells own q 0 old old
+  pub SpreadsOut-none : (old : Found) → SpreadsOut asked s cells own q 0 old old
   SpreadsOut-none old =
       record {
         stones = Gathers-none s cells _ q old.stones;
@@ -83,8 +93,8 @@ module _ (s : ℕ) (cells : List Cell) (own : Cell) (q : ℕ) where
       }
 
   -- the next side gave nothing
-  pub SpreadsOut-skip : (n : ℕ) (old new : Found) → SpreadsOut s cells own q n old new
-      → ((r : ℕ) → neighbour_at s q n ≡ Some r → ⊥) → SpreadsOut s cells own q (n + 1) old new
+  pub SpreadsOut-skip : (n : ℕ) (old new : Found) → SpreadsOut asked s cells own q n old new
+      → ((r : ℕ) → neighbour_at s q n ≡ Some r → ⊥) → SpreadsOut asked s cells own q (n + 1) old new
   SpreadsOut-skip n old new h none = record {
     stones = Gathers-skip s cells _ q n old.stones new.stones h.stones (λ r e t. none r e);
     liberties = Gathers-skip s cells _ q n old.liberties new.liberties h.liberties (λ r e t. none r e);
@@ -92,9 +102,9 @@ module _ (s : ℕ) (cells : List Cell) (own : Cell) (q : ℕ) where
   }
 
   -- the next side gave a point, which was visited
-  pub SpreadsOut-visit : (n r : ℕ) (old mid new : Found) → SpreadsOut s cells own q n old mid → q < s * s
-      → neighbour_at s q n ≡ Some r → Visits own (cell_at cells r) r mid new
-      → SpreadsOut s cells own q (n + 1) old new
+  pub SpreadsOut-visit : (n r : ℕ) (old mid new : Found) → SpreadsOut asked s cells own q n old mid → q < s * s
+      → neighbour_at s q n ≡ Some r → Visits asked own (cell_at cells r) r mid new
+      → SpreadsOut asked s cells own q (n + 1) old new
   SpreadsOut-visit n r old mid new h on e v = record {
     stones = Gathers-visit s cells _ q n r old.stones mid.stones new.stones h.stones on e v.stones;
     liberties = Gathers-visit s cells _ q n r old.liberties mid.liberties new.liberties h.liberties on e v.liberties;
@@ -182,28 +192,28 @@ liberties_beside s cells p =
     ∙ sym (contains-set_below (s * s) (is_liberty s cells p) x))
 
 -- what the stones gave that do not wait
-pub record FloodsOut (s : ℕ) (cells : List Cell) (own : Cell) (p : ℕ) (found : Found)
+pub record FloodsOut (asked : Bool) (s : ℕ) (cells : List Cell) (own : Cell) (p : ℕ) (found : Found)
     (wait : sets.FinSet nat_cmp) : Type 0 where
   pub stones : Flooded s cells p found.stones wait
   pub liberties : Gathered s cells (λ cell. same_cell cell Empty) found.stones wait found.liberties
-  pub enemies : Gathered s cells (is_enemy own) found.stones wait found.enemies
+  pub enemies : Gathered s cells (is_asked_enemy asked own) found.stones wait found.enemies
 
 -- at first nothing but the point is known
-pub FloodsOut-start : (s : ℕ) (cells : List Cell) (own : Cell) (p : ℕ) (found : Found) (wait : sets.FinSet nat_cmp)
-    → Begins p found.stones wait → found.liberties ≡ sets.empty → found.enemies ≡ sets.empty
-    → FloodsOut s cells own p found wait
-FloodsOut-start s cells own p found wait b f e = record {
+pub FloodsOut-start : (asked : Bool) (s : ℕ) (cells : List Cell) (own : Cell) (p : ℕ) (found : Found)
+    (wait : sets.FinSet nat_cmp) → Begins p found.stones wait → found.liberties ≡ sets.empty
+    → found.enemies ≡ sets.empty → FloodsOut asked s cells own p found wait
+FloodsOut-start asked s cells own p found wait b f e = record {
   stones = Flooded-start s cells p found.stones wait b;
   liberties = Gathered-none s cells _ p found.stones wait found.liberties b f;
   enemies = Gathered-none s cells _ p found.stones wait found.enemies b e;
 }
 
 -- one more stone was visited
-pub FloodsOut-next : (s : ℕ) (cells : List Cell) (own : Cell) (p q : ℕ) (old new : Found)
-    (wait held waits : sets.FinSet nat_cmp) → p < s * s → FloodsOut s cells own p old wait
-    → Steps s q old.stones new.stones wait held waits → cell_at cells q ≡ own → SpreadsOut s cells own q 4 old new
-    → FloodsOut s cells own p new waits
-FloodsOut-next s cells own p q old new wait held waits on h st like sp =
+pub FloodsOut-next : (asked : Bool) (s : ℕ) (cells : List Cell) (own : Cell) (p q : ℕ) (old new : Found)
+    (wait held waits : sets.FinSet nat_cmp) → p < s * s → FloodsOut asked s cells own p old wait
+    → Steps s q old.stones new.stones wait held waits → cell_at cells q ≡ own → SpreadsOut asked s cells own q 4 old new
+    → FloodsOut asked s cells own p new waits
+FloodsOut-next asked s cells own p q old new wait held waits on h st like sp =
     let q_on = path_on_board s cells p on (h.stones.only q st.waited) in
     record {
       stones = Flooded-next s cells own p q old.stones new.stones wait held waits on h.stones st like sp.stones;
@@ -213,9 +223,9 @@ FloodsOut-next s cells own p q old new wait held waits on h st like sp =
           h.enemies q_on st sp.enemies;
     }
 
-module _ (s : ℕ) (cells : List Cell) (own : Cell) (p : ℕ) (found : Found) (wait : sets.FinSet nat_cmp)
-    (on : p < s * s) (like : own ≡ cell_at cells p) (stone : own ≢ Empty)
-    (h : FloodsOut s cells own p found wait) (none : wait ≡ sets.empty) where
+module _ (asked : Bool) (s : ℕ) (cells : List Cell) (own : Cell) (p : ℕ) (found : Found)
+    (wait : sets.FinSet nat_cmp) (on : p < s * s) (like : own ≡ cell_at cells p) (stone : own ≢ Empty)
+    (h : FloodsOut asked s cells own p found wait) (none : wait ≡ sets.empty) where
   -- the point holds a stone
   pub stone_at : is_stone (cell_at cells p) ≡ true
   stone_at = by_cell (cell_at cells p) (λ e. stone (like ∙ e))
@@ -230,11 +240,14 @@ module _ (s : ℕ) (cells : List Cell) (own : Cell) (p : ℕ) (found : Found) (w
   flood_liberties = Gathered-all s cells _ p found.stones wait found.liberties on stone_at h.stones none h.liberties
       ∙ liberties_beside s cells p
 
-  -- the enemies gathered are those next to the string
-  pub flood_enemies : found.enemies ≡ enemy_points s cells p
-  flood_enemies = subst (λ k. found.enemies ≡ set_below (s * s)
+  -- where enemies are asked for, those gathered are those next to the string
+  pub flood_enemies : asked ≡ true → found.enemies ≡ enemy_points s cells p
+  flood_enemies wanted = subst (λ k. found.enemies ≡ set_below (s * s)
       (λ q. is_beside_string s cells p q && is_enemy k (cell_at cells q))) like
-      (Gathered-all s cells (is_enemy own) p found.stones wait found.enemies on stone_at h.stones none h.enemies)
+      (subst (λ a. found.enemies ≡ set_below (s * s)
+      (λ q. is_beside_string s cells p q && is_asked_enemy a own (cell_at cells q))) wanted
+      (Gathered-all s cells (is_asked_enemy asked own) p found.stones wait found.enemies on stone_at h.stones none
+      h.enemies))
 
 -- nothing is next to an empty point's string
 beside_empty : (s : ℕ) (cells : List Cell) (p q : ℕ) → cell_at cells p ≡ Empty → is_beside_string s cells p q ≡ false

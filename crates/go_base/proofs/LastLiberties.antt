@@ -17,7 +17,7 @@ use Rattle.go_rules.proofs.StringMembers.{is_in_string_on, string_back}
 use Rattle.go_rules.proofs.Tests.{same_tests}
 use Rattle.go_base.specs.Surroundings.{is_only_liberty, is_last_liberty_of_enemy, AddsLast, KnowsLast}
 use Rattle.go_base.specs.Floods.{Searches}
-use Rattle.go_base.specs.declared.flood.Found.{Found}
+use Rattle.go_base.specs.declared.flood.Searched.{Searched}
 use Rattle.go_base.proofs.BoundedSearches.{Searches-count, one_seen}
 
 -- the set of the liberties has the liberties
@@ -65,7 +65,7 @@ its : (s : ℕ) (cells : List Cell) (q : ℕ) (found : sets.FinSet nat_cmp) → 
     → sets.contains found l ≡ is_liberty s cells q l
 its s cells q found e l = ap (λ t. sets.contains t l) e ∙ contains-liberty_points s cells q l
 
-module _ (s : ℕ) (cells : List Cell) (q n : ℕ) (found : Found) (old : sets.FinSet nat_cmp)
+module _ (s : ℕ) (cells : List Cell) (q n : ℕ) (found : Searched) (old : sets.FinSet nat_cmp)
     (h : Searches s cells q 1 found) (count : n ≡ sets.len found.liberties) where
   -- the liberties of a string with just one were added
   pub AddsLast-one : (new : sets.FinSet nat_cmp) → n ≡ 1 → new ≡ sets.union old found.liberties

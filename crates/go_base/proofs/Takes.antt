@@ -1,6 +1,6 @@
 -- The strings that a play takes, gathered side by side.
 use Rattle.std.proofs.Common.{◌≡◌, ℕ, ◌+◌, ◌*◌, ◌<◌, ◌≤◌, true, false, cond, Some, None, List, refl, sym, ap, subst}
-use Rattle.std.proofs.Common.{arith, inl, inr, ◌∙◌}
+use Rattle.std.proofs.Common.{arith, inl, inr, ◌⊎◌, ◌∙◌}
 use Rattle.std.proofs.lemmas.Bool.{cases_Bool, or_cases, or_left, or_right, both_ways, and_parts, and_from}
 use Rattle.std.proofs.lemmas.Bool.{lt-ltb, ltb-true, eq-eqb, ne_eqb}
 use Rattle.std.specs.Ordering.{nat_cmp}
@@ -17,19 +17,12 @@ use Rattle.go_rules.proofs.Links.{path_on}
 use Rattle.go_rules.proofs.Plays.{taken_whole, taken_parts, stone_is}
 use Rattle.go_rules.proofs.Tests.{same_tests}
 use Rattle.go_base.specs.Sides.{neighbour_at}
-use Rattle.go_base.specs.Takes.{TakenBeside, HasWholeStrings}
+use Rattle.go_base.specs.Takes.{TakenBeside, HasWholeStrings, Takes}
 use Rattle.go_base.specs.WithoutLiberty.{stones_without_liberty}
 use Rattle.go_base.proofs.WithoutLiberty.{found_without, none_without}
 use Rattle.go_base.proofs.SidesOfPoints.{neighbour_at-all}
 use Rattle.go_base.proofs.EachSide.{same_side, each_next, each_with}
 use Rattle.go_base.proofs.FloodResults.{string_has}
-
--- what the first n sides gave
-pub record Takes (s : ℕ) (put : List Cell) (c : Colour) (p n : ℕ) (taken : sets.FinSet nat_cmp) : Type 0 where
-  pub only : (q : ℕ) → sets.contains taken q ≡ true → (q < s * s) × (is_taken s put c q ≡ true)
-  pub whole : HasWholeStrings s put taken
-  pub all : (k : ℕ) → k < n → (r : ℕ) → neighbour_at s p k ≡ Some r → is_taken s put c r ≡ true → (q : ℕ)
-      → Path s put r q → sets.contains taken q ≡ true
 
 -- no side was visited
 pub Takes-none : (s : ℕ) (put : List Cell) (c : Colour) (p : ℕ) (taken : sets.FinSet nat_cmp) → taken ≡ sets.empty
@@ -41,6 +34,12 @@ Takes-none s put c p taken e = record {
       (ap (λ t. sets.contains t q) e ∙ sets.contains-empty nat_cmp q) h);
   all = λ k l. absurd (omega arith);
 }
+
+-- what a side adds to points of the board lies on the board
+pub on_board_with : (s : ℕ) (old new : sets.FinSet nat_cmp) → ((r : ℕ) → sets.contains old r ≡ true → r < s * s)
+    → ((r : ℕ) → sets.contains new r ≡ true → (sets.contains old r ≡ true) ⊎ (r < s * s))
+    → (r : ℕ) → sets.contains new r ≡ true → r < s * s
+on_board_with s old new before came r h = elim (came r h) [ inl there ↦ before r there | inr on ↦ on ]
 
 -- the next side gave nothing that is taken
 Takes-skip : (s : ℕ) (put : List Cell) (c : Colour) (p n : ℕ) (taken : sets.FinSet nat_cmp) → Takes s put c p n taken

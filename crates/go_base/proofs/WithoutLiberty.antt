@@ -13,7 +13,7 @@ use Rattle.go_rules.proofs.Paths.{same_cell-true}
 use Rattle.go_rules.proofs.Links.{liberties_from}
 use Rattle.go_base.specs.Sides.{neighbour_at}
 use Rattle.go_base.specs.Floods.{Searches}
-use Rattle.go_base.specs.declared.flood.Found.{Found}
+use Rattle.go_base.specs.declared.flood.Searched.{Searched}
 use Rattle.go_base.specs.WithoutLiberty.{has_empty_neighbour, stones_without_liberty}
 use Rattle.go_base.proofs.SidesOfPoints.{neighbour_at-all, neighbour_at-near}
 use Rattle.go_base.proofs.EachSide.{each_with, each_off}
@@ -74,14 +74,14 @@ liberty_there s cells p on stone t = rw
     (stone, ne_eqb (liberties s cells p) 0 (liberty_beside s cells p on stone t)) refl
 
 -- nor where the search saw a liberty
-pub liberty_seen : (s : ℕ) (cells : List Cell) (p n : ℕ) (found : Found) → is_stone (cell_at cells p) ≡ true
+pub liberty_seen : (s : ℕ) (cells : List Cell) (p n : ℕ) (found : Searched) → is_stone (cell_at cells p) ≡ true
     → Searches s cells p 0 found → n ≡ sets.len found.liberties → n ≢ 0 → None ≡ stones_without_liberty s cells p
 unfolding stones_without_liberty
 liberty_seen s cells p n found stone h count some =
     rw (stone, sym (none_seen s cells p n found h count) ∙ ne_eqb n 0 some) refl
 
 -- where it saw none, what it found is the string
-pub none_there : (s : ℕ) (cells : List Cell) (p n : ℕ) (found : Found) → is_stone (cell_at cells p) ≡ true
+pub none_there : (s : ℕ) (cells : List Cell) (p n : ℕ) (found : Searched) → is_stone (cell_at cells p) ≡ true
     → Searches s cells p 0 found → n ≡ sets.len found.liberties → n ≡ 0
     → Some found.stones ≡ stones_without_liberty s cells p
 unfolding stones_without_liberty

@@ -10,6 +10,7 @@ use Rattle.go_rules.specs.Strings.{cell_at, same_cell, string_at, liberty_points
 use Rattle.go_rules.specs.BesideStrings.{is_enemy, is_beside_string}
 use Rattle.go_base.specs.Sides.{neighbour_at}
 use Rattle.go_base.specs.declared.flood.Found.{Found}
+use Rattle.go_base.specs.declared.flood.Searched.{Searched}
 
 -- of the first n sides of q, the neighbours whose cell passes the test are there now, and nothing else came
 pub record Gathers (s : ℕ) (cells : List Cell) (test : Cell
@@ -29,35 +30,47 @@ pub record Finds (s : ℕ) (old new wait waits : set.FinSet nat_cmp) : Type 0 wh
   pub among : (r : ℕ) → set.contains waits r ≡ true → (set.contains wait r ≡ true) ⊎ (set.contains new r ≡ true)
   pub count : (n : ℕ) × (set.len new ≡ set.len old + n) × (set.len waits ≡ set.len wait + n)
 
+-- what a search found so far, and the enemies that it met
+abbrev pub with_enemies : Searched → set.FinSet nat_cmp → Found
+with_enemies found met = record { stones = found.stones; liberties = found.liberties; enemies = met }
+
+-- an enemy, where enemies are asked for
+abbrev pub is_asked_enemy : Bool → Cell → Cell → Bool
+is_asked_enemy asked own cell = asked && is_enemy own cell
+
 -- a flood over stones like own came to r, which holds this cell: an own stone goes to the stones, an empty point to the
--- liberties, an enemy to the enemies
-pub record Visits (own cell : Cell) (r : ℕ) (old new : Found) : Type 0 where
+-- liberties, an enemy to the enemies where they are asked for
+pub record Visits (asked : Bool) (own cell : Cell) (r : ℕ) (old new : Found) : Type 0 where
   pub stones : new.stones ≡ (if same_cell cell own then set.insert old.stones r else old.stones)
   pub liberties : new.liberties ≡ (if same_cell cell Empty then set.insert old.liberties r else old.liberties)
-  pub enemies : new.enemies ≡ (if is_enemy own cell then set.insert old.enemies r else old.enemies)
+  pub enemies : new.enemies ≡ (if is_asked_enemy asked own cell then set.insert old.enemies r else old.enemies)
 
 -- a flood over stones like own went to the first n sides of q
-pub record SpreadsOut (s : ℕ) (cells : List Cell) (own : Cell) (q n : ℕ) (old new : Found) : Type 0 where
+pub record SpreadsOut (asked : Bool) (s : ℕ) (cells : List Cell) (own : Cell) (q n : ℕ) (old new : Found) : Type 0 where
   pub stones : Gathers s cells (λ cell. same_cell cell own) q n old.stones new.stones
   pub liberties : Gathers s cells (λ cell. same_cell cell Empty) q n old.liberties new.liberties
-  pub enemies : Gathers s cells (is_enemy own) q n old.enemies new.enemies
+  pub enemies : Gathers s cells (is_asked_enemy asked own) q n old.enemies new.enemies
 
 -- a flood over stones like own went to sides of q, to the first n of them unless it saw more liberties than most
-pub record SpreadsUnder (s : ℕ) (cells : List Cell) (own : Cell) (q n most : ℕ) (old new : Found) : Type 0 where
+pub record SpreadsUnder (asked : Bool) (s : ℕ) (cells : List Cell) (own : Cell) (q n most : ℕ)
+    (old new : Found) : Type 0 where
   pub sides : ℕ
   pub whole : set.len new.liberties ≤ most → sides ≡ n
-  pub spreads : SpreadsOut s cells own q sides old new
+  pub spreads : SpreadsOut asked s cells own q sides old new
 
 -- the enemy stones next to the string of p
 abbrev pub enemy_points : ℕ → List Cell → ℕ → set.FinSet nat_cmp
 enemy_points s cells p = set_below (s * s)
     (λ q. is_beside_string s cells p q && is_enemy (cell_at cells p) (cell_at cells q))
 
--- what was found of the string of p by a search that stops where it sees more liberties than most: the string, its
--- liberties and the enemies next to it, or else some of its stones and more liberties than most
-pub record Searches (s : ℕ) (cells : List Cell) (p most : ℕ) (found : Found) : Type 0 where
+-- what was found of the string of p by a search that stops where it sees more liberties than most: the string and its
+-- liberties, or else some of its stones and more liberties than most
+pub record Searches (s : ℕ) (cells : List Cell) (p most : ℕ) (found : Searched) : Type 0 where
   pub stones : set.len found.liberties ≤ most → found.stones ≡ string_at s cells p
   pub liberties : set.len found.liberties ≤ most → found.liberties ≡ liberty_points s cells p
-  pub enemies : set.len found.liberties ≤ most → found.enemies ≡ enemy_points s cells p
   pub part : (q : ℕ) → set.contains found.stones q ≡ true → set.contains (string_at s cells p) q ≡ true
   pub more : most < set.len found.liberties → most < liberties_at s cells p
+
+-- a search that saw no more liberties than most has met the enemies next to the string of p
+abbrev pub FindsEnemies : ℕ → List Cell → ℕ → ℕ → Searched → set.FinSet nat_cmp → Type 0
+FindsEnemies s cells p most found met = set.len found.liberties ≤ most → met ≡ enemy_points s cells p

@@ -1,6 +1,6 @@
 -- Where a stone was put on a position, it is next to each string that has no liberty; what is gathered side by side is
 -- whole strings.
-use Rattle.std.specs.Prelude.{◌≡◌, ℕ, ◌*◌, ◌<◌, ◌==◌, ◌&&◌, ◌||◌, Bool, true, List}
+use Rattle.std.specs.Prelude.{◌≡◌, ℕ, ◌*◌, ◌<◌, ◌==◌, ◌&&◌, ◌||◌, Bool, true, List, Some}
 use Rattle.std.specs.Ordering.{nat_cmp}
 use Rattle.std.specs.FinSet as set
 use Rattle.go_rules.specs.declared.Cell.{Cell}
@@ -11,6 +11,7 @@ use Rattle.go_rules.specs.Strings.{cell_at, same_cell, string_at, Path}
 use Rattle.go_rules.specs.Neighbourhood.{neighbourhood_of}
 use Rattle.go_rules.specs.Play.{is_taken}
 use Rattle.go_rules.specs.Position.{other, stone_of}
+use Rattle.go_base.specs.Sides.{neighbour_at}
 use Rattle.go_base.specs.Views.{alone}
 
 -- what is taken after c put a stone at p hangs on a neighbour of p, which is taken too
@@ -22,6 +23,13 @@ TakenBeside s put c p = (q : ℕ) → q < s * s → is_taken s put c q ≡ true
 abbrev pub HasWholeStrings : ℕ → List Cell → set.FinSet nat_cmp → Type 0
 HasWholeStrings s cells stones = (q : ℕ) → set.contains stones q ≡ true → (r : ℕ)
     → set.contains (string_at s cells q) r ≡ true → set.contains stones r ≡ true
+
+-- the set has what is taken of the strings next to p on its first n sides, and nothing but whole strings that are taken
+pub record Takes (s : ℕ) (put : List Cell) (c : Colour) (p n : ℕ) (taken : set.FinSet nat_cmp) : Type 0 where
+  pub only : (q : ℕ) → set.contains taken q ≡ true → (q < s * s) × (is_taken s put c q ≡ true)
+  pub whole : HasWholeStrings s put taken
+  pub all : (k : ℕ) → k < n → (r : ℕ) → neighbour_at s p k ≡ Some r → is_taken s put c r ≡ true → (q : ℕ)
+      → Path s put r q → set.contains taken q ≡ true
 
 -- r is a neighbour of p, or close to one that holds an enemy of c
 unfoldable pub near_taken : ℕ → List Cell → Colour → ℕ → ℕ → Bool

@@ -1,7 +1,7 @@
 //! What a play takes and which ban it leaves, and how it is taken back, on a board whose cells are told one by one.
 
-ghost use Rattle.std.specs.Prelude.{◌≡◌, ◌≢◌, ◌⊎◌, ℕ, ◌*◌, ◌<◌, ◌==◌, ◌||◌, ◌&&◌, IsTrue, List, map, slice_set, IfOk};
-ghost use Rattle.std.specs.Prelude.{if◌then◌else◌};
+ghost use Rattle.std.specs.Prelude.{◌≡◌, ◌≢◌, ◌⊎◌, ℕ, ◌+◌, ◌*◌, ◌%◌, ◌<◌, ◌==◌, ◌||◌, ◌&&◌, IsTrue, List, map};
+ghost use Rattle.std.specs.Prelude.{slice_set, IfOk, if◌then◌else◌};
 ghost use Rattle.std.specs.List.{range_with_len};
 ghost use Rattle.std.specs.FinSet as set;
 ghost use Rattle.go_rules.specs.declared.Cell.{Cell};
@@ -10,14 +10,14 @@ ghost use Rattle.go_rules.specs.Strings.{cell_at, is_stone, same_cell, string_at
 ghost use Rattle.go_rules.specs.Neighbourhood.{neighbourhood_of};
 ghost use Rattle.go_rules.specs.Position.{BoardState, IsPosition, other, stone_of, board_of};
 ghost use Rattle.go_rules.specs.Play.{is_taken, taken_at, ban_after, played_on, play_free};
-ghost use Rattle.go_base.specs.Takes.{TakenBeside, HasWholeStrings, near_taken};
+ghost use Rattle.go_base.specs.Takes.{TakenBeside, HasWholeStrings, Takes, near_taken};
 ghost use Rattle.go_base.specs.TakenBack.{before_play, cells_before, ban_or_refusal};
 ghost use Rattle.go_base.specs.Views.{Looks, anywhere, nowhere, alone};
 
 use crate::flood::search;
 use crate::points::PointSet;
-use crate::sides::neighbour;
-use crate::size::{Point, Size};
+use crate::sides::Spot;
+use crate::size::Point;
 use crate::view::View;
 use crate::without_liberty::string_without_liberty;
 use go_rules::{Cell, Colour, Illegal};
@@ -39,14 +39,35 @@ fn take<V: View>(board: &mut V, c: Colour, q: Point, taken: &mut PointSet)
         || (same_cell (cell_at (V.cells board.old pos) q) (stone_of (other c))
         && neighbourhood_of (V.rows board.old) (V.cells board.old pos) (alone q) r)) }
 {
-    if taken.has(q) {
+    if board.at(q) != c.other().cell() {
         return;
     }
-    if board.at(q) != c.other().cell() {
+    if taken.has(q) {
         return;
     }
     if let Some(stones) = string_without_liberty(board, q) {
         taken.join(&stones);
+    }
+}
+
+/// Adds the string next to a point on one side to the taken ones, where it is an enemy of c without a liberty.
+#[inline(always)]
+fn take_side<V: View>(board: &mut V, c: Colour, spot: &Spot, side: u8, taken: &mut PointSet)
+    requires on_board { spot.now.point < V.rows board.old * V.rows board.old }
+    requires rows { spot.now.size ≡ V.rows board.old }
+    requires column { spot.now.column ≡ spot.now.point % spot.now.size }
+    requires side { side < 4 }
+    ensures looks { Looks V.cells V.asks board.old board.new anywhere }
+    ensures over { (pos : BoardState) → V.agrees board.new pos
+        → Takes (V.rows board.old) (V.cells board.old pos) c spot.now.point side taken.old
+        → Takes (V.rows board.old) (V.cells board.old pos) c spot.now.point (side + 1) taken.new }
+    ensures on_board { (r : ℕ) → IsTrue (set.contains taken.new r)
+        → IsTrue (set.contains taken.old r) ⊎ (r < V.rows board.old * V.rows board.old) }
+    ensures near { (pos : BoardState) → V.agrees board.new pos
+        → V.asks board.old board.new (near_taken (V.rows board.old) (V.cells board.old pos) c spot.now.point) }
+{
+    if let Some(q) = spot.neighbour(side) {
+        take(board, c, q, taken);
     }
 }
 
@@ -61,13 +82,12 @@ fn captured<V: View>(board: &mut V, c: Colour, p: Point) -> PointSet
     ensures near { (pos : BoardState) → V.agrees board.new pos
         → V.asks board.old board.new (near_taken (V.rows board.old) (V.cells board.old pos) c p) }
 {
-    let size = board.size();
+    let spot = Spot::new(board.size(), p);
     let mut taken = PointSet::new();
-    for side in 0..4 {
-        if let Some(q) = neighbour(size, p, side) {
-            take(board, c, q, &mut taken);
-        }
-    }
+    take_side(board, c, &spot, 0, &mut taken);
+    take_side(board, c, &spot, 1, &mut taken);
+    take_side(board, c, &spot, 2, &mut taken);
+    take_side(board, c, &spot, 3, &mut taken);
     taken
 }
 

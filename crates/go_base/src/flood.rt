@@ -1,24 +1,35 @@
 //! Strings, their liberties and the enemy stones next to them, found by one search over a board whose cells are told
 //! one by one. A search may be given a bound on liberties, and stops where it sees more.
 
-ghost use Rattle.std.specs.Prelude.{◌≡◌, ◌≢◌, ◌⊎◌, ℕ, ◌+◌, ◌*◌, ◌<◌, ◌≤◌, IsTrue, true, IfSome, IfNone, if◌then◌else◌};
+ghost use Rattle.std.specs.Prelude.{◌≡◌, ◌≢◌, ◌⊎◌, ℕ, ◌+◌, ◌*◌, ◌%◌, ◌<◌, ◌≤◌, IsTrue, true, IfSome, IfNone};
+ghost use Rattle.std.specs.Prelude.{if◌then◌else◌};
 ghost use Rattle.std.specs.FinSet as set;
 ghost use Rattle.go_rules.specs.declared.Cell.{Cell};
 ghost use Rattle.go_rules.specs.Board.{largest_points};
 ghost use Rattle.go_rules.specs.Strings.{cell_at, string_at, liberty_points};
 ghost use Rattle.go_rules.specs.Neighbourhood.{neighbourhood_of};
 ghost use Rattle.go_rules.specs.Position.{BoardState};
-ghost use Rattle.go_base.specs.Floods.{Visits, SpreadsUnder, Finds, Searches, enemy_points};
+ghost use Rattle.go_base.specs.Floods.{Visits, SpreadsUnder, Finds, Searches, FindsEnemies, enemy_points, with_enemies};
 ghost use Rattle.go_base.specs.declared.flood.Found.{Found};
 ghost use Rattle.go_base.specs.Views.{Looks, anywhere, around, alone};
 
+use crate::enemies::{Enemies, NotAsked};
 use crate::points::PointSet;
-use crate::sides::neighbour;
-use crate::size::{MAX_POINTS, Point, Size};
+use crate::sides::Spot;
+use crate::size::{MAX_POINTS, Point};
 use crate::view::View;
 use go_rules::Cell;
 
-/// What one search finds of a string.
+/// What a search finds of a string that does not ask for the enemies next to it.
+#[derive(Drop)]
+pub struct Searched {
+    /// Its stones.
+    pub stones: PointSet,
+    /// The empty neighbours of its stones.
+    pub liberties: PointSet,
+}
+
+/// What a whole search finds of a string.
 #[derive(Drop)]
 pub struct Found {
     /// Its stones.
@@ -31,15 +42,13 @@ pub struct Found {
 
 /// Nothing found yet.
 #[inline(always)]
-pub(crate) fn nothing_found() -> Found
+pub(crate) fn nothing_found() -> Searched
     ensures stones { result.stones ≡ set.empty }
     ensures liberties { result.liberties ≡ set.empty }
-    ensures enemies { result.enemies ≡ set.empty }
 {
-    Found {
+    Searched {
         stones: PointSet::new(),
         liberties: PointSet::new(),
-        enemies: PointSet::new(),
     }
 }
 
@@ -60,17 +69,25 @@ fn add_stone(r: Point, stones: &mut PointSet, waiting: &mut PointSet)
 /// Looks at r, a neighbour of a stone like `own`, and puts it where it belongs. A stone that is new waits to be
 /// visited.
 #[inline(always)]
-fn visit<V: View>(board: &mut V, own: Cell, r: Point, found: &mut Found, waiting: &mut PointSet)
+fn visit<V: View, E: Enemies>(
+    board: &mut V,
+    own: Cell,
+    r: Point,
+    found: &mut Searched,
+    enemies: &mut E,
+    waiting: &mut PointSet,
+)
     requires on_board { r < V.rows board.old * V.rows board.old }
     requires small { r < largest_points }
     requires stone { own ≢ Cell.Empty }
     requires waits { (q : ℕ) → set.contains waiting.old q ≡ true → set.contains found.old.stones q ≡ true }
     ensures looks { Looks V.cells V.asks board.old board.new (alone r) }
     ensures over { (pos : BoardState) → V.agrees board.new pos
-        → Visits own (cell_at (V.cells board.old pos) r) r found.old found.new }
+        → Visits E.asked own (cell_at (V.cells board.old pos) r) r (with_enemies found.old (E.met enemies.old))
+        (with_enemies found.new (E.met enemies.new)) }
     ensures finds { Finds (V.rows board.old) found.old.stones found.new.stones waiting.old waiting.new }
-    ensures enemies_alone { (q : ℕ) → set.contains found.new.enemies q ≡ true
-        → (set.contains found.old.enemies q ≡ true) ⊎ (q ≡ r) }
+    ensures enemies_alone { (q : ℕ) → set.contains (E.met enemies.new) q ≡ true
+        → (set.contains (E.met enemies.old) q ≡ true) ⊎ (q ≡ r) }
 {
     let cell = board.at(r);
     if cell == own {
@@ -78,52 +95,57 @@ fn visit<V: View>(board: &mut V, own: Cell, r: Point, found: &mut Found, waiting
     } else if cell == Cell::Empty {
         found.liberties.add(r);
     } else {
-        found.enemies.add(r);
+        enemies.meet(r);
     }
 }
 
-/// Visits the neighbour of q, a stone like `own`, on one side, where there is one and no more liberties than `most`
-/// were seen.
+/// Visits the neighbour of a stone like `own` on one side, where there is one and no more liberties than `most` were
+/// seen.
 #[inline(always)]
-fn visit_side<V: View>(
+fn visit_side<V: View, E: Enemies>(
     board: &mut V,
     own: Cell,
-    q: Point,
-    size: Size,
+    spot: &Spot,
     side: u8,
     most: u16,
-    found: &mut Found,
+    found: &mut Searched,
+    enemies: &mut E,
     waiting: &mut PointSet,
 )
-    requires on_board { q < V.rows board.old * V.rows board.old }
-    requires rows { size ≡ V.rows board.old }
+    requires on_board { spot.now.point < V.rows board.old * V.rows board.old }
+    requires rows { spot.now.size ≡ V.rows board.old }
+    requires column { spot.now.column ≡ spot.now.point % spot.now.size }
     requires side { side < 4 }
     requires stone { own ≢ Cell.Empty }
     requires waits { (r : ℕ) → set.contains waiting.old r ≡ true → set.contains found.old.stones r ≡ true }
-    ensures looks { Looks V.cells V.asks board.old board.new (around (V.rows board.old) q) }
-    ensures over { (pos : BoardState) → V.agrees board.new pos → cell_at (V.cells board.old pos) q ≡ own → (old : Found)
-        → SpreadsUnder (V.rows board.old) (V.cells board.old pos) own q side most old found.old
-        → SpreadsUnder (V.rows board.old) (V.cells board.old pos) own q (side + 1) most old found.new }
+    ensures looks { Looks V.cells V.asks board.old board.new (around (V.rows board.old) spot.now.point) }
+    ensures over { (pos : BoardState) → V.agrees board.new pos
+        → cell_at (V.cells board.old pos) spot.now.point ≡ own → (old : Found)
+        → SpreadsUnder E.asked (V.rows board.old) (V.cells board.old pos) own spot.now.point side most old
+        (with_enemies found.old (E.met enemies.old))
+        → SpreadsUnder E.asked (V.rows board.old) (V.cells board.old pos) own spot.now.point (side + 1) most old
+        (with_enemies found.new (E.met enemies.new)) }
     ensures finds { Finds (V.rows board.old) found.old.stones found.new.stones waiting.old waiting.new }
-    ensures enemies_on_board { (r : ℕ) → set.contains found.new.enemies r ≡ true
-        → (set.contains found.old.enemies r ≡ true) ⊎ (r < V.rows board.old * V.rows board.old) }
+    ensures enemies_on_board { (r : ℕ) → set.contains (E.met enemies.new) r ≡ true
+        → (set.contains (E.met enemies.old) r ≡ true) ⊎ (r < V.rows board.old * V.rows board.old) }
 {
     if found.liberties.count() > most {
         return;
     }
-    if let Some(r) = neighbour(size, q, side) {
-        visit(board, own, r, found, waiting);
+    if let Some(r) = spot.neighbour(side) {
+        visit(board, own, r, found, enemies, waiting);
     }
 }
 
 /// Visits the neighbours of q, a stone like `own`, as long as there are no more liberties than `most`.
 #[inline(always)]
-fn spread<V: View>(
+fn spread<V: View, E: Enemies>(
     board: &mut V,
     own: Cell,
     q: Point,
     most: u16,
-    found: &mut Found,
+    found: &mut Searched,
+    enemies: &mut E,
     waiting: &mut PointSet,
 )
     requires on_board { q < V.rows board.old * V.rows board.old }
@@ -131,16 +153,17 @@ fn spread<V: View>(
     requires waits { (r : ℕ) → set.contains waiting.old r ≡ true → set.contains found.old.stones r ≡ true }
     ensures looks { Looks V.cells V.asks board.old board.new (around (V.rows board.old) q) }
     ensures over { (pos : BoardState) → V.agrees board.new pos → cell_at (V.cells board.old pos) q ≡ own
-        → SpreadsUnder (V.rows board.old) (V.cells board.old pos) own q 4 most found.old found.new }
+        → SpreadsUnder E.asked (V.rows board.old) (V.cells board.old pos) own q 4 most
+        (with_enemies found.old (E.met enemies.old)) (with_enemies found.new (E.met enemies.new)) }
     ensures finds { Finds (V.rows board.old) found.old.stones found.new.stones waiting.old waiting.new }
-    ensures enemies_on_board { (r : ℕ) → set.contains found.new.enemies r ≡ true
-        → (set.contains found.old.enemies r ≡ true) ⊎ (r < V.rows board.old * V.rows board.old) }
+    ensures enemies_on_board { (r : ℕ) → set.contains (E.met enemies.new) r ≡ true
+        → (set.contains (E.met enemies.old) r ≡ true) ⊎ (r < V.rows board.old * V.rows board.old) }
 {
-    let size = board.size();
-    visit_side(board, own, q, size, 0, most, found, waiting);
-    visit_side(board, own, q, size, 1, most, found, waiting);
-    visit_side(board, own, q, size, 2, most, found, waiting);
-    visit_side(board, own, q, size, 3, most, found, waiting);
+    let spot = Spot::new(board.size(), q);
+    visit_side(board, own, &spot, 0, most, found, enemies, waiting);
+    visit_side(board, own, &spot, 1, most, found, enemies, waiting);
+    visit_side(board, own, &spot, 2, most, found, enemies, waiting);
+    visit_side(board, own, &spot, 3, most, found, enemies, waiting);
 }
 
 /// The next stone to visit, which waits no longer; None where none waits, or more liberties than `most` were seen.
@@ -156,19 +179,28 @@ fn next_stone(waiting: &mut PointSet, seen: u16, most: u16) -> Option<Point>
     waiting.take_first()
 }
 
-/// Searches as `search` does, and writes what it finds where it stays. Nothing stands there before.
-pub(crate) fn search_into<V: View>(board: &mut V, p: Point, most: u16, found: &mut Found)
+/// Searches as `search` does, and writes what it finds where it stays. Nothing stands there before. Enemies are put
+/// where they are asked for.
+pub(crate) fn search_into<V: View, E: Enemies>(
+    board: &mut V,
+    p: Point,
+    most: u16,
+    found: &mut Searched,
+    enemies: &mut E,
+)
     requires on_board { p < V.rows board.old * V.rows board.old }
     requires stones { found.old.stones ≡ set.empty }
     requires liberties { found.old.liberties ≡ set.empty }
-    requires enemies { found.old.enemies ≡ set.empty }
+    requires enemies { E.met enemies.old ≡ set.empty }
     ensures looks { Looks V.cells V.asks board.old board.new anywhere }
     ensures over { (pos : BoardState) → V.agrees board.new pos
         → Searches (V.rows board.old) (V.cells board.old pos) p most found.new }
+    ensures enemies { (pos : BoardState) → V.agrees board.new pos → IsTrue E.asked
+        → FindsEnemies (V.rows board.old) (V.cells board.old pos) p most found.new (E.met enemies.new) }
     ensures few { set.len found.new.liberties ≤ largest_points }
     ensures stones_on_board { (q : ℕ) → IsTrue (set.contains found.new.stones q)
         → q < V.rows board.old * V.rows board.old }
-    ensures enemies_on_board { (q : ℕ) → IsTrue (set.contains found.new.enemies q)
+    ensures enemies_on_board { (q : ℕ) → IsTrue (set.contains (E.met enemies.new) q)
         → q < V.rows board.old * V.rows board.old }
     ensures near { (pos : BoardState) → V.agrees board.new pos
         → V.asks board.old board.new (neighbourhood_of (V.rows board.old) (V.cells board.old pos) (alone p)) }
@@ -181,16 +213,15 @@ pub(crate) fn search_into<V: View>(board: &mut V, p: Point, most: u16, found: &m
     }
     add_stone(p, &mut found.stones, &mut waiting);
     while let Some(q) = next_stone(&mut waiting, found.liberties.count(), most) {
-        spread(board, own, q, most, found, &mut waiting);
+        spread(board, own, q, most, found, enemies, &mut waiting);
     }
 }
 
-/// The string of p, its liberties and the enemy stones next to it, where it has at most `most` liberties; else some of
-/// each, with more liberties than `most`. It visits each stone once, the least that waits first, and nothing but the
-/// stones and their neighbours, and stops as soon as it has seen more liberties than `most`. All three sets are empty
-/// where p is.
+/// The string of p and its liberties, where it has at most `most` liberties; else some of each, with more liberties
+/// than `most`. It visits each stone once, the least that waits first, and nothing but the stones and their neighbours,
+/// and stops as soon as it has seen more liberties than `most`. Both sets are empty where p is.
 #[inline(always)]
-pub fn search<V: View>(board: &mut V, p: Point, most: u16) -> Found
+pub fn search<V: View>(board: &mut V, p: Point, most: u16) -> Searched
     requires { p < V.rows board.old * V.rows board.old }
     ensures looks { Looks V.cells V.asks board.old board.new anywhere }
     ensures over { (pos : BoardState) → V.agrees board.new pos
@@ -198,13 +229,11 @@ pub fn search<V: View>(board: &mut V, p: Point, most: u16) -> Found
     ensures few { set.len result.liberties ≤ largest_points }
     ensures stones_on_board { (q : ℕ) → IsTrue (set.contains result.stones q)
         → q < V.rows board.old * V.rows board.old }
-    ensures enemies_on_board { (q : ℕ) → IsTrue (set.contains result.enemies q)
-        → q < V.rows board.old * V.rows board.old }
     ensures near { (pos : BoardState) → V.agrees board.new pos
         → V.asks board.old board.new (neighbourhood_of (V.rows board.old) (V.cells board.old pos) (alone p)) }
 {
     let mut found = nothing_found();
-    search_into(board, p, most, &mut found);
+    search_into(board, p, most, &mut found, &mut NotAsked);
     found
 }
 
@@ -225,7 +254,15 @@ pub fn flood<V: View>(board: &mut V, p: Point) -> Found
     ensures near { (pos : BoardState) → V.agrees board.new pos
         → V.asks board.old board.new (neighbourhood_of (V.rows board.old) (V.cells board.old pos) (alone p)) }
 {
-    search(board, p, MAX_POINTS as u16)
+    let mut found = nothing_found();
+    let mut enemies = PointSet::new();
+    search_into(board, p, MAX_POINTS as u16, &mut found, &mut enemies);
+    let Searched { stones, liberties } = found;
+    Found {
+        stones,
+        liberties,
+        enemies,
+    }
 }
 
 /// The stones of the string of p, none where p is empty.
@@ -237,12 +274,8 @@ pub(crate) fn string_of<V: View>(board: &mut V, p: Point) -> PointSet
     ensures near { (pos : BoardState) → V.agrees board.new pos
         → V.asks board.old board.new (neighbourhood_of (V.rows board.old) (V.cells board.old pos) (alone p)) }
 {
-    let Found {
-        stones,
-        liberties: _,
-        enemies: _,
-    } = flood(board, p);
-    stones
+    let found = search(board, p, MAX_POINTS as u16);
+    found.stones
 }
 
 /// The liberties of the string of p, none where p is empty.
@@ -254,10 +287,6 @@ pub fn liberties_of<V: View>(board: &mut V, p: Point) -> PointSet
     ensures near { (pos : BoardState) → V.agrees board.new pos
         → V.asks board.old board.new (neighbourhood_of (V.rows board.old) (V.cells board.old pos) (alone p)) }
 {
-    let Found {
-        stones: _,
-        liberties,
-        enemies: _,
-    } = flood(board, p);
-    liberties
+    let found = search(board, p, MAX_POINTS as u16);
+    found.liberties
 }

@@ -10,6 +10,7 @@ pub mod ban;
 pub mod bits;
 pub mod bytes;
 pub mod capture;
+mod enemies;
 pub mod facts;
 pub mod flood;
 pub mod laws;

@@ -12,9 +12,10 @@ ghost use Rattle.go_base.specs.Surroundings.{is_last_liberty_of_enemy, AddsLast,
 ghost use Rattle.go_base.specs.Views.{Looks, anywhere, alone};
 
 use crate::bits::PointBits;
-use crate::flood::{Found, flood, nothing_found, search_into};
+use crate::enemies::NotAsked;
+use crate::flood::{nothing_found, search_into};
 use crate::points::PointSet;
-use crate::size::Point;
+use crate::size::{MAX_POINTS, Point};
 use crate::view::View;
 
 /// How many liberties a string in atari has.
@@ -48,7 +49,7 @@ fn add_last_liberty<V: View>(board: &mut V, q: Point, seen: &mut PointBits, last
         return;
     }
     let mut found = nothing_found();
-    search_into(board, q, IN_ATARI, &mut found);
+    search_into(board, q, IN_ATARI, &mut found, &mut NotAsked);
     found.stones.mark_in(seen);
     if found.liberties.count() == IN_ATARI {
         last.join(&found.liberties);
@@ -69,11 +70,9 @@ pub fn surroundings_of<V: View>(board: &mut V, p: Point) -> Surroundings
         → set.contains result.last_liberties l ≡ is_last_liberty_of_enemy (V.rows board.old)
         (V.cells board.old pos) p l }
 {
-    let Found {
-        stones: _,
-        liberties,
-        enemies,
-    } = flood(board, p);
+    let mut found = nothing_found();
+    let mut enemies = PointSet::new();
+    search_into(board, p, MAX_POINTS as u16, &mut found, &mut enemies);
     let mut seen = PointBits::new();
     let mut last_liberties = PointSet::new();
     let mut next = 0;
@@ -82,7 +81,7 @@ pub fn surroundings_of<V: View>(board: &mut V, p: Point) -> Surroundings
         next = q + 1;
     }
     Surroundings {
-        liberties,
+        liberties: found.liberties,
         last_liberties,
     }
 }

@@ -12,8 +12,8 @@ ghost use Rattle.go_base.specs.WithoutLiberty.{has_empty_neighbour, stones_witho
 
 use crate::flood::search;
 use crate::points::PointSet;
-use crate::sides::neighbour;
-use crate::size::{Point, Size};
+use crate::sides::Spot;
+use crate::size::Point;
 use crate::view::View;
 use go_rules::Cell;
 
@@ -35,9 +35,9 @@ fn has_empty_side<V: View>(board: &mut V, p: Point) -> bool
     ensures over { (pos : BoardState) → V.agrees board.new pos
         → result ≡ has_empty_neighbour (V.rows board.old) (V.cells board.old pos) p }
 {
-    let size = board.size();
+    let spot = Spot::new(board.size(), p);
     for side in 0..4 {
-        if let Some(r) = neighbour(size, p, side) {
+        if let Some(r) = spot.neighbour(side) {
             if is_empty_at(board, r) {
                 return true;
             }

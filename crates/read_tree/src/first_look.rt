@@ -10,7 +10,7 @@ ghost use Rattle.read_tree.specs.Steps.{TellsLiberties};
 use crate::bound::most_liberties;
 use crate::turn::Turn;
 use go_base::Look;
-use go_base::flood::{Found, search};
+use go_base::flood::search;
 use go_base::points::PointSet;
 use trial_board::overlay::Overlay;
 
@@ -36,11 +36,10 @@ pub fn first_look<L: Look>(look: L, turn: Turn, plies: u8) -> FirstLook<L>
         → AddsIn (L.seen look) (L.seen result.look) (neighbourhood_of pos.size pos.cells (alone turn.target)) }
 {
     let mut board = Overlay::new(look);
-    let Found {
-        stones: _,
-        liberties,
-        enemies: _,
-    } = search(&mut board, turn.target, most_liberties(turn, plies));
+    let found = search(&mut board, turn.target, most_liberties(turn, plies));
     let Overlay { look, known: _ } = board;
-    FirstLook { liberties, look }
+    FirstLook {
+        liberties: found.liberties,
+        look,
+    }
 }

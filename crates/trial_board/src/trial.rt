@@ -191,12 +191,8 @@ impl<L: Look> Trial<L> {
             (neighbourhood_of pos.size (after pos self.old.moves).cells (alone p)) }
         ensures no_ban { AddsNoBan (L.seen self.old.look) (L.seen self.new.look) }
     {
-        let Found {
-            stones: _,
-            liberties,
-            enemies: _,
-        } = search(&mut self.board, p, most);
-        liberties
+        let found = search(&mut self.board, p, most);
+        found.liberties
     }
 
     /// The liberties of the string of p and the last liberties of the enemy strings next to it, both none where p is

@@ -9,10 +9,11 @@ use Rattle.go_rules.proofs.Links.{path_same}
 use Rattle.go_rules.proofs.Cells.{cells_same, cells_differ}
 use Rattle.go_base.proofs.FloodResults.{Begins, Begins-first, Steps, Steps-smaller, waited_before, Finds-within}
 use Rattle.go_base.proofs.FloodResults.{stone_from, on_board_one, on_board_more}
-use Rattle.go_base.proofs.FloodVisits.{none_at}
+use Rattle.go_base.proofs.FloodVisits.{none_at, no_enemies}
+use Rattle.go_base.specs.Floods.{with_enemies}
 use Rattle.go_base.specs.Views.{alone}
 use Rattle.go_base.proofs.BoundedSearches.{FloodsUnder, FloodsUnder-start, FloodsUnder-next, FloodsUnder-all}
-use Rattle.go_base.proofs.BoundedSearches.{Searches-none}
+use Rattle.go_base.proofs.BoundedSearches.{FloodsUnder-enemies, Searches-none}
 use Rattle.go_base.proofs.PointNeighbourhoods.{close_alone, close_around}
 use Rattle.go_base.proofs.LookSequences.{Looks-none, Looks-more, Looks-within}
 use Rattle.go_base.proofs.flood.search_into.Given.{Over}
@@ -25,7 +26,13 @@ returns-then-eq-clause-over g c = λ pos a.
     let none = c.requires in
     Searches-none (g.V.View.rows c.args.board.now) (g.V.View.cells c.args.board.now pos) c.args.p c.args.most _
     (sym (c.at-own.ensures.over pos a) ∙ cells_same _ _ c.eq.result c.eq.ensures c.if-eq.true)
-    none.stones none.liberties none.enemies
+    none.stones none.liberties
+
+-- nor are there enemies next to it
+pub returns-then-eq-clause-enemies : goal.returns-then-eq-clause-enemies
+returns-then-eq-clause-enemies g c = λ pos a wanted few.
+    no_enemies (g.V.View.rows c.args.board.now) (g.V.View.cells c.args.board.now pos) c.args.p _
+    (sym (c.at-own.ensures.over pos a) ∙ cells_same _ _ c.eq.result c.eq.ensures c.if-eq.true) c.requires.enemies
 
 -- an empty point's string has no liberties
 pub returns-then-eq-clause-few : goal.returns-then-eq-clause-few
@@ -62,8 +69,8 @@ loop-q-init g c =
     record {
       looks = Looks-within g.met.V.View.asks_within c.at-own.ensures.looks (λ q h. refl);
       more = Looks-none g.met.V.View.asks_none _ _;
-      over = λ pos a. FloodsUnder-start s (g.V.View.cells c.args.board.now pos) _ c.args.p c.args.most _ _ begun
-          none.liberties none.enemies;
+      over = λ pos a. FloodsUnder-start g.E.Enemies.asked s (g.V.View.cells c.args.board.now pos) _ c.args.p
+          c.args.most _ _ begun none.liberties none.enemies;
       near = λ pos a. g.met.V.View.asks_within _ _ _ _ c.at-own.ensures.looks.asked
           (λ r h. close_alone s (g.V.View.cells c.args.board.now pos) c.args.p r c.requires.on_board h);
       enemies_on_board = λ r h. absurd (none_at _ r none.enemies h);
@@ -108,8 +115,9 @@ own_is g c pos a = c.at-own.ensures.over pos
 
 -- the neighbours of one more stone were found, or enough liberties were seen
 flooded : (g : Over) (c : After-spread g) (pos : BoardState) → g.V.View.agrees c.spread.new.board pos
-    → FloodsUnder (g.V.View.rows c.args.board.now) (g.V.View.cells c.args.board.now pos) c.at-own.result c.args.p
-    c.args.most c.spread.new.found c.spread.new.waiting
+    → FloodsUnder g.E.Enemies.asked (g.V.View.rows c.args.board.now) (g.V.View.cells c.args.board.now pos)
+    c.at-own.result c.args.p c.args.most (with_enemies c.spread.new.found (g.E.Enemies.met c.spread.new.enemies))
+    c.spread.new.waiting
 flooded g c pos a =
     let s = g.V.View.rows c.args.board.now in
     let cells = g.V.View.cells c.args.board.now pos in
@@ -117,8 +125,8 @@ flooded g c pos a =
     let over = i.over pos (agreed g c pos a) in
     let like = path_same s cells c.args.p (over.part c.in-Some.q (steps g c).waited) ∙ sym (own_is g c pos a) in
     let came = rw (g.met.V.View.asks_rows _ _ _ i.looks.asked, i.looks.same pos) at (c.spread.ensures.over pos a) in
-    FloodsUnder-next s cells c.at-own.result c.args.p c.in-Some.q c.args.most c.loop-q.found c.spread.new.found
-    c.loop-q.waiting c.next_stone.new.waiting c.spread.new.waiting c.requires.on_board over (steps g c)
+    FloodsUnder-next g.E.Enemies.asked s cells c.at-own.result c.args.p c.in-Some.q c.args.most _ _ c.loop-q.waiting
+    c.next_stone.new.waiting c.spread.new.waiting c.requires.on_board over (steps g c)
     (omega (arith, c.count.ensures.value, c.in-Some.ensures.some.3)) like (came like)
 
 -- all that was asked for is close to the point's string
@@ -157,7 +165,16 @@ loop-q-preserved g c =
 pub returns-clause-over : goal.returns-clause-over
 returns-clause-over g c = λ pos a.
     let a0 = g.met.V.View.asks_agrees _ _ _ c.loop-q.invariant.more.asked pos a in
-    FloodsUnder-all (g.V.View.rows c.args.board.now) (g.V.View.cells c.args.board.now pos) c.at-own.result c.args.p
-    c.args.most c.loop-q.found c.loop-q.waiting c.requires.on_board (c.at-own.ensures.over pos a0)
-    (cells_differ _ _ c.eq.result c.eq.ensures c.if-eq.false) (c.loop-q.invariant.over pos a)
-    (λ few. c.in_default.ensures.none (omega (arith, few, c.count.ensures.value)))
+    FloodsUnder-all g.E.Enemies.asked (g.V.View.rows c.args.board.now) (g.V.View.cells c.args.board.now pos)
+    c.at-own.result c.args.p c.args.most c.loop-q.found (g.E.Enemies.met c.loop-q.enemies) c.loop-q.waiting
+    c.requires.on_board (c.at-own.ensures.over pos a0) (cells_differ _ _ c.eq.result c.eq.ensures c.if-eq.false)
+    (c.loop-q.invariant.over pos a) (λ few. c.in_default.ensures.none (omega (arith, few, c.count.ensures.value)))
+
+-- and the enemies that were asked for have come
+pub returns-clause-enemies : goal.returns-clause-enemies
+returns-clause-enemies g c = λ pos a.
+    let a0 = g.met.V.View.asks_agrees _ _ _ c.loop-q.invariant.more.asked pos a in
+    FloodsUnder-enemies g.E.Enemies.asked (g.V.View.rows c.args.board.now) (g.V.View.cells c.args.board.now pos)
+    c.at-own.result c.args.p c.args.most c.loop-q.found (g.E.Enemies.met c.loop-q.enemies) c.loop-q.waiting
+    c.requires.on_board (c.at-own.ensures.over pos a0) (cells_differ _ _ c.eq.result c.eq.ensures c.if-eq.false)
+    (c.loop-q.invariant.over pos a) (λ few. c.in_default.ensures.none (omega (arith, few, c.count.ensures.value)))

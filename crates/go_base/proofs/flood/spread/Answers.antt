@@ -20,11 +20,13 @@ returns-clause-over g c = λ pos a like.
     let same1 = above.looks.same pos in
     let same2 = below.looks.same pos in
     let same3 = left.looks.same pos in
-    let second = rw (rows1, same1) at (below.over pos a2) in
-    let third = rw (rows2, rows1, same2, same1) at (left.over pos a3) in
-    let fourth = rw (rows3, rows2, rows1, same3, same2, same1) at (right.over pos a) in
-    fourth like _ (third like _ (second like _ (above.over pos a1 like _
-    (SpreadsUnder-none s cells c.args.own c.args.q c.args.most c.args.found.now))))
+    let point = c.new-spot.ensures.point in
+    let first = rw point at (above.over pos a1) in
+    let second = rw (point, rows1, same1) at (below.over pos a2) in
+    let third = rw (point, rows2, rows1, same2, same1) at (left.over pos a3) in
+    let fourth = rw (point, rows3, rows2, rows1, same3, same2, same1) at (right.over pos a) in
+    fourth like _ (third like _ (second like _ (first like _
+    (SpreadsUnder-none g.E.Enemies.asked s cells c.args.own c.args.q c.args.most _))))
 
 -- what came at one side after another came
 pub returns-clause-finds : goal.returns-clause-finds

@@ -1,8 +1,5 @@
-use Rattle.std.proofs.Common.{inl, inr, ap, sym, ◌∙◌}
-use Rattle.std.proofs.lemmas.Bool.{or_cases, eqb-true}
-use Rattle.std.specs.FinSet as set
-use Rattle.go_rules.proofs.Sets.{contains-insert_nat}
 use Rattle.go_base.proofs.FloodResults.{Finds-one}
+use Rattle.go_base.proofs.FloodVisits.{met_alone}
 use Rattle.go_base.proofs.flood.visit.Goals as goal
 
 -- the visited point came, and waits
@@ -14,9 +11,5 @@ returns-then-eq-clause-finds g c =
 
 -- only the visited point may have come
 pub returns-else-eq-2-clause-enemies_alone : goal.returns-else-eq-2-clause-enemies_alone
-returns-else-eq-2-clause-enemies_alone g c = λ q h.
-    elim (or_cases _ _ (sym (ap (λ t. set.contains t q) c.add-else-eq-2.ensures
-    ∙ contains-insert_nat c.args.found.now.enemies c.args.r q) ∙ h)) [
-      | inl here ↦ inr (eqb-true q c.args.r here)
-      | inr before ↦ inl before
-    ]
+returns-else-eq-2-clause-enemies_alone g c =
+    met_alone g.E.Enemies.asked c.args.r _ _ c.meet.ensures

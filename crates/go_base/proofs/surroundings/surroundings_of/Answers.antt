@@ -1,4 +1,4 @@
-use Rattle.std.proofs.Common.{◌≡◌, ◌+◌, ◌*◌, arith}
+use Rattle.std.proofs.Common.{◌≡◌, ◌+◌, ◌*◌, arith, refl}
 use Rattle.go_rules.specs.Neighbourhood.{neighbourhood_of}
 use Rattle.go_rules.specs.Position.{BoardState}
 use Rattle.go_base.specs.Bits.{marked}
@@ -16,12 +16,12 @@ use Rattle.go_base.proofs.surroundings.surroundings_of.Goals.{After-add_last_lib
 -- no string has come
 pub loop-q-init : goal.loop-q-init
 loop-q-init g c = record {
-  looks = c.flood-liberties.ensures.looks;
+  looks = c.search_into.ensures.looks;
   more = Looks-none g.met.V.View.asks_none _ _;
   near = λ pos a.
       let s = g.V.View.rows c.args.board.now in
       let cells = g.V.View.cells c.args.board.now pos in
-      g.met.V.View.asks_within _ _ _ _ (c.flood-liberties.ensures.near pos a)
+      g.met.V.View.asks_within _ _ _ _ (c.search_into.ensures.near pos a)
       (λ q h. close_again s cells (alone c.args.p) q h);
   over = λ pos a. Lasts-none _ _ _ c.new-last_liberties.result c.new-last_liberties.ensures;
   knows = λ pos a. KnowsLast-none _ _ (marked c.new-seen.result) c.new-last_liberties.result
@@ -32,7 +32,7 @@ loop-q-init g c = record {
 pub add_last_liberty-requires : goal.add_last_liberty-requires
 add_last_liberty-requires g c = record {
   on_board = rw (g.met.V.View.asks_rows _ _ _ c.loop-q.invariant.looks.asked)
-      (c.flood-liberties.ensures.enemies_on_board c.in-Some.q c.in-Some.ensures.some.2);
+      (c.search_into.ensures.enemies_on_board c.in-Some.q c.in-Some.ensures.some.2);
   small = c.in-Some.ensures.some.1;
 }
 
@@ -43,10 +43,11 @@ agreed g c pos a = g.met.V.View.asks_agrees _ _ _ c.add_last_liberty.ensures.loo
 
 -- on it the enemies beside the string are those that were found
 foes : (g : Over) (c : After-add_last_liberty g) (pos : BoardState) → g.V.View.agrees c.add_last_liberty.new.board pos
-    → c.flood-liberties.result.enemies
+    → c.search_into.new.enemies
     ≡ enemy_points (g.V.View.rows c.args.board.now) (g.V.View.cells c.args.board.now pos) c.args.p
-foes g c pos a = c.flood-liberties.ensures.enemies pos
-    (g.met.V.View.asks_agrees _ _ _ c.loop-q.invariant.more.asked pos (agreed g c pos a))
+foes g c pos a = c.search_into.ensures.enemies pos
+    (g.met.V.View.asks_agrees _ _ _ c.loop-q.invariant.more.asked pos (agreed g c pos a)) refl
+    c.search_into.ensures.few
 
 -- all that was asked for is close to the string, or close to that
 close : (g : Over) (c : After-add_last_liberty g) (pos : BoardState)
@@ -60,7 +61,7 @@ close g c pos a =
     let i = c.loop-q.invariant in
     let rows = g.met.V.View.asks_rows _ _ _ i.looks.asked in
     let its = rw (rows, i.looks.same pos) at (c.add_last_liberty.ensures.near pos a) in
-    let beside = enemy_close s cells c.args.p c.in-Some.q c.flood-liberties.result.enemies c.requires (foes g c pos a)
+    let beside = enemy_close s cells c.args.p c.in-Some.q c.search_into.new.enemies c.requires (foes g c pos a)
     c.in-Some.ensures.some.2 in
     g.met.V.View.asks_more _ _ _ _ (i.near pos (agreed g c pos a)) (g.met.V.View.asks_within _ _ _ _ its
     (λ r h. close_point s cells (neighbourhood_of s cells (alone c.args.p)) c.in-Some.q beside r h))
@@ -75,8 +76,8 @@ lasts g c pos a =
     let i = c.loop-q.invariant in
     let q = c.in-Some.q in
     let first = c.in-Some.ensures.some in
-    let on = c.flood-liberties.ensures.enemies_on_board q first.2 in
-    let enemies = c.flood-liberties.result.enemies in
+    let on = c.search_into.ensures.enemies_on_board q first.2 in
+    let enemies = c.search_into.new.enemies in
     let its = enemy_beside s cells c.args.p q enemies (foes g c pos a) first.2 in
     let rows = g.met.V.View.asks_rows _ _ _ i.looks.asked in
     let adds = rw (rows, i.looks.same pos) at (c.add_last_liberty.ensures.adds pos a) in
@@ -109,6 +110,13 @@ returns-clause-last_liberties g c = λ pos a.
     let a0 = g.met.V.View.asks_agrees _ _ _ c.loop-q.invariant.more.asked pos a in
     Lasts-all s cells c.args.p (s * s) c.loop-q.last_liberties
     (Lasts-jump s cells c.args.p c.loop-q.next (s * s) c.loop-q.last_liberties (c.loop-q.invariant.over pos a)
-    (λ k l m beside enemy. no_enemy s cells c.args.p k c.flood-liberties.result.enemies
-    (c.flood-liberties.ensures.enemies pos a0) m (c.in_default.ensures.none k l) beside enemy))
+    (λ k l m beside enemy. no_enemy s cells c.args.p k c.search_into.new.enemies
+    (c.search_into.ensures.enemies pos a0 refl c.search_into.ensures.few) m
+    (c.in_default.ensures.none k l) beside enemy))
     (omega arith)
+
+-- no more liberties can be than were asked for, so all were found
+pub returns-clause-liberties : goal.returns-clause-liberties
+returns-clause-liberties g c = λ pos a.
+    (c.search_into.ensures.over pos
+    (g.met.V.View.asks_agrees _ _ _ c.loop-q.invariant.more.asked pos a)).liberties c.search_into.ensures.few

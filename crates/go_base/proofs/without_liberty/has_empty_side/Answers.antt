@@ -1,4 +1,4 @@
-use Rattle.std.proofs.Common.{◌≡◌, ◌*◌, ◌<◌, ap, sym, subst, ◌∙◌, arith, Some}
+use Rattle.std.proofs.Common.{◌≡◌, ◌*◌, ◌<◌, sym, subst, refl, ◌∙◌, arith, Some}
 use Rattle.go_base.specs.Sides.{neighbour_at}
 use Rattle.go_base.proofs.FloodResults.{at_side}
 use Rattle.go_base.proofs.LookSequences.{Looks-none, Looks-more, Looks-within}
@@ -14,14 +14,14 @@ loop-side-init g c = record { looks = Looks-none g.met.V.View.asks_none _ _; ove
 -- a side of the point is on the board
 pub is_empty_at-requires : goal.is_empty_at-requires
 is_empty_at-requires g c =
-    subst (λ n. c.in-Some.r < n * n) (c.size-size.ensures
+    subst (λ n. c.in-Some.r < n * n) (c.new-spot.ensures.size ∙ c.size.ensures
     ∙ sym (g.met.V.View.asks_rows _ _ _ c.loop-side.invariant.looks.asked)) c.in-Some.ensures.near.0
 
 -- what the side gives
 side_is : (g : Over) (c : Then-is_empty_at g)
     → neighbour_at (g.V.View.rows c.args.board.now) c.args.p c.loop-side.side ≡ Some c.in-Some.r
-side_is g c = ap (λ n. neighbour_at n c.args.p c.loop-side.side) (sym c.size-size.ensures)
-    ∙ sym c.neighbour.ensures.value ∙ c.in-Some.is
+side_is g c = sym (c.neighbour.ensures.value
+    ∙ rw (c.new-spot.ensures.point, c.new-spot.ensures.size, c.size.ensures) refl) ∙ c.in-Some.is
 
 -- an empty neighbour ends the search
 pub returns-then-is_empty_at-clause-looks : goal.returns-then-is_empty_at-clause-looks
@@ -46,7 +46,8 @@ loop-side-preserved g c =
     let p = c.args.p in
     let side = c.loop-side.side in
     let i = c.loop-side.invariant in
-    let here = ap (λ n. neighbour_at n p side) (sym c.size-size.ensures) ∙ sym c.neighbour.ensures.value in
+    let here : neighbour_at s p side ≡ c.neighbour.result = sym (c.neighbour.ensures.value
+    ∙ rw (c.new-spot.ensures.point, c.new-spot.ensures.size, c.size.ensures) refl) in
     elim c.match-neighbour.branch [
       | in-Some+else-is_empty_at w ↦
           let one = Looks-within g.met.V.View.asks_within w.is_empty_at.ensures.looks
