@@ -14,5 +14,6 @@ pub returns-in-Ok-clause-ok : goal.returns-in-Ok-clause-ok
 returns-in-Ok-clause-ok c =
     Adds-inserted c.args.limit c.args.pairs.now.keys c.insert_full.new.self.keys c.args.pair c.in-Ok.ensures.stored.0
     c.in-Ok.number
-    c.in-Ok.ensures.keys c.in-Ok.ensures.stored.1 c.in-Ok.ensures.stored.2 (omega (arith, c.in-Ok.ensures.within))
+    (rw c.new.ensures at c.in-Ok.ensures.keys) c.in-Ok.ensures.stored.1
+    (rw c.new.ensures at c.in-Ok.ensures.stored.2) (omega (arith, c.in-Ok.ensures.within))
     (omega (arith, c.len.ensures.len))
