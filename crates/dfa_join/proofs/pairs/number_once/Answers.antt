@@ -4,5 +4,5 @@ use Rattle.dfa_join.proofs.pairs.number_once.Goals as goal
 -- a pair that is one of these was known
 pub returns-in-Some-clause-ok : goal.returns-in-Some-clause-ok
 returns-in-Some-clause-ok c =
-    Adds-known c.args.limit c.args.pairs.now.keys c.args.pair c.in-Some.number
-    (c.in-Some.ensures c.args.pairs.now.keys c.requires.met)
+    Adds-known c.args.limit c.args.pairs.now c.args.pair c.in-Some.number
+    (c.in-Some.ensures c.args.pairs.now c.requires.met)

@@ -25,7 +25,7 @@ row_of c = record {
 }
 
 -- it is that of the pair
-is_row : (c : In-Ok) → IsRowOf c.args.a.now c.args.b.now c.expand.new.pairs.keys c.args.pair (row_of c)
+is_row : (c : In-Ok) → IsRowOf c.args.a.now c.args.b.now c.expand.new.pairs c.args.pair (row_of c)
 is_row c = record {
   leads = c.in_ok-targets.ensures.leads;
   numbers = λ i. c.accepts.ensures i ++ c.accepts-2.ensures i;
@@ -37,10 +37,10 @@ pub returns-in-Ok-clause-made : goal.returns-in-Ok-clause-made
 returns-in-Ok-clause-made c =
     let a = c.args.a.now in
     let b = c.args.b.now in
-    subst (AreRowsOf a b c.args.limit c.expand.new.pairs.keys) (sym c.in-Ok.ensures.added)
-    (AreRowsOf-push a b c.args.limit c.args.pairs.now.keys c.expand.new.pairs.keys c.args.rows.now (row_of c)
+    subst (AreRowsOf a b c.args.limit c.expand.new.pairs) (sym c.in-Ok.ensures.added)
+    (AreRowsOf-push a b c.args.limit c.args.pairs.now c.expand.new.pairs c.args.rows.now (row_of c)
     c.requires.made c.requires.next c.in_ok-targets.ensures.keeps c.in_ok-targets.ensures.work
-    (subst (λ q. IsRowOf a b c.expand.new.pairs.keys q (row_of c)) (sym c.requires.pair) (is_row c))
+    (subst (λ q. IsRowOf a b c.expand.new.pairs q (row_of c)) (sym c.requires.pair) (is_row c))
     c.in_ok-targets.ensures.order)
 
 -- there is one row more
