@@ -1,39 +1,36 @@
-use Rattle.std.proofs.Common.{ℕ, subst, sym}
-use Rattle.dfa_join.specs.Pairs.{Pair, IsNumberOf}
-use Rattle.dfa_join.proofs.PairLists.{Adds-known, Keeps-added, AreNumbersOf-kept}
+use Rattle.std.proofs.Common.{◌≡◌, ◌++◌, ◌∷◌, [], length, Some, ap, sym, subst, arith, ◌∙◌}
+use Rattle.dfa_join.specs.Pairs.{Adds}
+use Rattle.dfa_join.specs.Index.{Tells, told_by}
+use Rattle.dfa_join.proofs.PairLists.{Adds-push, Tells-push}
+use Rattle.dfa_join.proofs.pairs.Pairs.number.Goals.{After-push_reserved}
 use Rattle.dfa_join.proofs.pairs.Pairs.number.Goals as goal
 
--- the pair has the dead row of the second automaton, and its number is at hand
-pub returns-in-Some-clause-ok : goal.returns-in-Some-clause-ok
-returns-in-Some-clause-ok c =
-    let keys = c.self.inside.met.keys in
-    let told = c.in-Some.ensures (λ row. (row, c.self.inside.left.dead)) keys c.self.invariant.left in
-    rw (← c.self.view_is) (Adds-known c.args.limit keys c.args.pair c.in-Some.number
-    (subst (λ dead. IsNumberOf keys (c.args.pair.0, dead) c.in-Some.number) (sym told.0) told.1))
+-- the pair came behind the others
+list_is : (c : After-push_reserved)
+    → c.push_reserved.new.self.items ≡ c.self.inside.list.items ++ c.args.pair ∷ []
+list_is c = c.push_reserved.ensures.items ∙ ap (λ pairs. pairs ++ c.args.pair ∷ []) c.reserve.ensures.items
 
--- the pair has the dead row of the first
-pub returns-in-Some-number-clause-ok : goal.returns-in-Some-number-clause-ok
-returns-in-Some-number-clause-ok c =
-    let keys = c.self.inside.met.keys in
-    let told = c.in-Some-number.ensures (λ row. (c.self.inside.right.dead, row)) keys c.self.invariant.right in
-    rw (← c.self.view_is) (Adds-known c.args.limit keys c.args.pair c.in-Some-number.number
-    (subst (λ dead. IsNumberOf keys (dead, c.args.pair.1) c.in-Some-number.number) (sym told.0) told.1))
+-- it was not there, so its number is the count of those before
+adds : (c : After-push_reserved) → Adds c.args.limit c.self.inside.list.items
+    (c.self.inside.list.items ++ c.args.pair ∷ []) c.args.pair (length c.self.inside.list.items)
+adds c =
+    let list = c.self.inside.list.items in
+    let told = subst (Tells list c.args.pair) (sym c.number.ensures ∙ c.in_default.is) (c.self.invariant c.args.pair) in
+    Adds-push c.args.limit list c.args.pair told.1 (omega (arith, c.len-number.ensures, c.if-number-limit.false))
 
--- the numbers at hand stay, and the one that was looked up is at hand too
+-- what the index tells is so of the longer list
 pub invariant_of-self-2 : goal.invariant_of-self-2
-invariant_of-self-2 c =
-    let old = c.self.inside.met.keys in
-    let new = c.number-3.new.pairs.keys in
-    let number = c.in_ok-number.number in
-    let adds = c.in_ok-number.ensures.ok in
-    let keeps = Keeps-added c.args.limit old new c.args.pair number adds in
-    let left : ℕ → Pair = λ row. (row, c.self.inside.left.dead) in
-    let right : ℕ → Pair = λ row. (c.self.inside.right.dead, row) in
-    record {
-      left = rw c.keep.ensures.dead (c.keep.ensures.numbers left new
-          (AreNumbersOf-kept left old new _ c.self.invariant.left keeps)
-          (λ e. subst (λ dead. IsNumberOf new (c.args.pair.0, dead) number) e adds.number));
-      right = rw c.keep-2.ensures.dead (c.keep-2.ensures.numbers right new
-          (AreNumbersOf-kept right old new _ c.self.invariant.right keeps)
-          (λ e. subst (λ dead. IsNumberOf new (dead, c.args.pair.1) number) e adds.number));
-    }
+invariant_of-self-2 c = λ q.
+    let d = (goal.at.invariant_of-self-2 c).After-push_reserved in
+    let list = c.self.inside.list.items in
+    let here : told_by c.put.new.self c.args.pair ≡ Some (length list) =
+    c.in_ok-put.ensures.here ∙ ap (λ n. Some n) (omega (arith, c.len-number.ensures)) in
+    rw (list_is d) (Tells-push list c.args.pair (told_by c.self.inside.index) (told_by c.put.new.self) c.self.invariant
+    (adds d).number here c.in_ok-put.ensures.elsewhere q)
+
+-- the pair has its number
+pub returns-clause-ok : goal.returns-clause-ok
+returns-clause-ok c =
+    let d = (goal.at.returns-clause-ok c).After-push_reserved in
+    let count : c.len-number.result ≡ length c.self.inside.list.items = omega (arith, c.len-number.ensures) in
+    rw (← c.self.view_is, list_is d, count) (adds d)

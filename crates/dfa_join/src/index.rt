@@ -1,0 +1,140 @@
+//! The numbers of pairs of rows, by the pairs.
+ghost use Rattle.std.specs.Prelude.{◌≡◌, ◌≢◌, ℕ, ◌<◌, length, slice_set, Some, None, IfOk, IfErr, OnOk, OnErr};
+ghost use Rattle.dfa_join.specs.Pairs.{Pair};
+ghost use Rattle.dfa_join.specs.Index.{no_number, has_place, number_at, told_by};
+
+use crate::error::JoinError;
+use crate::row_pair::RowPair;
+use dfa_core::{Automaton, RowKind};
+use indexmap::IndexMap;
+use std::alloc::{AllocError, Global};
+
+/// What stands at the place of a pair without a number.
+const NO_NUMBER: u32 = u32::MAX;
+
+/// The first row of an automaton after which nothing can be accepted; the count of its rows, where there is none.
+fn dead_row(automaton: &Automaton) -> u32 {
+    for row in 0..automaton.rows() {
+        if automaton.kind(row) == RowKind::Dead {
+            return row;
+        }
+    }
+    automaton.rows()
+}
+
+/// The numbers of the pairs of one automaton's rows with one row of the other.
+#[derive(Drop)]
+pub struct Side {
+    /// The one row of the other.
+    dead: u32,
+    /// By the rows, the numbers, and NO_NUMBER for a pair without one.
+    numbers: Vec<u32>,
+}
+
+impl Side {
+    /// No pair has a number. Takes memory.
+    fn new(alloc: Global, rows: u32, dead: u32) -> Result<Side, AllocError>
+        ensures { IfOk result (λ side. (row : ℕ) → number_at side.numbers.items row ≡ None) }
+    {
+        let mut numbers = Vec::new(alloc);
+        numbers.resize(rows as usize, NO_NUMBER)?;
+        Ok(Side { dead, numbers })
+    }
+
+    /// Whether it has a place for the pair of these two rows.
+    #[inline(always)]
+    fn has_place(&self, row: u32, other: u32) -> bool
+        ensures { result ≡ has_place self.now row other }
+    {
+        other == self.dead && (row as usize) < self.numbers.len()
+    }
+
+    /// The number of a row's pair, where it has one.
+    #[inline(always)]
+    fn number(&self, row: u32) -> Option<u32>
+        requires { row < length self.now.numbers.items }
+        ensures { result ≡ number_at self.now.numbers.items row }
+    {
+        let number = self.numbers[row as usize];
+        if number == NO_NUMBER {
+            return None;
+        }
+        Some(number)
+    }
+
+    /// Gives a row's pair a number.
+    #[inline(always)]
+    fn put(&mut self, row: u32, number: u32)
+        requires { row < length self.old.numbers.items }
+        ensures dead { self.new.dead ≡ self.old.dead }
+        ensures numbers { self.new.numbers.items ≡ slice_set self.old.numbers.items row number }
+    {
+        self.numbers[row as usize] = number;
+    }
+}
+
+/// The numbers of pairs of rows. Many pairs have a row after which nothing can be accepted: their numbers stand in a
+/// list by the other row, and only those of the others are looked up.
+#[derive(Drop)]
+pub struct Index {
+    /// The numbers of rows of the first automaton with the dead row of the second.
+    left: Side,
+    /// The numbers of rows of the second automaton with the dead row of the first.
+    right: Side,
+    /// The numbers of all others.
+    others: IndexMap<RowPair, u32>,
+}
+
+impl Index {
+    /// No pair of rows of these two automata has a number. Takes memory.
+    pub fn new(alloc: Global, a: &Automaton, b: &Automaton) -> Result<Index, JoinError>
+        ensures none { IfOk result (λ index. (pair : Pair) → told_by index pair ≡ None) }
+        ensures no_limit { IfErr result (λ e. e ≡ JoinError.NoMemory) }
+    {
+        let room = a.rows().min(b.rows());
+        Ok(Index {
+            left: Side::new(alloc, a.rows(), dead_row(b))?,
+            right: Side::new(alloc, b.rows(), dead_row(a))?,
+            others: IndexMap::with_capacity(alloc, room as usize)?,
+        })
+    }
+
+    /// The number of a pair, None exactly where it has none.
+    #[inline(always)]
+    pub fn number(&self, pair: (u32, u32)) -> Option<u32>
+        ensures { result ≡ told_by self.now pair }
+    {
+        if self.left.has_place(pair.0, pair.1) {
+            return self.left.number(pair.0);
+        }
+        if self.right.has_place(pair.1, pair.0) {
+            return self.right.number(pair.1);
+        }
+        match self.others.get(&RowPair::new(pair)) {
+            Some(number) => Some(*number),
+            None => None,
+        }
+    }
+
+    /// Gives a pair a number; where there is no memory, nothing changes.
+    pub fn put(&mut self, pair: (u32, u32), number: u32) -> Result<(), JoinError>
+        requires { number ≢ no_number }
+        ensures here { OnOk result (told_by self.new pair ≡ Some number) }
+        ensures elsewhere { OnOk result ((q : Pair) → q ≢ pair → told_by self.new q ≡ told_by self.old q) }
+        ensures unchanged { OnErr result ((q : Pair) → told_by self.new q ≡ told_by self.old q) }
+        ensures no_limit { IfErr result (λ e. e ≡ JoinError.NoMemory) }
+    {
+        if self.left.has_place(pair.0, pair.1) {
+            self.left.put(pair.0, number);
+            return Ok(());
+        }
+        if self.right.has_place(pair.1, pair.0) {
+            self.right.put(pair.1, number);
+            return Ok(());
+        }
+        match self.others.insert(RowPair::new(pair), number) {
+            Ok(_) => Ok(()),
+            Err(_) => Err(JoinError::NoMemory),
+        }
+    }
+}
