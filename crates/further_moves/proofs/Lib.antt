@@ -1,6 +1,4 @@
-pub mod GatherLemmas
 pub mod AddLemmas
 pub mod SideLemmas
-pub mod StringLemmas
-pub mod SetLemmas
+pub mod LastLemmas
 pub mod NearLemmas

@@ -17,8 +17,8 @@ use Rattle.further_rules.specs.FurtherAreas.{first_area, second_area, third_area
 use Rattle.further_rules.proofs.FurtherLaws.{ally_gives, linked_gives, enemy_gives}
 use Rattle.further_rules.proofs.FurtherPlaces.{liberty_first, ally_second, linked_second, side_close}
 use Rattle.further_rules.proofs.FurtherPlaces.{enemy_close as enemies_close, second_third, third_fourth}
-use Rattle.further_moves.specs.Strings.{is_near_friend}
-use Rattle.further_moves.proofs.StringLemmas.{has_liberty}
+use Rattle.further_rules.specs.Strings.{is_near_friend}
+use Rattle.further_rules.proofs.StringLemmas.{has_liberty}
 
 -- Where the search for the further candidates of a target looks.
 module _ (s : ℕ) (cells : List Cell) (target : ℕ) (on : target < s * s) where

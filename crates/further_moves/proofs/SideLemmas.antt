@@ -21,7 +21,7 @@ use Rattle.go_base.proofs.SidesOfPoints.{neighbour_at-all, neighbour_at-near}
 use Rattle.trial_board.specs.Trials.{Trying}
 use Rattle.trial_board.proofs.WalkLemmas.{Walked, Walked-same, Walked-next}
 use Rattle.further_rules.proofs.FurtherPlaces.{side_close}
-use Rattle.further_moves.specs.Strings.{holds_next}
+use Rattle.further_rules.specs.Strings.{holds_next}
 
 -- l is on the board, and q is its neighbour at this side
 pub record IsSide (s l side q : ℕ) : Type 0 where

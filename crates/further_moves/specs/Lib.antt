@@ -1,3 +1,2 @@
-pub mod Strings
 pub use Rattle.further_rules.specs.Further
 pub use Rattle.further_rules.specs.FurtherAreas

@@ -9,7 +9,7 @@ ghost use Rattle.go_base.specs.Facts.{Agrees, AddsIn};
 ghost use Rattle.trial_board.specs.Trials.{Stays, after};
 ghost use Rattle.further_rules.specs.Further.{is_net, is_beside, is_ally, is_join, is_cutter};
 ghost use Rattle.further_rules.specs.FurtherAreas.{second_area, third_area};
-ghost use Rattle.further_moves.specs.Strings.{is_near_friend};
+ghost use Rattle.further_rules.specs.Strings.{is_near_friend};
 
 use crate::sides::sides_of;
 use crate::strings::{Around, around_strings};

@@ -10,7 +10,7 @@ ghost use Rattle.go_rules.specs.Neighbourhood.{neighbourhood_of};
 ghost use Rattle.go_base.specs.Facts.{Agrees, AddsIn};
 ghost use Rattle.go_base.specs.Views.{alone, neighbours_of};
 ghost use Rattle.trial_board.specs.Trials.{Stays, after};
-ghost use Rattle.further_moves.specs.Strings.{holds_next};
+ghost use Rattle.further_rules.specs.Strings.{holds_next};
 
 use go_base::points::PointSet;
 use go_base::sides::neighbour;

@@ -9,7 +9,7 @@ ghost use Rattle.go_rules.specs.Neighbourhood.{neighbourhood_of};
 ghost use Rattle.go_base.specs.Facts.{Agrees, AddsIn};
 ghost use Rattle.go_base.specs.Views.{alone};
 ghost use Rattle.trial_board.specs.Trials.{Stays, after};
-ghost use Rattle.further_moves.specs.Strings.{is_few_liberty, is_few_enemy};
+ghost use Rattle.further_rules.specs.Strings.{is_few_liberty, is_few_enemy};
 
 use go_base::Look;
 use go_base::flood::Found;

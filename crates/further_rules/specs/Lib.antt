@@ -1,3 +1,4 @@
 pub mod Further
 pub mod FurtherInWords
 pub mod FurtherAreas
+pub mod Strings

@@ -5,7 +5,7 @@ use Rattle.go_base.specs.Facts.{agrees_before, AddsIn-trans, AddsIn-mono}
 use Rattle.trial_board.proofs.WalkLemmas.{on_agreed}
 use Rattle.trial_board.specs.Trials.{after}
 use Rattle.further_rules.proofs.FurtherPlaces.{second_third}
-use Rattle.further_moves.proofs.SetLemmas.{attacker_joined}
+use Rattle.further_rules.proofs.SetLemmas.{attacker_joined}
 use Rattle.further_moves.proofs.NearLemmas.{liberty_on, around_liberties, around_allies}
 use Rattle.further_moves.proofs.further.for_attacker.Goals as goal
 

@@ -6,7 +6,7 @@ use Rattle.go_base.specs.Facts.{agrees_before, AddsIn-trans, AddsIn-mono}
 use Rattle.trial_board.proofs.WalkLemmas.{on_agreed}
 use Rattle.trial_board.specs.Trials.{after}
 use Rattle.further_rules.proofs.FurtherPlaces.{third_fourth}
-use Rattle.further_moves.proofs.SetLemmas.{defender_joined}
+use Rattle.further_rules.proofs.SetLemmas.{defender_joined}
 use Rattle.further_moves.proofs.NearLemmas.{around_cutters, second_fourth}
 use Rattle.further_moves.proofs.further.for_defender.Goals as goal
 

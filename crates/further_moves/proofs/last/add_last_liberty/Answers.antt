@@ -1,6 +1,6 @@
 -- The liberty of a string in atari came, and nothing of another.
 use Rattle.trial_board.specs.Trials.{after}
-use Rattle.further_moves.proofs.StringLemmas.{one_liberty, other_liberties}
+use Rattle.further_moves.proofs.LastLemmas.{one_liberty, other_liberties}
 use Rattle.further_moves.proofs.last.add_last_liberty.Goals as goal
 
 -- the string has one liberty, which came

@@ -5,7 +5,7 @@ use Rattle.go_base.specs.Facts.{agrees_before, AddsIn-trans, AddsIn-mono}
 use Rattle.trial_board.proofs.WalkLemmas.{on_agreed}
 use Rattle.trial_board.specs.Trials.{after}
 use Rattle.further_rules.proofs.FurtherPlaces.{second_third}
-use Rattle.further_moves.proofs.SetLemmas.{join_is, cutter_is}
+use Rattle.further_rules.proofs.SetLemmas.{join_is, cutter_is}
 use Rattle.further_moves.proofs.NearLemmas.{around_friends}
 use Rattle.further_moves.proofs.sets.linked_strings.Goals as goal
 

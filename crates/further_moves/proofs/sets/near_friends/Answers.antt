@@ -4,7 +4,7 @@ use Rattle.go_rules.specs.Position.{BoardState}
 use Rattle.go_base.specs.Facts.{agrees_before, AddsIn-trans, AddsIn-mono}
 use Rattle.trial_board.proofs.WalkLemmas.{on_agreed}
 use Rattle.trial_board.specs.Trials.{after}
-use Rattle.further_moves.proofs.SetLemmas.{friend_is}
+use Rattle.further_rules.proofs.SetLemmas.{friend_is}
 use Rattle.further_moves.proofs.NearLemmas.{liberty_on, self_second, first_second, around_liberties}
 use Rattle.further_moves.proofs.sets.near_friends.Goals as goal
 

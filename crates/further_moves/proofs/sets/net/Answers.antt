@@ -1,7 +1,7 @@
 -- The empty neighbours of the liberties are Net where these are three, and else Net is empty.
 use Rattle.std.proofs.Common.{◌∙◌}
 use Rattle.trial_board.specs.Trials.{after}
-use Rattle.further_moves.proofs.SetLemmas.{net_is, no_net}
+use Rattle.further_rules.proofs.SetLemmas.{net_is, no_net}
 use Rattle.further_moves.proofs.sets.net.Goals as goal
 
 -- there are three

@@ -4,8 +4,8 @@ use Rattle.std.proofs.lemmas.Bool.{and_parts, ltb-true}
 use Rattle.go_base.specs.Facts.{agrees_before, AddsIn-trans, AddsIn-mono}
 use Rattle.trial_board.proofs.WalkLemmas.{on_agreed}
 use Rattle.trial_board.specs.Trials.{after}
-use Rattle.further_moves.proofs.StringLemmas.{has_enemy}
-use Rattle.further_moves.proofs.SetLemmas.{beside_is, ally_is}
+use Rattle.further_rules.proofs.StringLemmas.{has_enemy}
+use Rattle.further_rules.proofs.SetLemmas.{beside_is, ally_is}
 use Rattle.further_moves.proofs.NearLemmas.{first_second, around_enemies}
 use Rattle.further_moves.proofs.sets.weak_enemies.Goals as goal
 

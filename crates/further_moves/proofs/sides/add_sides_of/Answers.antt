@@ -7,7 +7,7 @@ use Rattle.go_base.specs.Facts.{agrees_before}
 use Rattle.go_base.specs.Views.{neighbours_of}
 use Rattle.trial_board.specs.Trials.{after}
 use Rattle.trial_board.proofs.WalkLemmas.{Walked-none, Walked-next, on_agreed}
-use Rattle.further_moves.specs.Strings.{holds_next}
+use Rattle.further_rules.specs.Strings.{holds_next}
 use Rattle.further_moves.proofs.AddLemmas.{AddsBelow-none, AddsBelow-next, AddsBelow-all}
 use Rattle.further_moves.proofs.sides.add_sides_of.Goals as goal
 

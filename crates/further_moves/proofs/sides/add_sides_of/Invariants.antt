@@ -4,7 +4,7 @@ use Rattle.go_rules.specs.Below.{any_below}
 use Rattle.go_rules.specs.Board.{largest_points}
 use Rattle.go_base.specs.Views.{neighbours_of}
 use Rattle.trial_board.proofs.WalkLemmas.{Walked}
-use Rattle.further_moves.specs.Strings.{holds_next}
+use Rattle.further_rules.specs.Strings.{holds_next}
 use Rattle.further_moves.proofs.AddLemmas.{AddsBelow}
 use Rattle.further_moves.proofs.sides.add_sides_of.Given as goal
 

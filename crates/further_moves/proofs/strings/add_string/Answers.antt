@@ -1,6 +1,6 @@
 -- What stands around a string with few liberties came, and nothing of one with many.
 use Rattle.trial_board.specs.Trials.{after}
-use Rattle.further_moves.proofs.StringLemmas.{few_liberties, many_liberties, few_enemies, many_enemies}
+use Rattle.further_rules.proofs.StringLemmas.{few_liberties, many_liberties, few_enemies, many_enemies}
 use Rattle.further_moves.proofs.strings.add_string.Goals as goal
 
 -- its liberties came

@@ -7,9 +7,9 @@ use Rattle.go_base.specs.Views.{alone}
 use Rattle.go_base.proofs.PointNeighbourhoods.{close_point}
 use Rattle.trial_board.specs.Trials.{after}
 use Rattle.trial_board.proofs.WalkLemmas.{Walked-none, Walked-next, on_agreed}
-use Rattle.further_moves.specs.Strings.{is_few_liberty, is_few_enemy}
-use Rattle.further_moves.proofs.GatherLemmas.{Gathers-none, Gathers-all}
-use Rattle.further_moves.proofs.StringLemmas.{AddsAround, GathersAround-next}
+use Rattle.further_rules.specs.Strings.{is_few_liberty, is_few_enemy}
+use Rattle.further_rules.proofs.GatherLemmas.{Gathers-none, Gathers-all}
+use Rattle.further_rules.proofs.StringLemmas.{AddsAround, GathersAround-next}
 use Rattle.further_moves.proofs.strings.around_strings.Goals as goal
 
 -- nothing came, and all points are left

@@ -3,7 +3,7 @@ use Rattle.std.specs.FinSet as set
 use Rattle.go_rules.specs.Board.{largest_points}
 use Rattle.go_rules.specs.Neighbourhood.{neighbourhood_of}
 use Rattle.trial_board.proofs.WalkLemmas.{Walked}
-use Rattle.further_moves.proofs.StringLemmas.{GathersAround}
+use Rattle.further_rules.proofs.StringLemmas.{GathersAround}
 use Rattle.further_moves.proofs.strings.around_strings.Given as goal
 
 -- what stands around the strings of the points came, but for the points that are left from the next one on

@@ -3,7 +3,7 @@ use Rattle.std.specs.FinSet as set
 use Rattle.further_rules.specs.Further.{is_further}
 use Rattle.go_rules.proofs.Tests.{or-false}
 use Rattle.read_rules.proofs.StageLemmas.{wide_further}
-use Rattle.further_moves.proofs.StringLemmas.{joined}
+use Rattle.further_rules.proofs.StringLemmas.{joined}
 use Rattle.read_proof.proofs.candidates.wide_candidates.Goals as goal
 
 -- the further candidates were joined in the wider tree

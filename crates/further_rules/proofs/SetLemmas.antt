@@ -16,8 +16,8 @@ use Rattle.go_base.specs.Floods.{enemy_points}
 use Rattle.go_base.specs.Surroundings.{is_only_liberty}
 use Rattle.further_rules.specs.Further.{is_net, is_weak_enemy, is_beside, is_ally, is_rescue, is_linked, is_join}
 use Rattle.further_rules.specs.Further.{is_cutter, is_cut, is_further}
-use Rattle.further_moves.specs.Strings.{holds_next, is_few_liberty, is_few_enemy, is_near_friend}
-use Rattle.further_moves.proofs.StringLemmas.{has_liberty, how_many, has_enemy, has_stone, joined}
+use Rattle.further_rules.specs.Strings.{holds_next, is_few_liberty, is_few_enemy, is_near_friend}
+use Rattle.further_rules.proofs.StringLemmas.{has_liberty, how_many, has_enemy, has_stone, joined}
 
 -- which of two tests comes first does not matter
 and_comm : (a b : Bool) → (a && b) ≡ (b && a)

@@ -20,9 +20,8 @@ use Rattle.go_rules.proofs.Tests.{same_tests}
 use Rattle.go_base.specs.Floods.{enemy_points}
 use Rattle.go_base.specs.Surroundings.{is_only_liberty}
 use Rattle.go_base.proofs.LastLiberties.{contains-liberty_points}
-use Rattle.trial_board.specs.SomeLiberties.{FindsLiberties}
-use Rattle.further_moves.specs.Strings.{is_few_liberty, is_few_enemy}
-use Rattle.further_moves.proofs.GatherLemmas.{Passes, Gathers, Gathers-next}
+use Rattle.further_rules.specs.Strings.{is_few_liberty, is_few_enemy}
+use Rattle.further_rules.proofs.GatherLemmas.{Passes, Gathers, Gathers-next}
 
 -- the set of the liberties has the liberties
 pub has_liberty : (s : ℕ) (cells : List Cell) (q l : ℕ) (libs : sets.FinSet nat_cmp) → libs ≡ liberty_points s cells q
@@ -60,7 +59,7 @@ module _ (old added new : sets.FinSet nat_cmp) (p : ℕ) where
   joined e = ap (λ t. sets.contains t p) e ∙ sets.contains-union nat_cmp_total old added p
 
 -- nothing more comes by a test that fails
-adds_nothing : (a b : Bool) → b ≡ false → a ≡ (a || b)
+pub adds_nothing : (a b : Bool) → b ≡ false → a ≡ (a || b)
 adds_nothing a b e = same_tests _ _ (λ h. or_left _ _ h)
     (λ h. elim (or_cases _ _ h) [ inl i ↦ i | inr j ↦ absurd (both_ways b e j) ])
 
@@ -106,40 +105,6 @@ module _ (most s : ℕ) (cells : List Cell) (q n p : ℕ) (libs old new : sets.F
     | inl h ↦ let few = leb-true n most (sym few_by_count ∙ (and_parts _ _ h).0) in absurd (omega (arith, few, many))
     | inr fails ↦ fails
   ])
-
--- What a search that stops at two liberties adds, where n were counted.
-module _ (s : ℕ) (cells : List Cell) (r n p : ℕ) (libs old new : sets.FinSet nat_cmp)
-    (finds : FindsLiberties s cells r 1 libs) (count : n ≡ sets.len libs) where
-  -- the one liberty of a string in atari came
-  pub one_liberty : n ≡ 1 → new ≡ sets.union old libs
-      → sets.contains new p ≡ (sets.contains old p || is_only_liberty s cells r p)
-  unfolding is_only_liberty
-  one_liberty one e =
-      let whole = finds.all (omega (arith, count, one)) in
-      joined old libs new p e
-      ∙ ap (λ b. sets.contains old p || b)
-      (has_liberty s cells r p libs whole
-      ∙ same_tests _ _
-      (λ h. and_from _ _ (eq-eqb (liberties s cells r) 1 (sym (how_many s cells r libs whole) ∙ sym count ∙ one)) h)
-      (λ h. (and_parts _ _ h).1))
-
-  -- nothing came of another string
-  pub other_liberties : (n ≡ 1 → ⊥) → sets.contains old p ≡ (sets.contains old p || is_only_liberty s cells r p)
-  unfolding is_only_liberty
-  other_liberties other = adds_nothing _ _ (elim (cases_Bool (is_only_liberty s cells r p)) [
-    | inl h ↦
-        let one = eqb-true (liberties s cells r) 1 (and_parts _ _ h).0 in
-        absurd (elim (cases_Bool (leb (sets.len libs) 1)) [
-          | inl few ↦ other (count ∙ how_many s cells r libs (finds.all (leb-true (sets.len libs) 1 few)) ∙ one)
-          | inr many ↦
-              let more = finds.more (omega (arith, many_is (sets.len libs) many)) in
-              omega (arith, one, more)
-        ])
-    | inr fails ↦ fails
-  ])
-    where
-      many_is : (k : ℕ) → leb k 1 ≡ false → 1 < k
-      many_is k e = leb-false k 1 e
 
 -- The stones of one string.
 module _ (s : ℕ) (cells : List Cell) (p q : ℕ) (on : p < s * s) (same : is_in_string s cells p q ≡ true) where
