@@ -37,18 +37,6 @@ WasAsked-read key pos answer old new has = elim has.read [
   | inr found ↦ inr found.kept
 ]
 
--- the same question at depths that are the same
-pub as_asked : (key : Key) (asked : ReadingQuestion) (variant : Variant Answer) → key.question ≡ asked
-    → Rests (record { question = asked }) variant → Rests key variant
-as_asked key asked variant is rests =
-    subst (λ (q : ReadingQuestion). Rests (record { question = q }) variant) (sym is) rests
-
--- a question whose target has too many liberties needs no play under every name of it
-pub untried_as_asked : (key : Key) (asked : ReadingQuestion) (pos : BoardState) (trials : ℕ) → key.question ≡ asked
-    → (IsTrue (is_untried asked pos) → trials ≡ 0) → IsTrue (is_untried key.question pos) → trials ≡ 0
-untried_as_asked key asked pos trials is none =
-    subst (λ (q : ReadingQuestion). IsTrue (is_untried q pos) → trials ≡ 0) (sym is) none
-
 -- a reading that was made where no kept answer stands, and was counted with its trial plays and kept or refused, was
 -- read afresh
 pub ReadAfresh-counted : {key : Key} {pos : BoardState} {answer : Answer} {old seen new : ReadingsView} (trials : ℕ)

@@ -1,7 +1,9 @@
 //! Questions as they are kept.
 
-ghost use Rattle.std.specs.Prelude.{◌≡◌, ◌≢◌, ◌*◌, ◌<◌};
+ghost use Rattle.std.specs.Prelude.{◌≡◌, ◌≢◌, ◌*◌, ◌<◌, ◌≤◌};
 ghost use Rattle.go_rules.specs.Strings.{cell_at};
+ghost use Rattle.go_rules.specs.Position.{stone_of};
+ghost use Rattle.read_rules.specs.Ranges.{most_plies};
 ghost use Rattle.match_engine.specs.Keys.{number_of, number_of_kind};
 ghost use Rattle.match_engine.specs.ReadingDepths.{asked_at, depths_of};
 
@@ -67,7 +69,10 @@ fn number_of(question: &ReadingQuestion) -> u64
 pub(crate) fn key_of(kind: Kind, position: &Position, target: Point, depths: Depths) -> Key
     requires on_board { target < position.now.size * position.now.size }
     requires stone { cell_at position.now.cells target ≢ Cell.Empty }
-    ensures { result.question ≡ asked_at (depths_of depths) position.now kind target }
+    ensures question { result.question ≡ asked_at (depths_of depths) position.now kind target }
+    ensures stone { stone_of result.question.colour ≡ cell_at position.now.cells target }
+    ensures some_plies { 0 < result.question.plies }
+    ensures few_plies { result.question.plies ≤ most_plies }
 {
     Key {
         question: ReadingQuestion {

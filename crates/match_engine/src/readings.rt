@@ -1,6 +1,8 @@
 //! Readings, counted and kept.
 ghost use Rattle.std.specs.Prelude.{◌≡◌, ◌≢◌, ◌*◌, ◌<◌, ◌≤◌, IsTrue, Some, None, IfOk, IfSome, IfNone};
 ghost use Rattle.go_rules.specs.Strings.{cell_at};
+ghost use Rattle.go_rules.specs.Position.{stone_of};
+ghost use Rattle.read_rules.specs.Ranges.{most_plies};
 ghost use Rattle.go_base.specs.Facts.{Agrees};
 ghost use Rattle.go_base.specs.AmongFacts.{told};
 ghost use Rattle.read_rules.specs.Answer.{answer_of};
@@ -15,7 +17,7 @@ use crate::keys::{Key, key_of};
 use go_base::{Cell, Facts, NoMemory, Point, Position, Watch};
 use read_cache::Cache;
 use read_rules::{Answer, Depths, Kind};
-use read_tree::{attack, defend};
+use read_tree::read;
 use std::alloc::Global;
 use std::marker::Model;
 
@@ -58,21 +60,18 @@ struct Fresh {
     facts: Facts,
 }
 
-/// Reads afresh.
-fn read_afresh(kind: Kind, position: &Position, target: Point, depths: Depths) -> Fresh
-    requires on_board { target < position.now.size * position.now.size }
-    requires stone { cell_at position.now.cells target ≢ Cell.Empty }
+/// Reads a question afresh, which is about the position.
+fn read_afresh(key: &Key, position: &Position) -> Fresh
+    requires size { key.now.question.size ≡ position.now.size }
+    requires on_board { key.now.question.target < position.now.size * position.now.size }
+    requires stone { cell_at position.now.cells key.now.question.target ≡ stone_of key.now.question.colour }
+    requires some_plies { 0 < key.now.question.plies }
+    requires few_plies { key.now.question.plies ≤ most_plies }
     ensures holds { Agrees (told result.facts) position.now }
-    ensures rests { Rests (record { question = asked_at (depths_of depths) position.now kind target })
-        (record { facts = result.facts; answer = result.answer }) }
-    ensures untried { IsTrue (is_untried (asked_at (depths_of depths) position.now kind target) position.now)
-        → result.trials ≡ 0 }
+    ensures rests { Rests key.now (record { facts = result.facts; answer = result.answer }) }
+    ensures untried { IsTrue (is_untried key.now.question position.now) → result.trials ≡ 0 }
 {
-    let watch = Watch::new(position);
-    let told = match kind {
-        Kind::Attack => attack(watch, target, depths),
-        Kind::Defend => defend(watch, target, depths),
-    };
+    let told = read(Watch::new(position), key.question);
     Fresh {
         answer: told.answer,
         trials: told.trials,
@@ -122,7 +121,7 @@ impl Readings {
         let key = key_of(kind, position, target, self.depths);
         match self.find(&key, position) {
             Some(answer) => answer,
-            None => self.read_and_keep(key, kind, position, target),
+            None => self.read_and_keep(key, position),
         }
     }
 
@@ -167,17 +166,19 @@ impl Readings {
     /// Reads afresh, counts the reading and keeps it, or counts that there was no memory for it. It stands apart from
     /// its caller, so that a kept reading does not pay for its locals.
     #[inline(never)]
-    fn read_and_keep(&mut self, key: Key, kind: Kind, position: &Position, target: Point) -> Answer
-        requires on_board { target < position.now.size * position.now.size }
-        requires stone { cell_at position.now.cells target ≢ Cell.Empty }
-        requires key { key.question ≡ asked_at self.old.depths position.now kind target }
+    fn read_and_keep(&mut self, key: Key, position: &Position) -> Answer
+        requires size { key.question.size ≡ position.now.size }
+        requires on_board { key.question.target < position.now.size * position.now.size }
+        requires stone { cell_at position.now.cells key.question.target ≡ stone_of key.question.colour }
+        requires some_plies { 0 < key.question.plies }
+        requires few_plies { key.question.plies ≤ most_plies }
         requires missing { IsMissing same_key key position.now self.old.answers.kept }
         ensures right { Answers key position.now result }
         ensures fresh { ReadAfresh key position.now result self.old self.new }
         ensures rest { HoldsOfEach Rests self.new.answers.kept }
         ensures depths { self.new.depths ≡ self.old.depths }
     {
-        let read = read_afresh(kind, position, target, self.depths);
+        let read = read_afresh(&key, position);
         self.fresh = self.fresh.saturating_add(1);
         self.trials = self.trials.saturating_add(read.trials);
         self.last = Some(read.trials);
