@@ -90,22 +90,6 @@ module _ {X Y : Type 0} (see : X → Y) (test : Y → Bool) where
       ≡ cond (test (see (get_or xs i x))) (Some i) (position_from test (i + 1) (map see (drop (i + 1) xs)))
   from xs i x within = ap (λ l. position_from test i (map see l)) (drop_more xs i x within)
 
-  -- where the i-th element passes, it is found
-  pub position_from-here : (xs : List X) (i : ℕ) (x : X) → i < length xs → test (see (get_or xs i x)) ≡ true
-      → position_from test i (map see (drop i xs)) ≡ Some i
-  position_from-here xs i x within passes = from xs i x within
-      ∙ ap (λ b. cond b (Some i) (position_from test (i + 1) (map see (drop (i + 1) xs)))) passes
-
-  -- where the i-th element does not pass, the search goes on behind it
-  pub position_from-next : (xs : List X) (i : ℕ) (x : X) → i < length xs → test (see (get_or xs i x)) ≡ false
-      → position_from test i (map see (drop i xs)) ≡ position_from test (i + 1) (map see (drop (i + 1) xs))
-  position_from-next xs i x within fails = from xs i x within
-      ∙ ap (λ b. cond b (Some i) (position_from test (i + 1) (map see (drop (i + 1) xs)))) fails
-
-  -- past the last element nothing is found
-  pub position_from-past : (xs : List X) (i : ℕ) → length xs ≡ i → position_from test i (map see (drop i xs)) ≡ None
-  position_from-past xs i past = ap (λ l. position_from test i (map see l)) (drop_all i xs (omega (arith, past)))
-
 -- without the element at a place, as each is seen
 pub map-remove : {X Y : Type 0} (see : X → Y) (xs : List X) (n : ℕ) → map see (remove xs n) ≡ remove (map see xs) n
 map-remove see xs n = map-append see (take n xs) (drop (suc n) xs)

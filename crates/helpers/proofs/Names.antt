@@ -56,15 +56,3 @@ module _ (name : List ℕ) (xs : List Item) where
       → list_any (λ k. bytes_eq k name) (helper_names (drop i xs)) ≡ true
   named-here i x within here = from i x within
       ∙ ap (λ b. b || list_any (λ k. bytes_eq k name) (helper_names (drop (i + 1) xs))) here
-
-  -- the i-th field does not name it
-  pub named-next : (i : ℕ) (x : Item) → i < length xs
-      → (names_helper (get_or xs i x) && bytes_eq (get_or xs i x).name name) ≡ false
-      → list_any (λ k. bytes_eq k name) (helper_names (drop i xs))
-      ≡ list_any (λ k. bytes_eq k name) (helper_names (drop (i + 1) xs))
-  named-next i x within other = from i x within
-      ∙ ap (λ b. b || list_any (λ k. bytes_eq k name) (helper_names (drop (i + 1) xs))) other
-
-  -- past the last field none names it
-  pub named-past : (i : ℕ) → i ≡ length xs → list_any (λ k. bytes_eq k name) (helper_names (drop i xs)) ≡ false
-  named-past i past = ap (λ l. list_any (λ k. bytes_eq k name) (helper_names l)) (drop_all i xs (omega arith))

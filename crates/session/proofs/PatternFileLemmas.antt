@@ -74,28 +74,6 @@ IsJoined-next f contents words i word text new within is so_far adds =
 
 -- Why files were not opened.
 module _ (known : List (List ℕ)) (contents : List ℕ → Option (List ℕ)) (names : List (List ℕ)) (most : ℕ) where
-  -- a file could not be loaded
-  pub refused-unloaded : (cause : LoadError) → IsRefused known contents names most (unloaded cause)
-  refused-unloaded load.Failed = tt
-  refused-unloaded load.NoMemory = tt
-
-  -- the joined text is no database
-  pub refused-unread : (text : List ℕ) (cause : DbError) → IsJoined contents names text → BlamesAt cause
-      (first_fault known text)
-      → IsRefused known contents names most (unread cause)
-  refused-unread text (db.Fault line kind) joined blames = record { text = text; joined = joined; fault = blames }
-  refused-unread text db.NoMemory joined blames = tt
-
-  -- the patterns have too many states, or there was no memory
-  pub refused-states : (patterns : List Pattern) (error : OpenError) → IsDatabase known contents names patterns
-      → RefusesStates patterns most error
-      → IsRefused known contents names most error
-  refused-states patterns open_error.FileFault database refuses = tt
-  refused-states patterns (open_error.BadDatabase line kind) database refuses = absurd refuses
-  refused-states patterns (open_error.TooManyStates limit) database refuses =
-      (refuses.0, record { patterns = patterns; database = database; many = refuses.1 })
-  refused-states patterns open_error.NoMemory database refuses = tt
-
 -- Which names are missed then.
 module _ (names before now : List (List ℕ)) where
   -- a file could not be loaded
@@ -103,17 +81,3 @@ module _ (names before now : List (List ℕ)) where
       (unloaded cause)
   missed-unloaded load.Failed missed = missed
   missed-unloaded load.NoMemory missed = missed
-
-  -- every file was loaded, and their text is no database
-  pub missed-unread : (cause : DbError) → now ≡ before → MissedIn names before now (unread cause)
-  missed-unread (db.Fault line kind) same = same
-  missed-unread db.NoMemory same = same
-
-  -- every file was loaded, and the patterns were refused
-  pub missed-states : (patterns : List Pattern) (most : ℕ) (error : OpenError) → RefusesStates patterns most error
-      → now ≡ before
-      → MissedIn names before now error
-  missed-states patterns most open_error.FileFault refuses same = absurd refuses
-  missed-states patterns most (open_error.BadDatabase line kind) refuses same = same
-  missed-states patterns most (open_error.TooManyStates limit) refuses same = same
-  missed-states patterns most open_error.NoMemory refuses same = same
