@@ -17,7 +17,9 @@ ghost use Rattle.trial_board.specs.SomeLiberties.{FindsLiberties};
 ghost use Rattle.trial_board.specs.Trials.{Trying, Stays, Moved, IsNoted, Put, most_moves, after, tried, tried_free};
 ghost use Rattle.trial_board.specs.Trials.{made_or_suicide, tail, is_some_move};
 ghost use Rattle.trial_board.specs.Changed.{changed};
+ghost use Rattle.trial_board.specs.Boundary.{boundary_points};
 
+use crate::boundary::boundary_of;
 use crate::captured::{MAX_CAPTURED, note, nothing_captured};
 use crate::changes::{Changes, changes_of};
 use crate::moves::{MAX_TRIAL_MOVES, TrialMove, TrialPlay, Tried};
@@ -157,6 +159,23 @@ impl<L: Look> Trial<L> {
         ensures no_ban { AddsNoBan (L.seen self.old.look) (L.seen self.new.look) }
     {
         flood(&mut self.board, p)
+    }
+
+    /// The least point of each enemy string next to the string of p, none where p is empty.
+    pub fn boundary(&mut self, p: Point) -> PointSet
+        requires { p < (L.shows self.old.look).size * (L.shows self.old.look).size }
+        ensures stays { Stays L.shows L.seen self.old self.new }
+        ensures count { self.new.count ≡ self.old.count }
+        ensures over { (pos : BoardState) → Agrees (L.seen self.new.look) pos
+            → result ≡ boundary_points pos.size (after pos self.old.moves).cells p }
+        ensures answer { result ≡ boundary_points (L.shows self.old.look).size
+            (after (L.shows self.old.look) self.old.moves).cells p }
+        ensures near { (pos : BoardState) → Agrees (L.seen self.new.look) pos
+            → AddsIn (L.seen self.old.look) (L.seen self.new.look)
+            (neighbourhood_twice pos.size (after pos self.old.moves).cells p) }
+        ensures no_ban { AddsNoBan (L.seen self.old.look) (L.seen self.new.look) }
+    {
+        boundary_of(&mut self.board, p)
     }
 
     /// The liberties of the string of p, none where p is empty.
