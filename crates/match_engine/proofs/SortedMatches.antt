@@ -3,7 +3,6 @@ use Rattle.std.proofs.Common.{◌≡◌, zero, suc, ◌<◌, ◌≤◌, ◌⊎�
 use Rattle.std.proofs.Common.{None, refl, sym, ap, ◌∙◌, subst, arith, ℕ, length, map}
 use Rattle.std.specs.List.{filter_map, cons_option, All, AllPairs}
 use Rattle.std.specs.List.Sorted.{IsNonDecreasing, IsNonDecreasingBy}
-use Rattle.std.proofs.lemmas.Bool.{cases_order}
 use Rattle.std.proofs.lemmas.List.{length-map, get_or-map}
 use Rattle.std.proofs.lemmas.List.Elements.{Contains-get_or}
 use Rattle.dfa_core.specs.Automata.{AreDistinct}
@@ -13,21 +12,7 @@ use Rattle.match_engine.specs.Ranks.{rank_of, match_with}
 use Rattle.go_rules.specs.Board.{largest_points}
 use Rattle.go_rules.specs.Transform.{transformations}
 use Rattle.match_rules.proofs.Lists.{Contains-first, Contains-rest, Contains-filter_map}
-
--- of two matches one comes before the other, or they are the same
-which_first : (y z : Match) → ComesBefore y z ⊎ ((y ≡ z) ⊎ ComesBefore z y)
-which_first y z = by (cases_order y.pattern z.pattern) (cases_order y.transform z.transform) (cases_order y.at z.at)
-  where
-    by : (y.pattern ≡ z.pattern) ⊎ ((y.pattern < z.pattern) ⊎ (z.pattern < y.pattern))
-        → (y.transform ≡ z.transform) ⊎ ((y.transform < z.transform) ⊎ (z.transform < y.transform))
-        → (y.at ≡ z.at) ⊎ ((y.at < z.at) ⊎ (z.at < y.at)) → ComesBefore y z ⊎ ((y ≡ z) ⊎ ComesBefore z y)
-    by (inr (inl a)) t m = inl (inl a)
-    by (inr (inr a)) t m = inr (inr (inl a))
-    by (inl e) (inr (inl a)) m = inl (inr (e, inl a))
-    by (inl e) (inr (inr a)) m = inr (inr (inr (sym e, inl a)))
-    by (inl e) (inl f) (inr (inl a)) = inl (inr (e, inr (f, a)))
-    by (inl e) (inl f) (inr (inr a)) = inr (inr (inr (sym e, inr (sym f, a))))
-    by (inl e) (inl f) (inl g) = inr (inl (λ i. record { pattern = e i; transform = f i; at = g i }))
+use Rattle.match_rules.proofs.Orders.{which_first}
 
 -- the transformation and the point are small enough for the rank of the match to say them
 pub record IsSmall (z : Match) : Type 0 where

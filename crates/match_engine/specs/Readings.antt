@@ -1,7 +1,7 @@
 -- What contracts see of readings, and how calls change it.
 use Rattle.std.specs.Prelude.{◌≡◌, ℕ, Bool, ◌≤◌, ◌⊎◌, IsTrue, Option, Some, None, IfSome}
-use Rattle.go_rules.specs.Position.{BoardState}
-use Rattle.go_base.specs.Facts.{Fact, Agrees}
+use Rattle.go_rules.specs.Position.{BoardState, stone_of}
+use Rattle.go_base.specs.Facts.{Fact, Agrees, CellIs}
 use Rattle.go_base.specs.AmongFacts.{told}
 use Rattle.read_rules.specs.declared.question.Answer.{Answer}
 use Rattle.go_rules.specs.Strings.{liberties}
@@ -42,9 +42,10 @@ codes_at depths kind pos target = code_of (asked_at depths pos kind target) pos
 abbrev pub codes_of : ReadingsView → Codes
 codes_of r = codes_at r.depths
 
--- The answer of the variant rests on its facts: on each position on which they hold it is the answer to the question,
--- and there each of them lies in the active area of the reading.
+-- The answer of the variant rests on its facts, the target's stone among them: on each position on which they hold it is
+-- the answer to the question, and there each of them lies in the active area of the reading.
 pub record Rests (key : Key) (variant : Variant Answer) : Type 0 where
+  pub target : IsTrue (told variant.facts (CellIs key.question.target (stone_of key.question.colour)))
   pub answers : (pos : BoardState) → Agrees (told variant.facts) pos → variant.answer ≡ answer_of key.question pos
   pub near : (pos : BoardState) → Agrees (told variant.facts) pos → (fact : Fact) → IsTrue (told variant.facts fact)
       → IsAboutOne (InActiveArea key.question pos) fact

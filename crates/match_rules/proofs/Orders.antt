@@ -1,7 +1,8 @@
 -- What is in the lists of matches, and in what order.
-use Rattle.std.proofs.Common.{◌≡◌, ℕ, ◌+◌, ◌-◌, ◌*◌, ◌<◌, inl, inr, Bool, true, List, filter, Contains, Some, slice_get}
+use Rattle.std.proofs.Common.{◌≡◌, ℕ, ◌+◌, ◌-◌, ◌*◌, ◌<◌, ◌⊎◌, inl, inr, Bool, true, List, filter, Contains, Some, slice_get}
 use Rattle.std.proofs.Common.{refl, sym, ap, ◌∙◌, subst, arith}
 use Rattle.std.specs.List.{range_with_len, enumerate_from, AllPairs}
+use Rattle.std.proofs.lemmas.Bool.{cases_order}
 use Rattle.std.proofs.lemmas.List.Kept.{AllPairs-filter}
 use Rattle.pat_types.specs.declared.pattern.Pattern.{Pattern}
 use Rattle.pat_types.specs.Marks.{count_of}
@@ -21,6 +22,31 @@ one_way y z (inr (e, inl a)) (inr (f, inl b)) = omega arith
 one_way y z (inr (e, inl a)) (inr (f, inr (g, b))) = omega arith
 one_way y z (inr (e, inr (h, a))) (inr (f, inl b)) = omega arith
 one_way y z (inr (e, inr (h, a))) (inr (f, inr (g, b))) = omega arith
+
+-- of two matches one comes before the other, or they are the same
+pub which_first : (y z : Match) → ComesBefore y z ⊎ ((y ≡ z) ⊎ ComesBefore z y)
+which_first y z = by (cases_order y.pattern z.pattern) (cases_order y.transform z.transform) (cases_order y.at z.at)
+  where
+    by : (y.pattern ≡ z.pattern) ⊎ ((y.pattern < z.pattern) ⊎ (z.pattern < y.pattern))
+        → (y.transform ≡ z.transform) ⊎ ((y.transform < z.transform) ⊎ (z.transform < y.transform))
+        → (y.at ≡ z.at) ⊎ ((y.at < z.at) ⊎ (z.at < y.at)) → ComesBefore y z ⊎ ((y ≡ z) ⊎ ComesBefore z y)
+    by (inr (inl a)) t m = inl (inl a)
+    by (inr (inr a)) t m = inr (inr (inl a))
+    by (inl e) (inr (inl a)) m = inl (inr (e, inl a))
+    by (inl e) (inr (inr a)) m = inr (inr (inr (sym e, inl a)))
+    by (inl e) (inl f) (inr (inl a)) = inl (inr (e, inr (f, a)))
+    by (inl e) (inl f) (inr (inr a)) = inr (inr (inr (sym e, inr (sym f, a))))
+    by (inl e) (inl f) (inl g) = inr (inl (λ i. record { pattern = e i; transform = f i; at = g i }))
+
+-- a match that comes before one that comes before a third comes before the third
+pub before_both : (x y z : Match) → ComesBefore x y → ComesBefore y z → ComesBefore x z
+before_both x y z (inl a) (inl b) = inl (omega arith)
+before_both x y z (inl a) (inr (f, b)) = inl (omega arith)
+before_both x y z (inr (e, a)) (inl b) = inl (omega arith)
+before_both x y z (inr (e, inl a)) (inr (f, inl b)) = inr (e ∙ f, inl (omega arith))
+before_both x y z (inr (e, inl a)) (inr (f, inr (g, b))) = inr (e ∙ f, inl (omega arith))
+before_both x y z (inr (e, inr (h, a))) (inr (f, inl b)) = inr (e ∙ f, inl (omega arith))
+before_both x y z (inr (e, inr (h, a))) (inr (f, inr (g, b))) = inr (e ∙ f, inr (h ∙ g, omega arith))
 
 -- two lists of matches in order with the same elements are the same
 pub same_matches : (ys zs : List Match) → AllPairs ComesBefore ys → AllPairs ComesBefore zs

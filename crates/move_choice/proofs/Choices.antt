@@ -1,25 +1,18 @@
--- The first match of the greatest worth, by the definition, in words, and one match after another.
-use Rattle.std.proofs.Common.{◌≡◌, ◌↔◌, ℕ, ◌+◌, ◌<◌, ◌≤◌, inl, inr, Bool, true, false, cond, List, [], ◌∷◌, ◌++◌}
-use Rattle.std.proofs.Common.{length, take, get_or, Some, None, Contains, All, refl, sym, ap, ◌∙◌, subst, arith}
-use Rattle.std.proofs.Common.{add-one}
-use Rattle.std.specs.Prelude.{◌==◌}
-use Rattle.std.specs.List.{find}
-use Rattle.std.proofs.lemmas.Bool.{cases_Bool, cases_lt, eqb-true, eqb-false, eq-eqb, ne_eqb}
-use Rattle.std.proofs.lemmas.List.{append_assoc, take_more, take_all}
-use Rattle.std.proofs.lemmas.List.Elements.{All-nil, All-cons, All-head, All-tail, All-push, All-weaker, All-contains}
-use Rattle.std.proofs.lemmas.List.Elements.{Contains-append_right}
+-- The choice among matches, by the definition, in words, and one match after another.
+use Rattle.std.proofs.Common.{◌≡◌, ◌↔◌, ◌⊎◌, ℕ, ◌+◌, ◌<◌, ◌≤◌, inl, inr, Bool, true, false, cond, List, [], ◌∷◌, ◌++◌}
+use Rattle.std.proofs.Common.{length, take, get_or, not, Some, None, Contains, refl, sym, ap, ◌∙◌, subst, arith, add-one}
+use Rattle.std.specs.List.{find, list_all}
+use Rattle.std.proofs.lemmas.Bool.{cases_Bool, and_parts, not-true, not_from_false, both_ways}
+use Rattle.std.proofs.lemmas.List.{append_assoc, append-nil, take_more, take_all}
+use Rattle.std.proofs.lemmas.List.Elements.{Contains-append_left, Contains-append_right}
+use Rattle.std.proofs.lemmas.List.Elements.{Contains-append_cases}
 use Rattle.std.proofs.lemmas.Option.{none-some, same_Some}
-use Rattle.match_rules.specs.declared.found.Match.{Match}
 use Rattle.pat_types.specs.declared.pattern.Pattern.{Pattern}
-use Rattle.move_choice.specs.Choice.{greatest_worth, choice_by, choice_of, IsChoice}
-
--- a number that is at most another and differs from it is less
-less_where_other : (a n : ℕ) → a ≤ n → (a == n) ≡ false → a < n
-less_where_other a n most other =
-    let differ : a ≡ n → ⊥ = eqb-false a n other in elim (cases_lt a n) [
-      | inl less ↦ less
-      | inr more ↦ absurd (differ (omega arith))
-    ]
+use Rattle.match_rules.specs.declared.found.Match.{Match}
+use Rattle.match_rules.proofs.Lists.{Contains-cons_cases, Contains-first, Contains-rest, Contains-nil, passes_all}
+use Rattle.move_choice.specs.Choice.{is_preferred, choice_by, choice_of, IsChoice}
+use Rattle.move_choice.proofs.Preferring.{Preferred, is_preferred-to, is_preferred-from, not_to_itself}
+use Rattle.move_choice.proofs.Preferring.{preferred_to_both, which_preferred}
 
 module _ (p : Match → Bool) where
   -- the first match passes
@@ -38,154 +31,163 @@ module _ (p : Match → Bool) where
     | inr fails ↦ find-passes ys z (sym (find-later y ys fails) ∙ e)
   ]
 
-  -- a match that passes is found behind others that do not
-  find-behind : (before : List Match) (z : Match) (after : List Match) → All (λ y. p y ≡ false) before → p z ≡ true
-      → find p (before ++ z ∷ after) ≡ Some z
-  find-behind [] z after none passes = find-here z after passes
-  find-behind (y ∷ ys) z after none passes =
-      find-later y (ys ++ z ∷ after) (All-head (λ x. p x ≡ false) y ys none)
-      ∙ find-behind ys z after (All-tail (λ x. p x ≡ false) y ys none) passes
+  -- what is found stands in the list
+  find-there : (zs : List Match) (z : Match) → find p zs ≡ Some z → Contains zs z
+  find-there [] z e = absurd (none-some z e)
+  find-there (y ∷ ys) z e = elim (cases_Bool (p y)) [
+    | inl passes ↦ Contains-first y ys z (same_Some y z (sym (find-here y ys passes) ∙ e))
+    | inr fails ↦ Contains-rest y ys z (find-there ys z (sym (find-later y ys fails) ∙ e))
+  ]
+
+  -- the only match that passes is found
+  find-only : (zs : List Match) (z : Match) → Contains zs z → p z ≡ true
+      → ((y : Match) → Contains zs y → p y ≡ true → y ≡ z) → find p zs ≡ Some z
+  find-only [] z there passes only = absurd (Contains-nil z there)
+  find-only (y ∷ ys) z there passes only = elim (cases_Bool (p y)) [
+    | inl here ↦ find-here y ys here ∙ ap Some (only y (Contains-first y ys y refl) here)
+    | inr fails ↦
+        find-later y ys fails
+        ∙ find-only ys z (elim (Contains-cons_cases y ys z there) [
+          | inl same ↦ absurd (both_ways (p y) fails (ap p same ∙ passes))
+          | inr rest ↦ rest
+        ]) passes (λ x inside. only x (Contains-rest y ys x inside))
+  ]
+
+-- a list of which each element passes has only elements that pass
+each_passes : (test : Match → Bool) (zs : List Match) → list_all test zs ≡ true → (z : Match) → Contains zs z
+    → test z ≡ true
+each_passes test [] all z there = absurd (Contains-nil z there)
+each_passes test (y ∷ ys) all z there =
+    let parts = and_parts (test y) (list_all test ys) all in
+    elim (Contains-cons_cases y ys z there) [
+      | inl same ↦ subst (λ x. test x ≡ true) same parts.0
+      | inr rest ↦ each_passes test ys parts.1 z rest
+    ]
+
+-- z stands in the list, and no match of the list is preferred to it
+pub record IsFirst (w : Match → ℕ) (zs : List Match) (z : Match) : Type 0 where
+  pub there : Contains zs z
+  pub none : (y : Match) → Contains zs y → Preferred w y z → ⊥
 
 module _ (w : Match → ℕ) where
-  -- no match is worth more than the greatest worth
-  at_most : (zs : List Match) → All (λ y. w y ≤ greatest_worth w zs) zs
-  at_most [] = All-nil (λ y. w y ≤ greatest_worth w [])
-  at_most (z ∷ zs) =
-      All-cons (λ y. w y ≤ greatest_worth w (z ∷ zs)) z zs (omega arith)
-      (All-weaker (λ y. w y ≤ greatest_worth w zs) (λ y. w y ≤ greatest_worth w (z ∷ zs)) (λ y less. omega arith) zs
-      (at_most zs))
+  -- the choice in words is the match to which none is preferred
+  pub IsFirst-from : (zs : List Match) (z : Match) → IsChoice w zs z → IsFirst w zs z
+  IsFirst-from zs z is = record { there = is.there; none = none }
+    where
+      none : (y : Match) → Contains zs y → Preferred w y z → ⊥
+      none y inside (inl more) = let most = is.none_greater y inside in omega (arith, more, most)
+      none y inside (inr (same, before)) = is.none_earlier y inside same before
 
-  -- what no match is worth more than, the greatest worth is not more than either
-  least : (n : ℕ) (zs : List Match) → All (λ y. w y ≤ n) zs → greatest_worth w zs ≤ n
-  least n [] all = omega arith
-  least n (z ∷ zs) all =
-      let first : w z ≤ n = All-head (λ y. w y ≤ n) z zs all in
-      let rest : greatest_worth w zs ≤ n = least n zs (All-tail (λ y. w y ≤ n) z zs all) in
-      omega arith
+  -- and the other way round
+  pub IsFirst-to : (zs : List Match) (z : Match) → IsFirst w zs z → IsChoice w zs z
+  IsFirst-to zs z is = record {
+    there = is.there;
+    none_greater = λ y inside. elim (which_preferred w y z) [
+      | inl preferred ↦ absurd (is.none y inside preferred)
+      | inr (inl same) ↦ (let equal : w y ≡ w z = ap w same in omega (arith, equal))
+      | inr (inr less) ↦ at_most y less
+    ];
+    none_earlier = λ y inside same before. is.none y inside (inr (same, before));
+  }
+    where
+      at_most : (y : Match) → Preferred w z y → w y ≤ w z
+      at_most y (inl more) = omega arith
+      at_most y (inr (same, before)) = omega arith
 
-  -- the first match of worth n is the choice, where none is worth more
-  found-choice : (n : ℕ) (zs : List Match) (z : Match) → w z ≡ n → find (λ y. w y == n) zs ≡ Some z
-      → All (λ y. w y ≤ n) zs → IsChoice w zs z
-  found-choice n [] z is e most = absurd (none-some z e)
-  found-choice n (y ∷ ys) z is e most =
-      let none : All (λ x. w x ≤ w z) (y ∷ ys) =
-      All-weaker (λ x. w x ≤ n) (λ x. w x ≤ w z) (λ x less. omega arith) (y ∷ ys) most in
-      elim (cases_Bool (w y == n)) [
-        | inl passes ↦
-            let same : y ≡ z = same_Some y z (sym (find-here (λ x. w x == n) y ys passes) ∙ e) in
-            record {
-              before = [];
-              after = ys;
-              place = ap (λ x. x ∷ ys) same;
-              none_greater = none;
-              earlier_less = All-nil (λ x. w x < w z);
-            }
-        | inr fails ↦
-            let later = found-choice n ys z is (sym (find-later (λ x. w x == n) y ys fails) ∙ e)
-            (All-tail (λ x. w x ≤ n) y ys most) in
-            let first : w y ≤ n = All-head (λ x. w x ≤ n) y ys most in
-            record {
-              before = y ∷ later.before;
-              after = later.after;
-              place = ap (λ l. y ∷ l) later.place;
-              none_greater = none;
-              earlier_less = All-cons (λ x. w x < w z) y later.before
-                  (omega (arith, less_where_other (w y) n first fails))
-                  later.earlier_less;
-            }
-      ]
+  -- a match passes the test of the definition exactly if none of the list is preferred to it
+  tested-from : (zs : List Match) (z : Match) → ((y : Match) → Contains zs y → Preferred w y z → ⊥)
+      → list_all (λ y. not (is_preferred w y z)) zs ≡ true
+  tested-from zs z none = passes_all (λ y. not (is_preferred w y z)) zs (λ y inside.
+      not_from_false (is_preferred w y z) (elim (cases_Bool (is_preferred w y z)) [
+        | inl preferred ↦ absurd (none y inside (is_preferred-to w y z preferred))
+        | inr fails ↦ fails
+      ]))
 
-  -- the choice in words is found
-  pub choice-found : (zs : List Match) (z : Match) → IsChoice w zs z → choice_by w zs ≡ Some z
+  -- no match of the list is preferred to one that passes
+  tested-to : (zs : List Match) (z : Match) → list_all (λ y. not (is_preferred w y z)) zs ≡ true
+      → (y : Match) → Contains zs y → Preferred w y z → ⊥
+  tested-to zs z passes y inside preferred =
+      both_ways (is_preferred w y z)
+      (not-true (is_preferred w y z) (each_passes (λ x. not (is_preferred w x z)) zs passes y inside))
+      (is_preferred-from w y z preferred)
+
+  -- the match to which none is preferred is found, as of two such neither is preferred to the other
+  pub choice-found : (zs : List Match) (z : Match) → IsFirst w zs z → choice_by w zs ≡ Some z
   choice-found zs z is =
-      let there : Contains zs z = subst (λ l. Contains l z) (sym is.place)
-      (Contains-append_right is.before (z ∷ is.after) z (0, omega arith, refl)) in
-      let up : w z ≤ greatest_worth w zs = All-contains (λ y. w y ≤ greatest_worth w zs) zs z (at_most zs) there in
-      let down : greatest_worth w zs ≤ w z = least (w z) zs is.none_greater in
-      let same : w z ≡ greatest_worth w zs = omega arith in
-      ap (find (λ y. w y == greatest_worth w zs)) is.place
-      ∙ find-behind (λ y. w y == greatest_worth w zs) is.before z is.after
-      (All-weaker (λ y. w y < w z) (λ y. (w y == greatest_worth w zs) ≡ false)
-      (λ y less. ne_eqb (w y) (greatest_worth w zs) (λ e. omega arith)) is.before is.earlier_less)
-      (eq-eqb (w z) (greatest_worth w zs) same)
+      find-only (λ x. list_all (λ y. not (is_preferred w y x)) zs) zs z is.there (tested-from zs z is.none)
+      (λ y inside passes. elim (which_preferred w y z) [
+        | inl preferred ↦ absurd (is.none y inside preferred)
+        | inr (inl same) ↦ same
+        | inr (inr less) ↦ absurd (tested-to zs y passes z is.there less)
+      ])
 
-  -- a match is found exactly where it is the choice in words
+  -- a match is found exactly if it is the choice in words
   pub choice-words : (zs : List Match) (z : Match) → (choice_by w zs ≡ Some z) ↔ IsChoice w zs z
-  choice-words zs z = (
-    (λ e. found-choice (greatest_worth w zs) zs z
-        (eqb-true (w z) (greatest_worth w zs) (find-passes (λ y. w y == greatest_worth w zs) zs z e)) e (at_most zs)),
-    choice-found zs z,
-  )
+  choice-words zs z =
+      let test : Match → Bool = λ x. list_all (λ y. not (is_preferred w y x)) zs in (
+        λ e. IsFirst-to zs z
+            (record { there = find-there test zs z e; none = tested-to zs z (find-passes test zs z e) }),
+        λ is. choice-found zs z (IsFirst-from zs z is),
+      )
 
   -- one match alone is the choice
-  pub IsChoice-alone : (z : Match) → IsChoice w (z ∷ []) z
-  IsChoice-alone z = record {
-    before = [];
-    after = [];
-    place = refl;
-    none_greater = All-cons (λ y. w y ≤ w z) z [] (omega arith) (All-nil (λ y. w y ≤ w z));
-    earlier_less = All-nil (λ y. w y < w z);
+  pub IsFirst-alone : (z : Match) → IsFirst w (z ∷ []) z
+  IsFirst-alone z = record {
+    there = Contains-first z [] z refl;
+    none = λ y inside preferred. elim (Contains-cons_cases z [] y inside) [
+      | inl same ↦ not_to_itself w z (subst (λ x. Preferred w x z) (sym same) preferred)
+      | inr rest ↦ Contains-nil y rest
+    ];
   }
 
-  -- a match more at the end that is worth no more
-  pub IsChoice-keeps : (zs : List Match) (c z : Match) → IsChoice w zs c → w z ≤ w c → IsChoice w (zs ++ z ∷ []) c
-  IsChoice-keeps zs c z is less = record {
-    before = is.before;
-    after = is.after ++ z ∷ [];
-    place = ap (λ l. l ++ z ∷ []) is.place ∙ append_assoc is.before (c ∷ is.after) (z ∷ []);
-    none_greater = All-push (λ y. w y ≤ w c) zs z is.none_greater less;
-    earlier_less = is.earlier_less;
-  }
-
-  -- a match more at the end that is worth more
-  pub IsChoice-takes : (zs : List Match) (c z : Match) → IsChoice w zs c → w c < w z → IsChoice w (zs ++ z ∷ []) z
-  IsChoice-takes zs c z is more = record {
-    before = zs;
-    after = [];
-    place = refl;
-    none_greater =
-        All-push (λ y. w y ≤ w z) zs z
-        (All-weaker (λ y. w y ≤ w c) (λ y. w y ≤ w z) (λ y less. omega arith) zs is.none_greater) (omega arith);
-    earlier_less = All-weaker (λ y. w y ≤ w c) (λ y. w y < w z) (λ y less. omega arith) zs is.none_greater;
-  }
-
-  -- a match in front that is worth less
-  IsChoice-behind : (y : Match) (zs : List Match) (c : Match) → IsChoice w zs c → w y < w c → IsChoice w (y ∷ zs) c
-  IsChoice-behind y zs c is less = record {
-    before = y ∷ is.before;
-    after = is.after;
-    place = ap (λ l. y ∷ l) is.place;
-    none_greater = All-cons (λ x. w x ≤ w c) y zs (omega arith) is.none_greater;
-    earlier_less = All-cons (λ x. w x < w c) y is.before less is.earlier_less;
-  }
-
-  -- a match in front that is worth no less
-  IsChoice-front : (y : Match) (zs : List Match) (c : Match) → IsChoice w zs c → w c ≤ w y → IsChoice w (y ∷ zs) y
-  IsChoice-front y zs c is less = record {
-    before = [];
-    after = zs;
-    place = refl;
-    none_greater =
-        All-cons (λ x. w x ≤ w y) y zs (omega arith)
-        (All-weaker (λ x. w x ≤ w c) (λ x. w x ≤ w y) (λ x le. omega arith) zs is.none_greater);
-    earlier_less = All-nil (λ x. w x < w y);
-  }
-
-  -- some match of a list is the choice
-  some_choice : (z : Match) (zs : List Match) → (c : Match) × IsChoice w (z ∷ zs) c
-  some_choice z [] = (z, IsChoice-alone z)
-  some_choice z (y ∷ ys) =
-      let rest = some_choice y ys in
-      elim (cases_lt (w z) (w rest.0)) [
-        | inl less ↦ (rest.0, IsChoice-behind z (y ∷ ys) rest.0 rest.1 less)
-        | inr more ↦ (z, IsChoice-front z (y ∷ ys) rest.0 rest.1 more)
+  -- a match more at the end that is not preferred
+  pub IsFirst-keeps : (zs : List Match) (c z : Match) → IsFirst w zs c → (Preferred w z c → ⊥)
+      → IsFirst w (zs ++ z ∷ []) c
+  IsFirst-keeps zs c z is not_preferred = record {
+    there = Contains-append_left zs (z ∷ []) c is.there;
+    none = λ y inside preferred. elim (Contains-append_cases zs (z ∷ []) y inside) [
+      | inl before ↦ is.none y before preferred
+      | inr last ↦ elim (Contains-cons_cases z [] y last) [
+        | inl same ↦ not_preferred (subst (λ x. Preferred w x c) (sym same) preferred)
+        | inr rest ↦ Contains-nil y rest
       ]
+    ];
+  }
 
-  -- there is no choice exactly where there is no match
+  -- a match more at the end that is preferred
+  pub IsFirst-takes : (zs : List Match) (c z : Match) → IsFirst w zs c → Preferred w z c → IsFirst w (zs ++ z ∷ []) z
+  IsFirst-takes zs c z is takes = record {
+    there = Contains-append_right zs (z ∷ []) z (Contains-first z [] z refl);
+    none = λ y inside preferred. elim (Contains-append_cases zs (z ∷ []) y inside) [
+      | inl before ↦ is.none y before (preferred_to_both w y z c preferred takes)
+      | inr last ↦ elim (Contains-cons_cases z [] y last) [
+        | inl same ↦ not_to_itself w z (subst (λ x. Preferred w x z) (sym same) preferred)
+        | inr rest ↦ Contains-nil y rest
+      ]
+    ];
+  }
+
+  -- of some matches one is the choice among those up to each of them
+  first_of : (z : Match) (zs front : List Match) (c : Match) → IsFirst w front c
+      → (x : Match) × IsFirst w (front ++ zs) x
+  first_of z [] front c is = (c, subst (λ l. IsFirst w l c) (sym (append-nil front)) is)
+  first_of z (y ∷ ys) front c is =
+      let on : (x : Match) × IsFirst w (front ++ y ∷ []) x = elim (cases_Bool (is_preferred w y c)) [
+        | inl takes ↦ (y, IsFirst-takes front c y is (is_preferred-to w y c takes))
+        | inr keeps ↦ (
+          c,
+          IsFirst-keeps front c y is
+              (λ preferred. both_ways (is_preferred w y c) keeps (is_preferred-from w y c preferred)),
+        )
+      ] in
+      let rest = first_of z ys (front ++ y ∷ []) on.0 on.1 in
+      (rest.0, subst (λ l. IsFirst w l rest.0) (append_assoc front (y ∷ []) ys) rest.1)
+
+  -- there is no choice exactly if there is no match
   pub no-choice : (zs : List Match) → (choice_by w zs ≡ None) ↔ (zs ≡ [])
   no-choice [] = ((λ e. refl), (λ e. refl))
   no-choice (z ∷ zs) =
-      let some = some_choice z zs in
+      let some = first_of z zs (z ∷ []) z (IsFirst-alone z) in
       ((λ e. absurd (none-some some.0 (sym e ∙ choice-found (z ∷ zs) some.0 some.1))), (λ e. absurd (cc)))
 
 -- among no matches there is no choice
@@ -216,24 +218,26 @@ module _ (found rest : List Match) (first : Match) (place : found ≡ first ∷ 
       ∙ ap (λ y. take (i + 1) found ++ y ∷ []) (one_of_rest i z ∙ sym here)
 
   -- the first alone
-  pub IsChoice-first : (w : Match → ℕ) → IsChoice w (take 1 found) first
-  IsChoice-first w = subst (λ l. IsChoice w (take 1 l) first) (sym place) (IsChoice-alone w first)
+  pub IsFirst-first : (w : Match → ℕ) → IsFirst w (take 1 found) first
+  IsFirst-first w = subst (λ l. IsFirst w (take 1 l) first) (sym place) (IsFirst-alone w first)
 
-  -- one match more, which is worth no more
-  pub IsChoice-keeps_more : (w : Match → ℕ) (i : ℕ) (c z : Match) → i < length rest → z ≡ get_or rest i z
-      → IsChoice w (take (i + 1) found) c → w z ≤ w c → IsChoice w (take (i + 1 + 1) found) c
-  IsChoice-keeps_more w i c z within here is less =
-      subst (λ l. IsChoice w l c) (sym (one_more i z within here)) (IsChoice-keeps w (take (i + 1) found) c z is less)
+  -- one match more, which is not preferred
+  pub IsFirst-keeps_more : (w : Match → ℕ) (i : ℕ) (c z : Match) → i < length rest → z ≡ get_or rest i z
+      → IsFirst w (take (i + 1) found) c → is_preferred w z c ≡ false → IsFirst w (take (i + 1 + 1) found) c
+  IsFirst-keeps_more w i c z within here is keeps =
+      subst (λ l. IsFirst w l c) (sym (one_more i z within here)) (IsFirst-keeps w (take (i + 1) found) c z is
+      (λ preferred. both_ways (is_preferred w z c) keeps (is_preferred-from w z c preferred)))
 
-  -- one match more, which is worth more
-  pub IsChoice-takes_more : (w : Match → ℕ) (i : ℕ) (c z : Match) → i < length rest → z ≡ get_or rest i z
-      → IsChoice w (take (i + 1) found) c → w c < w z → IsChoice w (take (i + 1 + 1) found) z
-  IsChoice-takes_more w i c z within here is more =
-      subst (λ l. IsChoice w l z) (sym (one_more i z within here)) (IsChoice-takes w (take (i + 1) found) c z is more)
+  -- one match more, which is preferred
+  pub IsFirst-takes_more : (w : Match → ℕ) (i : ℕ) (c z : Match) → i < length rest → z ≡ get_or rest i z
+      → IsFirst w (take (i + 1) found) c → is_preferred w z c ≡ true → IsFirst w (take (i + 1 + 1) found) z
+  IsFirst-takes_more w i c z within here is takes =
+      subst (λ l. IsFirst w l z) (sym (one_more i z within here))
+      (IsFirst-takes w (take (i + 1) found) c z is (is_preferred-to w z c takes))
 
   -- the choice among all
-  pub choice-all : (w : Match → ℕ) (i : ℕ) (c : Match) → length rest ≤ i → IsChoice w (take (i + 1) found) c
+  pub choice-all : (w : Match → ℕ) (i : ℕ) (c : Match) → length rest ≤ i → IsFirst w (take (i + 1) found) c
       → choice_by w found ≡ Some c
   choice-all w i c past is =
       choice-found w found c
-      (subst (λ l. IsChoice w l c) (take_all (i + 1) found (omega (arith, ap length place))) is)
+      (subst (λ l. IsFirst w l c) (take_all (i + 1) found (omega (arith, ap length place))) is)

@@ -1,3 +1,4 @@
 pub mod ShortNumbers
 pub mod Worths
+pub mod Preferring
 pub mod Choices

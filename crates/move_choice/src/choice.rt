@@ -2,7 +2,7 @@
 
 ghost use Rattle.std.specs.Prelude.{◌≡◌, ◌<◌, ◌↔◌, [], length, Contains, IsNone};
 ghost use Rattle.match_rules.specs.declared.found.Match.{Match};
-ghost use Rattle.move_choice.specs.Choice.{worth_at, choice_of};
+ghost use Rattle.move_choice.specs.Choice.{worth_at, comes_before, is_preferred, choice_of};
 
 use crate::worth::worth_of;
 use match_rules::Match;
@@ -16,9 +16,31 @@ fn worth_at(patterns: &[Pattern], found: &Match) -> u32
     worth_of(&patterns[usize::from(found.pattern)])
 }
 
-/// The match that is chosen: the first one, in the order of the list, among those of the greatest worth. The worth of a
-/// match is that of its pattern; `patterns` is the list in which matches name theirs. None exactly where `found` is
-/// empty. It takes no memory.
+/// Whether `y` comes before `z`: by the pattern's number, then by the transformation, then by the point.
+fn comes_before(y: &Match, z: &Match) -> bool
+    ensures { result ≡ comes_before y.now z.now }
+{
+    y.pattern < z.pattern
+        || y.pattern == z.pattern
+            && (y.transform.get() < z.transform.get()
+                || y.transform.get() == z.transform.get() && y.at < z.at)
+}
+
+/// Whether `y` is preferred to `z`: it is worth more, or it is worth as much and comes before `z`.
+fn is_preferred(patterns: &[Pattern], y: &Match, z: &Match) -> bool
+    requires y { y.now.pattern < length patterns.now }
+    requires z { z.now.pattern < length patterns.now }
+    ensures { result ≡ is_preferred (worth_at patterns.now) y.now z.now }
+{
+    let worth = worth_at(patterns, y);
+    let other = worth_at(patterns, z);
+    other < worth || worth == other && comes_before(y, z)
+}
+
+/// The match that is chosen: of those of the greatest worth the first one in the order of matches (by the pattern's
+/// number, then by the transformation, then by the point), wherever it stands in `found`. The worth of a match is that
+/// of its pattern; `patterns` is the list in which matches name theirs. `None` exactly if `found` is empty. It takes no
+/// memory.
 pub fn choose(patterns: &[Pattern], found: &[Match]) -> Option<Match>
     requires { (z : Match) → Contains found.now z → z.pattern < length patterns.now }
     ensures choice { result ≡ choice_of patterns.now found.now }
@@ -26,12 +48,9 @@ pub fn choose(patterns: &[Pattern], found: &[Match]) -> Option<Match>
 {
     let (first, rest) = found.split_first()?;
     let mut choice = *first;
-    let mut greatest = worth_at(patterns, first);
     for z in rest {
-        let worth = worth_at(patterns, z);
-        if greatest < worth {
+        if is_preferred(patterns, z, &choice) {
             choice = *z;
-            greatest = worth;
         }
     }
     Some(choice)

@@ -1,59 +1,59 @@
-use Rattle.std.proofs.Common.{◌+◌, take, sym, ap, ◌∙◌, subst, arith}
-use Rattle.move_choice.specs.Choice.{worth_at, choice_of, IsChoice}
-use Rattle.move_choice.proofs.Choices.{choice-empty, first_among, among, IsChoice-first, IsChoice-keeps_more}
-use Rattle.move_choice.proofs.Choices.{IsChoice-takes_more, choice-all}
+use Rattle.std.proofs.Common.{◌+◌, ◌<◌, length, take, sym, ◌∙◌, subst}
+use Rattle.match_rules.specs.declared.found.Match.{Match}
+use Rattle.move_choice.specs.Choice.{worth_at, choice_of}
+use Rattle.move_choice.proofs.Choices.{choice-empty, first_among, among, IsFirst, IsFirst-first, IsFirst-keeps_more}
+use Rattle.move_choice.proofs.Choices.{IsFirst-takes_more, choice-all}
 use Rattle.move_choice.proofs.choice.choose.Goals as goal
-use Rattle.move_choice.proofs.choice.choose.Goals.{then-greatest-worth, else-greatest-worth}
+use Rattle.move_choice.proofs.choice.choose.Goals.{then-is_preferred, else-is_preferred}
 
 -- there is no match
 pub returns-in_err-first-clause-choice : goal.returns-in_err-first-clause-choice
 returns-in_err-first-clause-choice c =
     c.from_residual.ensures ∙ sym (choice-empty c.args.patterns.now c.args.found.now c.in_err-first.ensures.cases)
 
--- the first is one of the matches
-pub worth_at-greatest-requires : goal.worth_at-greatest-requires
-worth_at-greatest-requires c =
-    c.requires c.in_ok-first.first.now
-    (first_among c.args.found.now c.in_ok-first.rest.now c.in_ok-first.first.now c.in_ok-first.ensures.cases.0)
-
 -- the first alone is the choice
 pub loop-z-init : goal.loop-z-init
 loop-z-init c = record {
-  worth = c.worth_at-greatest.ensures;
+  named =
+      c.requires c.in_ok-first.first.now
+      (first_among c.args.found.now c.in_ok-first.rest.now c.in_ok-first.first.now c.in_ok-first.ensures.cases.0);
   is =
-      IsChoice-first c.args.found.now c.in_ok-first.rest.now c.in_ok-first.first.now c.in_ok-first.ensures.cases.0
+      IsFirst-first c.args.found.now c.in_ok-first.rest.now c.in_ok-first.first.now c.in_ok-first.ensures.cases.0
       (worth_at c.args.patterns.now);
 }
 
--- so is one of the rest
-pub worth_at-worth-requires : goal.worth_at-worth-requires
-worth_at-worth-requires c =
+-- each of the rest is one of the matches
+pub is_preferred-requires-clause-y : goal.is_preferred-requires-clause-y
+is_preferred-requires-clause-y c =
     c.requires c.z-item.result
     (among c.args.found.now c.in_ok-first.rest.now c.in_ok-first.first.now c.in_ok-first.ensures.cases.0
     c.loop-z.z-index c.z-item.result c.loop-z-test.true c.z-item.is)
 
--- it is the choice where it is worth more
+-- a match that is preferred is the choice from then on
 pub loop-z-preserved : goal.loop-z-preserved
 loop-z-preserved c =
     let z = c.z-item.result in
     let worth = worth_at c.args.patterns.now in
     let place = c.in_ok-first.ensures.cases.0 in
-    elim c.if-greatest-worth.branch [
-      | then-greatest-worth w ↦ record {
-        worth = w.greatest-is ∙ c.worth_at-worth.ensures ∙ ap worth (sym w.choice-is);
+    let up_to = take (c.loop-z.z-index + 1 + 1) c.args.found.now in
+    elim c.if-is_preferred.branch [
+      | then-is_preferred w ↦ record {
+        named = subst (λ (m : Match). m.pattern < length c.args.patterns.now) (sym w.choice-is) (c.requires z
+            (among c.args.found.now c.in_ok-first.rest.now c.in_ok-first.first.now place c.loop-z.z-index z
+            c.loop-z-test.true c.z-item.is));
         is =
-            subst (IsChoice worth (take (c.loop-z.z-index + 1 + 1) c.args.found.now)) (sym w.choice-is)
-            (IsChoice-takes_more c.args.found.now c.in_ok-first.rest.now c.in_ok-first.first.now place worth
+            subst (IsFirst worth up_to) (sym w.choice-is)
+            (IsFirst-takes_more c.args.found.now c.in_ok-first.rest.now c.in_ok-first.first.now place worth
             c.loop-z.z-index c.loop-z.choice z c.loop-z-test.true c.z-item.is c.loop-z.invariant.is
-            (omega (arith, c.loop-z.invariant.worth, c.worth_at-worth.ensures)));
+            (sym c.is_preferred.ensures ∙ w.if-is_preferred.true));
       }
-      | else-greatest-worth w ↦ record {
-        worth = w.greatest-is ∙ c.loop-z.invariant.worth ∙ ap worth (sym w.choice-is);
+      | else-is_preferred w ↦ record {
+        named = subst (λ (m : Match). m.pattern < length c.args.patterns.now) (sym w.choice-is) c.loop-z.invariant.named;
         is =
-            subst (IsChoice worth (take (c.loop-z.z-index + 1 + 1) c.args.found.now)) (sym w.choice-is)
-            (IsChoice-keeps_more c.args.found.now c.in_ok-first.rest.now c.in_ok-first.first.now place worth
+            subst (IsFirst worth up_to) (sym w.choice-is)
+            (IsFirst-keeps_more c.args.found.now c.in_ok-first.rest.now c.in_ok-first.first.now place worth
             c.loop-z.z-index c.loop-z.choice z c.loop-z-test.true c.z-item.is c.loop-z.invariant.is
-            (omega (arith, c.loop-z.invariant.worth, c.worth_at-worth.ensures)));
+            (sym c.is_preferred.ensures ∙ w.if-is_preferred.false));
       }
     ]
 
