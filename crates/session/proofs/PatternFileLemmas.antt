@@ -72,9 +72,7 @@ IsJoined-next f contents words i word text new within is so_far adds =
           (joined_text-next so_far.texts adds.text);
     }
 
--- Why files were not opened.
-module _ (known : List (List ℕ)) (contents : List ℕ → Option (List ℕ)) (names : List (List ℕ)) (most : ℕ) where
--- Which names are missed then.
+-- Which names are missed when files were not opened.
 module _ (names before now : List (List ℕ)) where
   -- a file could not be loaded
   pub missed-unloaded : (cause : LoadError) → MissedBy names before now cause → MissedIn names before now
