@@ -2,11 +2,12 @@
 use Rattle.std.specs.Prelude.{ℕ, Bool, List, Option, Result, take, MatchResult}
 use Rattle.std.specs.Io.KnownBytes.{Appends}
 
--- a `StdSource`: its reader, how many bytes the last call gave, and how many calls failed
+-- a `StdSource`: its reader, how many bytes the last call gave, how many calls failed, and whether the last one did
 pub record SourceState (R : Type 0) : Type 0 where
   pub reader : R
   pub piece : ℕ
   pub faults : ℕ
+  pub failed : Bool
 
 -- a `StdSink`: its writer, how many calls failed, and whether the last one did
 pub record SinkState (W : Type 0) : Type 0 where

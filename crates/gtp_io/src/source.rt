@@ -1,5 +1,5 @@
 //! Where bytes come from.
-ghost use Rattle.std.specs.Prelude.{List, Option, ℕ};
+ghost use Rattle.std.specs.Prelude.{◌≡◌, Bool, List, Option, ℕ, is_err};
 ghost use Rattle.std.specs.Io.{ReadsAtMost};
 ghost use Rattle.std.specs.Io.KnownBytes.{ReadConsumes};
 ghost use Rattle.gtp_io.specs.Outside.{IsCounted, Gave};
@@ -17,6 +17,9 @@ pub trait Source {
     /// How often the source has failed, up to the greatest value of a u64.
     ghost faults: { Self → ℕ };
 
+    /// Whether the source's last call failed.
+    ghost failed: { Self → Bool };
+
     /// Gives the next bytes of what is left, at most as many as the buffer holds, and says how many.
     ///
     /// 0 for a buffer that is not empty is the end. A call that answers Failed takes no byte.
@@ -24,5 +27,6 @@ pub trait Source {
         ensures bound { ReadsAtMost result buf.new }
         ensures bytes { ReadConsumes (left self.old) (left self.new) result buf.new }
         ensures piece { Gave (piece self.new) result }
-        ensures cause { IsCounted (faults self.old) (faults self.new) result };
+        ensures cause { IsCounted (faults self.old) (faults self.new) result }
+        ensures last { failed self.new ≡ is_err result };
 }

@@ -1,5 +1,5 @@
 //! The source.
-ghost use Rattle.std.specs.Prelude.{◌≡◌, Some};
+ghost use Rattle.std.specs.Prelude.{◌≡◌, Some, false, is_err};
 ghost use Rattle.std.specs.Io.{ReadsAtMost};
 ghost use Rattle.std.specs.Io.KnownBytes.{ReadConsumes};
 ghost use Rattle.gtp_io.specs.Outside.{Gave, IsCounted};
@@ -46,11 +46,14 @@ impl Source for Workload {
 
     ghost faults = { λ _. 0 };
 
+    ghost failed = { λ _. false };
+
     fn next(&mut self, buf: &mut [u8]) -> Result<usize, Failed>
         ensures bound { ReadsAtMost result buf.new }
         ensures bytes { ReadConsumes (Some self.old.left) (Some self.new.left) result buf.new }
         ensures piece { Gave self.new.piece result }
         ensures cause { IsCounted 0 0 result }
+        ensures last { false ≡ is_err result }
     {
         self.rest.ready();
         self.piece = self.rest.give(buf);
