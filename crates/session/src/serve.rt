@@ -1,5 +1,6 @@
 //! The loops of a run: the lines of a piece, and the pieces of a source.
 ghost use Rattle.std.specs.Prelude.{◌≡◌, ◌≤◌, ◌<◌, true, false, None, [], ◌∷◌, length, take, IfOk, IfErr, OnOk, OnErr};
+ghost use Rattle.std.specs.Prelude.{is_err};
 ghost use Rattle.std.specs.Io.{ReadsAtMost};
 ghost use Rattle.std.specs.Io.KnownBytes.{ReadConsumes};
 ghost use Rattle.gtp_io.specs.Outside.{IsCounted, Gave};
@@ -287,6 +288,7 @@ fn next_piece<S: Source>(input: &mut S, buf: &mut [u8], room: usize) -> Result<u
     ensures bytes { ReadConsumes (S.left input.old) (S.left input.new) result buf.new }
     ensures piece { Gave (S.piece input.new) result }
     ensures cause { IsCounted (S.faults input.old) (S.faults input.new) result }
+    ensures last { S.failed input.new ≡ is_err result }
 {
     let most = room.min(buf.len());
     input.next(&mut buf[..most])
@@ -325,6 +327,7 @@ pub(crate) fn serve<L: Loader, S: Source, K: Sink>(
     ensures contents { L.contents files.new ≡ L.contents files.old }
     ensures input { IsCauseOf (result.end ≡ End.InputFault) (S.faults input.old) (S.faults input.new) }
     ensures output { IsCauseOf (result.end ≡ End.OutputFault) (K.faults output.old) (K.faults output.new) }
+    ensures last_read { result.end ≡ End.InputFault → S.failed input.new ≡ true }
     ensures last { result.end ≡ End.OutputFault → K.failed output.new ≡ true }
 {
     let mut outbox = Outbox::new();

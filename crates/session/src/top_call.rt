@@ -88,6 +88,7 @@ fn serve_lines<L: Loader, S: Source, K: Sink>(
     ensures contents { L.contents files.new ≡ L.contents files.old }
     ensures input { IsCauseOf (result.end ≡ End.InputFault) (S.faults input.old) (S.faults input.new) }
     ensures output { IsCauseOf (result.end ≡ End.OutputFault) (K.faults output.old) (K.faults output.new) }
+    ensures last_read { result.end ≡ End.InputFault → S.failed input.new ≡ true }
     ensures last { result.end ≡ End.OutputFault → K.failed output.new ≡ true }
 {
     let Opened { session, lines } = opened;
@@ -120,6 +121,7 @@ fn run_options<L: Loader, S: Source, K: Sink>(
     ensures same { L.contents files.new ≡ L.contents files.old }
     ensures input { IsCauseOf (result.outcome ≡ Outcome.InputFault) (S.faults input.old) (S.faults input.new) }
     ensures output { IsCauseOf (result.outcome ≡ Outcome.OutputFault) (K.faults output.old) (K.faults output.new) }
+    ensures last_read { result.outcome ≡ Outcome.InputFault → S.failed input.new ≡ true }
     ensures last { result.outcome ≡ Outcome.OutputFault → K.failed output.new ≡ true }
 {
     let mut opened = match open(alloc, tree, options, files, helpers) {
@@ -161,6 +163,7 @@ fn run_helped<L: Loader, S: Source, K: Sink>(
     ensures same { L.contents files.new ≡ L.contents files.old }
     ensures input { IsCauseOf (result.outcome ≡ Outcome.InputFault) (S.faults input.old) (S.faults input.new) }
     ensures output { IsCauseOf (result.outcome ≡ Outcome.OutputFault) (K.faults output.old) (K.faults output.new) }
+    ensures last_read { result.outcome ≡ Outcome.InputFault → S.failed input.new ≡ true }
     ensures last { result.outcome ≡ Outcome.OutputFault → K.failed output.new ≡ true }
 {
     match Helpers::new(alloc, helpers) {
@@ -191,6 +194,7 @@ fn run_unnoted<L: Loader, S: Source, K: Sink>(
     ensures same { L.contents files.new ≡ L.contents files.old }
     ensures input { IsCauseOf (result.outcome ≡ Outcome.InputFault) (S.faults input.old) (S.faults input.new) }
     ensures output { IsCauseOf (result.outcome ≡ Outcome.OutputFault) (K.faults output.old) (K.faults output.new) }
+    ensures last_read { result.outcome ≡ Outcome.InputFault → S.failed input.new ≡ true }
     ensures last { result.outcome ≡ Outcome.OutputFault → K.failed output.new ≡ true }
 {
     match read_options(alloc, words) {
@@ -240,6 +244,8 @@ pub fn run<L: Loader, S: Source, K: Sink, D: Sink>(
         (streams (S.left input.new) (S.piece input.new) (S.faults input.new) (K.written output.new)
         (K.faults output.new)) (D.written notes.new) (D.faults notes.new))
         result }
+    // A fault of the input was its last call.
+    ensures last_read { result ≡ Outcome.InputFault → S.failed input.new ≡ true }
     // A fault of the output was its last call.
     ensures last { result ≡ Outcome.OutputFault → K.failed output.new ≡ true }
 {
@@ -276,6 +282,8 @@ pub fn run_in<L: Loader, S: Source, K: Sink, D: Sink>(
         (streams (S.left input.new) (S.piece input.new) (S.faults input.new) (K.written output.new)
         (K.faults output.new)) (D.written notes.new) (D.faults notes.new))
         result }
+    // A fault of the input was its last call.
+    ensures last_read { result ≡ Outcome.InputFault → S.failed input.new ≡ true }
     // A fault of the output was its last call.
     ensures last { result ≡ Outcome.OutputFault → K.failed output.new ≡ true }
 {
@@ -303,6 +311,8 @@ pub fn run_words<L: Loader, S: Source, K: Sink, D: Sink>(
         (streams (S.left input.new) (S.piece input.new) (S.faults input.new) (K.written output.new)
         (K.faults output.new)) (D.written notes.new) (D.faults notes.new))
         result }
+    // A fault of the input was its last call.
+    ensures last_read { result ≡ Outcome.InputFault → S.failed input.new ≡ true }
     // A fault of the output was its last call.
     ensures last { result ≡ Outcome.OutputFault → K.failed output.new ≡ true }
 {
