@@ -1,13 +1,10 @@
-//! What the programs `gopat` and `gopat_wide` are but for the tree that they read: it answers the lines of the protocol
-//! on standard input, by the patterns of the files that the words of the command line name. The patterns may name the
-//! helpers `near_edge` and `no_ban`.
+//! What the programs `gopat` and `gopat_wide` share: the words of the command line, and the helpers `near_edge` and
+//! `no_ban`, which patterns may name.
 #![tactic(auto)]
 
-use gtp_io::{FileLoader, StdSink, StdSource};
 use helpers::{Helper, NearEdge, NoBan};
-use read_rules::Tree;
-use session::{WordsError, run_words};
-use std::process::ExitCode;
+use session::WordsError;
+use std::alloc::{AllocError, Global};
 use std::rt::Env;
 use std::{env, io};
 
@@ -34,31 +31,21 @@ fn words<R: Env + AllocGlobal>(rt: &R) -> Result<Vec<String>, WordsError> {
     Ok(words)
 }
 
-/// Runs the program, whose readings are in this tree, and gives the exit status that its outcome says.
-pub fn run_program(rt: HostRuntime, tree: Tree) -> ExitCode {
-    let alloc = rt.alloc();
+// The helpers `near_edge` and `no_ban`.
+fn helpers(alloc: Global) -> Result<Vec<Box<dyn Helper>>, AllocError> {
     let mut helpers: Vec<Box<dyn Helper>> = Vec::new(alloc);
-    let mut has_all = false;
-    if let (Ok(near_edge), Ok(no_ban)) = (
-        Box::new(alloc, NearEdge::new()),
-        Box::new(alloc, NoBan::new()),
-    ) {
-        has_all = helpers.push(near_edge).is_ok() && helpers.push(no_ban).is_ok();
+    helpers.push(Box::new(alloc, NearEdge::new())?)?;
+    helpers.push(Box::new(alloc, NoBan::new())?)?;
+    Ok(helpers)
+}
+
+/// The words of the command line without the program's name, and the helpers. Where memory for the helpers is not
+/// found, the words tell that.
+pub fn words_and_helpers<R: Env + AllocGlobal>(
+    rt: &R,
+) -> (Result<Vec<String>, WordsError>, Vec<Box<dyn Helper>>) {
+    match helpers(rt.alloc()) {
+        Ok(helpers) => (words(rt), helpers),
+        Err(_) => (Err(WordsError::NoMemory), Vec::new(rt.alloc())),
     }
-    let words = if has_all {
-        words(&rt)
-    } else {
-        Err(WordsError::NoMemory)
-    };
-    let outcome = run_words(
-        alloc,
-        tree,
-        words,
-        &mut FileLoader::new(alloc, &rt),
-        &mut StdSource::new(rt.stdin()),
-        &mut StdSink::new(rt.stdout()),
-        &mut StdSink::new(rt.stderr()),
-        helpers,
-    );
-    ExitCode::from(outcome.code())
 }

@@ -13,4 +13,4 @@ mod top_call;
 
 pub use engine::{Engine, Reply, Session, Slow, Work};
 pub use outcome::{End, OpenError, Outcome, WordsError};
-pub use top_call::{run, run_in, run_words};
+pub use top_call::{run, run_in, run_words, run_words_in};

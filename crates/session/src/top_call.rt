@@ -4,6 +4,7 @@ ghost use Rattle.std.specs.Prelude.{string_bytes};
 ghost use Rattle.session.specs.Headline.{Came, IsCauseOf, MissedAfter, Runs, RunsHad, RunsIn};
 ghost use Rattle.session.specs.Headline.{files_in, outside};
 ghost use Rattle.session.specs.Ends.{streams};
+ghost use Rattle.read_rules.specs.declared.tree.Tree.TheVariants.{Stated};
 ghost use Rattle.session.specs.FirstSession.{CameBy, EndsCounting};
 ghost use Rattle.session.specs.Serving.{progress_of};
 ghost use Rattle.go_options.specs.Found.{AreInRange, IsIn};
@@ -294,6 +295,41 @@ pub fn run_in<L: Loader, S: Source, K: Sink, D: Sink>(
 
 /// The same for words that perhaps could not be had: then nothing is loaded, taken or put, and the notes say why.
 pub fn run_words<L: Loader, S: Source, K: Sink, D: Sink>(
+    alloc: Global,
+    words: Result<Vec<String>, WordsError>,
+    files: &mut L,
+    input: &mut S,
+    output: &mut K,
+    notes: &mut D,
+    helpers: Vec<Box<dyn Helper>>,
+) -> Outcome
+    ensures runs { RunsHad Stated (handed state helpers.items) (λ words. map string_bytes words.items) words
+        (outside (L.contents files.old) (L.missed files.old)
+        (streams (S.left input.old) (S.piece input.old) (S.faults input.old) (K.written output.old)
+        (K.faults output.old)) (D.written notes.old) (D.faults notes.old))
+        (outside (L.contents files.new) (L.missed files.new)
+        (streams (S.left input.new) (S.piece input.new) (S.faults input.new) (K.written output.new)
+        (K.faults output.new)) (D.written notes.new) (D.faults notes.new))
+        result }
+    // A fault of the input was its last call.
+    ensures last_read { result ≡ Outcome.InputFault → S.failed input.new ≡ true }
+    // A fault of the output was its last call.
+    ensures last { result ≡ Outcome.OutputFault → K.failed output.new ≡ true }
+{
+    run_words_in(
+        alloc,
+        Tree::Stated,
+        words,
+        files,
+        input,
+        output,
+        notes,
+        helpers,
+    )
+}
+
+/// The same run for words that perhaps could not be had, whose readings are in this tree.
+pub fn run_words_in<L: Loader, S: Source, K: Sink, D: Sink>(
     alloc: Global,
     tree: Tree,
     words: Result<Vec<String>, WordsError>,

@@ -3,7 +3,6 @@ use super::runs::{CASE, Case, MEMORY, ROOM, WHOLE, Way, assert_cases, words};
 use crate::run_surely;
 use crate::sessions::File;
 use gtp_io::{Page, SureFeed, SurePage, SureShelf};
-use read_rules::Tree;
 use session::{WordsError, run_words};
 
 /// Why the words could not be had, the exit status, and the note.
@@ -23,7 +22,6 @@ fn words_that_could_not_be_had_are_told(rt: HostRuntime) {
         let mut notes = Page::new(alloc, ROOM, ROOM, Vec::new(alloc)).expect(&rt, MEMORY);
         let outcome = run_words(
             alloc,
-            Tree::Stated,
             Err(error),
             &mut SureShelf::new(Vec::new(alloc), Vec::new(alloc)),
             &mut SureFeed::new(Vec::from_slice(alloc, b"name\n").expect(&rt, MEMORY), 5),
