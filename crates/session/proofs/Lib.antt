@@ -1,6 +1,7 @@
 pub mod CertainHits
 pub mod FewPatterns
 pub mod PatternFileLemmas
+pub mod PlainRuns
 pub mod PlainSessions
 pub mod ReplyBytes
 pub mod RunCounts

@@ -29,7 +29,8 @@ use Rattle.engine.specs.AfterLine.{ReadsAs, ReadsNothing, IsAfterLine, after_tri
 use Rattle.machine_rules.specs.Turns.{Turn, IsAlong}
 use Rattle.session.specs.Tallies.{Tally, IsTallied, BreaksOff, one_turn}
 use Rattle.session.specs.Ends.{Streams, Serves, AreTallied, IsRight, most_taken}
-use Rattle.session.specs.Headline.{ServesLines, AreCountsOf}
+use Rattle.session.specs.CountedRuns.{AreCountsOf}
+use Rattle.session.specs.Headline.{ServesLines}
 use Rattle.machine_rules.specs.CertainHit.{HaveCertainHits}
 use Rattle.session.specs.declared.outcome.End.{End}
 use Rattle.session.specs.declared.outcome.End.TheVariants.{Done, InputFault, OutputFault, InputTooLong}

@@ -6,6 +6,7 @@ use Rattle.std.specs.Prelude.{option_map}
 use Rattle.std.specs.List.{flat_map}
 use Rattle.gtp_lex.specs.Lines.{LinesState}
 use Rattle.go_options.specs.declared.options.Options.{Options}
+use Rattle.run_notes.specs.Notes.{counts_line}
 use Rattle.run_notes.specs.declared.notes.Counts.{Counts}
 use Rattle.run_notes.specs.declared.notes.Sent.{Sent}
 use Rattle.machine_rules.specs.Machine.{Machine}
@@ -28,7 +29,8 @@ use Rattle.session.specs.PatternFiles.{IsRefused, MissedIn}
 use Rattle.session.specs.FirstSession.{Opens, CameBy, ServesCounting, EndsCounting}
 use Rattle.session.specs.Outcomes.{Phase, NotOpened, Served}
 use Rattle.session.specs.Ends.{Streams, streams, IsRight, Serves, most_taken}
-use Rattle.session.specs.Headline.{AreCounts, AreCountsOf, IsSent, IsCauseOf, MissedAfter, ServesGenerated}
+use Rattle.session.specs.CountedRuns.{AreCounts, AreCountsOf}
+use Rattle.session.specs.Headline.{IsSent, IsCauseOf, MissedAfter, ServesGenerated}
 use Rattle.session.specs.Serving.{progress_of}
 use Rattle.session.specs.declared.outcome.End.{End}
 use Rattle.session.specs.declared.outcome.End.TheVariants.{InputTooLong}
@@ -47,6 +49,12 @@ sent-told : {M : Type 0} (generate : Option ℕ) (sent : Sent) (tally : Tally M)
     → sent.bytes ≡ kept_sum 0 (length tally.out) → IsSent generate (option_map (λ _. sent) generate) tally
 sent-told None sent tally lines bytes = refl
 sent-told (Some n) sent tally lines bytes = (lines, bytes)
+
+-- the notes tell no counts unless the options ask for them
+uncounted-told : (asked : Bool) (counts : Counts) (told : Option Counts) → told ≡ cond asked (Some counts) None
+    → asked ≡ false → counts_line told ≡ []
+uncounted-told asked counts told tells unasked =
+    ap counts_line (tells ∙ ap (λ a. cond a (Some counts) None) unasked)
 
 -- so what is noted where the options ask for the counts are those of the lines
 counts-noted : (asked : Bool) (capacity : ℕ) (counts kept : Counts) (told : Option Counts) (tally : Tally Machine)
@@ -91,17 +99,20 @@ came-served tree helpers slots contents options session lines missed now before 
     let are = counts_of (kept_with slots missed session) kept counting.tally.turns counting.advances.along
     opens.plain.counts lines options.cache opens.plain.readings opens.plain.links opens.plain.room in
     subst (CameBy tree helpers options contents missed now before after told noted) (sym is) (record {
-      patterns = opens.patterns;
-      opened = opens.opened;
-      tally = counting.tally;
-      serves = ServesLines-plain opens.patterns (depths_in tree options) options.cache session slots helpers
-          contents options.generate before after end counting.tally opens.plain opens.same counting.serves;
-      names = ends.names
-          ∙ missed_along counting.tally.turns (kept_with slots missed session) kept counting.advances.along;
+      served = record {
+        patterns = opens.patterns;
+        opened = opens.opened;
+        tally = counting.tally;
+        serves = ServesLines-plain opens.patterns (depths_in tree options) options.cache session slots helpers
+            contents options.generate before after end counting.tally opens.plain opens.same counting.serves;
+        names = ends.names
+            ∙ missed_along counting.tally.turns (kept_with slots missed session) kept counting.advances.along;
+        uncounted = uncounted-told options.stats counts told tells;
+        told = sent-noted options.generate sent counting.tally noted notes counting.advances.replies
+            counting.advances.bytes;
+      };
       counted = counts-noted options.stats options.cache counts kept.engine.counts told counting.tally tells ends.same
           are;
-      told = sent-noted options.generate sent counting.tally noted notes counting.advances.replies
-          counting.advances.bytes;
     })
 
 -- the same where the files were opened before, which leaves what files hold and which names were missed
@@ -231,7 +242,10 @@ module _ (options : Options) (error : OpenError) (phase : Phase) (is : phase ≡
       → CameBy tree helpers options contents missed now before before counts sent phase
   came-unopened tree helpers contents missed now before counts sent refused uncounted unsent =
       subst (CameBy tree helpers options contents missed now before before counts sent) (sym is)
-      (refused, record { streams = refl; uncounted = uncounted; unsent = unsent })
+      (refused, record {
+        untouched = record { streams = refl; uncounted = ap counts_line uncounted; unsent = unsent };
+        uncounted = uncounted;
+      })
 
   -- the names missed are as the error says
   pub missed-unopened : (before now : List (List ℕ)) → MissedIn options.files before now error

@@ -15,7 +15,8 @@ use Rattle.engine.specs.EngineView.{EngineView, machine_with, matcher_of, no_cou
 use Rattle.session.specs.PatternFiles.{IsOpened, IsRefused}
 use Rattle.session.specs.Outcomes.{Phase, NotTaken, NotOpened, Served}
 use Rattle.session.specs.Ends.{Streams}
-use Rattle.session.specs.Headline.{ServesLines, IsServed, IsUntouched}
+use Rattle.session.specs.CountedRuns.{IsServedCounted, IsUncounted}
+use Rattle.session.specs.Headline.{ServesLines}
 use Rattle.machine_rules.specs.Turns.{Turn}
 use Rattle.read_cache.specs.Keeping.{first_keeping}
 use Rattle.session.specs.Tallies.{Tally, Progress, Advances}
@@ -53,9 +54,9 @@ abbrev pub CameBy : Tree → List SlotState → Options → Contents → List (L
     → Option Counts → Option Sent → Phase → Type 0
 CameBy tree helpers options contents missed now before after counts sent NotTaken = ⊥
 CameBy tree helpers options contents missed now before after counts sent (NotOpened error) =
-    IsRefused (helper_names helpers) contents options.files options.states error × IsUntouched before after counts sent
+    IsRefused (helper_names helpers) contents options.files options.states error × IsUncounted before after counts sent
 CameBy tree helpers options contents missed now before after counts sent (Served end) =
-    IsServed tree helpers options contents missed now before after end counts sent
+    IsServedCounted tree helpers options contents missed now before after end counts sent
 
 -- the lines were served with a tally, by which the counts rose, and along which what is kept went on
 pub record ServesCounting {M : Type 0} (generate : Option ℕ) (step : M → RawLine → Step M → Type 0)

@@ -1,5 +1,5 @@
 -- The claim of `run`: by its outcome, what its files are, what it took from its source, put on its output and noted.
-use Rattle.std.specs.Prelude.{◌≡◌, ◌≢◌, ◌⊎◌, ℕ, ◌+◌, ◌<◌, ◌≤◌, Bool, true, false, MatchBool, List, [], ◌++◌, length}
+use Rattle.std.specs.Prelude.{◌≡◌, ◌≢◌, ◌⊎◌, ℕ, ◌+◌, ◌<◌, ◌≤◌, Bool, true, false, List, [], ◌++◌, length}
 use Rattle.std.specs.Prelude.{Option, Some, None, IsSomeAnd, MatchOption, Result, Ok, Err, codes}
 use Rattle.std.specs.List.{flat_map}
 use Rattle.gtp_io.specs.Outside.{Rose}
@@ -7,22 +7,14 @@ use Rattle.gtp_rules.specs.Lines.{RawLine}
 use Rattle.gtp_rules.specs.Steps.{Step}
 use Rattle.pat_types.specs.declared.pattern.Pattern.{Pattern}
 use Rattle.helpers.specs.HelperStates.{SlotState}
-use Rattle.machine_rules.specs.LinkQuestions.{connections_in}
 use Rattle.machine_rules.specs.Loads.{missed_in}
 use Rattle.machine_rules.specs.Files.{Contents}
 use Rattle.machine_rules.specs.Machine.{Machine, first_machine}
 use Rattle.machine_rules.specs.Matcher.{plain_matcher}
 use Rattle.machine_rules.specs.Step.{step}
-use Rattle.machine_rules.specs.Turns.{Turn, IsAlong}
-use Rattle.read_cache.specs.Keeping.{first_keeping}
-use Rattle.machine_rules.specs.Counting.{readings_in}
-use Rattle.machine_rules.specs.Questions.{AskNothing}
-use Rattle.engine.specs.AfterLine.{IsAfterLine, of_readings}
-use Rattle.engine.specs.Kept.{Kept}
-use Rattle.engine.specs.EngineView.{no_counts, depths_in}
+use Rattle.engine.specs.EngineView.{depths_in}
 use Rattle.read_rules.specs.declared.tree.Tree.{Tree}
 use Rattle.read_rules.specs.declared.tree.Tree.TheVariants.{Stated}
-use Rattle.machine_rules.specs.CertainHit.{HaveCertainHits}
 use Rattle.session.specs.Tallies.{Tally, kept_sum}
 use Rattle.session.specs.Ends.{Streams, Serves}
 use Rattle.session.specs.PatternFiles.{IsOpened, IsRefused, MissedIn}
@@ -32,9 +24,8 @@ use Rattle.go_options.specs.CommandLine.{is_taken, rows_in}
 use Rattle.go_options.specs.Found.{AreFound, words_in}
 use Rattle.go_options.specs.declared.options.Options.{Options}
 use Rattle.workload.specs.GeneratedLines.{generated_text}
-use Rattle.run_notes.specs.Notes.{notes_text}
+use Rattle.run_notes.specs.Notes.{sent_line}
 use Rattle.run_notes.specs.Putting.{IsNoted}
-use Rattle.run_notes.specs.declared.notes.Counts.{Counts}
 use Rattle.run_notes.specs.declared.notes.Sent.{Sent}
 use Rattle.session.specs.declared.outcome.OpenError.{OpenError}
 use Rattle.session.specs.declared.outcome.OpenError.TheVariants as open_error
@@ -94,37 +85,6 @@ abbrev pub ServesLines : {M : Type 0} → Option ℕ → (M → RawLine → Step
 ServesLines None step first before after end tally = Serves step first before after end tally
 ServesLines (Some n) step first before after end tally = ServesGenerated n step first before after end tally
 
--- A session that had counted and kept nothing, and may keep this many questions, and as many about connections, counts
--- this after the lines.
-pub record RoseAlong (capacity : ℕ) (turns : List (Turn Machine)) (counts : Counts) : Type 0 where
-  pub first : Kept
-  pub last : Kept
-  pub uncounted : first.engine.counts ≡ no_counts
-  pub readings : first.engine.readings.answers ≡ first_keeping capacity
-  pub links : first.engine.links.answers ≡ first_keeping capacity
-  pub along : IsAlong IsAfterLine first turns last
-  pub same : counts ≡ last.engine.counts
-
--- The counts are those of these lines: each that asks for a reading and is answered with a code is counted, and no more
--- are fresh. Where no keeping was refused, a certain hit is not fresh: n of them leave only the other readings to be.
--- Without a fresh reading no play was tried, and where no line asks for a reading or for matches nothing is counted of
--- readings. Each line that asks about a connection and is answered with a result is counted, and no more are fresh. The
--- counts rose line by line, as those of a session that may keep this many questions.
-pub record AreCountsOf (capacity : ℕ) (turns : List (Turn Machine)) (counts : Counts) : Type 0 where
-  pub readings : counts.readings ≡ readings_in turns
-  pub fresh : counts.fresh ≤ counts.readings
-  pub hits : counts.refused ≡ 0 → (n : ℕ) → HaveCertainHits [] turns n → counts.fresh + n ≤ counts.readings
-  pub untried : counts.fresh ≡ 0 → counts.trials ≡ 0
-  pub idle : AskNothing turns → of_readings counts ≡ no_counts
-  pub connections : counts.links.connections ≡ connections_in turns
-  pub fresh_links : counts.links.fresh ≤ counts.links.connections
-  pub rose : RoseAlong capacity turns counts
-
--- the counts are told where they are asked for: those of the lines of the tally
-abbrev pub AreCounts : Bool → ℕ → Option Counts → Tally Machine → Type 0
-AreCounts asked capacity counts tally =
-    MatchBool asked (IsSomeAnd counts (AreCountsOf capacity tally.turns)) (counts ≡ None)
-
 -- what was sent is told where lines are generated: the replies of the tally that went out whole, and its bytes
 abbrev pub IsSent : {M : Type 0} → Option ℕ → Option Sent → Tally M → Type 0
 IsSent generate sent tally = MatchOption generate (sent ≡ None) (λ n. IsSomeAnd sent
@@ -133,9 +93,10 @@ IsSent generate sent tally = MatchOption generate (sent ≡ None) (λ n. IsSomeA
 -- The files of the options were opened, in which the helpers may be named, and the lines were served by the plain
 -- machine, which compares each diagram of their patterns with the board, reads in this tree, as deep as the options
 -- say, and asks the helpers, whose meanings never change. The names that the loader missed are those that it had
--- missed, and behind them those of the lines that were answered `cannot load file`, in their order.
+-- missed, and behind them those of the lines that were answered `cannot load file`, in their order. The notes tell no
+-- counts unless the options ask for them; which counts they tell is said by `RunsCountedIn`.
 pub record IsServed (tree : Tree) (helpers : List SlotState) (options : Options) (contents : Contents)
-    (missed : List (List ℕ)) (now : List (List ℕ)) (before after : Streams) (end : End) (counts : Option Counts)
+    (missed : List (List ℕ)) (now : List (List ℕ)) (before after : Streams) (end : End) (counts : List ℕ)
     (sent : Option Sent) : Type 0 where
   pub patterns : List Pattern
   pub opened : IsOpened (helper_names helpers) contents options.files options.states patterns
@@ -143,18 +104,18 @@ pub record IsServed (tree : Tree) (helpers : List SlotState) (options : Options)
   pub serves : ServesLines options.generate (step (plain_matcher patterns) contents)
       (first_machine helpers (depths_in tree options)) before after end tally
   pub names : now ≡ missed ++ flat_map missed_in tally.turns
-  pub counted : AreCounts options.stats options.cache counts tally
+  pub uncounted : options.stats ≡ false → counts ≡ []
   pub told : IsSent options.generate sent tally
 
--- nothing was taken, put or counted
-pub record IsUntouched (before after : Streams) (counts : Option Counts) (sent : Option Sent) : Type 0 where
+-- nothing was taken or put, and the notes tell no counts and nothing of what was sent
+pub record IsUntouched (before after : Streams) (counts : List ℕ) (sent : Option Sent) : Type 0 where
   pub streams : after ≡ before
-  pub uncounted : counts ≡ None
+  pub uncounted : counts ≡ []
   pub unsent : sent ≡ None
 
--- by how far a run came, what its words gave, what it did, and what it is to note
+-- by how far a run came, what its words gave, what it did, and what it is to note: a text of counts, and what was sent
 abbrev pub Came : Tree → List SlotState → List (List ℕ) → Contents → List (List ℕ) → List (List ℕ) → Streams → Streams
-    → Option Counts → Option Sent → Phase → Type 0
+    → List ℕ → Option Sent → Phase → Type 0
 Came tree helpers words contents missed now before after counts sent NotTaken =
     (is_taken words ≡ false) × IsUntouched before after counts sent
 Came tree helpers words contents missed now before after counts sent (NotOpened error) =
@@ -179,10 +140,11 @@ pub record IsCauseOf (fault : Type 0) (before now : ℕ) : Type 0 where
   pub rose : fault → Rose before now
   pub told : before < now → fault
 
--- what a run of these words with these helpers did that reads in a tree, by its outcome, and what it counted
+-- What a run of these words with these helpers did that reads in a tree, by its outcome. Its notes are a text of counts,
+-- then what was sent, and then the note of its outcome.
 pub record RunsIn (tree : Tree) (helpers : List SlotState) (words : List (List ℕ)) (before after : Outside)
     (outcome : Outcome) : Type 0 where
-  pub counts : Option Counts
+  pub counts : List ℕ
   pub sent : Option Sent
   pub came : Came tree helpers words before.contents before.missed after.missed before.streams after.streams counts sent
       (phase_of outcome)
@@ -191,7 +153,7 @@ pub record RunsIn (tree : Tree) (helpers : List SlotState) (words : List (List �
   pub input : IsCauseOf (outcome ≡ told.InputFault) before.streams.input_faults after.streams.input_faults
   pub output : IsCauseOf (outcome ≡ told.OutputFault) before.streams.output_faults after.streams.output_faults
   pub notes : IsNoted before.noted after.noted before.notes_faults after.notes_faults
-      (notes_text counts sent (note_of outcome))
+      (counts ++ sent_line sent ++ note_of outcome)
 
 -- what a run of these words with these helpers did that reads in the stated tree
 abbrev pub Runs : List SlotState → List (List ℕ) → Outside → Outside → Outcome → Type 0

@@ -1,3 +1,4 @@
+pub mod CountedRuns
 pub mod Ends
 pub mod FirstSession
 pub mod Headline

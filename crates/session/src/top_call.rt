@@ -1,7 +1,8 @@
 //! The top call of the program.
 ghost use Rattle.std.specs.Prelude.{◌≡◌, ◌↔◌, MatchOption, Option, None, Some, true, if◌then◌else◌, option_map, map};
 ghost use Rattle.std.specs.Prelude.{string_bytes};
-ghost use Rattle.session.specs.Headline.{Came, IsCauseOf, MissedAfter, Runs, RunsHad, RunsIn};
+ghost use Rattle.session.specs.CountedRuns.{CameCounted, RunsCounted, RunsCountedIn, RunsHadCounted};
+ghost use Rattle.session.specs.Headline.{IsCauseOf, MissedAfter, Runs, RunsHad, RunsIn};
 ghost use Rattle.session.specs.Headline.{files_in, outside};
 ghost use Rattle.session.specs.Ends.{streams};
 ghost use Rattle.read_rules.specs.declared.tree.Tree.TheVariants.{Stated};
@@ -183,8 +184,8 @@ fn run_unnoted<L: Loader, S: Source, K: Sink>(
     output: &mut K,
     helpers: Vec<Box<dyn Helper>>,
 ) -> Ran
-    ensures came { Came tree (handed state helpers.items) (map string_bytes words.now) (L.contents files.old)
-        (L.missed files.old) (L.missed files.new)
+    ensures came { CameCounted tree (handed state helpers.items) (map string_bytes words.now)
+        (L.contents files.old) (L.missed files.old) (L.missed files.new)
         (streams (S.left input.old) (S.piece input.old) (S.faults input.old) (K.written output.old)
         (K.faults output.old))
         (streams (S.left input.new) (S.piece input.new) (S.faults input.new) (K.written output.new)
@@ -245,6 +246,15 @@ pub fn run<L: Loader, S: Source, K: Sink, D: Sink>(
         (streams (S.left input.new) (S.piece input.new) (S.faults input.new) (K.written output.new)
         (K.faults output.new)) (D.written notes.new) (D.faults notes.new))
         result }
+    // The same with what the notes tell of counts.
+    ensures counted { RunsCounted (handed state helpers.items) (map string_bytes words.now)
+        (outside (L.contents files.old) (L.missed files.old)
+        (streams (S.left input.old) (S.piece input.old) (S.faults input.old) (K.written output.old)
+        (K.faults output.old)) (D.written notes.old) (D.faults notes.old))
+        (outside (L.contents files.new) (L.missed files.new)
+        (streams (S.left input.new) (S.piece input.new) (S.faults input.new) (K.written output.new)
+        (K.faults output.new)) (D.written notes.new) (D.faults notes.new))
+        result }
     // A fault of the input was its last call.
     ensures last_read { result ≡ Outcome.InputFault → S.failed input.new ≡ true }
     // A fault of the output was its last call.
@@ -283,6 +293,15 @@ pub fn run_in<L: Loader, S: Source, K: Sink, D: Sink>(
         (streams (S.left input.new) (S.piece input.new) (S.faults input.new) (K.written output.new)
         (K.faults output.new)) (D.written notes.new) (D.faults notes.new))
         result }
+    // The same with what the notes tell of counts.
+    ensures counted { RunsCountedIn tree (handed state helpers.items) (map string_bytes words.now)
+        (outside (L.contents files.old) (L.missed files.old)
+        (streams (S.left input.old) (S.piece input.old) (S.faults input.old) (K.written output.old)
+        (K.faults output.old)) (D.written notes.old) (D.faults notes.old))
+        (outside (L.contents files.new) (L.missed files.new)
+        (streams (S.left input.new) (S.piece input.new) (S.faults input.new) (K.written output.new)
+        (K.faults output.new)) (D.written notes.new) (D.faults notes.new))
+        result }
     // A fault of the input was its last call.
     ensures last_read { result ≡ Outcome.InputFault → S.failed input.new ≡ true }
     // A fault of the output was its last call.
@@ -304,6 +323,15 @@ pub fn run_words<L: Loader, S: Source, K: Sink, D: Sink>(
     helpers: Vec<Box<dyn Helper>>,
 ) -> Outcome
     ensures runs { RunsHad Stated (handed state helpers.items) (λ words. map string_bytes words.items) words
+        (outside (L.contents files.old) (L.missed files.old)
+        (streams (S.left input.old) (S.piece input.old) (S.faults input.old) (K.written output.old)
+        (K.faults output.old)) (D.written notes.old) (D.faults notes.old))
+        (outside (L.contents files.new) (L.missed files.new)
+        (streams (S.left input.new) (S.piece input.new) (S.faults input.new) (K.written output.new)
+        (K.faults output.new)) (D.written notes.new) (D.faults notes.new))
+        result }
+    // The same with what the notes tell of counts.
+    ensures counted { RunsHadCounted Stated (handed state helpers.items) (λ words. map string_bytes words.items) words
         (outside (L.contents files.old) (L.missed files.old)
         (streams (S.left input.old) (S.piece input.old) (S.faults input.old) (K.written output.old)
         (K.faults output.old)) (D.written notes.old) (D.faults notes.old))
@@ -340,6 +368,15 @@ pub fn run_words_in<L: Loader, S: Source, K: Sink, D: Sink>(
     helpers: Vec<Box<dyn Helper>>,
 ) -> Outcome
     ensures runs { RunsHad tree (handed state helpers.items) (λ words. map string_bytes words.items) words
+        (outside (L.contents files.old) (L.missed files.old)
+        (streams (S.left input.old) (S.piece input.old) (S.faults input.old) (K.written output.old)
+        (K.faults output.old)) (D.written notes.old) (D.faults notes.old))
+        (outside (L.contents files.new) (L.missed files.new)
+        (streams (S.left input.new) (S.piece input.new) (S.faults input.new) (K.written output.new)
+        (K.faults output.new)) (D.written notes.new) (D.faults notes.new))
+        result }
+    // The same with what the notes tell of counts.
+    ensures counted { RunsHadCounted tree (handed state helpers.items) (λ words. map string_bytes words.items) words
         (outside (L.contents files.old) (L.missed files.old)
         (streams (S.left input.old) (S.piece input.old) (S.faults input.old) (K.written output.old)
         (K.faults output.old)) (D.written notes.old) (D.faults notes.old))
