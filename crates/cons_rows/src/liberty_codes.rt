@@ -29,8 +29,14 @@ pub struct LibertyCodes {
 }
 
 impl LibertyCodes {
-    /// White is the friend; None where a point is off the board.
-    pub fn new(position: Position, star: Point, a: Point, b: Point) -> Option<LibertyCodes>
+    /// None if a point is off the board.
+    pub fn new(
+        position: Position,
+        friend: Colour,
+        star: Point,
+        a: Point,
+        b: Point,
+    ) -> Option<LibertyCodes>
         ensures { IfSome result (λ t. t.asked ≡ 0) }
     {
         let points = position.size().points();
@@ -39,7 +45,7 @@ impl LibertyCodes {
         }
         Some(LibertyCodes {
             position,
-            friend: Colour::White,
+            friend,
             star,
             a,
             b,

@@ -23,10 +23,10 @@ const LABELS: [LabelAt; 2] = [
     },
 ];
 
-/// White at 6 has one liberty, at 7. White at 18 has five.
+/// The friend at 6 has one liberty, at 7. The friend at 18 has five.
 const ATARI: &str = ".X...XO....X......OO.....";
 
-/// A play of Black at 6 takes 7, and White may not retake at once.
+/// A play of the enemy at 6 takes 7, and the friend may not retake at once.
 const KO: &str = ".OX..O.OX..OX............";
 
 /// The position after a stone is put, with the ban dropped.
@@ -38,19 +38,19 @@ fn played(position: &Position, colour: Colour, p: usize) -> Option<Position> {
 }
 
 /// The position after the point of a drawing that has this mark.
-fn marked(position: &Position, mark: u8, p: usize) -> Option<Position> {
+fn marked(position: &Position, friend: Colour, mark: u8, p: usize) -> Option<Position> {
     match mark {
-        b'X' => played(position, Colour::Black, p),
-        b'O' => played(position, Colour::White, p),
+        b'X' => played(position, friend.other(), p),
+        b'O' => played(position, friend, p),
         _ => Some(*position),
     }
 }
 
 /// The position of a drawing.
-fn drawn(drawing: &str) -> Option<Position> {
+fn drawn(drawing: &str, friend: Colour) -> Option<Position> {
     let mut position = Position::new(Size::new(5)?);
     for (p, mark) in drawing.bytes().enumerate() {
-        position = marked(&position, mark, p)?;
+        position = marked(&position, friend, mark, p)?;
     }
     Some(position)
 }
@@ -65,7 +65,7 @@ fn value(alloc: Global, env: &mut LibertyCodes, text: &str) -> Result<i64, ConsE
 type Row = (&'static str, [Point; 3], i64);
 
 /// Values where a stone is in atari.
-static ON_ATARI: [Row; 53] = [
+static ON_ATARI: [Row; 61] = [
     ("lib(A)", [0, 6, 0], 1),
     ("lib(A)", [0, 18, 0], 5),
     ("lib(A)", [0, 7, 0], 0),
@@ -77,8 +77,10 @@ static ON_ATARI: [Row; 53] = [
     ("attack(A)", [0, 7, 0], 0),
     ("defend(A)", [0, 6, 0], 1),
     ("defend(A)", [0, 18, 0], 3),
+    ("defend(A)", [0, 7, 0], 0),
     ("safe_xmove(A)", [0, 7, 0], 1),
     ("safe_xmove(A)", [0, 0, 0], 0),
+    ("safe_xmove(A)", [0, 2, 0], 1),
     ("safe_omove(A)", [0, 7, 0], 1),
     ("safe_omove(A)", [0, 2, 0], 0),
     ("legal_xmove(A)", [0, 0, 0], 1),
@@ -95,23 +97,29 @@ static ON_ATARI: [Row; 53] = [
     ("does_attack(A,B)", [0, 7, 6], 3),
     ("does_attack(A,B)", [0, 12, 6], 2),
     ("does_attack(A,B)", [0, 1, 6], 0),
+    ("does_attack(A,B)", [0, 2, 1], 2),
     ("does_defend(A,B)", [0, 7, 6], 3),
     ("does_defend(A,B)", [0, 22, 6], 1),
     ("does_defend(A,B)", [0, 22, 7], 0),
+    ("does_defend(A,B)", [0, 2, 1], 3),
     ("odefend_against(A,B)", [0, 21, 22], 1),
     ("odefend_against(A,B)", [0, 7, 22], 0),
     ("odefend_against(A,B)", [0, 0, 6], 0),
     ("xdefend_against(A,B)", [0, 7, 6], 1),
     ("xdefend_against(A,B)", [0, 2, 8], 0),
+    ("xdefend_against(A,B)", [0, 0, 1], 1),
     ("oplay_attack(B,A)", [0, 6, 12], 2),
     ("oplay_attack(*,A)", [7, 6, 0], 0),
     ("oplay_attack(B,*,A)", [7, 6, 1], 0),
+    ("oplay_attack(A,B)", [0, 2, 1], 2),
     ("oplay_defend(*,A)", [7, 6, 0], 3),
     ("oplay_defend(?,*,A)", [7, 6, 0], 0),
     ("xplay_attack(B,A)", [0, 6, 12], 2),
     ("xplay_attack(*,A)", [7, 6, 0], 0),
+    ("xplay_attack(?,A,B)", [0, 2, 1], 2),
     ("xplay_defend(?,*,A)", [7, 6, 0], 3),
     ("xplay_defend(B,A)", [0, 6, 12], 1),
+    ("xplay_defend(A,B)", [0, 7, 6], 0),
     ("1-2-3", [0, 0, 0], -4),
     ("1-(2-3)", [0, 0, 0], 2),
     ("!0==1", [0, 0, 0], 1),
@@ -139,35 +147,45 @@ static AFTER_KO: [Row; 3] = [
 fn value_at(
     alloc: Global,
     position: Position,
+    friend: Colour,
     [star, a, b]: [Point; 3],
     text: &str,
 ) -> Option<i64> {
-    let mut env = LibertyCodes::new(position, star, a, b)?;
+    let mut env = LibertyCodes::new(position, friend, star, a, b)?;
     value(alloc, &mut env, text).ok()
 }
 
 /// Looks at the values on a position.
-fn compare(rt: &impl Abort, alloc: Global, position: Option<Position>, rows: &[Row]) {
+fn compare(
+    rt: &impl Abort,
+    alloc: Global,
+    position: Option<Position>,
+    friend: Colour,
+    rows: &[Row],
+) {
     let position = position.expect(rt, "the drawing is a position");
     for &(text, points, want) in rows {
         let [star, a, b] = points;
         assert!(rt;
-            value_at(alloc, position, points, text) == Some(want),
+            value_at(alloc, position, friend, points, text) == Some(want),
             "{text} with {star}, {a}, {b}"
         );
     }
 }
 
 /// The position of the ko after it is taken.
-fn after_ko() -> Option<Position> {
-    played(&drawn(KO)?, Colour::Black, 6)
+fn after_ko(friend: Colour) -> Option<Position> {
+    played(&drawn(KO, friend)?, friend.other(), 6)
 }
 
+// Each colour is the friend once: the values are the same.
 #[test]
 fn functions_on_a_stone_in_atari_and_on_a_ko(rt: HostRuntime) {
-    compare(&rt, rt.alloc(), drawn(ATARI), &ON_ATARI);
-    compare(&rt, rt.alloc(), drawn(KO), &BEFORE_KO);
-    compare(&rt, rt.alloc(), after_ko(), &AFTER_KO);
+    for friend in [Colour::White, Colour::Black] {
+        compare(&rt, rt.alloc(), drawn(ATARI, friend), friend, &ON_ATARI);
+        compare(&rt, rt.alloc(), drawn(KO, friend), friend, &BEFORE_KO);
+        compare(&rt, rt.alloc(), after_ko(friend), friend, &AFTER_KO);
+    }
 }
 
 /// An expression with the star at 7 and the labels at 6 and 18, its value where a stone is in atari, and how many codes
@@ -190,7 +208,8 @@ static READINGS: [(&str, i64, u64); 13] = [
 
 /// The value of an expression where a stone is in atari, and how many codes are asked for.
 fn read_on_atari(alloc: Global, text: &str) -> Option<(i64, u64)> {
-    let mut env = LibertyCodes::new(drawn(ATARI)?, 7, 6, 18)?;
+    let position = drawn(ATARI, Colour::White)?;
+    let mut env = LibertyCodes::new(position, Colour::White, 7, 6, 18)?;
     let got = value(alloc, &mut env, text).ok()?;
     Some((got, env.asked))
 }
