@@ -1,0 +1,4 @@
+pub mod StarCells
+pub mod FirstCells
+pub mod RowCells
+pub mod InWords
