@@ -1,20 +1,46 @@
 //! Asking the helpers that a pattern names about one play, in turn.
 
 ghost use Rattle.std.specs.Prelude.{◌≡◌, ◌<◌, ◌*◌, ◌&&◌, ◌++◌, [], ◌∷◌, List, not, true};
-ghost use Rattle.std.specs.List.{list_any};
+ghost use Rattle.std.specs.List.{list_any, position_from};
 ghost use Rattle.std.specs.Str.{bytes_eq};
-ghost use Rattle.helpers.specs.HelperStates.{SlotState};
+ghost use Rattle.helpers.specs.HelperStates.{SlotState, says_yes};
 ghost use Rattle.helpers.specs.Slots.{listed};
-ghost use Rattle.helpers.specs.Fields.{names_helper as is_helper_name, helper_names};
+ghost use Rattle.helpers.specs.Fields.{names_helper as is_helper_name, helper_names, refuses};
 ghost use Rattle.helpers.specs.Agreement.{all_say_yes, asks_of, raised, IsAskedFor};
 
 use crate::Helpers;
 use go_base::{Colour, Point, Position};
 use pat_types::Item;
 
-/// Whether the helpers that these fields name all say yes to a play of `friend` at `at`.
+/// The place of the first of these fields whose helper says no to a play of `friend` at `at`; `None` exactly if all say
+/// yes.
 ///
-/// They are asked in order, until one says no. Each is asked once, though it be named twice.
+/// The helpers are asked in order, until one says no. Each is asked once, though it be named twice.
+pub fn first_refusal(
+    helpers: &mut Helpers,
+    items: &[Item],
+    pos: &Position,
+    at: Point,
+    friend: Colour,
+) -> Option<usize>
+    requires { at < pos.now.size * pos.now.size }
+    ensures first { result
+        ≡ position_from (refuses (λ name. says_yes (listed state helpers.old) name pos.now at friend)) 0 items.now }
+    ensures calls { listed state helpers.new
+        ≡ raised
+        (asks_of (listed state helpers.old) (helper_names items.now) pos.now at friend)
+        (listed state helpers.old) }
+{
+    for (i, item) in items.iter().enumerate() {
+        if !agrees(helpers, &items[..i], item, pos, at, friend) {
+            return Some(i);
+        }
+    }
+    None
+}
+
+/// Whether the helpers that these fields name all say yes to a play of `friend` at `at`. They are asked as
+/// `first_refusal` asks them.
 pub fn all_agree(
     helpers: &mut Helpers,
     items: &[Item],
@@ -29,12 +55,7 @@ pub fn all_agree(
         (asks_of (listed state helpers.old) (helper_names items.now) pos.now at friend)
         (listed state helpers.old) }
 {
-    for (i, item) in items.iter().enumerate() {
-        if !agrees(helpers, &items[..i], item, pos, at, friend) {
-            return false;
-        }
-    }
-    true
+    first_refusal(helpers, items, pos, at, friend).is_none()
 }
 
 /// What the helper of a field says, where no field before it names the same; else yes.

@@ -11,7 +11,7 @@ mod near_edge;
 mod no_ban;
 mod slots;
 
-pub use agreement::all_agree;
+pub use agreement::{all_agree, first_refusal};
 pub use helper::Helper;
 pub use near_edge::NearEdge;
 pub use no_ban::NoBan;

@@ -1,34 +1,12 @@
--- The fields were asked in turn, each as the rule has it.
-use Rattle.std.proofs.Common.{sym}
+-- All helpers say yes exactly if no field says no.
+use Rattle.helpers.specs.HelperStates.{says_yes}
 use Rattle.helpers.specs.Slots.{states_of}
-use Rattle.helpers.proofs.Steps.{asked_for-none}
-use Rattle.helpers.proofs.Fields.{asked_for-end, asked_for-next}
+use Rattle.helpers.proofs.Refusals.{all_agree_if_none}
 use Rattle.helpers.proofs.agreement.all_agree.Goals as goal
 
--- for no field no helper is asked
-pub loop-i-init : goal.loop-i-init
-loop-i-init g c = asked_for-none _ c.args.pos.now c.args.at c.args.friend
-
--- where a helper says no, they do not all say yes
-pub returns-then-not-agrees-clause-answer : goal.returns-then-not-agrees-clause-answer
-returns-then-not-agrees-clause-answer g c =
+-- all helpers say yes exactly if no field says no
+pub returns-clause-answer : goal.returns-clause-answer
+returns-clause-answer g c =
     let slots = states_of (λ z. (goal.Helper-dyn g z).state z.1) c.args.helpers.now in
-    let asked = c.agrees.ensures slots c.loop-i.invariant.calls (sym c.loop-i.invariant.answer) in
-    (asked_for-end slots c.args.pos.now c.args.at c.args.friend c.args.items.now c.loop-i.i c.index-items-i.result
-    c.loop-i-test.true c.index-items-i.is c.agrees.result _ asked c.if-not-agrees.true).answer
-
--- where a helper says no, those behind it are not asked
-pub returns-then-not-agrees-clause-calls : goal.returns-then-not-agrees-clause-calls
-returns-then-not-agrees-clause-calls g c =
-    let slots = states_of (λ z. (goal.Helper-dyn g z).state z.1) c.args.helpers.now in
-    let asked = c.agrees.ensures slots c.loop-i.invariant.calls (sym c.loop-i.invariant.answer) in
-    (asked_for-end slots c.args.pos.now c.args.at c.args.friend c.args.items.now c.loop-i.i c.index-items-i.result
-    c.loop-i-test.true c.index-items-i.is c.agrees.result _ asked c.if-not-agrees.true).calls
-
--- where a helper says yes, all up to it say yes, each asked as the rule has it
-pub loop-i-preserved : goal.loop-i-preserved
-loop-i-preserved g c =
-    let slots = states_of (λ z. (goal.Helper-dyn g z).state z.1) c.args.helpers.now in
-    let asked = c.agrees.ensures slots c.loop-i.invariant.calls (sym c.loop-i.invariant.answer) in
-    asked_for-next slots c.args.pos.now c.args.at c.args.friend c.args.items.now c.loop-i.i c.index-items-i.result
-    c.loop-i-test.true c.index-items-i.is c.agrees.result _ asked c.if-not-agrees.false
+    all_agree_if_none (λ name. says_yes slots name c.args.pos.now c.args.at c.args.friend) c.args.items.now
+    c.first_refusal.result c.is_none.result c.first_refusal.ensures.first c.is_none.ensures
