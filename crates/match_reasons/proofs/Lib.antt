@@ -1,0 +1,4 @@
+pub mod Labels
+pub mod Captures
+pub mod ConstraintPoints
+pub mod NoReason

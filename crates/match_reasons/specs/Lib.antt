@@ -1,0 +1,3 @@
+pub mod FreshReadings
+pub mod ConstraintView
+pub mod Reasons

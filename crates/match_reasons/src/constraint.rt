@@ -1,0 +1,163 @@
+//! What the constraint of a pattern is valued by: the position before the move, the moved labels, and fresh readings.
+ghost use Rattle.std.specs.Prelude.{◌≡◌, ◌*◌, ◌<◌, pos, true, Some};
+ghost use Rattle.cons_eval.specs.Values.{is_so as is_so_value, value_of};
+ghost use Rattle.match_rules.specs.Fits.{place_of_cell};
+ghost use Rattle.match_rules.specs.Conditions.{label_with as first_label, place_of_label, meanings_at};
+ghost use Rattle.match_rules.specs.Conditions.{is_constraint_true as is_true};
+ghost use Rattle.match_reasons.specs.FreshReadings.{fresh_codes};
+
+use crate::fresh::code;
+use cons_eval::{Env, eval};
+use go_base::{Colour, Point, Position, Size, Transform};
+use pat_types::{Arg, Expr, LabelAt, Pattern};
+use read_rules::{Depths, Kind};
+use spiral::place_from;
+
+/// What the constraint of a pattern is valued by, with the star at a point under a transformation. Each reading that it
+/// asks for is made afresh.
+#[derive(Drop)]
+pub struct FreshQuestion<'a> {
+    /// The position before the move.
+    pub position: &'a Position,
+    /// The colour that plays the move.
+    pub friend: Colour,
+    /// The pattern.
+    pub pattern: &'a Pattern,
+    /// The transformation under which it is tried.
+    pub transform: Transform,
+    /// The point of its star.
+    pub star: Point,
+    /// How deep its readings go.
+    pub depths: Depths,
+    /// How many readings it asked for, as far as a `u64` counts.
+    pub asked: u64,
+    ghost on_board: { star < position.now.size * position.now.size },
+}
+
+/// The first label with a letter, if there is one.
+fn label_with(labels: &[LabelAt], letter: u8) -> Option<LabelAt>
+    ensures { result ≡ first_label letter labels.now }
+{
+    'labels: for label in labels {
+        if label.letter == letter {
+            return Some(*label);
+        }
+    }
+    None
+}
+
+/// The point of a letter's cell, with the star at a point under a transformation; `None` exactly off the board.
+fn cell_place(
+    p: &Pattern,
+    t: Transform,
+    star: Point,
+    row: u8,
+    column: u8,
+    size: Size,
+) -> Option<Point>
+    requires star { star < size * size }
+    requires row { row < p.now.rows }
+    requires column { column < p.now.cols }
+    ensures { result ≡ place_of_cell p.now size t star (pos row) (pos column) }
+{
+    let dr = row as i8 - p.star.0 as i8;
+    let dc = column as i8 - p.star.1 as i8;
+    place_from(star, t, dr, dc, size)
+}
+
+/// The point of a label of a pattern, with the star at a point under a transformation.
+fn label_place(
+    p: &Pattern,
+    t: Transform,
+    star: Point,
+    letter: u8,
+    position: &Position,
+) -> Option<Point>
+    requires { star < position.now.size * position.now.size }
+    ensures { result ≡ place_of_label p.now position.now.size t star (first_label letter p.now.labels) }
+{
+    let label = label_with(p.labels.as_slice(), letter)?;
+    cell_place(p, t, star, label.row, label.col, position.size())
+}
+
+impl<'a> Env for FreshQuestion<'a> {
+    ghost use Rattle.match_reasons.specs.ConstraintView.{view_of, nowhere_none, star_some};
+
+    ghost view = { λ e. view_of e };
+
+    ghost nowhere = { λ e. nowhere_none e };
+
+    ghost star = { λ e. star_some e };
+
+    fn position(&self) -> Position {
+        *self.position
+    }
+
+    fn friend(&self) -> Colour {
+        self.friend
+    }
+
+    fn point(&self, arg: Arg) -> Option<Point> {
+        match arg {
+            Arg::Label(letter) => label_place(
+                self.pattern,
+                self.transform,
+                self.star,
+                letter,
+                self.position,
+            ),
+            Arg::Star => Some(self.star),
+            Arg::Nowhere => None,
+        }
+    }
+
+    fn code(&mut self, kind: Kind, on: &Position, target: Point) -> u8 {
+        self.asked = self.asked.saturating_add(1);
+        code(kind, on, target, self.depths)
+    }
+}
+
+/// Whether the value of a pattern's constraint is not 0, with the star at a point under a transformation.
+fn is_so(
+    p: &Pattern,
+    constraint: &Expr,
+    position: &Position,
+    friend: Colour,
+    t: Transform,
+    at: Point,
+    depths: Depths,
+) -> bool
+    requires constraint { p.now.constraint ≡ Some constraint.now }
+    requires on_board { at < position.now.size * position.now.size }
+    ensures { result ≡ is_so_value (value_of
+        (meanings_at (fresh_codes depths) p.now position.now friend t at) constraint.now) }
+{
+    let mut question = FreshQuestion {
+        position,
+        friend,
+        pattern: p,
+        transform: t,
+        star: at,
+        depths,
+        asked: 0,
+    };
+    eval(constraint, &mut question) != 0
+}
+
+/// Whether the constraint of a pattern, if it has one, has a value other than 0.
+pub(crate) fn is_constraint_true(
+    p: &Pattern,
+    position: &Position,
+    friend: Colour,
+    t: Transform,
+    at: Point,
+    depths: Depths,
+) -> bool
+    requires { at < position.now.size * position.now.size }
+    ensures { result ≡ is_true (fresh_codes depths) p.now position.now friend t at }
+{
+    match &p.constraint {
+        Some(constraint) => is_so(p, constraint, position, friend, t, at, depths),
+        None => true,
+    }
+}
