@@ -1,0 +1,2 @@
+pub mod FoundMoves
+pub mod AttainLemmas

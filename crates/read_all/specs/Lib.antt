@@ -1,0 +1,2 @@
+pub mod AllMoves
+pub mod FewestPlies
