@@ -1,4 +1,5 @@
 //! Small positions, and what is read on them. The modules follow the crates, lowest first.
+mod all_moves;
 mod candidates;
 mod connections;
 mod depths;
