@@ -1,0 +1,3 @@
+pub mod BytePoints
+pub mod Boards
+pub mod WrittenBytes
