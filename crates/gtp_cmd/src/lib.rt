@@ -2,7 +2,7 @@
 //!
 //! `parse` answers the id and the command of a line, or the first refusal; `success`, `short` and `refusal` give the
 //! reply. Columns are lettered from the left without I, and row 1 is the bottom row; points are numbered as everywhere
-//! in gopat. Only `success` takes memory.
+//! in gopat. `success`, `text` and `names_text` take memory, and nothing else does.
 #![tactic(auto)]
 
 mod arguments;

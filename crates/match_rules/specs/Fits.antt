@@ -23,9 +23,9 @@ place_of_cell p s t m r c = place_at s t m (r -ℤ pos p.star.0, c -ℤ pos p.st
 abbrev pub letter_at : Pattern → ℕ → ℕ → Letter
 letter_at p r c = slice_index_or p.letters (r * p.cols + c) Friend
 
--- the cell in row r and column c is one of a drawn edge, or the corner between two of them
-abbrev pub IsEdgeCell : Pattern → ℤ → ℤ → Type 0
-IsEdgeCell p r c = drawn_at p r c ≡ OffBoard
+-- the cell in row r and column c is drawn as one off the board: it lies on a drawn edge, or in the corner between two
+abbrev pub IsDrawnOff : Pattern → ℤ → ℤ → Type 0
+IsDrawnOff p r c = drawn_at p r c ≡ OffBoard
 
 -- the letter in row r and column c lies on the board and admits what stands there, with the star at m under t
 pub record LetterFits (p : Pattern) (board : BoardState) (friend : Colour) (t m r c : ℕ) : Type 0 where
@@ -37,7 +37,7 @@ pub record LetterFits (p : Pattern) (board : BoardState) (friend : Colour) (t m 
 -- edge cell lies off the board
 pub record Fits (p : Pattern) (board : BoardState) (friend : Colour) (t m : ℕ) : Type 0 where
   pub letters : (r c : ℕ) → r < p.rows → c < p.cols → LetterFits p board friend t m r c
-  pub edges : (r c : ℤ) → IsEdgeCell p r c → place_of_cell p board.size t m r c ≡ None
+  pub edges : (r c : ℤ) → IsDrawnOff p r c → place_of_cell p board.size t m r c ≡ None
 
 -- the cells of one strip of n letters, with the cell before them and the cell after them
 abbrev pub strip_cells : ℕ → List ℤ
