@@ -10,3 +10,4 @@ pub mod MainLines
 pub mod ReadBack
 pub mod SetPoints
 pub mod FaultKinds
+pub mod RefusedPlays

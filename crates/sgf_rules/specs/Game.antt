@@ -1,5 +1,5 @@
 -- The position that a game record leads to, or its first fault.
-use Rattle.std.specs.Prelude.{◌≡◌, ℕ, ◌*◌, Bool, true, false, List, [], ◌∷◌, map, Option, Some, None, is_some}
+use Rattle.std.specs.Prelude.{◌≡◌, ℕ, ◌*◌, Bool, true, false, List, [], ◌∷◌, ◌++◌, map, Option, Some, None, is_some}
 use Rattle.std.specs.Prelude.{Result, Ok, Err, if◌then◌else◌}
 use Rattle.std.specs.List.{list_all, list_any, range_with_len}
 use Rattle.go_rules.specs.declared.Cell.{Cell}
@@ -118,6 +118,21 @@ and_then (Err e) f = Err e
 unfoldable pub after_uses : BoardState → List Use → Result BoardState FaultKind
 after_uses pos [] = Ok pos
 after_uses pos (u ∷ us) = and_then (after_use pos u) (λ next. after_uses next us)
+
+-- Of the moves that these values say one is refused: the values before it lead from the position to another, on which
+-- the rules refuse the move.
+pub record HasRefusedPlay (pos : BoardState) (uses : List Use) : Type 0 where
+  pub before : List Use
+  pub after : List Use
+  pub colour : Colour
+  pub value : List ℕ
+  pub place : uses ≡ before ++ (Play colour, value) ∷ after
+  pub reached : BoardState
+  pub led : after_uses pos before ≡ Ok reached
+  pub at : Option ℕ
+  pub says : move_of reached.size value ≡ Some at
+  pub why : Illegal
+  pub refused : moved_to reached colour at ≡ Err why
 
 -- the position after a node: its setup, and then its moves
 unfoldable pub after_node : BoardState → List Use → Result BoardState FaultKind

@@ -7,14 +7,14 @@ ghost use Rattle.go_rules.specs.Strings.{cell_at};
 ghost use Rattle.go_rules.specs.Position.{BoardState};
 ghost use Rattle.go_rules.specs.Replay.{empty_board};
 ghost use Rattle.sgf_rules.specs.declared.kind.FaultKind.{FaultKind};
-ghost use Rattle.sgf_rules.specs.declared.kind.FaultKind.TheVariants.{Grammar, BadSize, BadValue, NoLiberty};
+ghost use Rattle.sgf_rules.specs.declared.kind.FaultKind.TheVariants.{Grammar, BadSize, BadValue, NoLiberty, IllegalPlay};
 ghost use Rattle.sgf_rules.specs.declared.meaning.Meaning.TheVariants.{Setup};
 ghost use Rattle.sgf_rules.specs.Trees.{Node, Tree};
 ghost use Rattle.sgf_rules.specs.Written.{IsFirstTree, IsMainLine};
 ghost use Rattle.sgf_rules.specs.MainLine.{main_line};
 ghost use Rattle.sgf_rules.specs.Uses.{Use, uses_in};
 ghost use Rattle.sgf_rules.specs.Game.{size_of_nodes, is_readable, sets, cells_after_uses, HasDeadSetup, after_node};
-ghost use Rattle.sgf_rules.specs.Game.{after_nodes, game_of};
+ghost use Rattle.sgf_rules.specs.Game.{after_setup, after_nodes, game_of, HasRefusedPlay};
 
 /// The main line that is computed is that of the tree which the text begins with, as its bytes write it, and a text
 /// that begins with no tree has none.
@@ -39,7 +39,8 @@ pub fn the_last_value_sets_a_point()
 
 /// A record has the fault of the first kind that applies: the grammar's exactly where it begins with no tree, the
 /// size's exactly where its main line says none, and else that of the first node that has one. A node's is a value that
-/// says nothing, and else a string without a liberty after its setup.
+/// says nothing, else a string without a liberty after its setup, and else a play that is refused after the setup and
+/// the moves before it.
 pub fn faults_are_by_kind()
     ensures grammar { (text : List ℕ) → (game_of text ≡ Err Grammar) ↔ ((t : Tree) → IsFirstTree text t → ⊥) }
     ensures size { (text : List ℕ) (nodes : List Node) → IsMainLine text nodes
@@ -53,4 +54,6 @@ pub fn faults_are_by_kind()
         → (after_node pos uses ≡ Err BadValue) ↔ (list_all (is_readable pos.size) uses ≡ false) }
     ensures liberty { (pos : BoardState) (uses : List Use) → list_all (is_readable pos.size) uses ≡ true
         → (after_node pos uses ≡ Err NoLiberty) ↔ HasDeadSetup pos uses }
+    ensures refused { (pos now : BoardState) (uses : List Use) → list_all (is_readable pos.size) uses ≡ true
+        → after_setup pos uses ≡ Ok now → (after_node pos uses ≡ Err IllegalPlay) ↔ HasRefusedPlay now uses }
 {}

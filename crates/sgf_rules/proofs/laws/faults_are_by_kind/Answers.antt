@@ -5,6 +5,7 @@ use Rattle.sgf_rules.specs.Written.{IsFirstTree}
 use Rattle.sgf_rules.specs.MainLine.{main_line}
 use Rattle.sgf_rules.proofs.FaultKinds.{game_with, game_without_line, line_no_grammar, size_fault, first_faulty_node}
 use Rattle.sgf_rules.proofs.FaultKinds.{value_fault, liberty_fault}
+use Rattle.sgf_rules.proofs.RefusedPlays.{play_fault}
 use Rattle.sgf_rules.proofs.MainLines.{line_found, line_computed}
 use Rattle.sgf_rules.proofs.laws.faults_are_by_kind.Goals as goal
 
@@ -45,3 +46,7 @@ returns-clause-value c pos uses = value_fault pos uses
 -- its setup
 pub returns-clause-liberty : goal.returns-clause-liberty
 returns-clause-liberty c pos uses readable = liberty_fault pos uses readable
+
+-- its plays
+pub returns-clause-refused : goal.returns-clause-refused
+returns-clause-refused c pos now uses readable stands = play_fault pos now uses readable stands
