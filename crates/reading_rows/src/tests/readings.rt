@@ -15,8 +15,11 @@ struct Readings {
     rows: &'static [(Question, Tree, u8, &'static str)],
 }
 
+/// Black D16 runs from a ladder in the upper left corner.
+const LONG_LADDER: Stones = (19, "D16", "C16 D17 E17");
+
 /// Readings by what they show.
-static READINGS: [Readings; 29] = [
+static READINGS: [Readings; 30] = [
     Readings {
         name: "a stone in atari is captured",
         stones: IN_ATARI,
@@ -108,6 +111,14 @@ static READINGS: [Readings; 29] = [
             ((Attack, "F4", 11, 0), Stated, 3, "F3"),
             ((Attack, "F4", 9, 0), Stated, 0, ""),
             ((Defend, "F4", 13, 0), Stated, 3, "G4"),
+        ],
+    },
+    Readings {
+        name: "a ladder crosses the board in fifty-nine plies",
+        stones: LONG_LADDER,
+        rows: &[
+            ((Attack, "D16", 59, 0), Stated, 3, "D15"),
+            ((Attack, "D16", 57, 0), Stated, 0, ""),
         ],
     },
     Readings {
@@ -229,7 +240,7 @@ struct Counted {
 const CROWD: Stones = (9, "D5 E5 D7 C3", "C5 D4 E4 F6 E7 G4");
 
 /// Readings that take so many plays, and more where one thing is not seen.
-static COUNTED: [Counted; 10] = [
+static COUNTED: [Counted; 12] = [
     // Each of two questions tries two plays, C3 and D3, the first two candidates in reading order. After white C3 black
     // would run at D3 to two liberties, too many for the ply that is left then, and after black C3 white may take at
     // D3: both are seen without a play. D3 has its way under each allowance, so E3 and D2 are not tried, and the pass
@@ -251,6 +262,27 @@ static COUNTED: [Counted; 10] = [
         at: "D3",
         least: 2,
         most: 2,
+    },
+    // A ladder of so many plies does not work with two plies less. So some line of it is played to its end but for the
+    // last two plies, which may be seen without a play: the defender's turn in atari, and the play that takes the string.
+    // At each ply two moves at most are tried.
+    Counted {
+        name: "a ladder of eleven plies takes nine plays at least",
+        stones: (9, "F4", "E4 F5 G5"),
+        question: (Attack, "F4", 11, 0),
+        code: 3,
+        at: "F3",
+        least: 9,
+        most: 22,
+    },
+    Counted {
+        name: "a ladder of fifty-nine plies takes fifty-seven plays at least",
+        stones: LONG_LADDER,
+        question: (Attack, "D16", 59, 0),
+        code: 3,
+        at: "D15",
+        least: 57,
+        most: 118,
     },
     Counted {
         name: "four liberties are too many for an attack of three plies",
