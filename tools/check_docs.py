@@ -2,23 +2,26 @@
 
 usage: python3 tools/check_docs.py [--map | FILE ...]
 
-Without files these are README.md and docs/FORMATS.md, docs/USING.md, docs/AUTHORS.md, docs/LIBRARY.md and
-docs/HELPERS.md, in this order, and the manual page docs/gopat.1, in which `man` may find nothing to warn of; and the
-map of docs/ARCHITECTURE.md is compared with crates.txt, and tools/README.md with the scripts. It runs at the top of a
-fresh clone: README's commands prove and build the program, docs/USING.md says what has to stand beside the clone, and
-docs/AUTHORS.md wants the checker that `rt run` makes in crates/pattern_check. `python3 tools/check_docs.py --map`
-compares the map and the scripts alone, and needs no program.
+Without files these are README.md and docs/FORMATS.md, docs/USING.md, docs/AUTHORS.md and docs/LIBRARY.md, in this
+order, and the manual page docs/gopat.1, in which `man` may find nothing to warn of; and the map of docs/ARCHITECTURE.md
+is compared with crates.txt, and tools/README.md with the scripts. It runs at the top of a fresh clone: README's
+commands prove and build the program, docs/USING.md says what has to stand beside the clone, and docs/AUTHORS.md wants
+the checker that `rt run` makes in crates/pattern_check. `python3 tools/check_docs.py --map` compares the map and the
+scripts alone, and needs no program.
 
 A command is a line `$ ..` of a block that is set off by three backticks; it goes on over lines that end in a backslash.
-The lines below it, up to the next command or the end of the block, are its standard output, where blank lines at the
-end do not count. A line `..` alone stands for lines that are left out. A block that is named `rust PATH` is a part of
-the file of this path, with the same use of `..`. In the table of kinds of docs/FORMATS.md each example is a text as
-printf takes it, and the program's note has to be the one beside it. A block under a line `<!-- not run: WHY -->` is
-passed over and told, and so is one under `<!-- needs: NAME .. -->` where a name is neither a program on the path nor a
-file. In the map each crate of crates.txt has a row; its column `stands on` names crates that it uses,
-and each crate that it uses is named or stands below one that is.
+All commands of a document run in one shell, one after another, with nothing to read. The lines below a command, up to
+the next one or the end of the block, are its standard output; blank lines at the end do not count. A line `..` alone
+stands for lines that are left out. A block that is named `rust PATH` is a part of the file of this path, with the same
+use of `..`. In the table of kinds of docs/FORMATS.md each example is a text as printf takes it, and the program's note
+has to be the one beside it. A block under a line `<!-- not run: WHY -->` is passed over and told, and so is one under
+`<!-- needs: NAME .. -->` if a name is neither a program on the path nor a file.
+
+In the map each crate of crates.txt has a row, under the heading under which it stands in crates.txt. Its column
+`stands on` names crates that it uses, and each crate that it uses is named or stands below one that is.
 """
 
+import itertools
 import os
 import pathlib
 import re
@@ -29,14 +32,15 @@ from typing import Iterator, NamedTuple
 
 import command_line
 
-DOCUMENTS = ["README.md", "docs/FORMATS.md", "docs/USING.md", "docs/AUTHORS.md", "docs/LIBRARY.md", "docs/HELPERS.md"]
+DOCUMENTS = ["README.md", "docs/FORMATS.md", "docs/USING.md", "docs/AUTHORS.md", "docs/LIBRARY.md"]
 MANUAL_PAGE = "docs/gopat.1"
 MAP = "docs/ARCHITECTURE.md"
 CRATES = "crates.txt"
 SCRIPTS = "tools/README.md"
 GOPAT = "crates/gopat/out/gopat"
-USES = re.compile(r"(\w+):(.*)")
-ROW = re.compile(r"\| `(\w+)` \|[^|]*\|([^|]*)\|[^|]*\|")
+USES = re.compile(r"(\w+)(?: staticlib)?:(.*)")
+ROW = re.compile(r"\| `(\w+)` \|[^|]*\|([^|]*)\|[^|]*\|[^|]*\|")
+END = "the end of what a command prints"
 KIND = re.compile(r"\| (\d+) \| [^|]+ \| `([^`]+)` \| `(line \d+ kind \d+)` \|.*")
 
 
@@ -83,22 +87,45 @@ def commands(block: Block) -> Iterator[tuple[str, list[str]]]:
         at = after
 
 
+class Shell:
+    """A shell that runs the commands of a document one after another, so that what one sets the next one has."""
+
+    def __init__(self):
+        self.errors = tempfile.NamedTemporaryFile("r")
+        with open(self.errors.name, "w") as errors:
+            pipe = subprocess.PIPE
+            self.bash = subprocess.Popen(["bash"], stdin=pipe, stdout=pipe, stderr=errors, text=True)
+
+    def run(self, command: str) -> list[str]:
+        """The lines that a command prints."""
+        self.bash.stdin.write(f"{{ {command}\n}} < /dev/null\nprintf '\\n%s\\n' '{END}'\n")
+        self.bash.stdin.flush()
+        return list(itertools.takewhile(lambda line: line != END, (line.rstrip("\n") for line in self.bash.stdout)))
+
+    def told(self) -> str:
+        """What came on standard error since this was asked last."""
+        return self.errors.read()
+
+    def end(self):
+        self.bash.stdin.close()
+        self.bash.wait()
+
+
 def agrees(wanted: list[str], got: list[str]) -> bool:
     """Whether the lines are these, where a line `..` stands for any lines."""
     pattern = "".join("(?:.*\n)*?" if line.strip() == ".." else re.escape(line.rstrip()) + "\n" for line in wanted)
     return re.fullmatch(pattern.rstrip("\n") + "\n*", "".join(line.rstrip() + "\n" for line in got)) is not None
 
 
-def check_block(block: Block) -> Iterator[str | None]:
+def check_block(block: Block, shell: Shell) -> Iterator[str | None]:
     """For each command of a block, or for what it quotes, None or what is wrong."""
     source = re.fullmatch(r"rust (\S+)", block.name)
     if source:
         text = pathlib.Path(source[1]).read_text(encoding="utf-8").splitlines()
         yield None if agrees(["..", *block.lines, ".."], text) else f"{block.place}: not so in {source[1]}"
     for command, wanted in commands(block) if block.lines and block.lines[0].startswith("$ ") else []:
-        done = subprocess.run(["bash", "-c", command], capture_output=True, text=True, check=False)
-        is_so = agrees(wanted, done.stdout.splitlines())
-        yield None if is_so else f"{block.place}: $ {command}\n{done.stdout}{done.stderr}"
+        got = shell.run(command)
+        yield None if agrees(wanted, got) else "\n".join([f"{block.place}: $ {command}", *got, shell.told()])
 
 
 def check_kinds(document: str) -> Iterator[str | None]:
@@ -143,14 +170,27 @@ def check_row(name: str, named: set[str] | None, uses: dict[str, list[str]]) -> 
     return None
 
 
+def headings(lines: list[str], sign: str, row: re.Pattern) -> dict[str, str]:
+    """The heading under which each crate stands: the last line before its row that begins with the sign."""
+    heading, found = "", {}
+    for line in lines:
+        if line.startswith(sign):
+            heading = line.removeprefix(sign)
+        elif match := row.fullmatch(line):
+            found[match[1]] = heading
+    return found
+
+
 def check_map() -> Iterator[str | None]:
     """For each crate of crates.txt, and each row of the map, None or what is wrong."""
-    lines = pathlib.Path(CRATES).read_text(encoding="utf-8").splitlines()
+    lines, rows = (pathlib.Path(path).read_text(encoding="utf-8").splitlines() for path in (CRATES, MAP))
     uses = {row[1]: row[2].split() for row in filter(None, map(USES.fullmatch, lines))}
-    rows = filter(None, map(ROW.fullmatch, pathlib.Path(MAP).read_text(encoding="utf-8").splitlines()))
-    named = {row[1]: set(re.findall(r"`(\w+)`", row[2])) for row in rows}
+    named = {row[1]: set(re.findall(r"`(\w+)`", row[2])) for row in filter(None, map(ROW.fullmatch, rows))}
+    here, there = headings(lines, "# ", USES), headings(rows, "### ", ROW)
     for name in uses:
         yield check_row(name, named.get(name), uses)
+        if name in named and here[name] != there[name]:
+            yield f"{name}: under {here[name]} in {CRATES}, and under {there[name]} in {MAP}"
     for name in sorted(set(named) - set(uses)):
         yield f"{MAP}: {name} is no crate of {CRATES}"
 
@@ -167,11 +207,13 @@ def main(*words: str) -> int:
     if documents in (DOCUMENTS, ["--map"]):
         found += [*check_map(), *check_scripts()]
     for document in documents if documents != ["--map"] else []:
+        shell = Shell()
         for block in blocks(document):
             if block.not_run is None:
-                found += check_block(block)
+                found += check_block(block, shell)
             else:
                 print(f"{block.place}: not run: {block.not_run}")
+        shell.end()
         found += check_kinds(document)
     if documents == DOCUMENTS:
         found += check_manual_page()
