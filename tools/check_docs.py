@@ -40,6 +40,8 @@ SCRIPTS = "tools/README.md"
 GOPAT = "crates/gopat/out/gopat"
 USES = re.compile(r"(\w+)(?: staticlib)?:(.*)")
 ROW = re.compile(r"\| `(\w+)` \|[^|]*\|([^|]*)\|[^|]*\|[^|]*\|")
+COMMENT = re.compile(r"# (.*)")
+HEADING = re.compile(r"\| \*\*(.*)\*\* \|[^|]*\|[^|]*\|[^|]*\|[^|]*\|")
 END = "the end of what a command prints"
 KIND = re.compile(r"\| (\d+) \| [^|]+ \| `([^`]+)` \| `(line \d+ kind \d+)` \|.*")
 
@@ -170,14 +172,14 @@ def check_row(name: str, named: set[str] | None, uses: dict[str, list[str]]) -> 
     return None
 
 
-def headings(lines: list[str], sign: str, row: re.Pattern) -> dict[str, str]:
-    """The heading under which each crate stands: the last line before its row that begins with the sign."""
-    heading, found = "", {}
+def headings(lines: list[str], heading: re.Pattern, row: re.Pattern) -> dict[str, str]:
+    """The heading under which each crate stands: the last one above its row."""
+    last, found = "", {}
     for line in lines:
-        if line.startswith(sign):
-            heading = line.removeprefix(sign)
+        if above := heading.fullmatch(line):
+            last = above[1]
         elif match := row.fullmatch(line):
-            found[match[1]] = heading
+            found[match[1]] = last
     return found
 
 
@@ -186,7 +188,7 @@ def check_map() -> Iterator[str | None]:
     lines, rows = (pathlib.Path(path).read_text(encoding="utf-8").splitlines() for path in (CRATES, MAP))
     uses = {row[1]: row[2].split() for row in filter(None, map(USES.fullmatch, lines))}
     named = {row[1]: set(re.findall(r"`(\w+)`", row[2])) for row in filter(None, map(ROW.fullmatch, rows))}
-    here, there = headings(lines, "# ", USES), headings(rows, "### ", ROW)
+    here, there = headings(lines, COMMENT, USES), headings(rows, HEADING, ROW)
     for name in uses:
         yield check_row(name, named.get(name), uses)
         if name in named and here[name] != there[name]:
