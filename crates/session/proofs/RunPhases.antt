@@ -241,11 +241,13 @@ module _ (options : Options) (error : OpenError) (phase : Phase) (is : phase ≡
       → IsRefused (helper_names helpers) contents options.files options.states error → counts ≡ None → sent ≡ None
       → CameBy tree helpers options contents missed now before before counts sent phase
   came-unopened tree helpers contents missed now before counts sent refused uncounted unsent =
-      subst (CameBy tree helpers options contents missed now before before counts sent) (sym is)
-      (refused, record {
-        untouched = record { streams = refl; uncounted = ap counts_line uncounted; unsent = unsent };
-        uncounted = uncounted;
-      })
+      subst (CameBy tree helpers options contents missed now before before counts sent) (sym is) (
+        refused,
+        record {
+          untouched = record { streams = refl; uncounted = ap counts_line uncounted; unsent = unsent };
+          uncounted = uncounted;
+        },
+      )
 
   -- the names missed are as the error says
   pub missed-unopened : (before now : List (List ℕ)) → MissedIn options.files before now error
