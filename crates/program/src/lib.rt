@@ -2,16 +2,22 @@
 //! `no_ban`, which patterns may name.
 #![tactic(auto)]
 
+ghost use Rattle.std.specs.Prelude.{◌≡◌, ◌↔◌};
+ghost use Rattle.std.specs.IoError.{error_kind};
+
 use helpers::{Helper, NearEdge, NoBan};
 use session::WordsError;
 use std::alloc::{AllocError, Global};
+use std::io::ErrorKind;
 use std::rt::Env;
 use std::{env, io};
 
-// Why the words could not be had.
-fn cause(error: io::Error) -> WordsError {
+// Why the words could not be had: for want of memory exactly if the error says so.
+fn cause(error: io::Error) -> WordsError
+    ensures { (result ≡ WordsError.NoMemory) ↔ (error_kind error ≡ ErrorKind.OutOfMemory) }
+{
     match error.kind() {
-        io::ErrorKind::OutOfMemory => WordsError::NoMemory,
+        ErrorKind::OutOfMemory => WordsError::NoMemory,
         _ => WordsError::NotText,
     }
 }
