@@ -1,0 +1,2 @@
+pub mod DepthNumbers
+pub mod WholeProofs

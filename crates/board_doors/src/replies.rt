@@ -1,0 +1,186 @@
+//! Replies in the layout of C: a status, and what is answered if it is 0.
+
+ghost use Rattle.std.specs.Prelude.{◌≡◌};
+ghost use Rattle.board_doors.specs.Replies.{status_of, spot_number, answer_reply, linkage_reply, number_reply};
+ghost use Rattle.board_doors.specs.Replies.{truth_number, truth_reply, play_reply};
+
+use crate::fault::DoorFault;
+use crate::plays::PASS;
+use board_bytes::{BoardBytes, BoardFault, bytes_of};
+use go_base::{Illegal, Position};
+use link_rules::Linkage;
+use read_rules::{Answer, Spot};
+
+/// The point's number that says that there is no move.
+pub const NO_MOVE: u16 = 65534;
+
+/// The reply to a reading or a connection.
+#[repr(C)]
+#[derive(Clone, Copy, Debug, PartialEq, Eq)]
+pub struct AnswerReply {
+    /// 0 for an answer, else the number of the fault.
+    pub status: u8,
+    /// The code: 0 to 3 for a reading; 1 for yes and 0 for no of a connection; 0 with a fault.
+    pub code: u8,
+    /// The move: a point, 65535 for a pass, 65534 if there is none.
+    pub at: u16,
+}
+
+/// The reply that is a number.
+#[repr(C)]
+#[derive(Clone, Copy, Debug, PartialEq, Eq)]
+pub struct NumberReply {
+    /// 0 for an answer, else the number of the fault.
+    pub status: u8,
+    /// The number; 0 with a fault. A truth is 1 for yes and 0 for no.
+    pub number: u16,
+}
+
+/// The reply to a play.
+#[repr(C)]
+#[derive(Clone, Copy)]
+pub struct PlayReply {
+    /// 0 if it was played, else the number of the fault.
+    pub status: u8,
+    /// The board after the play; with a fault the board that was handed over.
+    pub board: BoardBytes,
+}
+
+/// The number of the reason why bytes are no position.
+fn board_status(fault: BoardFault) -> u8
+    ensures { result ≡ status_of (DoorFault.Board fault) }
+{
+    match fault {
+        BoardFault::Size => 1,
+        BoardFault::Cell => 2,
+        BoardFault::NoLiberty => 3,
+        BoardFault::Ban => 4,
+    }
+}
+
+/// The number of the reason why the rules forbid a play.
+fn illegal_status(why: Illegal) -> u8
+    ensures { result ≡ status_of (DoorFault.Illegal why) }
+{
+    match why {
+        Illegal::Occupied => 12,
+        Illegal::Ko => 13,
+        Illegal::Suicide => 14,
+    }
+}
+
+/// The number of a fault. Each has its own, from 1 to 14.
+pub fn status_of(fault: DoorFault) -> u8
+    ensures { result ≡ status_of fault }
+{
+    match fault {
+        DoorFault::Board(fault) => board_status(fault),
+        DoorFault::OffBoard => 5,
+        DoorFault::NoStone => 6,
+        DoorFault::Depths => 7,
+        DoorFault::TwoColours => 8,
+        DoorFault::Colour => 9,
+        DoorFault::Kind => 10,
+        DoorFault::Code => 11,
+        DoorFault::Illegal(why) => illegal_status(why),
+    }
+}
+
+/// The number of a move.
+fn spot_number(at: Option<Spot>) -> u16
+    ensures { result ≡ spot_number at }
+{
+    match at {
+        Some(Spot::At(p)) => p,
+        Some(Spot::Pass) => PASS,
+        None => NO_MOVE,
+    }
+}
+
+/// 1 for yes, 0 for no.
+fn truth_number(told: bool) -> u8
+    ensures { result ≡ truth_number told }
+{
+    if told { 1 } else { 0 }
+}
+
+/// The reply to a reading.
+pub fn answer_reply(found: Result<Answer, DoorFault>) -> AnswerReply
+    ensures { result ≡ answer_reply found }
+{
+    match found {
+        Ok(answer) => AnswerReply {
+            status: 0,
+            code: answer.code,
+            at: spot_number(answer.at),
+        },
+        Err(fault) => AnswerReply {
+            status: status_of(fault),
+            code: 0,
+            at: NO_MOVE,
+        },
+    }
+}
+
+/// The reply to a question about a connection.
+pub fn linkage_reply(found: Result<Linkage, DoorFault>) -> AnswerReply
+    ensures { result ≡ linkage_reply found }
+{
+    match found {
+        Ok(linkage) => AnswerReply {
+            status: 0,
+            code: truth_number(linkage.yes),
+            at: spot_number(linkage.at),
+        },
+        Err(fault) => AnswerReply {
+            status: status_of(fault),
+            code: 0,
+            at: NO_MOVE,
+        },
+    }
+}
+
+/// The reply that is a number.
+pub fn number_reply(found: Result<u16, DoorFault>) -> NumberReply
+    ensures { result ≡ number_reply found }
+{
+    match found {
+        Ok(number) => NumberReply { status: 0, number },
+        Err(fault) => NumberReply {
+            status: status_of(fault),
+            number: 0,
+        },
+    }
+}
+
+/// The reply that is yes or no.
+pub fn truth_reply(found: Result<bool, DoorFault>) -> NumberReply
+    ensures { result ≡ truth_reply found }
+{
+    match found {
+        Ok(yes) => NumberReply {
+            status: 0,
+            number: u16::from(truth_number(yes)),
+        },
+        Err(fault) => NumberReply {
+            status: status_of(fault),
+            number: 0,
+        },
+    }
+}
+
+/// The reply to a play on this board.
+pub fn play_reply(board: &BoardBytes, found: Result<Position, DoorFault>) -> PlayReply
+    ensures { result ≡ play_reply board.now found }
+{
+    match found {
+        Ok(position) => PlayReply {
+            status: 0,
+            board: bytes_of(&position),
+        },
+        Err(fault) => PlayReply {
+            status: status_of(fault),
+            board: *board,
+        },
+    }
+}

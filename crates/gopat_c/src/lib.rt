@@ -1,0 +1,85 @@
+//! gopat for programs in C, and in any language that can call C: the exports of the static library `libgopat_c.a`.
+//!
+//! Each export is one call of a door of `board_doors`, and its clause says that the reply is the one for the answer
+//! that is defined there. A board crosses by value, so no export but `gopat_check` takes a pointer, and a caller may
+//! hand over any numbers: what has no answer has a status of its own. Nothing takes memory, and no export keeps
+//! anything from one call to the next. `gopat.h`, in the folder of this crate, is what a C compiler reads.
+#![tactic(auto)]
+
+ghost use Rattle.std.specs.Prelude.{◌≡◌};
+ghost use Rattle.board_doors.specs.Doors.{reading_of, linking_of, play_of, liberties_of, checking_of};
+ghost use Rattle.board_doors.specs.Replies.{answer_reply, linkage_reply, play_reply, number_reply, truth_reply};
+
+use board_doors::replies::{answer_reply, linkage_reply, number_reply, play_reply, truth_reply};
+use board_doors::{AnswerReply, BoardBytes, DepthBytes, NumberReply, PlayReply};
+use link_rules::LinkKind;
+use read_rules::Kind;
+
+/// Whether the string at `target` can be captured when the attacker plays first: the code, and the first move that
+/// attains it.
+#[unsafe(no_mangle)]
+pub extern "C" fn gopat_attack(board: BoardBytes, target: u16, depths: DepthBytes) -> AnswerReply
+    ensures { result ≡ answer_reply (reading_of Kind.Attack board target depths) }
+{
+    answer_reply(board_doors::attack(&board, target, depths))
+}
+
+/// Whether the string at `target` can be saved when the defender plays first: the code, and the first move that attains
+/// it, the pass before all points.
+#[unsafe(no_mangle)]
+pub extern "C" fn gopat_defend(board: BoardBytes, target: u16, depths: DepthBytes) -> AnswerReply
+    ensures { result ≡ answer_reply (reading_of Kind.Defend board target depths) }
+{
+    answer_reply(board_doors::defend(&board, target, depths))
+}
+
+/// Whether the strings at `a` and `b`, of one colour, can be joined when their own colour plays first, and the first
+/// move that does it.
+#[unsafe(no_mangle)]
+pub extern "C" fn gopat_connect(board: BoardBytes, a: u16, b: u16, plies: u8) -> AnswerReply
+    ensures { result ≡ linkage_reply (linking_of LinkKind.Connect board a b plies) }
+{
+    linkage_reply(board_doors::connect(&board, a, b, plies))
+}
+
+/// Whether the strings at `a` and `b`, of one colour, can be kept apart when the other colour plays first, and the
+/// first move that does it.
+#[unsafe(no_mangle)]
+pub extern "C" fn gopat_disconnect(board: BoardBytes, a: u16, b: u16, plies: u8) -> AnswerReply
+    ensures { result ≡ linkage_reply (linking_of LinkKind.Disconnect board a b plies) }
+{
+    linkage_reply(board_doors::disconnect(&board, a, b, plies))
+}
+
+/// The board after the colour 1, Black, or 2, White, plays at a point, or passes where it is 65535; with a fault the
+/// board that was handed over.
+#[unsafe(no_mangle)]
+pub extern "C" fn gopat_play(board: BoardBytes, colour: u8, at: u16) -> PlayReply
+    ensures { result ≡ play_reply board (play_of board colour at) }
+{
+    play_reply(&board, board_doors::play(&board, colour, at))
+}
+
+/// How many liberties the string at a point has.
+#[unsafe(no_mangle)]
+pub extern "C" fn gopat_liberties(board: BoardBytes, at: u16) -> NumberReply
+    ensures { result ≡ number_reply (liberties_of board at) }
+{
+    number_reply(board_doors::liberties(&board, at))
+}
+
+/// Whether the text proves that an attack on the string at `target` (`kind` 1) or its defence (`kind` 2) has this code:
+/// 1 for yes, 0 for no. The text is a pointer and then a length; the pointer is not null, even for no bytes.
+#[unsafe(no_mangle)]
+pub extern "C" fn gopat_check(
+    board: BoardBytes,
+    kind: u8,
+    target: u16,
+    depths: DepthBytes,
+    code: u8,
+    text: &[u8],
+) -> NumberReply
+    ensures { result ≡ truth_reply (checking_of board kind target depths code text.now) }
+{
+    truth_reply(board_doors::check(&board, kind, target, depths, code, text))
+}
