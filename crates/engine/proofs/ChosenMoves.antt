@@ -1,6 +1,5 @@
 -- The match that is chosen, and what is told of it.
-use Rattle.std.proofs.Common.{◌≡◌, List, ◌∷◌, Some, Contains, refl, sym, subst, arith}
-use Rattle.std.proofs.lemmas.List.Elements.{Contains-append_right}
+use Rattle.std.proofs.Common.{◌≡◌, List, Some, Contains, sym, subst}
 use Rattle.go_rules.specs.declared.Colour.{Colour}
 use Rattle.go_rules.specs.Position.{BoardState}
 use Rattle.dfa_core.specs.Automata.{Row}
@@ -18,9 +17,7 @@ use Rattle.move_choice.proofs.Choices.{choice-words}
 pub choice-there : (patterns : List Pattern) (zs : List Match) (z : Match) → choice_of patterns zs ≡ Some z
     → Contains zs z
 unfolding choice_of
-choice-there patterns zs z e =
-    let is = (choice-words (worth_at patterns) zs z).0 e in
-    subst (λ l. Contains l z) (sym is.place) (Contains-append_right is.before (z ∷ is.after) z (0, omega arith, refl))
+choice-there patterns zs z e = ((choice-words (worth_at patterns) zs z).0 e).there
 
 -- a list of the matches by an automaton is among the patterns and on the board
 pub list-among : (code : Codes) (advice : Advice) (rows : List Row) (patterns : List Pattern) (board : BoardState)
