@@ -1,12 +1,13 @@
-//! A list of many patterns, and a long text: there is memory for both.
+//! The longest list of patterns, a large automaton and a long text: there is memory for each.
 use super::{Found, SMALLEST, matches_in, patterns_of, with_both};
+use dfa_join::{JoinError, compile};
 use go_base::Colour;
 use std::alloc::{AllocError, Global};
 
-/// How many patterns the long list has.
-const MANY: u16 = 150;
+/// How many patterns the longest list has.
+const MANY: u16 = 4096;
 
-/// A pattern of the long list.
+/// A pattern of the longest list.
 const PATTERN: &[u8] = b"Pattern P\nO*\n:O,s\n";
 
 /// A comment, with its line feed.
@@ -21,7 +22,7 @@ fn repeated(alloc: Global, text: &[u8], times: u16) -> Result<Vec<u8>, AllocErro
     Ok(all)
 }
 
-/// Whether these are the matches of the long list: one of each pattern, in their order, at the right of the stone.
+/// Whether these are the matches of the longest list: one of each pattern, in their order, at the right of the stone.
 fn is_each_pattern(found: &[Found]) -> bool {
     for number in 0..MANY {
         if found.get(usize::from(number)) != Some(&(number, 0, 41)) {
@@ -57,4 +58,106 @@ fn patterns_after_comments(alloc: Global) -> Option<usize> {
 #[test]
 fn a_text_above_a_megabyte_is_read(rt: HostRuntime) {
     assert!(rt; patterns_after_comments(rt.alloc()) == Some(1));
+}
+
+/// A square of three rows, with the move in the middle.
+const SQUARE: &[u8] = b"Pattern P\n???\n?*?\n???\n:O,s\n";
+
+/// A square of five rows, with the move in the middle.
+const LARGE_SQUARE: &[u8] = b"Pattern P\n?????\n?????\n??*??\n?????\n?????\n:O,s\n";
+
+/// Patterns of one square, each of which refuses an enemy's stone at a point of its own.
+struct Squares {
+    /// What the list shows.
+    name: &'static str,
+    /// The square, without these points.
+    square: &'static [u8],
+    /// How many patterns there are, the first with the first point of the square, in reading order.
+    patterns: usize,
+    /// How many rows the automaton may have.
+    limit: u32,
+    /// How many rows it has, None if these are more than it may have.
+    rows: Option<u32>,
+}
+
+/// The counts of rows are of a plain program. It goes through the points of the square in the order of the spiral and
+/// keeps each set of patterns that may still match: a point with a pattern of its own doubles these sets.
+static SQUARES: [Squares; 5] = [
+    Squares {
+        name: "eight points",
+        square: SQUARE,
+        patterns: 8,
+        limit: 512,
+        rows: Some(512),
+    },
+    Squares {
+        name: "eight points, and one row less",
+        square: SQUARE,
+        patterns: 8,
+        limit: 511,
+        rows: None,
+    },
+    Squares {
+        name: "sixteen points",
+        square: LARGE_SQUARE,
+        patterns: 16,
+        limit: 180_256,
+        rows: Some(180_256),
+    },
+    Squares {
+        name: "sixteen points, and one row less",
+        square: LARGE_SQUARE,
+        patterns: 16,
+        limit: 180_255,
+        rows: None,
+    },
+    Squares {
+        name: "all points of the large square",
+        square: LARGE_SQUARE,
+        patterns: 24,
+        limit: 200_000,
+        rows: None,
+    },
+];
+
+/// Adds the text of a square that refuses an enemy's stone at this one of its points, counted from 0.
+fn add_square(text: &mut Vec<u8>, square: &[u8], point: usize) -> Result<(), AllocError> {
+    let mut met = 0_usize;
+    for &mark in square {
+        let here = mark == b'?' && met == point;
+        if mark == b'?' {
+            met = met.saturating_add(1);
+        }
+        text.push(if here { b'o' } else { mark })?;
+    }
+    Ok(())
+}
+
+/// The text of a list of squares.
+fn text_of(alloc: Global, list: &Squares) -> Result<Vec<u8>, AllocError> {
+    let mut text = Vec::new(alloc);
+    for point in 0..list.patterns {
+        add_square(&mut text, list.square, point)?;
+    }
+    Ok(text)
+}
+
+/// Whether the automaton of a list of squares has as many rows as told, or is refused if these are too many.
+fn has_rows(alloc: Global, list: &Squares) -> Option<bool> {
+    let patterns = patterns_of(alloc, &text_of(alloc, list).ok()?)?;
+    if patterns.len() > 4096 {
+        return None;
+    }
+    match compile(alloc, &patterns, list.limit) {
+        Ok(automaton) => Some(Some(automaton.rows()) == list.rows),
+        Err(JoinError::TooManyStates { .. }) => Some(list.rows.is_none()),
+        Err(JoinError::NoMemory) => None,
+    }
+}
+
+#[test]
+fn automata_of_squares_have_many_rows(rt: HostRuntime) {
+    for list in &SQUARES {
+        assert!(rt; has_rows(rt.alloc(), list) == Some(true), "{}", list.name);
+    }
 }
