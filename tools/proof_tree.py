@@ -153,16 +153,21 @@ def passed(node: Node) -> Node:
     return next_node(node, node.position._replace(ban=None), node.attacker_ko, node.defender_ko)
 
 
+def mover(node: Node) -> int:
+    """The colour of the side to play."""
+    return other(node.defender) if node.is_attackers else node.defender
+
+
 def played(node: Node, point: int) -> Node | None:
     """The node after a play at a candidate; none where it cannot be played."""
-    mover = other(node.defender) if node.is_attackers else node.defender
+    colour = mover(node)
     attacker_ko, defender_ko = node.attacker_ko, node.defender_ko
-    if node.position.ban == (point, mover):
+    if node.position.ban == (point, colour):
         if (attacker_ko if node.is_attackers else defender_ko) == 0:
             return None
         attacker_ko -= node.is_attackers
         defender_ko -= not node.is_attackers
-    position = play_free(node.position, mover, point)
+    position = play_free(node.position, colour, point)
     return next_node(node, position, attacker_ko, defender_ko) if position else None
 
 
@@ -333,3 +338,51 @@ def claim_in_words(kind: str, part: Part) -> str:
     told = "captures it" if part.claim == "W" else "does not capture it"
     ko = {3: f"if the {opposed} may ignore a ko ban once", 1: f"if the {asked} may ignore a ko ban once"}
     return f"the attacker {told} {ko.get(part.code, 'if nobody may ignore a ko ban')}"
+
+
+def behind_in_words(step: Step) -> str:
+    """What stands behind a step: why it is settled, or that each move is tried; nothing at a move of the proof."""
+    if step.word == ".":
+        return reason(step.node)
+    if step.word != "*":
+        return ""
+    side = side_of(step.node)
+    if not step.behind:
+        return f"The {side} has no move to try."
+    return f"Each move that the {side} tries{'' if step.node.is_attackers else ', and the pass'}:"
+
+
+# Looking at proofs.
+
+
+def shape(step: Step) -> tuple:
+    """The words and moves of a proof without its nodes."""
+    return step.word, tuple((move, shape(behind)) for move, behind in step.behind)
+
+
+def grouped(parts: list[Part]) -> list[list[Part]]:
+    """The parts, where those that follow each other and have the same claim and the same moves stand together."""
+    groups: list[list[Part]] = []
+    for part in parts:
+        last = groups[-1][-1] if groups else None
+        if last and last.claim == part.claim and shape(last.first) == shape(part.first):
+            groups[-1].append(part)
+        else:
+            groups.append([part])
+    return groups
+
+
+def shortest(step: Step) -> list[tuple[Move, Step]]:
+    """The moves of a shortest line to where a proof ends, the first in order of these, each with the step behind it."""
+    lines = [[(move, behind), *shortest(behind)] for move, behind in step.behind]
+    return min(lines, key=len, default=[])
+
+
+def is_against_ban(node: Node, move: Move) -> bool:
+    """Whether a move of the side to play uses up its allowance to ignore the ko ban."""
+    return move.point is not None and node.position.ban == (move.point, mover(node))
+
+
+def words_below(step: Step) -> int:
+    """How many nodes a proof has from this step on."""
+    return 1 + sum(words_below(behind) for _, behind in step.behind)
