@@ -54,6 +54,9 @@ class Entry:
         self.labels: set[int] = set()
         self.expression: list[bytes] = []
         self.expression_line = 0
+        self.items: list[bytes] = []
+        self.constraint: list[bytes] = []
+        self.remarks: list[bytes] = []
 
     def listed(self) -> str:
         """The entry's line in the reply to `list_patterns`."""
@@ -128,7 +131,7 @@ def colon_line(entry: Entry, text: bytes, helpers: set[bytes]):
     classes, items = (rest[0], rest[1:]) if rest else (b"", [])
     if len(classes) > 32 or not re.fullmatch(rb"[A-Za-z-]*", classes):
         raise Fault(12)
-    entry.mark, entry.classes = mark, classes.replace(b"-", b"")
+    entry.mark, entry.classes, entry.items = mark, classes.replace(b"-", b""), items
     matched = [ITEM.fullmatch(item) for item in items]
     if len(items) > 16 or not all(matched):
         raise Fault(13)
@@ -146,6 +149,7 @@ def constraint_line(entry: Entry, word: bytes):
             if not is_label or byte in entry.labels or main not in b"OXox.?*":
                 raise Fault(14)
             entry.labels.add(byte)
+    entry.constraint.append(word)
     entry.labelled += 1
 
 
@@ -321,8 +325,8 @@ class Reader:
             raise Fault(10)
 
 
-def read(text: bytes, helpers: set[bytes]) -> tuple[int, int] | list[str]:
-    """The first fault of the text, its line and kind, or the lines of `list_patterns`."""
+def entries(text: bytes, helpers: set[bytes]) -> list[Entry]:
+    """The entries of the text; raises its first fault, with the line."""
     sys.setrecursionlimit(200_000)
     lines = text.split(b"\n")
     if lines[-1] == b"":
@@ -336,8 +340,18 @@ def read(text: bytes, helpers: set[bytes]) -> tuple[int, int] | list[str]:
             line = line.strip(BLANKS)
             if line and not line.startswith(b"#"):
                 reader.line(number, line)
+            elif line and reader.stage == "Diagram":
+                reader.entries[-1].remarks.append(line[1:].strip(BLANKS))
         number = len(lines) + 1
         reader.end()
     except Fault as fault:
-        return fault.line or number, fault.kind
-    return [entry.listed() for entry in reader.entries]
+        raise Fault(fault.kind, fault.line or number) from None
+    return reader.entries
+
+
+def read(text: bytes, helpers: set[bytes]) -> tuple[int, int] | list[str]:
+    """The first fault of the text, its line and kind, or the lines of `list_patterns`."""
+    try:
+        return [entry.listed() for entry in entries(text, helpers)]
+    except Fault as fault:
+        return fault.line or 0, fault.kind

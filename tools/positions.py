@@ -131,6 +131,15 @@ def read(path: str) -> Situation:
         raise NotRead(f"{path}: {why}".replace(f"{path}: {path}", path)) from why
 
 
+def set_up_sgf(position: Position) -> str:
+    """The properties that set the stones of a position up in a record."""
+    size, found = position.size, ""
+    for name, colour in (("AB", BLACK), ("AW", WHITE)):
+        points = [point for point, one in enumerate(position.cells) if one == colour]
+        found += name + "".join(f"[{sgf.point_at(point, size)}]" for point in points) if points else ""
+    return found
+
+
 def point_named(position: Position, vertex: str) -> int:
     """The point that a word of the command line names."""
     move = move_of(position.size, vertex)

@@ -24,7 +24,7 @@ import asking
 import command_line
 import positions
 import sgf
-from go_rules import BLACK, COLOURS, EMPTY, WHITE, Move, Position, vertex_of
+from go_rules import BLACK, EMPTY, WHITE, Move, Position, vertex_of
 from proof_tree import (
     Part, Step, behind_in_words, claim_in_words, grouped, is_against_ban, mover, parts_of, shortest, side_of
 )
@@ -79,8 +79,6 @@ def claims(kind: str, group: list[Part]) -> str:
 def root(position: Position, question: asking.Question, code: int, told: str) -> str:
     """The first node."""
     size, target = position.size, positions.point_named(position, question.vertex)
-    stones = [(f"A{LETTERS[colour]}", [p for p, one in enumerate(position.cells) if one == colour]) for colour in (1, 2)]
-    set_up = "".join(name + "".join(f"[{sgf.point_at(p, size)}]" for p in points) for name, points in stones if points)
     plays = position.cells[target] if question.kind == "defend" else BLACK + WHITE - position.cells[target]
     plies, wide, is_wider = question.depths
     tree = "wider" if is_wider else "stated"
@@ -88,7 +86,7 @@ def root(position: Position, question: asking.Question, code: int, told: str) ->
     ban = position.ban and f"{positions.NAMES[position.ban[1]]} may not play at {vertex_of(size, position.ban[0])}: ko."
     text = value("C", "\n".join(filter(None, [head, ban, told])))
     marks = f"PL[{LETTERS[plays]}]TR[{sgf.point_at(target, size)}]"
-    return f";FF[4]GM[1]CA[UTF-8]AP[gopat]SZ[{size}]\n{set_up}\n{marks}\n{text}"
+    return f";FF[4]GM[1]CA[UTF-8]AP[gopat]SZ[{size}]\n{positions.set_up_sgf(position)}\n{marks}\n{text}"
 
 
 def record(position: Position, question: asking.Question, code: int, parts: list[Part], is_short: bool) -> str:

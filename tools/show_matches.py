@@ -1,0 +1,219 @@
+"""Shows the matches of a position: as a page, or as a game record that any editor opens.
+
+usage: python3 tools/show_matches.py GOPAT POSITION COLOUR FILE.db .. [--sgf] > OUT
+
+POSITION is a game record `*.sgf`, of which the end of the main line counts, or a file of protocol lines, of which
+`boardsize`, `clear_board`, `play`, `undo` and `loadsgf` count. COLOUR is `b` or `w`, the side to move. gopat is started
+with the pattern files and asked, at the depths that its options say, by `showboard`, `match_patterns COLOUR` and
+`reg_genmove COLOUR`; it plays nothing.
+
+The page has the board with a letter at each point where something matches; then for each match, in gopat's order, the
+diagram as gopat turned it, the place on the board, and the entry. In a diagram the blue square is the move, a faint
+stone may be there or not, and `?` admits any point. With --sgf the first node has the letters, and each match is a
+variation without moves, with squares on the points of the diagram, a circle at the move and the labels of the entry.
+
+Each match is looked at a second time: its diagram, turned by this script, has to fit on the board that `showboard`
+tells. The exit status is 1 where one does not, or that board is another than the script's, and 2 where the words cannot
+be taken, a file cannot be read, or gopat refuses something.
+"""
+
+import argparse
+import html
+import pathlib
+import shlex
+import string
+import sys
+from typing import NamedTuple
+
+import asking
+import board_picture
+import command_line
+import diagrams
+import gtp
+import html_page
+import positions
+import sgf
+from go_rules import BLACK, COLOURS, WHITE, Position, move_of, vertex_of
+
+LETTERS = string.ascii_uppercase + string.ascii_lowercase
+
+
+class Differs(Exception):
+    """gopat tells something that does not fit what this script sees. The text says what."""
+
+
+class Told(NamedTuple):
+    """What gopat said of a position: the matches, and the move that it would play."""
+
+    matches: list[diagrams.Match]
+    move: str
+
+
+def board_of(text: str) -> bytes:
+    """The cells of a `showboard` reply."""
+    shown = gtp.shown(text)
+    cells = bytearray(shown.size * shown.size)
+    for vertex, mark in shown.stones.items():
+        cells[move_of(shown.size, vertex).point] = BLACK if mark == "X" else WHITE
+    return bytes(cells)
+
+
+def match_of(line: str, entries: list[diagrams.Entry], position: Position, friend: int) -> diagrams.Match:
+    """The match of a line of a reply. Of several entries of one name it is the first whose diagram fits there."""
+    name, number, vertex = line.split(" ")
+    turn, point = int(number), move_of(position.size, vertex).point
+    for entry in entries:
+        is_named = entry.name == name
+        if is_named and diagrams.fits(diagrams.turned(entry.diagram, turn), position, point, friend):
+            return diagrams.Match(entry, turn, point)
+    raise Differs(f"{line}: no entry of this name fits there")
+
+
+def ask(words: argparse.Namespace, situation: positions.Situation, entries: list[diagrams.Entry]) -> Told:
+    """Asks gopat."""
+    lines = [*situation.lines, "showboard", f"match_patterns {words.colour}", f"reg_genmove {words.colour}"]
+    replies = asking.answers(shlex.join([*shlex.split(words.gopat), *words.files]), lines)
+    refused = [f"{line}: {reply.text}" for line, reply in zip(lines, replies) if not reply.ok]
+    if refused:
+        raise asking.Refused(refused[0])
+    shown, matched, move = replies[-3:]
+    if board_of(shown.text) != situation.position.cells:
+        raise Differs("showboard tells another board")
+    friend = COLOURS[words.colour]
+    found = [match_of(line, entries, situation.position, friend) for line in matched.text.splitlines()]
+    return Told(found, move.text)
+
+
+def labels_of(matches: list[diagrams.Match]) -> dict[int, str]:
+    """A label for each point where something matches, in the order of the matches: letters, and then numbers."""
+    points = list(dict.fromkeys(match.point for match in matches))
+    return {point: LETTERS[at] if at < len(LETTERS) else str(at) for at, point in enumerate(points)}
+
+
+def counted(told: Told, name: str) -> str:
+    """How much matches, and the move."""
+    points = len({match.point for match in told.matches})
+    move = "it would pass" if told.move == "PASS" else f"it would play {told.move}"
+    matches = "1 match" if len(told.matches) == 1 else f"{len(told.matches)} matches"
+    return f"{matches} for {name} at {points} point{'' if points == 1 else 's'}; asked by reg_genmove {move}."
+
+
+def turn_in_words(match: diagrams.Match) -> str:
+    """The transformation of a match."""
+    return f"transformation {match.turn}: {diagrams.TURNS[match.turn][1]}"
+
+
+def names_of(files: list[str]) -> str:
+    """The names of files without their folders."""
+    return " ".join(pathlib.Path(file).name for file in files)
+
+
+def part_of(entry: diagrams.Entry) -> str:
+    """The colon line and the expression of an entry."""
+    fields = [entry.mark, entry.classes or "-", *entry.items]
+    return ":" + ",".join(fields) + (f"\n;{entry.expression}" if entry.expression else "")
+
+
+# The page.
+
+
+def on_board(match: diagrams.Match, position: Position) -> board_picture.Picture:
+    """The part of the board around a match, with its move and its labels."""
+    diagram = diagrams.turned(match.entry.diagram, match.turn)
+    at = diagrams.points(diagram, position.size, match.point)
+    frame = board_picture.around(position.size, list(at.values()), 1)
+    picture = board_picture.of_position(position, frame)
+    picture.marks[frame.spot(match.point)] = "star"
+    picture.labels.update({frame.spot(at[place]): label for place, label in diagram.labels.items()})
+    return picture
+
+
+def section(match: diagrams.Match, position: Position, letter: str, friend: str, grids: board_picture.Grids) -> str:
+    """A match on the page."""
+    diagram = diagrams.picture(diagrams.turned(match.entry.diagram, match.turn), friend)
+    entry, vertex = match.entry, vertex_of(position.size, match.point)
+    figures = [
+        (board_picture.svg(diagram, 22, grids), f"transformation {match.turn}"),
+        (board_picture.svg(on_board(match, position), 22, grids), f"at {vertex}"),
+    ]
+    drawn = "".join(f"<figure>{one}<figcaption>{told}</figcaption></figure>" for one, told in figures)
+    remarks = f'<p class="soft">{turn_in_words(match)}</p><p>{html.escape(entry.remarks)}</p>'
+    text = html.escape(f"{entry.text}\n\n{part_of(entry)}")
+    heading = f"<h2>{letter}: {html.escape(entry.name)} at {vertex}</h2>"
+    whole = f"<details open><summary>the entry, value {entry.value}</summary><pre>{text}</pre></details>"
+    return f'<section><div class="row">{drawn}</div><div>{heading}{remarks}{whole}</div></section>'
+
+
+def page(told: Told, situation: positions.Situation, colour: int, files: list[str]) -> str:
+    """The whole page."""
+    grids, position, letters = board_picture.Grids(), situation.position, labels_of(told.matches)
+    picture = board_picture.of_position(position)
+    frame = board_picture.whole(position.size)
+    picture.labels.update({frame.spot(point): letter for point, letter in letters.items()})
+    friend, name = positions.LETTERS[colour], positions.NAMES[colour]
+    board = board_picture.svg(picture, 26, grids)
+    sections = [section(match, position, letters[match.point], friend, grids) for match in told.matches]
+    head = f"<p>{html.escape(names_of(files))}: {counted(told, name)}</p>"
+    legend = f'<p class="soft">In a diagram the side to move is {name}; the blue square is the move, a faint stone may '
+    legend += "be there or not, and ? admits any point.</p>"
+    parts = [grids.definitions(), head, board, legend, *sections]
+    return html_page.page("Matches", board_picture.STYLE, parts)
+
+
+# The record.
+
+
+def match_sgf(match: diagrams.Match, position: Position, letter: str) -> str:
+    """A variation that marks a match."""
+    diagram, size = diagrams.turned(match.entry.diagram, match.turn), position.size
+    at = diagrams.points(diagram, size, match.point)
+    star = sgf.point_at(match.point, size)
+    squares = "".join(f"[{sgf.point_at(point, size)}]" for point in at.values() if point != match.point)
+    labels = "".join(f"[{sgf.point_at(at[place], size)}:{label}]" for place, label in diagram.labels.items())
+    entry, vertex = match.entry, vertex_of(size, match.point)
+    told = f"{entry.name} at {vertex}, {turn_in_words(match)}; value {entry.value}.\n{entry.text}\n\n{part_of(entry)}"
+    name = sgf.escaped(f"{letter}: {entry.name} {vertex}")
+    marks = f"CR[{star}]" + (f"SQ{squares}" if squares else "") + (f"LB{labels}" if labels else "")
+    return f"\n(;N[{name}]{marks}\nC[{sgf.escaped(told)}])"
+
+
+def record(told: Told, situation: positions.Situation, colour: int, files: list[str]) -> str:
+    """The whole record."""
+    position, letters = situation.position, labels_of(told.matches)
+    size = position.size
+    set_up = positions.set_up_sgf(position)
+    label = "".join(f"[{sgf.point_at(point, size)}:{letter}]" for point, letter in letters.items())
+    text = f"{names_of(files)}: {counted(told, positions.NAMES[colour])}"
+    marks = f"PL[{positions.LETTERS[colour].upper()}]" + (f"LB{label}" if label else "")
+    head = f";FF[4]GM[1]CA[UTF-8]AP[gopat]SZ[{size}]\n{set_up}\n{marks}\nC[{sgf.escaped(text)}]"
+    return f"({head}{''.join(match_sgf(match, position, letters[match.point]) for match in told.matches)})\n"
+
+
+# The command.
+
+
+def read_words(given: tuple[str, ...]) -> argparse.Namespace:
+    words = argparse.ArgumentParser(usage=__doc__, add_help=False)
+    words.add_argument("gopat")
+    words.add_argument("position")
+    words.add_argument("colour", choices=("b", "w"))
+    words.add_argument("files", nargs="+")
+    words.add_argument("--sgf", action="store_true")
+    return words.parse_args(given)
+
+
+def main(*given: str) -> int:
+    words = read_words(given)
+    try:
+        situation, entries = positions.read(words.position), diagrams.read(words.files)
+        told = ask(words, situation, entries)
+    except (positions.NotRead, diagrams.NotRead, asking.Refused, Differs) as why:
+        print(why, file=sys.stderr)
+        return 1 if isinstance(why, Differs) else 2
+    shown = record if words.sgf else page
+    sys.stdout.write(shown(told, situation, COLOURS[words.colour], words.files))
+    return 0
+
+
+if __name__ == "__main__":
+    command_line.run(main, __doc__)
