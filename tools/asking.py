@@ -6,6 +6,7 @@ from typing import NamedTuple
 
 import gtp
 import positions
+from go_rules import BLACK, WHITE, move_of
 from proof_tree import Depths
 
 
@@ -50,3 +51,12 @@ def code_and_words(text: str) -> tuple[int, list[str]]:
     if not found:
         raise Refused(f"no printed proof: {text.strip()[:80]}")
     return int(found[1]), found[2].split()
+
+
+def cells_of(text: str) -> bytes:
+    """The cells of a `showboard` reply."""
+    shown = gtp.shown(text)
+    cells = bytearray(shown.size * shown.size)
+    for vertex, mark in shown.stones.items():
+        cells[move_of(shown.size, vertex).point] = BLACK if mark == "X" else WHITE
+    return bytes(cells)

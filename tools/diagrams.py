@@ -6,12 +6,11 @@ import re
 from typing import NamedTuple
 
 import database
-from board_picture import Edges, Grid, Picture, Spot
-from go_rules import EMPTY, Position, other
+from board_picture import Edges, Grid, Picture, Spot, around, of_position
+from go_rules import EMPTY, Position, move_of, other
 
 HELPERS = {b"near_edge", b"no_ban"}
 VALUE = re.compile(rb"value\(([0-9]{1,6})\)")
-MOST_VALUE = 999_999
 # What a transformation does with rows down and columns to the right, and the words for it.
 TURNS = [
     (lambda r, c: (r, c), "as drawn"),
@@ -184,3 +183,48 @@ class Match(NamedTuple):
     entry: Entry
     turn: int
     point: int
+
+
+class Differs(Exception):
+    """gopat tells something that does not fit what these scripts see. The text says what."""
+
+
+def match_of(line: str, named: dict[str, list[Entry]], position: Position, friend: int) -> Match:
+    """The match of a line of a `match_patterns` reply. Of several entries of one name it is the first whose diagram
+    fits there."""
+    name, number, vertex = line.split(" ")
+    turn, point = int(number), move_of(position.size, vertex).point
+    for entry in named.get(name, []):
+        if fits(turned(entry.diagram, turn), position, point, friend):
+            return Match(entry, turn, point)
+    raise Differs(f"{line}: no entry of this name fits there")
+
+
+def matches(text: str, entries: list[Entry], position: Position, friend: int) -> list[Match]:
+    """The matches of a `match_patterns` reply."""
+    named: dict[str, list[Entry]] = {}
+    for entry in entries:
+        named.setdefault(entry.name, []).append(entry)
+    return [match_of(line, named, position, friend) for line in text.splitlines()]
+
+
+def turn_in_words(match: Match) -> str:
+    """The transformation of a match."""
+    return f"transformation {match.turn}: {TURNS[match.turn][1]}"
+
+
+def part_of(entry: Entry) -> str:
+    """The colon line and the expression of an entry."""
+    fields = [entry.mark, entry.classes or "-", *entry.items]
+    return ":" + ",".join(fields) + (f"\n;{entry.expression}" if entry.expression else "")
+
+
+def on_board(match: Match, position: Position) -> Picture:
+    """The part of the board around a match, with its move and its labels."""
+    diagram = turned(match.entry.diagram, match.turn)
+    at = points(diagram, position.size, match.point)
+    frame = around(position.size, list(at.values()), 1)
+    found = of_position(position, frame)
+    found.marks[frame.spot(match.point)] = "star"
+    found.labels.update({frame.spot(at[place]): label for place, label in diagram.labels.items()})
+    return found

@@ -29,17 +29,12 @@ import asking
 import board_picture
 import command_line
 import diagrams
-import gtp
 import html_page
 import positions
 import sgf
-from go_rules import BLACK, COLOURS, WHITE, Position, move_of, vertex_of
+from go_rules import COLOURS, Position, vertex_of
 
 LETTERS = string.ascii_uppercase + string.ascii_lowercase
-
-
-class Differs(Exception):
-    """gopat tells something that does not fit what this script sees. The text says what."""
 
 
 class Told(NamedTuple):
@@ -47,26 +42,6 @@ class Told(NamedTuple):
 
     matches: list[diagrams.Match]
     move: str
-
-
-def board_of(text: str) -> bytes:
-    """The cells of a `showboard` reply."""
-    shown = gtp.shown(text)
-    cells = bytearray(shown.size * shown.size)
-    for vertex, mark in shown.stones.items():
-        cells[move_of(shown.size, vertex).point] = BLACK if mark == "X" else WHITE
-    return bytes(cells)
-
-
-def match_of(line: str, entries: list[diagrams.Entry], position: Position, friend: int) -> diagrams.Match:
-    """The match of a line of a reply. Of several entries of one name it is the first whose diagram fits there."""
-    name, number, vertex = line.split(" ")
-    turn, point = int(number), move_of(position.size, vertex).point
-    for entry in entries:
-        is_named = entry.name == name
-        if is_named and diagrams.fits(diagrams.turned(entry.diagram, turn), position, point, friend):
-            return diagrams.Match(entry, turn, point)
-    raise Differs(f"{line}: no entry of this name fits there")
 
 
 def ask(words: argparse.Namespace, situation: positions.Situation, entries: list[diagrams.Entry]) -> Told:
@@ -77,11 +52,10 @@ def ask(words: argparse.Namespace, situation: positions.Situation, entries: list
     if refused:
         raise asking.Refused(refused[0])
     shown, matched, move = replies[-3:]
-    if board_of(shown.text) != situation.position.cells:
-        raise Differs("showboard tells another board")
-    friend = COLOURS[words.colour]
-    found = [match_of(line, entries, situation.position, friend) for line in matched.text.splitlines()]
-    return Told(found, move.text)
+    if asking.cells_of(shown.text) != situation.position.cells:
+        raise diagrams.Differs("showboard tells another board")
+    friend, position = COLOURS[words.colour], situation.position
+    return Told(diagrams.matches(matched.text, entries, position, friend), move.text)
 
 
 def labels_of(matches: list[diagrams.Match]) -> dict[int, str]:
@@ -98,34 +72,12 @@ def counted(told: Told, name: str) -> str:
     return f"{matches} for {name} at {points} point{'' if points == 1 else 's'}; asked by reg_genmove {move}."
 
 
-def turn_in_words(match: diagrams.Match) -> str:
-    """The transformation of a match."""
-    return f"transformation {match.turn}: {diagrams.TURNS[match.turn][1]}"
-
-
 def names_of(files: list[str]) -> str:
     """The names of files without their folders."""
     return " ".join(pathlib.Path(file).name for file in files)
 
 
-def part_of(entry: diagrams.Entry) -> str:
-    """The colon line and the expression of an entry."""
-    fields = [entry.mark, entry.classes or "-", *entry.items]
-    return ":" + ",".join(fields) + (f"\n;{entry.expression}" if entry.expression else "")
-
-
 # The page.
-
-
-def on_board(match: diagrams.Match, position: Position) -> board_picture.Picture:
-    """The part of the board around a match, with its move and its labels."""
-    diagram = diagrams.turned(match.entry.diagram, match.turn)
-    at = diagrams.points(diagram, position.size, match.point)
-    frame = board_picture.around(position.size, list(at.values()), 1)
-    picture = board_picture.of_position(position, frame)
-    picture.marks[frame.spot(match.point)] = "star"
-    picture.labels.update({frame.spot(at[place]): label for place, label in diagram.labels.items()})
-    return picture
 
 
 def section(match: diagrams.Match, position: Position, letter: str, friend: str, grids: board_picture.Grids) -> str:
@@ -134,11 +86,11 @@ def section(match: diagrams.Match, position: Position, letter: str, friend: str,
     entry, vertex = match.entry, vertex_of(position.size, match.point)
     figures = [
         (board_picture.svg(diagram, 22, grids), f"transformation {match.turn}"),
-        (board_picture.svg(on_board(match, position), 22, grids), f"at {vertex}"),
+        (board_picture.svg(diagrams.on_board(match, position), 22, grids), f"at {vertex}"),
     ]
     drawn = "".join(f"<figure>{one}<figcaption>{told}</figcaption></figure>" for one, told in figures)
-    remarks = f'<p class="soft">{turn_in_words(match)}</p><p>{html.escape(entry.remarks)}</p>'
-    text = html.escape(f"{entry.text}\n\n{part_of(entry)}")
+    remarks = f'<p class="soft">{diagrams.turn_in_words(match)}</p><p>{html.escape(entry.remarks)}</p>'
+    text = html.escape(f"{entry.text}\n\n{diagrams.part_of(entry)}")
     heading = f"<h2>{letter}: {html.escape(entry.name)} at {vertex}</h2>"
     whole = f"<details open><summary>the entry, value {entry.value}</summary><pre>{text}</pre></details>"
     return f'<section><div class="row">{drawn}</div><div>{heading}{remarks}{whole}</div></section>'
@@ -171,7 +123,8 @@ def match_sgf(match: diagrams.Match, position: Position, letter: str) -> str:
     squares = "".join(f"[{sgf.point_at(point, size)}]" for point in at.values() if point != match.point)
     labels = "".join(f"[{sgf.point_at(at[place], size)}:{label}]" for place, label in diagram.labels.items())
     entry, vertex = match.entry, vertex_of(size, match.point)
-    told = f"{entry.name} at {vertex}, {turn_in_words(match)}; value {entry.value}.\n{entry.text}\n\n{part_of(entry)}"
+    head = f"{entry.name} at {vertex}, {diagrams.turn_in_words(match)}; value {entry.value}."
+    told = f"{head}\n{entry.text}\n\n{diagrams.part_of(entry)}"
     name = sgf.escaped(f"{letter}: {entry.name} {vertex}")
     marks = f"CR[{star}]" + (f"SQ{squares}" if squares else "") + (f"LB{labels}" if labels else "")
     return f"\n(;N[{name}]{marks}\nC[{sgf.escaped(told)}])"
@@ -207,9 +160,9 @@ def main(*given: str) -> int:
     try:
         situation, entries = positions.read(words.position), diagrams.read(words.files)
         told = ask(words, situation, entries)
-    except (positions.NotRead, diagrams.NotRead, asking.Refused, Differs) as why:
+    except (positions.NotRead, diagrams.NotRead, asking.Refused, diagrams.Differs) as why:
         print(why, file=sys.stderr)
-        return 1 if isinstance(why, Differs) else 2
+        return 1 if isinstance(why, diagrams.Differs) else 2
     shown = record if words.sgf else page
     sys.stdout.write(shown(told, situation, COLOURS[words.colour], words.files))
     return 0
