@@ -39,6 +39,14 @@ def answers(program: str, lines: list[str]) -> list[gtp.Reply]:
         raise Refused(str(why)) from why
 
 
+def running(program: str) -> gtp.Running:
+    """The program, to be asked line by line."""
+    try:
+        return gtp.Running(shlex.split(program))
+    except OSError as why:
+        raise Refused(str(why)) from why
+
+
 def proof_lines(situation: positions.Situation, question: Question) -> list[str]:
     """The lines that ask for a proof in a position; the last of them is the question."""
     depths = f"depths {question.depths.plies} {question.depths.wide}"

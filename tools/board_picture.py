@@ -257,15 +257,15 @@ def inner_svg(picture: Picture) -> str:
     return "".join(parts)
 
 
-def svg(picture: Picture, unit: float = 24, grids: Grids | None = None) -> str:
+def svg(picture: Picture, unit: float = 24, grids: Grids | None = None, ground: str = "") -> str:
     """The picture with so many pixels from line to line: for a page that has the grids and the style, or for a file of
-    its own."""
+    its own. On a page something else may lie below in the place of the grid."""
     box = box_of(picture.grid)
     width, height = (round(side * unit) for side in (box.width, box.height))
     frame = " ".join(map(short, box))
     head = f'class="board" width="{width}" height="{height}" viewBox="{frame}"'
     if grids is not None:
-        return f"<svg {head}>{grids.use(picture.grid)}{inner_svg(picture)}</svg>"
+        return f"<svg {head}>{ground or grids.use(picture.grid)}{inner_svg(picture)}</svg>"
     inner = f"<style>{STYLE}</style>{grid_svg(picture.grid)}{inner_svg(picture)}"
     return f'<svg xmlns="http://www.w3.org/2000/svg" {head}>{inner}</svg>\n'
 

@@ -31,6 +31,7 @@ import diagrams
 import html_page
 import positions
 from go_rules import BLACK, WHITE, Position, vertex_of
+from proof_tree import counted
 
 GOPAT = "crates/gopat/out/gopat"
 MOST_BOARDS = 3
@@ -104,10 +105,6 @@ def ask(gopat: str, file: str, entries: list[diagrams.Entry], places: list[tuple
 
 
 # The page.
-
-
-def counted(number: int, noun: str) -> str:
-    return f"{number} {noun}" if number == 1 else f"{number} {noun}{'es' if noun.endswith('h') else 's'}"
 
 
 def chosen(found: list[Found]) -> list[Found]:
@@ -187,8 +184,8 @@ def page(catalogues: list[Catalogue], places: list[tuple[Place, list[str]]], is_
     head = [f"<p>{told}any point.</p>"]
     if is_asked:
         records = len({place.record for place, _ in places})
-        head.append(f"<p>Asked in {counted(len(places), 'position')} of {counted(records, 'record')}, for both colours: "
-                    f"{len(named) - len(never)} entries match, {len(never)} never.</p>")
+        asked = f"Asked in {counted(len(places), 'position')} of {counted(records, 'record')}, for both colours:"
+        head.append(f"<p>{asked} {len(named) - len(never)} entries match, {len(never)} never.</p>")
     head += indices(named)
     head += [index(f"Never matched: {len(never)}", f"<p>{links(never)}</p>")] if is_asked else []
     style = f"{board_picture.STYLE}\n{STYLE}"

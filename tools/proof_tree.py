@@ -311,7 +311,7 @@ def side_of(node: Node) -> str:
 
 def counted(number: int, noun: str) -> str:
     """A number with its noun, as `1 ply` or `2 plies`."""
-    plural = noun[:-1] + "ies" if noun.endswith("y") else noun + "s"
+    plural = noun[:-1] + "ies" if noun.endswith("y") else noun + ("es" if noun.endswith("h") else "s")
     return f"{number} {noun if number == 1 else plural}"
 
 
@@ -325,7 +325,7 @@ def reason(node: Node) -> str:
     liberties, half = node.liberties(), (node.plies + int(node.is_attackers)) // 2
     head = f"The string at {target} has {counted(liberties, 'liberty')}"
     if liberties > half:
-        plays = {0: "does not play", 1: "plays once"}.get(half, f"plays {half} times")
+        plays = {0: "does not play", 1: "plays once", 2: "plays twice"}.get(half, f"plays {half} times")
         return f"{head}; with {counted(node.plies, 'ply')} left the attacker {plays}."
     if liberties > 4:
         return f"{head}; at more than 4 the attacker tries nothing."

@@ -33,6 +33,7 @@ import html_page
 import positions
 import sgf
 from go_rules import COLOURS, Position, vertex_of
+from proof_tree import counted
 
 LETTERS = string.ascii_uppercase + string.ascii_lowercase
 
@@ -64,12 +65,12 @@ def labels_of(matches: list[diagrams.Match]) -> dict[int, str]:
     return {point: LETTERS[at] if at < len(LETTERS) else str(at) for at, point in enumerate(points)}
 
 
-def counted(told: Told, name: str) -> str:
+def in_words(told: Told, name: str) -> str:
     """How much matches, and the move."""
     points = len({match.point for match in told.matches})
     move = "it would pass" if told.move == "PASS" else f"it would play {told.move}"
-    matches = "1 match" if len(told.matches) == 1 else f"{len(told.matches)} matches"
-    return f"{matches} for {name} at {points} point{'' if points == 1 else 's'}; asked by reg_genmove {move}."
+    found = f"{counted(len(told.matches), 'match')} for {name} at {counted(points, 'point')}"
+    return f"{found}; asked by reg_genmove {move}."
 
 
 def names_of(files: list[str]) -> str:
@@ -105,7 +106,7 @@ def page(told: Told, situation: positions.Situation, colour: int, files: list[st
     friend, name = positions.LETTERS[colour], positions.NAMES[colour]
     board = board_picture.svg(picture, 26, grids)
     sections = [section(match, position, letters[match.point], friend, grids) for match in told.matches]
-    head = f"<p>{html.escape(names_of(files))}: {counted(told, name)}</p>"
+    head = f"<p>{html.escape(names_of(files))}: {in_words(told, name)}</p>"
     legend = f'<p class="soft">In a diagram the side to move is {name}; the blue square is the move, a faint stone may '
     legend += "be there or not, and ? admits any point.</p>"
     parts = [grids.definitions(), head, board, legend, *sections]
@@ -136,7 +137,7 @@ def record(told: Told, situation: positions.Situation, colour: int, files: list[
     size = position.size
     set_up = positions.set_up_sgf(position)
     label = "".join(f"[{sgf.point_at(point, size)}:{letter}]" for point, letter in letters.items())
-    text = f"{names_of(files)}: {counted(told, positions.NAMES[colour])}"
+    text = f"{names_of(files)}: {in_words(told, positions.NAMES[colour])}"
     marks = f"PL[{positions.LETTERS[colour].upper()}]" + (f"LB{label}" if label else "")
     head = f";FF[4]GM[1]CA[UTF-8]AP[gopat]SZ[{size}]\n{set_up}\n{marks}\nC[{sgf.escaped(text)}]"
     return f"({head}{''.join(match_sgf(match, position, letters[match.point]) for match in told.matches)})\n"
