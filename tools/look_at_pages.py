@@ -4,7 +4,7 @@ usage: python3 tools/look_at_pages.py CHROMIUM OUT PAGE ..
 
 A PAGE is an HTML or SVG file. OUT is a folder, which gets a file NAME-WIDTH-light.png and NAME-WIDTH-dark.png for each
 page and width, 1200 and 420 points, of the first 1600 points from the top. Says which file was made. The exit status is
-1 where Chromium made none.
+1 where Chromium made none, and 2 where the words cannot be taken.
 """
 
 import pathlib
@@ -40,6 +40,9 @@ def look(chromium: str, page: pathlib.Path, out: pathlib.Path, width: int, schem
 
 
 def main(chromium: str, folder: str, *pages: str) -> int:
+    if not pages or any(word.startswith("-") for word in (chromium, folder, *pages)):
+        print(__doc__, file=sys.stderr)
+        return 2
     out, missing = pathlib.Path(folder), 0
     out.mkdir(parents=True, exist_ok=True)
     for page in map(pathlib.Path, pages):
@@ -48,9 +51,7 @@ def main(chromium: str, folder: str, *pages: str) -> int:
                 made = look(chromium, page, out, width, scheme)
                 missing += not made
                 print(f"{page}: {width} {scheme}: {'made' if made else 'nothing'}")
-    if not pages:
-        print("no page", file=sys.stderr)
-    return 1 if missing or not pages else 0
+    return 1 if missing else 0
 
 
 if __name__ == "__main__":

@@ -5,7 +5,7 @@ import re
 from typing import NamedTuple
 
 import sgf
-from go_rules import BLACK, COLOURS, EMPTY, WHITE, Position, empty, move_of, play, vertex_of
+from go_rules import BLACK, COLOURS, EMPTY, WHITE, Position, empty, move_of, play, string_at, vertex_of
 
 SET_UP = {"AB": BLACK, "AW": WHITE, "AE": EMPTY}
 MOVES = {"B": BLACK, "W": WHITE}
@@ -62,6 +62,14 @@ def point_of(size: int, value: str) -> int | None:
     return move.point
 
 
+def checked(position: Position) -> Position:
+    """A position that was set up, in which each string has a liberty."""
+    for point, colour in enumerate(position.cells):
+        if colour != EMPTY and not string_at(position.size, position.cells, point)[1]:
+            raise NotRead(f"the string at {vertex_of(position.size, point)} has no liberty")
+    return position
+
+
 def after_node(before: Situation, node: sgf.Node) -> Situation:
     """The situation after the stones and the moves of a node."""
     size, after = before.position.size, before
@@ -70,7 +78,7 @@ def after_node(before: Situation, node: sgf.Node) -> Situation:
         for name, colour in SET_UP.items():
             for value in sgf.listed(node.texts(name)):
                 cells[point_of(size, value)] = colour
-        after = set_up(Position(size, bytes(cells)), before.moves)
+        after = set_up(checked(Position(size, bytes(cells))), before.moves)
     for name, values in node.properties.items():
         for value in values if name in MOVES else []:
             played = after.after(Played(MOVES[name], point_of(size, value)))

@@ -9,9 +9,10 @@ to `attack_proof` or `defend_proof` has it; with --gopat this program is asked f
 wider tree, of `gopat_wide`.
 
 The first node has the position, with the target marked, the code, and what the proof claims. Where the proof differs
-from one ko allowance to another, each part is a variation of its own. A `*` of the proof is spread into all moves that
-it stands for, in the order of the checker, and where `.` stands the comment says why nothing more has to be tried. With
---shortest the record has one line of play alone: the shortest one to such an end, in the part of the code that is told.
+from one ko allowance to another, the moves of each part are variations of their own, which begin with its claim. A `*`
+of the proof is spread into all moves that it stands for, in the order of the checker, and where `.` stands the comment
+says why nothing more has to be tried. With --shortest the record has one line of play alone: the shortest one to such
+an end, in the part of the code that is told.
 
 The words are checked on the way by the second checker (proof_tree.py). The exit status is 1 where they are no proof, or
 gopat prints none, and 2 where the words of the command line cannot be taken or POSITION cannot be read.
@@ -44,36 +45,39 @@ def move_sgf(step: Step, move: Move) -> str:
     return f";{LETTERS[mover(step.node)]}[{point}]{ko}"
 
 
-def comment(step: Step, before: Step, move: Move) -> str:
-    """What is said of a move: that it ignores the ban, and what stands behind it."""
+def comment(step: Step, before: Step, move: Move, told: str = "") -> str:
+    """What is said of a move: a text, that it ignores the ban, and what stands behind it."""
     ban = f"The {side_of(before.node)} ignores the ko ban." if is_against_ban(before.node, move) else ""
-    return value("C", " ".join(filter(None, [ban, behind_in_words(step)])))
+    return value("C", "\n".join(filter(None, [told, " ".join(filter(None, [ban, behind_in_words(step)]))])))
 
 
-def variations(step: Step) -> str:
-    """All moves of a proof from a step on."""
-    found = [move_sgf(step, move) + comment(behind, step, move) + variations(behind) for move, behind in step.behind]
-    return found[0] if len(found) == 1 else "".join(f"\n({one})" for one in found)
+def variations(step: Step, told: str = "") -> list[str]:
+    """The moves of a proof from a step on; before what is said of the first ones stands another text."""
+    found = []
+    for move, behind in step.behind:
+        rest = variations(behind)
+        below = rest[0] if len(rest) == 1 else "".join(f"\n({one})" for one in rest)
+        found.append(move_sgf(step, move) + comment(behind, step, move, told) + below)
+    return found
 
 
-def line_of_play(step: Step) -> str:
+def line_of_play(step: Step) -> list[str]:
     """The shortest line of play alone."""
     text = ""
     for move, behind in shortest(step):
         text += move_sgf(step, move) + comment(behind, step, move)
         step = behind
-    return text
-
-
-def heading(group: list[Part]) -> str:
-    """The codes whose allowances a group of parts is about."""
-    codes = [str(part.code) for part in group]
-    return f"Code {codes[0]}" if len(codes) == 1 else f"Codes {', '.join(codes[:-1])} and {codes[-1]}"
+    return [text]
 
 
 def claims(kind: str, group: list[Part]) -> str:
     """What a group of parts claims, a line for each."""
     return "\n".join(f"Code {part.code}: {claim_in_words(kind, part)}." for part in group)
+
+
+def with_ending(kind: str, group: list[Part]) -> str:
+    """The claims, with what stands behind the first node."""
+    return "\n".join(filter(None, [claims(kind, group), behind_in_words(group[-1].first)]))
 
 
 def root(position: Position, question: asking.Question, code: int, told: str) -> str:
@@ -90,24 +94,15 @@ def root(position: Position, question: asking.Question, code: int, told: str) ->
 
 
 def record(position: Position, question: asking.Question, code: int, parts: list[Part], is_short: bool) -> str:
-    """The whole record."""
+    """The whole record. Of several parts with other moves each says of its first moves what it claims."""
     groups = grouped(parts)[-1:] if is_short else grouped(parts)
-    body = line_of_play if is_short else variations
-    told = "\n".join(claims(question.kind, group) for group in groups)
-    if len(groups) == 1:
-        first = groups[0][-1].first
-        return f"({root(position, question, code, with_ending(told, first))}\n{body(first).lstrip()})\n"
-    found = ""
+    told = "\n".join(with_ending(question.kind, group) for group in groups)
+    found: list[str] = []
     for group in groups:
-        first = group[-1].first
-        text = value("C", with_ending(claims(question.kind, group), first))
-        found += f"\n(;{value('N', heading(group))}{text}{body(first)})"
-    return f"({root(position, question, code, told)}{found})\n"
-
-
-def with_ending(told: str, first: Step) -> str:
-    """The claims, with what stands behind the first node."""
-    return "\n".join(filter(None, [told, behind_in_words(first)]))
+        claim = claims(question.kind, group) if len(groups) > 1 else ""
+        found += line_of_play(group[-1].first) if is_short else variations(group[-1].first, claim)
+    body = "".join(found) if len(found) == 1 else "\n".join(f"({one})" for one in found)
+    return f"({root(position, question, code, told)}\n{body})\n"
 
 
 # The command.

@@ -328,8 +328,8 @@ def reason(node: Node) -> str:
         plays = {0: "does not play", 1: "plays once", 2: "plays twice"}.get(half, f"plays {half} times")
         return f"{head}; with {counted(node.plies, 'ply')} left the attacker {plays}."
     if liberties > 4:
-        return f"{head}; at more than 4 the attacker tries nothing."
-    return f"{head}; without a wide ply the attacker tries nothing at more than {3 if node.is_wider else 2}."
+        return f"{head}; against more than 4 the attacker tries nothing."
+    return f"{head}; with no wide ply left the attacker tries nothing against more than {3 if node.is_wider else 2}."
 
 
 def claim_in_words(kind: str, part: Part) -> str:

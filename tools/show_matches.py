@@ -10,7 +10,7 @@ with the pattern files and asked, at the depths that its options say, by `showbo
 The page has the board with a letter at each point where something matches; then for each match, in gopat's order, the
 diagram as gopat turned it, the place on the board, and the entry. In a diagram the blue square is the move, a faint
 stone may be there or not, and `?` admits any point. With --sgf the first node has the letters, and each match is a
-variation without moves, with squares on the points of the diagram, a circle at the move and the labels of the entry.
+variation with its move, with squares on the other points of the diagram and the labels of the entry.
 
 Each match is looked at a second time: its diagram, turned by this script, has to fit on the board that `showboard`
 tells. The exit status is 1 where one does not, or that board is another than the script's, and 2 where the words cannot
@@ -116,8 +116,8 @@ def page(told: Told, situation: positions.Situation, colour: int, files: list[st
 # The record.
 
 
-def match_sgf(match: diagrams.Match, position: Position, letter: str) -> str:
-    """A variation that marks a match."""
+def match_sgf(match: diagrams.Match, position: Position, letter: str, colour: int) -> str:
+    """The variation of a match."""
     diagram, size = diagrams.turned(match.entry.diagram, match.turn), position.size
     at = diagrams.points(diagram, size, match.point)
     star = sgf.point_at(match.point, size)
@@ -127,8 +127,8 @@ def match_sgf(match: diagrams.Match, position: Position, letter: str) -> str:
     head = f"{entry.name} at {vertex}, {diagrams.turn_in_words(match)}; value {entry.value}."
     told = f"{head}\n{entry.text}\n\n{diagrams.part_of(entry)}"
     name = sgf.escaped(f"{letter}: {entry.name} {vertex}")
-    marks = f"CR[{star}]" + (f"SQ{squares}" if squares else "") + (f"LB{labels}" if labels else "")
-    return f"\n(;N[{name}]{marks}\nC[{sgf.escaped(told)}])"
+    marks = (f"SQ{squares}" if squares else "") + (f"LB{labels}" if labels else "")
+    return f"\n(;{positions.LETTERS[colour].upper()}[{star}]N[{name}]{marks}\nC[{sgf.escaped(told)}])"
 
 
 def record(told: Told, situation: positions.Situation, colour: int, files: list[str]) -> str:
@@ -140,7 +140,8 @@ def record(told: Told, situation: positions.Situation, colour: int, files: list[
     text = f"{names_of(files)}: {in_words(told, positions.NAMES[colour])}"
     marks = f"PL[{positions.LETTERS[colour].upper()}]" + (f"LB{label}" if label else "")
     head = f";FF[4]GM[1]CA[UTF-8]AP[gopat]SZ[{size}]\n{set_up}\n{marks}\nC[{sgf.escaped(text)}]"
-    return f"({head}{''.join(match_sgf(match, position, letters[match.point]) for match in told.matches)})\n"
+    found = "".join(match_sgf(match, position, letters[match.point], colour) for match in told.matches)
+    return f"({head}{found})\n"
 
 
 # The command.
