@@ -5,7 +5,6 @@ use Rattle.gtp_rules.specs.Steps.{Step}
 use Rattle.helpers.specs.HelperStates.{SlotState}
 use Rattle.read_rules.specs.declared.tree.Tree.TheVariants.{Stated}
 use Rattle.machine_rules.specs.Files.{Contents}
-use Rattle.run_notes.specs.declared.notes.Counts.{Counts}
 use Rattle.run_notes.specs.declared.notes.Sent.{Sent}
 use Rattle.session.specs.Tallies.{Tally}
 use Rattle.session.specs.Ends.{Streams}
@@ -66,7 +65,7 @@ module _ (input : List ℕ) (last hurt : ℕ) (old : List ℕ) (torn : ℕ) (res
 
   -- a run over them says what was taken and put
   pub told : (helpers : List SlotState) (words : List (List ℕ)) (contents : Contents) (missed now : List (List ℕ))
-      (counts : Option Counts) (sent : Option Sent) (phase : Phase)
+      (counts : List ℕ) (sent : Option Sent) (phase : Phase)
       → Came Stated helpers words contents missed now (telling input last hurt old torn)
       (telling rest piece fault new cut) counts sent phase
       → ComesTo helpers words contents input rest old new piece phase

@@ -22,7 +22,7 @@ fn cause(error: io::Error) -> WordsError
     }
 }
 
-// The words of the command line without the program's name, where they can be had.
+// The words of the command line without the program's name, or why they could not be had.
 fn words<R: Env + AllocGlobal>(rt: &R) -> Result<Vec<String>, WordsError> {
     let all = match env::args(rt) {
         Ok(all) => all,
@@ -45,8 +45,8 @@ fn helpers(alloc: Global) -> Result<Vec<Box<dyn Helper>>, AllocError> {
     Ok(helpers)
 }
 
-/// The words of the command line without the program's name, and the helpers. Where memory for the helpers is not
-/// found, the words tell that.
+/// The words of the command line without the program's name, and the helpers. If no memory is found for the helpers,
+/// the words are told to be missing for want of memory.
 pub fn words_and_helpers<R: Env + AllocGlobal>(
     rt: &R,
 ) -> (Result<Vec<String>, WordsError>, Vec<Box<dyn Helper>>) {

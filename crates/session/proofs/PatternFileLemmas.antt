@@ -7,17 +7,9 @@ use Rattle.std.proofs.lemmas.List.Concat.{flat_map-append}
 use Rattle.gtp_io.specs.Loading.{IsLoaded}
 use Rattle.machine_rules.specs.Files.{IsContents}
 use Rattle.session.specs.PatternFiles.{added_feed, ended, joined_text, AreContents, IsJoined, Adds, MissedBy}
-use Rattle.machine_rules.specs.Files.{IsContents}
-use Rattle.session.specs.PatternFiles.{MissedIn, IsDatabase, RefusesStates, IsRefused, unloaded, unread}
-use Rattle.db_read.specs.Reading.{BlamesAt}
-use Rattle.db_read.specs.declared.error.DbError.{DbError}
-use Rattle.db_read.specs.declared.error.DbError.TheVariants as db
+use Rattle.session.specs.PatternFiles.{MissedIn, unloaded}
 use Rattle.gtp_io.specs.declared.errors.LoadError.{LoadError}
 use Rattle.gtp_io.specs.declared.errors.LoadError.TheVariants as load
-use Rattle.db_rules.specs.Faults.{first_fault}
-use Rattle.pat_types.specs.declared.pattern.Pattern.{Pattern}
-use Rattle.session.specs.declared.outcome.OpenError.{OpenError}
-use Rattle.session.specs.declared.outcome.OpenError.TheVariants as open_error
 
 -- what was loaded stands behind the bytes that were handed in
 loaded : (contents : Option (List ℕ)) (into bytes : List ℕ) → IsLoaded contents into bytes → (more : List ℕ)

@@ -1,5 +1,5 @@
 -- The claim of `run`: by its outcome, what its files are, what it took from its source, put on its output and noted.
-use Rattle.std.specs.Prelude.{◌≡◌, ◌≢◌, ◌⊎◌, ℕ, ◌+◌, ◌<◌, ◌≤◌, Bool, true, false, List, [], ◌++◌, length}
+use Rattle.std.specs.Prelude.{◌≡◌, ◌≢◌, ◌⊎◌, ℕ, ◌<◌, ◌≤◌, true, false, List, [], ◌++◌, length}
 use Rattle.std.specs.Prelude.{Option, Some, None, IsSomeAnd, MatchOption, Result, Ok, Err, codes}
 use Rattle.std.specs.List.{flat_map}
 use Rattle.gtp_io.specs.Outside.{Rose}
@@ -140,8 +140,8 @@ pub record IsCauseOf (fault : Type 0) (before now : ℕ) : Type 0 where
   pub rose : fault → Rose before now
   pub told : before < now → fault
 
--- What a run of these words with these helpers did that reads in a tree, by its outcome. Its notes are a text of counts,
--- then what was sent, and then the note of its outcome.
+-- What a run of these words with these helpers did that reads in a tree, by its outcome. Its notes are a text of
+-- counts, then the line of what was sent, and then the note of its outcome.
 pub record RunsIn (tree : Tree) (helpers : List SlotState) (words : List (List ℕ)) (before after : Outside)
     (outcome : Outcome) : Type 0 where
   pub counts : List ℕ
