@@ -1,2 +1,3 @@
 pub mod FoundMoves
 pub mod AttainLemmas
+pub mod ReplyLemmas

@@ -1,2 +1,3 @@
 pub mod AllMoves
 pub mod FewestPlies
+pub mod Refutation
