@@ -1,4 +1,4 @@
-//! Trial moves: bans, what a move taken back restores, and what moves change.
+//! Trial moves: bans, what a move taken back restores, what moves change, and boundaries.
 
 ghost use Rattle.std.specs.Prelude.{◌*◌, ◌<◌};
 
@@ -135,4 +135,28 @@ fn another_ban_is_another_change(rt: HostRuntime) {
     let _look = board.finish();
     assert!(rt; banned != free, "the pass lifts the ban");
     assert!(rt; restored == banned, "and taking it back brings it back");
+}
+
+#[test]
+fn a_boundary_has_the_least_point_of_each_enemy_string(rt: HostRuntime) {
+    let position = after(5, &KO).expect(&rt, "each play is legal");
+    let (c3, d3) = (numbered(position.size(), 12), numbered(position.size(), 13));
+    let mut board = Trial::new(Watch::new(&position));
+    let alone = board.boundary(c3);
+    assert!(rt;
+        alone.count() == 3 && alone.has(7) && alone.has(11) && alone.has(17),
+        "three lone stones"
+    );
+    let tried = board.play(Colour::Black, numbered(position.size(), 6), false);
+    assert!(rt; tried == Tried::Done, "B4 joins C4 and B3");
+    let joined = board.boundary(c3);
+    assert!(rt;
+        joined.count() == 2 && joined.has(6) && joined.has(17),
+        "of the joined stones B4 is the least"
+    );
+    assert!(rt;
+        board.boundary(d3).count() == 0,
+        "an empty point has no string"
+    );
+    let _look = board.finish();
 }
