@@ -1,0 +1,194 @@
+"""Questions about a position of Go, answered by gopat's library in this process.
+
+    >>> board = Board.of_rows(["...", ".X.", "..."])
+    >>> board.liberties("B2")
+    4
+    >>> board.play(WHITE, "A1").attack("A1", plies=4)
+    Answer(code=3, move='A2')
+
+The module wants the shared library of the crate `gopat_c`: `GOPAT_LIBRARY` names its file, else `libgopat_c.so` stands
+beside this one. What has no answer raises `Refused`. Boards never change: `play` gives a new one.
+"""
+
+import ctypes
+import enum
+import os
+import pathlib
+from typing import NamedTuple
+
+BLACK, WHITE = 1, 2
+COLUMNS = "ABCDEFGHJKLMNOPQRSTUVWXYZ"
+MOST_POINTS = 625
+NO_MOVE, PASS = 65534, 65535
+
+
+class Status(enum.IntEnum):
+    """Why a question has no answer."""
+
+    BAD_SIZE = 1
+    BAD_CELL = 2
+    NO_LIBERTY = 3
+    BAD_BAN = 4
+    OFF_BOARD = 5
+    NO_STONE = 6
+    BAD_DEPTHS = 7
+    TWO_COLOURS = 8
+    BAD_COLOUR = 9
+    BAD_KIND = 10
+    BAD_CODE = 11
+    OCCUPIED = 12
+    KO = 13
+    SUICIDE = 14
+
+
+class Refused(ValueError):
+    """A question that has no answer; `status` says why."""
+
+    def __init__(self, status: Status):
+        super().__init__(status.name.lower().replace("_", " "))
+        self.status = status
+
+
+class Answer(NamedTuple):
+    """The code of a reading (0 to 3) or of a connection (0 or 1), and the first move that attains it: a vertex, `PASS`,
+    or None with code 0."""
+
+    code: int
+    move: str | None
+
+
+class _Board(ctypes.Structure):
+    _fields_ = [
+        ("size", ctypes.c_uint8),
+        ("ban_colour", ctypes.c_uint8),
+        ("ban_point", ctypes.c_uint16),
+        ("cells", ctypes.c_uint8 * MOST_POINTS),
+    ]
+
+
+class _Depths(ctypes.Structure):
+    _fields_ = [("plies", ctypes.c_uint8), ("wide", ctypes.c_uint8), ("tree", ctypes.c_uint8)]
+
+
+class _Answer(ctypes.Structure):
+    _fields_ = [("status", ctypes.c_uint8), ("code", ctypes.c_uint8), ("at", ctypes.c_uint16)]
+
+
+class _Number(ctypes.Structure):
+    _fields_ = [("status", ctypes.c_uint8), ("number", ctypes.c_uint16)]
+
+
+class _Played(ctypes.Structure):
+    _fields_ = [("status", ctypes.c_uint8), ("board", _Board)]
+
+
+def _library() -> ctypes.CDLL:
+    """The shared library, with the types of its functions."""
+    beside = pathlib.Path(__file__).with_name("libgopat_c.so")
+    library = ctypes.CDLL(os.environ.get("GOPAT_LIBRARY", str(beside)))
+    byte, point = ctypes.c_uint8, ctypes.c_uint16
+    for name, result, arguments in [
+        ("attack", _Answer, [point, _Depths]),
+        ("defend", _Answer, [point, _Depths]),
+        ("connect", _Answer, [point, point, byte]),
+        ("disconnect", _Answer, [point, point, byte]),
+        ("play", _Played, [byte, point]),
+        ("liberties", _Number, [point]),
+        ("check", _Number, [byte, point, _Depths, byte, ctypes.c_char_p, ctypes.c_size_t]),
+    ]:
+        function = getattr(library, f"gopat_{name}")
+        function.restype, function.argtypes = result, [_Board, *arguments]
+    return library
+
+
+_LIBRARY = _library()
+
+
+def _fitting(number: int, most: int) -> int:
+    """The number, or the greatest one of its type where it would not fit, which no question takes for another."""
+    return number if 0 <= number <= most else most
+
+
+def _told(reply):
+    """The reply, if it is an answer."""
+    if reply.status:
+        raise Refused(Status(reply.status))
+    return reply
+
+
+class Board:
+    """A position: the size, a byte for each point (0 empty, 1 black, 2 white) row by row from the top, and the play
+    that the ko ban forbids, a colour and a vertex. Whether it is a position is said by the first question about it."""
+
+    def __init__(self, size: int, cells: bytes = b"", ban: tuple[int, str] | None = None):
+        self._board = _Board(_fitting(size, 255))
+        ctypes.memmove(self._board.cells, cells, min(len(cells), MOST_POINTS))
+        if ban:
+            self._board.ban_colour, self._board.ban_point = ban[0], self.point(ban[1])
+
+    @classmethod
+    def of_rows(cls, rows: list[str]) -> "Board":
+        """The board of these rows from the top, X for black, O for white, and any other mark for an empty point."""
+        return cls(len(rows), bytes({"X": BLACK, "O": WHITE}.get(mark, 0) for row in rows for mark in row))
+
+    @property
+    def size(self) -> int:
+        return self._board.size
+
+    def rows(self) -> list[str]:
+        """The rows from the top, as `of_rows` takes them."""
+        marks = "".join(".XO"[byte] for byte in self._board.cells[: self.size**2])
+        return [marks[at : at + self.size] for at in range(0, len(marks), self.size)]
+
+    def point(self, vertex: str) -> int:
+        """The number of a vertex such as E5, or of PASS."""
+        if vertex.upper() == "PASS":
+            return PASS
+        row, column = self.size - int(vertex[1:]), COLUMNS.index(vertex[0].upper())
+        return row * self.size + column if 0 <= row and column < self.size else NO_MOVE
+
+    def vertex(self, point: int) -> str | None:
+        """The vertex of a number, PASS for a pass, and None for no move."""
+        if point in (PASS, NO_MOVE):
+            return "PASS" if point == PASS else None
+        return f"{COLUMNS[point % self.size]}{self.size - point // self.size}"
+
+    def _answer(self, reply: _Answer) -> Answer:
+        return Answer(_told(reply).code, self.vertex(reply.at))
+
+    def attack(self, vertex: str, plies: int = 10, wide: int = 2, wider: bool = False) -> Answer:
+        """Whether the string can be captured when the attacker plays first."""
+        return self._answer(_LIBRARY.gopat_attack(self._board, self.point(vertex), _depths(plies, wide, wider)))
+
+    def defend(self, vertex: str, plies: int = 10, wide: int = 2, wider: bool = False) -> Answer:
+        """Whether the string can be saved when the defender plays first."""
+        return self._answer(_LIBRARY.gopat_defend(self._board, self.point(vertex), _depths(plies, wide, wider)))
+
+    def connect(self, a: str, b: str, plies: int = 4) -> Answer:
+        """Whether the two strings can be joined when their own colour plays first."""
+        return self._answer(_LIBRARY.gopat_connect(self._board, self.point(a), self.point(b), _fitting(plies, 255)))
+
+    def disconnect(self, a: str, b: str, plies: int = 4) -> Answer:
+        """Whether the two strings can be kept apart when the other colour plays first."""
+        return self._answer(_LIBRARY.gopat_disconnect(self._board, self.point(a), self.point(b), _fitting(plies, 255)))
+
+    def play(self, colour: int, vertex: str) -> "Board":
+        """The board after the colour plays at the vertex, or passes at PASS."""
+        next_board = Board(self.size)
+        next_board._board = _told(_LIBRARY.gopat_play(self._board, _fitting(colour, 255), self.point(vertex))).board
+        return next_board
+
+    def liberties(self, vertex: str) -> int:
+        """How many liberties the string has."""
+        return _told(_LIBRARY.gopat_liberties(self._board, self.point(vertex))).number
+
+    def proves(self, kind: str, vertex: str, code: int, text: str, plies: int = 10, wide: int = 2) -> bool:
+        """Whether the text proves that `attack` or `defend` has this code."""
+        number = {"attack": 1, "defend": 2}.get(kind, 0)
+        words = text.encode()
+        arguments = number, self.point(vertex), _depths(plies, wide, False), _fitting(code, 255), words, len(words)
+        return _told(_LIBRARY.gopat_check(self._board, *arguments)).number == 1
+
+
+def _depths(plies: int, wide: int, wider: bool) -> _Depths:
+    return _Depths(_fitting(plies, 255), _fitting(wide, 255), wider)
