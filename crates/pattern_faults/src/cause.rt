@@ -60,6 +60,13 @@ pub enum Cause<'a> {
     Mark(&'a [u8]),
     /// A byte that is no class letter.
     ClassLetter(u8),
+    /// An item where the class letters stand.
+    NoClasses {
+        /// The item.
+        item: &'a [u8],
+        /// The mark before it.
+        mark: &'a [u8],
+    },
     /// So many class letters.
     ManyClassLetters(usize),
     /// A field that is no item.
@@ -97,6 +104,13 @@ pub enum Cause<'a> {
     },
     /// A byte that no expression has.
     ExpressionByte(u8),
+    /// Bytes that seem to be an operator.
+    NoSuchOperator {
+        /// The bytes.
+        bytes: &'a [u8],
+        /// The operator that may be meant.
+        meant: &'static [u8],
+    },
     /// A number of more than six digits.
     LongNumber,
     /// An expression of more bytes than it may have.
@@ -136,6 +150,8 @@ pub enum Cause<'a> {
     Pass(&'a [u8]),
     /// An argument that is no label.
     Label(u8),
+    /// An argument that is the letter of a stone.
+    StoneLabel(u8),
     /// A field that names no helper.
     Helper(&'a [u8]),
     /// An entry more than a text may have.
@@ -206,6 +222,9 @@ impl<'a> Cause<'a> {
         match self {
             Cause::Mark(_) => "'{}' is no mark (8 | - / \\ + X O)",
             Cause::ClassLetter(_) => "'{}' is no class letter",
+            Cause::NoClasses { .. } => {
+                "'{}' stands in place of the class letters; '-' stands for none, as in ':{},-,{}'"
+            }
             Cause::ManyClassLetters(_) => "{} class letters, and at most 32 may stand here",
             Cause::Item(_) => {
                 "'{}' is no item: a name, or a name and a text in one pair of parentheses"
@@ -237,6 +256,7 @@ impl<'a> Cause<'a> {
     fn words_of_expression(&self) -> &'static str {
         match self {
             Cause::ExpressionByte(_) => "'{}' may not stand in an expression",
+            Cause::NoSuchOperator { .. } => "'{}' is no operator; is '{}' meant?",
             Cause::LongNumber => "a number has at most six digits",
             Cause::LongExpression => "an expression has at most 4096 bytes",
             Cause::NoOperand(_) => {
@@ -262,6 +282,9 @@ impl<'a> Cause<'a> {
                 "'?' is a pass, and {} takes none here: it may stand for a move of oplay_.. and xplay_.. alone"
             }
             Cause::Label(_) => "the label '{}' does not stand in the constraint diagram",
+            Cause::StoneLabel(_) => {
+                "'{}' is the letter of a stone and no label; in the constraint diagram a label, as A, replaces it"
+            }
             _ => "a fault",
         }
     }
@@ -286,7 +309,8 @@ impl<'a> Cause<'a> {
             | Cause::LabelOnEdge(byte)
             | Cause::LabelAgain(byte)
             | Cause::ExpressionByte(byte)
-            | Cause::Label(byte) => (Byte(byte), Nothing, Nothing),
+            | Cause::Label(byte)
+            | Cause::StoneLabel(byte) => (Byte(byte), Nothing, Nothing),
             Cause::Mark(word)
             | Cause::Item(word)
             | Cause::NoOperand(word)
@@ -297,6 +321,8 @@ impl<'a> Cause<'a> {
             | Cause::Function(word)
             | Cause::Pass(word) => (Bytes(word), Nothing, Nothing),
             Cause::Helper(name) => (Bytes(name), Bytes(name), Nothing),
+            Cause::NoClasses { item, mark } => (Bytes(item), Bytes(mark), Bytes(item)),
+            Cause::NoSuchOperator { bytes, meant } => (Bytes(bytes), Bytes(meant), Nothing),
             Cause::Width { points, first } => (Number(points), Number(first), Nothing),
             Cause::ConstraintWidth { bytes, diagram } => (Number(bytes), Number(diagram), Nothing),
             Cause::ConstraintShort { lines, diagram } => (Number(lines), Number(diagram), Nothing),

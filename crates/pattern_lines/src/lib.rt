@@ -7,12 +7,14 @@
 #![tactic(auto)]
 
 mod bytes;
+mod field;
 mod part;
 mod place;
 mod token;
 mod written;
 
 pub use bytes::{is_bad, is_feed, is_letter, is_no_blank};
+pub use field::{Field, fields};
 pub use part::{Part, parts};
 pub use place::Place;
 pub use token::{Sort, Token, tokens};

@@ -2,11 +2,10 @@
 
 use super::{Seen, seen_at};
 use crate::cause::Cause;
-use db_lex::trim;
 use db_read::{DbError, read};
 use go_base::Bytes;
 use pat_types::NoMemory;
-use pattern_lines::{Written, is_no_blank};
+use pattern_lines::{Field, Written, fields};
 use std::alloc::Global;
 
 /// The front of an entry that any item may end.
@@ -17,45 +16,6 @@ const MOST_CLASSES: usize = 32;
 
 /// The most items.
 const MOST_ITEMS: usize = 16;
-
-/// A field of a colon line.
-#[derive(Clone, Copy)]
-struct Field<'a> {
-    /// The index of its first byte that is no blank.
-    at: usize,
-    /// The field without the blanks at its ends.
-    bytes: &'a [u8],
-}
-
-/// The field that stands from one index of a line up to another.
-fn field_from(line: &[u8], from: usize, to: usize) -> Field<'_> {
-    let whole = line.get(from..to).unwrap_or(&[]);
-    let blanks = whole.iter().position(is_no_blank).unwrap_or(0);
-    Field {
-        at: from.saturating_add(blanks),
-        bytes: trim(whole),
-    }
-}
-
-/// The fields of a colon line, which are cut at the commas outside parentheses.
-fn fields(alloc: Global, line: &[u8]) -> Result<Vec<Field<'_>>, NoMemory> {
-    let mut all = Vec::new(alloc);
-    let mut from: usize = 1;
-    let mut open: usize = 0;
-    for (at, byte) in line.iter().enumerate() {
-        match *byte {
-            b'(' => open = open.saturating_add(1),
-            b')' => open = open.saturating_sub(1),
-            b',' if open == 0 => {
-                all.push(field_from(line, from, at))?;
-                from = at.saturating_add(1);
-            }
-            _ => {}
-        }
-    }
-    all.push(field_from(line, from, line.len()))?;
-    Ok(all)
-}
 
 /// The kind of the fault of an item, or 0 where it has none.
 fn item_kind(alloc: Global, helpers: &[Bytes], item: &[u8]) -> Result<u8, NoMemory> {
@@ -69,7 +29,16 @@ fn item_kind(alloc: Global, helpers: &[Bytes], item: &[u8]) -> Result<u8, NoMemo
     }
 }
 
-/// The cause of a class field.
+/// The cause of a class field that is an item with a text, or that names a helper.
+fn item_for_classes<'a>(line: &Written<'a>, mark: Field<'a>, field: Field<'a>) -> Seen<'a> {
+    let cause = Cause::NoClasses {
+        item: field.bytes,
+        mark: mark.bytes,
+    };
+    seen_at(line, field.at, cause)
+}
+
+/// The cause of a class field that is no item.
 fn classes<'a>(line: &Written<'a>, field: Field<'a>) -> Option<Seen<'a>> {
     if field.bytes.len() > MOST_CLASSES {
         let cause = Cause::ManyClassLetters(field.bytes.len());
@@ -116,6 +85,9 @@ pub(crate) fn named<'a>(
     let fields = fields(alloc, line.bytes)?;
     match (kind, fields.as_slice()) {
         (11, [mark, ..]) => Ok(Some(seen_at(line, mark.at, Cause::Mark(mark.bytes)))),
+        (12, [mark, field, ..]) if item_kind(alloc, helpers, field.bytes)? == 0 => {
+            Ok(Some(item_for_classes(line, *mark, *field)))
+        }
         (12, [_, field, ..]) => Ok(classes(line, *field)),
         (_, [_, _, rest @ ..]) => items(alloc, helpers, line, rest, kind),
         _ => Ok(None),

@@ -5,7 +5,7 @@ use super::{Seen, places_of, seen_at};
 use crate::cause::Cause;
 use cons_parse::{ConsError, parse};
 use pat_types::NoMemory;
-use pattern_lines::{Role, Sort, Token, Written, tokens};
+use pattern_lines::{Role, Sort, Token, Written, is_letter, tokens};
 use std::alloc::Global;
 
 /// The most digits of a number.
@@ -52,10 +52,35 @@ fn at_word<'a>(word: &Token<'a>, cause: Cause<'a>) -> Seen<'a> {
     }
 }
 
+/// The operator that may be meant by the bytes at the front, and how many of them it replaces.
+fn operator_meant(bytes: &[u8]) -> Option<(usize, &'static [u8])> {
+    match bytes {
+        [b'=', b'>', ..] => Some((2, b">=".as_slice())),
+        [b'=', b'<', ..] => Some((2, b"<=".as_slice())),
+        [b'=', ..] => Some((1, b"==".as_slice())),
+        [b'&', ..] => Some((1, b"&&".as_slice())),
+        [b'|', ..] => Some((1, b"||".as_slice())),
+        _ => None,
+    }
+}
+
+/// The cause of a word that no expression has.
+fn bad_word<'a>(word: &Token<'a>) -> Cause<'a> {
+    let from = word.place.column.saturating_sub(1);
+    let rest = word.place.text.get(from..).unwrap_or(word.bytes);
+    match operator_meant(rest) {
+        Some((len, meant)) => Cause::NoSuchOperator {
+            bytes: rest.get(..len).unwrap_or(rest),
+            meant,
+        },
+        None => Cause::ExpressionByte(word.bytes.first().copied().unwrap_or(0)),
+    }
+}
+
 /// What is wanted behind a word, or the cause why the word may not stand where this is wanted.
 fn next<'a>(wanted: Wanted, word: &Token<'a>, open: usize) -> Result<Wanted, Cause<'a>> {
     match (wanted, word.sort) {
-        (_, Sort::Bad) => Err(Cause::ExpressionByte(word.bytes.first().copied().unwrap_or(0))),
+        (_, Sort::Bad) => Err(bad_word(word)),
         (_, Sort::Number) if word.bytes.len() > MOST_DIGITS => Err(Cause::LongNumber),
         (Wanted::Operand, Sort::Number) => Ok(Wanted::Operator),
         (Wanted::Operand, Sort::Name) => Ok(Wanted::Arguments),
@@ -201,6 +226,15 @@ fn has_label(constraint: &[Written<'_>], label: u8) -> bool {
     false
 }
 
+/// The cause of a letter that is no label.
+fn no_label<'a>(letter: u8) -> Cause<'a> {
+    if is_letter(letter) {
+        Cause::StoneLabel(letter)
+    } else {
+        Cause::Label(letter)
+    }
+}
+
 /// The first argument of these that is a letter and no label.
 fn unlabelled<'a>(constraint: &[Written<'a>], given: &[Token<'a>]) -> Option<Seen<'a>> {
     for word in given {
@@ -209,7 +243,7 @@ fn unlabelled<'a>(constraint: &[Written<'a>], given: &[Token<'a>]) -> Option<See
         }
         let letter = word.bytes.first().copied().unwrap_or(0);
         if !has_label(constraint, letter) {
-            return Some(at_word(word, Cause::Label(letter)));
+            return Some(at_word(word, no_label(letter)));
         }
     }
     None
@@ -239,11 +273,12 @@ fn first_call<'a>(
     Ok(None)
 }
 
-/// The text of an expression: what stands behind the `;` of its lines, joined by blanks.
+/// The text of an expression: what stands behind the `;` of its lines, joined by one blank. Nothing may stand
+/// behind a `;`.
 fn joined(alloc: Global, lines: &[Written<'_>]) -> Result<Vec<u8>, NoMemory> {
     let mut text = Vec::new(alloc);
-    for line in lines {
-        if !text.is_empty() {
+    for (at, line) in lines.iter().enumerate() {
+        if at > 0 {
             text.push(b' ')?;
         }
         text.extend_from_slice(line.bytes.get(1..).unwrap_or(&[]))?;
