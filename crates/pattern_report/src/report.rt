@@ -13,6 +13,12 @@ use pattern_faults::{Fault, explain};
 use pattern_lines::{Part, parts};
 use std::alloc::Global;
 
+/// The most entries of a text.
+const MOST_ENTRIES: usize = 4096;
+
+/// The kind of the fault of a text that has more.
+const TOO_MANY: u8 = 18;
+
 /// What the author of a text is told.
 #[derive(Drop)]
 pub struct Report<'a> {
@@ -20,7 +26,7 @@ pub struct Report<'a> {
     pub first: Option<Fault<'a>>,
     /// The first faults of the entries behind, in order.
     pub others: Vec<Fault<'a>>,
-    /// The entries without a fault, in order.
+    /// The entries without a fault for which the text has room, in order.
     pub entries: Vec<Part<'a>>,
     /// Their patterns.
     pub patterns: Vec<Pattern>,
@@ -67,6 +73,41 @@ fn line_in_text(part: &Part<'_>, line: u64) -> u64 {
     part.number.saturating_add(line.saturating_sub(1))
 }
 
+/// What a part comes to that is read alone.
+#[derive(Drop)]
+enum PartReading {
+    /// An entry that is taken.
+    Taken(Pattern),
+    /// No fault and no entry, or an entry for which the text has no room.
+    Nothing,
+    /// A fault, by its line in the text and its kind.
+    Refused(u64, u8),
+}
+
+/// Reads a part alone, which is the entry of this number of its text. The first entry for which a text has no room is
+/// refused for this, and those behind it for their own faults.
+fn read_part(
+    alloc: Global,
+    helpers: &[Bytes],
+    part: &Part<'_>,
+    number: usize,
+) -> Result<PartReading, NoMemory> {
+    if number == MOST_ENTRIES + 1 {
+        return Ok(PartReading::Refused(part.number, TOO_MANY));
+    }
+    match read(alloc, part.bytes, helpers, Vec::new(alloc)) {
+        Ok(mut found) => match found.pop() {
+            Some(pattern) if number <= MOST_ENTRIES => Ok(PartReading::Taken(pattern)),
+            _ => Ok(PartReading::Nothing),
+        },
+        Err(DbError::NoMemory) => Err(NoMemory),
+        Err(DbError::Fault { line, kind }) => Ok(PartReading::Refused(
+            line_in_text(part, line),
+            kind,
+        )),
+    }
+}
+
 /// What the parts come to, each read alone.
 #[derive(Drop)]
 struct Readings<'a> {
@@ -75,7 +116,8 @@ struct Readings<'a> {
     faults: Vec<Fault<'a>>,
 }
 
-/// Reads the parts each alone: the entries without a fault, and the faults of the parts from this one on.
+/// Reads the parts each alone: the entries without a fault, of which a text has room for 4,096, and the faults of the
+/// parts from this one on.
 fn read_parts<'a>(
     alloc: Global,
     helpers: &[Bytes],
@@ -86,20 +128,15 @@ fn read_parts<'a>(
     let mut patterns = Vec::new(alloc);
     let mut faults = Vec::new(alloc);
     for (at, part) in parts.iter().enumerate() {
-        match read(alloc, part.bytes, helpers, Vec::new(alloc)) {
-            Ok(mut found) => {
-                if let Some(pattern) = found.pop() {
-                    entries.push(*part)?;
-                    patterns.push(pattern)?;
-                }
+        match read_part(alloc, helpers, part, at)? {
+            PartReading::Taken(pattern) => {
+                entries.push(*part)?;
+                patterns.push(pattern)?;
             }
-            Err(DbError::NoMemory) => return Err(NoMemory),
-            Err(DbError::Fault { line, kind }) => {
-                if at >= from {
-                    let line = line_in_text(part, line);
-                    faults.push(explain(alloc, helpers, *part, line, kind)?)?;
-                }
+            PartReading::Refused(line, kind) if at >= from => {
+                faults.push(explain(alloc, helpers, *part, line, kind)?)?;
             }
+            _ => {}
         }
     }
     Ok(Readings {
