@@ -32,7 +32,7 @@ no_point : (found : Option ℕ) → at_point found ≢ Some Pass
 no_point None is = cc
 no_point (Some p) is = cc
 
--- a first move is the pass exactly where the pass is good
+-- a first move is the pass exactly if the pass is good
 by_pass : (told saves : Bool) (found : Option ℕ) → (told ≡ true) ↔ (cond saves (Some Pass) (at_point found) ≡ Some Pass)
     → told ≡ saves
 by_pass true true found is = refl
@@ -40,7 +40,8 @@ by_pass false true found is = is.1 refl
 by_pass true false found is = absurd (no_point found (is.0 refl))
 by_pass false false found is = refl
 
--- it is told of the first move of a code above 0 whether it is the pass, so it is told whether the pass attains the code
+-- if it is told of the first move of a code above 0 whether it is the pass, it is told whether the pass attains the
+-- code
 pub pass_told : (q : ReadingQuestion) (pos : BoardState) (answer : Answer) (told : Bool) → answer ≡ answer_of q pos
     → answer.code ≢ 0 → (told ≡ true) ↔ (answer.at ≡ Some Pass) → told ≡ attains_by_pass q pos answer.code
 pass_told q pos answer told is some tells =
@@ -61,7 +62,7 @@ none_attains among q pos p = by (is_among among q pos p)
     by true = refl
     by false = refl
 
--- a play attains a code above 0 where it gives its mover his way
+-- a play attains a code above 0 exactly if it gives its mover his way
 pub play_attains : (q : ReadingQuestion) (pos : BoardState) (code p : ℕ) → code ≢ 0
     → succeeds (q.plies - 1) (first_node q code) pos p ≡ attains_at q pos code p
 play_attains q pos code p some =
@@ -111,7 +112,8 @@ pub some_move : {among : Among} {q : ReadingQuestion} {pos : BoardState} {code :
 some_move {among} {q} {pos} {code} {pass} {points} moves plies some =
     let same : code ≡ code_of q pos = moves.greatest ∙ code-answer_of q pos in
     let first = answer_first q pos plies (subst (λ k. k ≢ 0) same some) in
-    first_among among q pos code pass points first.0 some (subst (λ k. IsFirstMove (q.plies - 1) (first_node q k) pos first.0) (sym same) first.2) moves.passes moves.plays
+    first_among among q pos code pass points first.0 some
+    (subst (λ k. IsFirstMove (q.plies - 1) (first_node q k) pos first.0) (sym same) first.2) moves.passes moves.plays
 
 -- a point that is looked at is on the board
 among_inside : (among : Among) (q : ReadingQuestion) (pos : BoardState) (code p : ℕ) → is_among among q pos p ≡ true

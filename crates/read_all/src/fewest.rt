@@ -16,7 +16,7 @@ use read_tree::read;
 /// The fewest plies with which a question has a code, and the view of the position, handed back as it is then.
 #[derive(Drop)]
 pub struct Fewest<L> {
-    /// The plies; `None` where they are more than those that were asked for.
+    /// The plies; `None` if the question has the code with none of those that were asked for.
     pub plies: Option<u8>,
     /// The view that was handed in; what was looked at is among its facts.
     pub look: L,
@@ -66,8 +66,8 @@ fn fewest_of<L: Look>(look: L, question: ReadingQuestion, code: u8) -> Fewest<L>
 }
 
 /// The fewest plies, from 1 to those of the depths, with which the attack on the string at `target`, or its defence,
-/// has at least this code; `None` exactly where it has it with none of them. It tells how deep an attack has to be read:
-/// a defence has code 3 with one ply, as no string is captured by a defender's move alone. Takes no memory.
+/// has at least this code; `None` exactly if it has the code with none of them. It tells how deep an attack has to be
+/// read: a defence has code 3 with one ply, as the defender's own move captures nothing of his. Takes no memory.
 pub fn fewest_plies<L: Look>(
     look: L,
     kind: Kind,

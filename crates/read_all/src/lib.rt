@@ -1,10 +1,10 @@
-//! All moves by which the string at a point is captured or saved, and the fewest plies with which it is: what the
-//! author of a problem asks, where a reading tells the first move alone.
+//! What the author of a problem asks of a reading, which tells the first move alone: all moves by which a string is
+//! captured or saved, the fewest plies with which it is, and how another move fails.
 //!
 //! `all_moves` tells the code of a question and each move that attains it, of the moves that the reader tries;
 //! `moves_anywhere` tells those at all points of the board. `fewest_plies` tells with how many plies the code is
-//! attained first, and `refutation` how another move fails. Each hands back the view of the position, and on every
-//! position that agrees with what was looked at the answer is the same. Nothing takes memory.
+//! attained first, and `refutation` the other side's reply to a play that fails. Each hands back the view of the
+//! position, and on every position that agrees with what was looked at the answer is the same. Nothing takes memory.
 #![tactic(auto)]
 
 mod fewest;

@@ -8,7 +8,7 @@ ghost use Rattle.go_rules.specs.Strings.{cell_at};
 ghost use Rattle.go_base.specs.Facts.{Agrees, Grows};
 ghost use Rattle.trial_board.specs.Trials.{Stays, most_moves};
 ghost use Rattle.read_rules.specs.Ranges.{most_plies};
-ghost use Rattle.read_rules.specs.Answer.{is_attack, first_node, answer_of, asked_in};
+ghost use Rattle.read_rules.specs.Answer.{asked_in};
 ghost use Rattle.read_rules.specs.GameTree.{succeeds};
 ghost use Rattle.read_tree.specs.Table.{IsTrueTable};
 ghost use Rattle.read_tree.specs.Walk.{IsPointOf, OnEachAgreeing};
@@ -145,7 +145,7 @@ fn successes_with_table<L: Look>(
     successes_by(board, node, plies, tried, &mut table)
 }
 
-/// The same with a table where there are plies enough, and else without one.
+/// The same, with a table if there are plies enough for one to pay.
 fn successes_of<L: Look>(board: &mut Trial<L>, node: Node, plies: u8, tried: &PointSet) -> PointSet
     requires room { length board.old.moves + plies < most_moves }
     requires target { IsPointOf L.shows board.old node.target }

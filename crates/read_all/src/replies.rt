@@ -25,8 +25,8 @@ const PLIES_WITH_TABLE: u8 = 12;
 /// The refutation of a play, and the view of the position, handed back as it is then.
 #[derive(Drop)]
 pub struct Refuted<L> {
-    /// The other side's first reply that refutes the play; `None` where it needs none, as the play cannot be made or no
-    /// ply is left after it, and where the play attains the code.
+    /// The other side's first reply that refutes the play; `None` if the play attains the code or cannot be made, or if
+    /// no ply is left after it.
     pub reply: Option<Spot>,
     /// The view that was handed in; what was looked at is among its facts.
     pub look: L,
@@ -51,7 +51,7 @@ fn first_reply<L: Look>(
     first_move(board, node, plies - 1, memory)
 }
 
-/// The same, where the side that has moved to the node, the attacker or not, does not have its way.
+/// The first reply at the node, if the side that has moved there, the attacker or not, does not have its way.
 fn reply_unless<L: Look>(
     board: &mut Trial<L>,
     attacker: bool,
@@ -131,7 +131,7 @@ fn reply_with_table<L: Look>(board: &mut Trial<L>, node: Node, p: Point, plies: 
     reply_by(board, node, p, plies, &mut table)
 }
 
-/// The same with a table where there are plies enough, and else without one.
+/// The same, with a table if there are plies enough for one to pay.
 fn reply_of<L: Look>(board: &mut Trial<L>, node: Node, p: Point, plies: u8) -> Option<Spot>
     requires room { length board.old.moves + plies < most_moves }
     requires target { IsPointOf L.shows board.old node.target }

@@ -23,7 +23,7 @@ pub is_success-requires-clause-on_board : goal.is_success-requires-clause-on_boa
 is_success-requires-clause-on_board g c =
     point_after c.points.invariant.stays c.in-Some.p (c.requires.on_board c.in-Some.p c.in-Some.ensures.some.2)
 
--- it came where its play succeeds
+-- it came exactly if its play succeeds
 pub points-preserved : goal.points-preserved
 points-preserved g c =
     let i = c.points.invariant in

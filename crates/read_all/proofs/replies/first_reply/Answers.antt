@@ -1,4 +1,4 @@
--- The first move is the reply where plies are left.
+-- The first move is the reply if plies are left.
 use Rattle.trial_board.specs.Trials.{after}
 use Rattle.read_all.proofs.ReplyLemmas.{no_ply, some_plies}
 use Rattle.read_all.proofs.replies.first_reply.Goals as goal

@@ -1,4 +1,4 @@
--- There is a reply where the side that has moved does not have its way.
+-- There is a reply if the side that has moved does not have its way.
 use Rattle.go_base.specs.Facts.{agrees_before}
 use Rattle.trial_board.specs.Trials.{after}
 use Rattle.read_all.proofs.ReplyLemmas.{has_his_way, has_not}
