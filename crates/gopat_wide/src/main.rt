@@ -3,14 +3,27 @@
 #![tactic(auto)]
 
 use gtp_io::{FileLoader, StdSink, StdSource};
-use program::words_and_helpers;
+use helpers::{Helper, NearEdge, NoBan};
+use program::words;
 use read_rules::Tree;
-use session::run_words_in;
+use session::{WordsError, run_words_in};
 use std::process::ExitCode;
 
 fn main(rt: HostRuntime) -> ExitCode {
     let alloc = rt.alloc();
-    let (words, helpers) = words_and_helpers(&rt);
+    let mut helpers: Vec<Box<dyn Helper>> = Vec::new(alloc);
+    let mut has_all = false;
+    if let (Ok(near_edge), Ok(no_ban)) = (
+        Box::new(alloc, NearEdge::new()),
+        Box::new(alloc, NoBan::new()),
+    ) {
+        has_all = helpers.push(near_edge).is_ok() && helpers.push(no_ban).is_ok();
+    }
+    let words = if has_all {
+        words(&rt)
+    } else {
+        Err(WordsError::NoMemory)
+    };
     let outcome = run_words_in(
         alloc,
         Tree::Wider,
