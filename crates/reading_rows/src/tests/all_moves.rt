@@ -1,8 +1,8 @@
 //! All moves of a question, and the fewest plies with which it has a code. The answers are counted by hand.
 
-use super::{IN_ATARI, Question, Stones, position, stone, vertex};
+use super::{IN_ATARI, Question, Stones, position, spot, stone, vertex};
 use go_base::{PointSet, Size, Watch};
-use read_all::{Fewest, all_moves, fewest_plies, moves_anywhere};
+use read_all::{Fewest, all_moves, fewest_plies, moves_anywhere, refutation};
 use read_rules::Depths;
 use read_rules::Kind::{Attack, Defend};
 
@@ -171,6 +171,62 @@ static FEWEST: [(&str, Stones, Question, u8, Option<u8>); 7] = [
     ),
 ];
 
+/// A play and its refutation: what is special about it, the stones, the question, the code that the play is to attain,
+/// the play, and the first reply, which is empty where there is none.
+type RefutedRow = (
+    &'static str,
+    Stones,
+    Question,
+    u8,
+    &'static str,
+    &'static str,
+);
+
+/// Plays that fail, plays that do not, and plays that cannot be made.
+static REFUTED: [RefutedRow; 6] = [
+    (
+        "a stone in atari extends",
+        IN_ATARI,
+        (Attack, "D4", 3, 0),
+        3,
+        "D2",
+        "D3",
+    ),
+    (
+        "an attack that needs no reply",
+        TWO_EYES,
+        (Attack, "B2", 3, 0),
+        3,
+        "B4",
+        "PASS",
+    ),
+    (
+        "suicide cannot be played",
+        TWO_EYES,
+        (Attack, "B2", 3, 0),
+        3,
+        "A1",
+        "",
+    ),
+    (
+        "a filled eye",
+        TWO_EYES,
+        (Defend, "B2", 2, 0),
+        3,
+        "A1",
+        "C1",
+    ),
+    ("a good play", DEAD, (Attack, "A1", 3, 0), 3, "B1", ""),
+    (
+        "no ply is left",
+        IN_CORNER,
+        (Attack, "A1", 1, 0),
+        3,
+        "B1",
+        "",
+    ),
+];
+
 /// The points of the named plays; a `PASS` among the names counts for nothing.
 fn named_points(size: Size, names: &str) -> Option<PointSet> {
     let mut points = PointSet::new();
@@ -229,6 +285,17 @@ fn fewest(stones: Stones, (kind, target, plies, wide): Question, code: u8) -> Op
     Some(plies)
 }
 
+/// Whether the named move is the first reply to the play, which is to attain the code.
+fn is_refuted_by(row: &RefutedRow) -> Option<bool> {
+    let &(_, stones, (kind, target, plies, wide), code, play, reply) = row;
+    let position = position(stones)?;
+    let target = stone(&position, target)?;
+    let p = vertex(position.size(), play)?;
+    let depths = Depths::new(plies, wide)?;
+    let found = refutation(Watch::new(&position), kind, target, depths, code, p);
+    Some(found.reply == spot(position.size(), reply))
+}
+
 #[test]
 fn all_moves_attain_the_code_and_no_other_candidate_does(rt: HostRuntime) {
     for &(name, stones, question, code, names) in &MOVES {
@@ -253,5 +320,12 @@ fn moves_anywhere_are_at_all_points_that_attain_the_code(rt: HostRuntime) {
 fn the_fewest_plies_are_those_of_the_shortest_capture(rt: HostRuntime) {
     for &(name, stones, question, code, plies) in &FEWEST {
         assert!(rt; fewest(stones, question, code) == Some(plies), "{name}");
+    }
+}
+
+#[test]
+fn the_first_reply_refutes_a_play(rt: HostRuntime) {
+    for row in &REFUTED {
+        assert!(rt; is_refuted_by(row) == Some(true), "{}", row.0);
     }
 }
