@@ -29,7 +29,7 @@ use Rattle.match_reasons.specs.Reasons.{after_play, move_reason, enemy_reason, c
 use Rattle.match_reasons.specs.Reasons.{reason_before_helpers, first_reason}
 
 -- there is nothing
-abbrev is_nothing : {A : Type 0} → Option A → Bool
+abbrev pub is_nothing : {A : Type 0} → Option A → Bool
 is_nothing o = not (is_some o)
 
 -- of two there is nothing exactly if there is neither
@@ -38,12 +38,12 @@ neither None b = refl
 neither (Some x) b = refl
 
 -- what is made of nothing is nothing
-made_nothing : {A B : Type 0} (f : A → B) (o : Option A) → is_nothing (option_map f o) ≡ is_nothing o
+pub made_nothing : {A B : Type 0} (f : A → B) (o : Option A) → is_nothing (option_map f o) ≡ is_nothing o
 made_nothing f None = refl
 made_nothing f (Some x) = refl
 
 -- nothing is told exactly by a test that is true
-nothing_if : {A : Type 0} (b : Bool) (x : A) → is_nothing (cond b None (Some x)) ≡ b
+pub nothing_if : {A : Type 0} (b : Bool) (x : A) → is_nothing (cond b None (Some x)) ≡ b
 nothing_if true x = refl
 nothing_if false x = refl
 
@@ -56,6 +56,14 @@ module _ (p : Pattern) (board : BoardState) (friend : Colour) (t m : ℕ) where
       by : (b : Bool) → fits p board friend t m ≡ b → false ≡ fits p board friend t m
       by true whole = absurd (let h : Some cell ≡ None = sym is ∙ none_if_it_fits p board friend t m whole in cc)
       by false broken = sym broken
+
+  -- nothing is said of the diagram exactly if it fits
+  pub no_diagram_reason : is_nothing (option_map reason.Misfit (first_misfit p board friend t m))
+      ≡ fits p board friend t m
+  no_diagram_reason =
+      made_nothing reason.Misfit (first_misfit p board friend t m)
+      ∙ made_nothing (misfit_of p board t m) (first_cell p board friend t m)
+      ∙ no_misfit (first_cell p board friend t m) refl
 
 module _ (d : Depths) (p : Pattern) (board : BoardState) (friend : Colour) (m : ℕ) where
   -- no attack is told of exactly if the stone cannot be captured
@@ -73,7 +81,7 @@ module _ (d : Depths) (p : Pattern) (board : BoardState) (friend : Colour) (m : 
   no_danger false next = no_capture reason.Unsafe next
 
   -- nothing is said against a move exactly if it is legal and safe
-  no_move_reason : is_nothing (move_reason d p board friend m)
+  pub no_move_reason : is_nothing (move_reason d p board friend m)
       ≡ (is_legal board friend m && is_safe (fresh_codes d) p board friend m)
   unfolding move_reason is_safe_move
   no_move_reason = by (play board friend m)
@@ -87,7 +95,7 @@ module _ (d : Depths) (p : Pattern) (board : BoardState) (friend : Colour) (m : 
       by (Ok next) = no_danger (has_class p unsafe_class) next
 
   -- with class n the enemy has to be safe too
-  no_enemy_reason : is_nothing (enemy_reason d p board friend m) ≡ is_enemy_safe (fresh_codes d) p board friend m
+  pub no_enemy_reason : is_nothing (enemy_reason d p board friend m) ≡ is_enemy_safe (fresh_codes d) p board friend m
   unfolding enemy_reason is_safe_move
   no_enemy_reason = by (has_class p enemy_class) (play board (other friend) m)
     where
@@ -113,7 +121,7 @@ regroup true true s e c h = refl
 
 module _ (d : Depths) (advice : Advice) (p : Pattern) (board : BoardState) (friend : Colour) (t m : ℕ) where
   -- nothing before the helpers fails exactly if the diagram, the move, class n and the constraint hold
-  nothing_before : is_nothing (reason_before_helpers d p board friend t m)
+  pub nothing_before : is_nothing (reason_before_helpers d p board friend t m)
       ≡ (fits p board friend t m && ((is_legal board friend m && is_safe (fresh_codes d) p board friend m)
       && (is_enemy_safe (fresh_codes d) p board friend m && is_constraint_true (fresh_codes d) p board friend t m)))
   unfolding reason_before_helpers
@@ -124,9 +132,7 @@ module _ (d : Depths) (advice : Advice) (p : Pattern) (board : BoardState) (frie
       let constraint = constraint_reason d p board friend t m in
       neither first (option_or move (option_or enemy constraint))
       ∙ ap (λ b. b && is_nothing (option_or move (option_or enemy constraint)))
-      (made_nothing reason.Misfit (first_misfit p board friend t m)
-      ∙ made_nothing (misfit_of p board t m) (first_cell p board friend t m)
-      ∙ no_misfit p board friend t m (first_cell p board friend t m) refl)
+      (no_diagram_reason p board friend t m)
       ∙ ap (λ b. fits p board friend t m && b)
       (neither move (option_or enemy constraint)
       ∙ ap (λ b. b && is_nothing (option_or enemy constraint)) (no_move_reason d p board friend m)

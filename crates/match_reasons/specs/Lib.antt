@@ -1,3 +1,4 @@
 pub mod FreshReadings
 pub mod ConstraintView
 pub mod Reasons
+pub mod FirstReasons

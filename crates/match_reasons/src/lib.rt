@@ -12,6 +12,7 @@
 mod conditions;
 mod constraint;
 mod fresh;
+pub mod laws;
 mod reason;
 
 pub use constraint::FreshQuestion;
