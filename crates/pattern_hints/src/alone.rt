@@ -5,7 +5,7 @@ use pat_types::{Drawn, Letter, Mark, Pattern, drawn_in, letter_fits, mark_count}
 
 /// The eight transformations, each by how often the offsets down and right of a cell count in its new offset down, and
 /// in its new offset right.
-const TURNS: [[i16; 4]; 8] = [
+pub(crate) const TURNS: [[i16; 4]; 8] = [
     [1, 0, 0, 1],
     [0, 1, -1, 0],
     [-1, 0, 0, -1],
@@ -17,7 +17,7 @@ const TURNS: [[i16; 4]; 8] = [
 ];
 
 /// The offset of a cell from the star, turned and mirrored by a transformation.
-fn turned(turn: &[i16; 4], down: i16, right: i16) -> (i16, i16) {
+pub(crate) fn turned(turn: &[i16; 4], down: i16, right: i16) -> (i16, i16) {
     let [down_down, right_down, down_right, right_right] = *turn;
     (
         down.wrapping_mul(down_down)
@@ -48,7 +48,7 @@ fn cell_implies(drawn: Drawn, other: Drawn) -> bool {
 }
 
 /// Whether a diagram fits only where another, turned in this way, fits with its star at the same point.
-fn diagram_implies(pattern: &Pattern, other: &Pattern, turn: &[i16; 4]) -> bool {
+pub(crate) fn diagram_implies(pattern: &Pattern, other: &Pattern, turn: &[i16; 4]) -> bool {
     let (star_row, star_column) = (other.star.0 as i16, other.star.1 as i16);
     let (down, right) = (pattern.star.0 as i16, pattern.star.1 as i16);
     for row in -1..=other.rows as i16 {

@@ -1,6 +1,6 @@
 //! What is told of a text that is no fault, in words.
 
-use pattern_faults::Value::{self, Byte, Bytes, Line, Nothing};
+use pattern_faults::Value::{self, Byte, Bytes, Line, Nothing, Number};
 use pattern_faults::write_words;
 use std::fmt::{self, Display, Formatter, Write};
 
@@ -9,6 +9,8 @@ use std::fmt::{self, Display, Formatter, Write};
 pub enum Caution<'a> {
     /// Letters of a diagram behind the blank that ends a row.
     BehindRow(&'a [u8]),
+    /// Words behind the blank that ends a name.
+    BehindName(&'a [u8]),
     /// A word before the first entry that nearly is `Pattern`.
     NearPattern(&'a [u8]),
     /// A label that no expression names.
@@ -20,6 +22,28 @@ pub enum Caution<'a> {
         /// The letter in the other case.
         other: u8,
     },
+    /// A mark that tries images of the diagram more than once.
+    OwnImage {
+        /// How often each match comes.
+        times: usize,
+        /// The mark that tries each image once.
+        mark: u8,
+    },
+    /// A mark that does not try all images of the diagram.
+    ImagesLeftOut {
+        /// The mark.
+        mark: u8,
+        /// The mark that tries all.
+        meant: u8,
+    },
+    /// An item that says no value, and whose name nearly is `value`.
+    NearValue(&'a [u8]),
+    /// An item of the name `value` that says none.
+    NoValue(&'a [u8]),
+    /// An item that says a value behind another that does.
+    SecondValue(&'a [u8]),
+    /// An expression that is 0 wherever the diagram fits.
+    NeverMet,
     /// A name that an entry above has too.
     SameName {
         /// The line of the entry above.
@@ -41,11 +65,23 @@ impl<'a> Caution<'a> {
     fn words(&self) -> &'static str {
         match self {
             Caution::BehindRow(_) => "a row ends at its first blank; '{}' is passed over",
+            Caution::BehindName(_) => "a name ends at its first blank; '{}' is passed over",
             Caution::NearPattern(_) => {
                 "a line before the first entry is passed over; is Pattern meant by '{}'?"
             }
             Caution::UnusedLabel(_) => "no expression uses the label '{}'",
             Caution::ClassCase { .. } => "the class letter '{}' tests nothing; is '{}' meant?",
+            Caution::OwnImage { .. } => {
+                "the diagram is its own image, and each match comes {} times; ':{}' tells each once"
+            }
+            Caution::ImagesLeftOut { .. } => {
+                "':{}' does not try all images of the diagram, as ':{}' does"
+            }
+            Caution::NearValue(_) => "'{}' says no value; is value(..) meant?",
+            Caution::NoValue(_) => "'{}' says no value; a value has one to six digits",
+            Caution::SecondValue(_) => "the entry has a value already; '{}' is passed over",
+            Caution::NeverMet =>
+                "the expression is 0 wherever the diagram fits; the entry never matches",
             Caution::SameName { .. } => "the entry of line {} has the same name",
             Caution::NeverAlone { .. } => {
                 "wherever this entry matches, that of line {} matches at the same point"
@@ -60,11 +96,18 @@ impl<'a> Caution<'a> {
     /// The values that stand in the words, in their order, and nothing behind them.
     fn values(&self) -> [Value<'a>; 3] {
         let (first, second) = match *self {
-            Caution::BehindRow(word) | Caution::NearPattern(word) => (Bytes(word), Nothing),
+            Caution::BehindRow(word)
+            | Caution::BehindName(word)
+            | Caution::NearPattern(word)
+            | Caution::NearValue(word)
+            | Caution::NoValue(word)
+            | Caution::SecondValue(word) => (Bytes(word), Nothing),
+            Caution::OwnImage { times, mark } => (Number(times), Byte(mark)),
+            Caution::ImagesLeftOut { mark, meant } => (Byte(mark), Byte(meant)),
             Caution::UnusedLabel(label) => (Byte(label), Nothing),
             Caution::ClassCase { letter, other } => (Byte(letter), Byte(other)),
             Caution::SameName { line } | Caution::NeverAlone { line } => (Line(line), Nothing),
-            Caution::LineEnds | Caution::NoEntry => (Nothing, Nothing),
+            Caution::LineEnds | Caution::NoEntry | Caution::NeverMet => (Nothing, Nothing),
         };
         [first, second, Nothing]
     }

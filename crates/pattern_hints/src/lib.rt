@@ -6,7 +6,11 @@
 
 mod alone;
 mod caution;
+mod colon;
 mod gnu_go;
+mod images;
+mod items;
+mod never;
 mod port;
 mod warning;
 

@@ -2,7 +2,10 @@
 
 use crate::alone::never_alone;
 use crate::caution::Caution;
-use db_lex::is_blank;
+use crate::colon::{of_classes, push_mark_and_items};
+use crate::items::{same_end, same_front};
+use crate::never::is_never_met;
+use db_lex::{is_blank, trim, word_len};
 use pat_types::{NoMemory, Pattern};
 use pattern_lines::{
     Part, Place, Role, Sort, Token, Written, head_of, is_feed, is_letter, lines_in, name_in, tokens,
@@ -20,14 +23,11 @@ pub struct Warning<'a> {
     pub caution: Caution<'a>,
 }
 
-/// The letters by which the matcher and GNU Go sort patterns.
-const CLASSES: &[u8] = b"sOoXxDCcnBAbeEadIJjtTUWFNY";
-
 /// The word that begins an entry, in small letters.
 const PATTERN: &[u8] = b"pattern";
 
 /// The warning that is told at this byte of a line.
-fn warning_at<'a>(
+pub(crate) fn warning_at<'a>(
     entry: &'a [u8],
     line: &Written<'a>,
     at: usize,
@@ -51,30 +51,6 @@ fn warning_of_text<'a>(line: u64, caution: Caution<'a>) -> Warning<'a> {
         },
         caution,
     }
-}
-
-/// How many bytes at the front of both are the same letters, whatever their case.
-fn same_front(word: &[u8], other: &[u8]) -> usize {
-    let mut count: usize = 0;
-    for (letter, same) in word.iter().zip(other) {
-        if !letter.eq_ignore_ascii_case(same) {
-            break;
-        }
-        count = count.saturating_add(1);
-    }
-    count
-}
-
-/// How many bytes at the end of both are the same letters, whatever their case.
-fn same_end(word: &[u8], other: &[u8]) -> usize {
-    let mut count: usize = 0;
-    for (letter, same) in word.iter().rev().zip(other.iter().rev()) {
-        if !letter.eq_ignore_ascii_case(same) {
-            break;
-        }
-        count = count.saturating_add(1);
-    }
-    count
 }
 
 /// Whether a word is `Pattern` but for the case, or but for a letter or two next to each other.
@@ -111,37 +87,29 @@ fn of_row<'a>(entry: &'a [u8], line: &Written<'a>) -> Option<Warning<'a>> {
     Some(warning_at(entry, line, at, Caution::BehindRow(rest)))
 }
 
-/// The letter in the other case.
-fn other_case(letter: u8) -> u8 {
-    if letter.is_ascii_lowercase() {
-        letter.to_ascii_uppercase()
-    } else {
-        letter.to_ascii_lowercase()
+/// What is told of a Pattern line, whose name ends at a blank. A remark behind `#` is none.
+fn of_head<'a>(line: &Written<'a>) -> Option<Warning<'a>> {
+    let named = line.behind_word();
+    let rest = trim(&named[word_len(named)..]);
+    if rest.is_empty() || rest.starts_with(b"#".as_slice()) {
+        return None;
     }
-}
-
-/// What is told of the class letters of a colon line, which stand behind its first comma.
-fn of_classes<'a>(entry: &'a [u8], line: &Written<'a>) -> Option<Warning<'a>> {
-    let mut commas: usize = 0;
-    for (at, byte) in line.bytes.iter().enumerate() {
-        let letter = *byte;
-        let other = other_case(letter);
-        if letter == b',' {
-            commas = commas.saturating_add(1);
-        } else if commas == 1 && !CLASSES.contains(&letter) && CLASSES.contains(&other) {
-            return Some(warning_at(entry, line, at, Caution::ClassCase { letter, other }));
-        }
-    }
-    None
+    let at = line.bytes.len().saturating_sub(rest.len());
+    Some(warning_at(line.name(), line, at, Caution::BehindName(rest)))
 }
 
 /// What is told of a line.
-fn of_line<'a>(entry: &'a [u8], line: &Written<'a>) -> Option<Warning<'a>> {
+fn of_line<'a>(
+    alloc: Global,
+    entry: &'a [u8],
+    line: &Written<'a>,
+) -> Result<Option<Warning<'a>>, NoMemory> {
     match line.role {
-        Role::Front => of_front(line),
-        Role::Diagram | Role::Constraint => of_row(entry, line),
-        Role::Colon => of_classes(entry, line),
-        _ => None,
+        Role::Front => Ok(of_front(line)),
+        Role::Head => Ok(of_head(line)),
+        Role::Diagram | Role::Constraint => Ok(of_row(entry, line)),
+        Role::Colon => of_classes(alloc, entry, line),
+        _ => Ok(None),
     }
 }
 
@@ -154,7 +122,7 @@ fn push_lines<'a>(
     let lines = lines_in(alloc, part)?;
     let name = name_in(lines.as_slice());
     for line in &lines {
-        if let Some(warning) = of_line(name, line) {
+        if let Some(warning) = of_line(alloc, name, line)? {
             all.push(warning)?;
         }
     }
@@ -186,30 +154,63 @@ fn is_named(words: &[Token<'_>], label: u8) -> bool {
     false
 }
 
-/// Puts the labels of an entry that its expression does not name.
+/// Puts the labels of an entry that its expression, which has these words, does not name.
 fn push_labels<'a>(
-    alloc: Global,
     all: &mut Vec<Warning<'a>>,
-    part: Part<'a>,
+    lines: &[Written<'a>],
+    words: &[Token<'a>],
     pattern: &Pattern,
 ) -> Result<(), NoMemory> {
-    if pattern.labels.as_slice().is_empty() {
-        return Ok(());
-    }
-    let lines = lines_in(alloc, part)?;
-    let words = tokens(alloc, lines.as_slice())?;
     for label in pattern.labels.as_slice() {
-        if !is_named(words.as_slice(), label.letter)
-            && let Some(place) = label_place(lines.as_slice(), label.letter)
+        if !is_named(words, label.letter)
+            && let Some(place) = label_place(lines, label.letter)
         {
             all.push(Warning {
-                entry: name_in(lines.as_slice()),
+                entry: name_in(lines),
                 place,
                 caution: Caution::UnusedLabel(label.letter),
             })?;
         }
     }
     Ok(())
+}
+
+/// Puts that the expression of an entry, which has these words, is 0 wherever the diagram fits.
+fn push_never_met<'a>(
+    all: &mut Vec<Warning<'a>>,
+    entry: &'a [u8],
+    words: &[Token<'a>],
+    pattern: &Pattern,
+) -> Result<(), NoMemory> {
+    if let Some(word) = words.first()
+        && is_never_met(pattern)
+    {
+        all.push(Warning {
+            entry,
+            place: word.place,
+            caution: Caution::NeverMet,
+        })?;
+    }
+    Ok(())
+}
+
+/// Puts what is told of an entry that is taken.
+fn push_entry<'a>(
+    alloc: Global,
+    all: &mut Vec<Warning<'a>>,
+    part: Part<'a>,
+    pattern: &Pattern,
+) -> Result<(), NoMemory> {
+    let lines = lines_in(alloc, part)?;
+    let words = tokens(alloc, lines.as_slice())?;
+    let name = name_in(lines.as_slice());
+    for line in &lines {
+        if line.role == Role::Colon {
+            push_mark_and_items(alloc, all, name, line, pattern)?;
+        }
+    }
+    push_labels(all, lines.as_slice(), words.as_slice(), pattern)?;
+    push_never_met(all, name, words.as_slice(), pattern)
 }
 
 /// The line of the first of these Pattern lines that has this name.
@@ -309,7 +310,7 @@ pub fn warnings<'a>(
         push_lines(alloc, &mut all, *part)?;
     }
     for (part, pattern) in entries.iter().zip(patterns.iter()) {
-        push_labels(alloc, &mut all, *part, pattern)?;
+        push_entry(alloc, &mut all, *part, pattern)?;
     }
     push_names(alloc, &mut all, parts)?;
     push_never_alone(&mut all, entries, patterns)?;

@@ -1,18 +1,29 @@
 //! The faults that are told of texts, one row for each cause.
 
 use go_base::{Bytes, NoMemory};
-use pattern_report::{Fault, report_on};
+use pattern_report::{Fault, Report, report_on};
 use std::alloc::{AllocError, Global};
 use std::process::Abort;
 
 /// Lines that may not stand where they stand, and Pattern lines.
-static LINES: [(&[u8], &str); 10] = [
+static LINES: [(&[u8], &str); 12] = [
     // The reading goes on at the next Pattern line.
     (
         b"Pattern A\nO0*\n:8,s\nPattern B\nO*\n:8,s\n Pattern C\nO*\nPattern D\nO*\n:7,s\n",
         "2 2:2 kind 6: '0' is no letter of a diagram (O X o x . ? *)\n\
          9 8:1 kind 10: no colon line, as ':8,s', stands below the diagram\n\
          11 11:2 kind 11: '7' is no mark (8 | - / \\ + X O)\n",
+    ),
+    // An entry that ends too early is told at the Pattern line of the next, which tells its own fault too.
+    (
+        b"Pattern A\nO*\nPattern B\nO*\n:7,s\n",
+        "3 2:1 kind 10: no colon line, as ':8,s', stands below the diagram\n\
+         5 5:2 kind 11: '7' is no mark (8 | - / \\ + X O)\n",
+    ),
+    (
+        b"Pattern A\nO*\nOX\n:8,s\nA*\nPattern B\nO*\n:7,s\n",
+        "6 5:1 kind 14: the constraint diagram stops after 1 of 2 lines\n\
+         8 8:2 kind 11: '7' is no mark (8 | - / \\ + X O)\n",
     ),
     (b"# \x07", "1 1:3 kind 1: byte 7 may stand in no line\n"),
     (
@@ -108,7 +119,7 @@ static DIAGRAMS: [(&[u8], &str); 12] = [
 ];
 
 /// Colon lines.
-static COLON_LINES: [(&[u8], &str); 6] = [
+static COLON_LINES: [(&[u8], &str); 9] = [
     (
         b"Pattern A\nO*\n: 7,s\n",
         "3 3:3 kind 11: '7' is no mark (8 | - / \\ + X O)\n",
@@ -116,6 +127,20 @@ static COLON_LINES: [(&[u8], &str); 6] = [
     (
         b"Pattern A\nO*\n:8, s1\n",
         "3 3:6 kind 12: '1' is no class letter\n",
+    ),
+    (
+        b"Pattern A\nO*\n:|, value(20),s\n",
+        "3 3:5 kind 12: 'value(20)' stands in place of the class letters; '-' stands for none, as in \
+         ':|,-,value(20)'\n",
+    ),
+    (
+        b"Pattern A\nO*\n:8,near_edge\n",
+        "3 3:4 kind 12: 'near_edge' stands in place of the class letters; '-' stands for none, as in \
+         ':8,-,near_edge'\n",
+    ),
+    (
+        b"Pattern A\nO*\n:8,value(20\n",
+        "3 3:9 kind 12: '(' is no class letter\n",
     ),
     (
         b"Pattern A\nO*\n:8,sssssssssssssssssssssssssssssssss\n",
@@ -172,10 +197,35 @@ static CONSTRAINTS: [(&[u8], &str); 8] = [
 ];
 
 /// Expressions of an entry with the label A, whose expression is its fifth line.
-static EXPRESSIONS: [(&[u8], &str); 21] = [
+static EXPRESSIONS: [(&[u8], &str); 27] = [
     (
         b"Pattern P\nO*\n:8,s\nA*\n;lib(B)>1\n",
         "5 5:6 kind 16: the label 'B' does not stand in the constraint diagram\n",
+    ),
+    (
+        b"Pattern P\nOX*\n:8,s\nAX*\n;lib(A)>lib(X)\n",
+        "5 5:13 kind 16: 'X' is the letter of a stone and no label; in the constraint diagram a label, as A, \
+         replaces it\n",
+    ),
+    (
+        b"Pattern P\nO*\n:8,s\nA*\n;lib(A)=2\n",
+        "5 5:8 kind 15: '=' is no operator; is '==' meant?\n",
+    ),
+    (
+        b"Pattern P\nO*\n:8,s\nA*\n;lib(A)=>2\n",
+        "5 5:8 kind 15: '=>' is no operator; is '>=' meant?\n",
+    ),
+    (
+        b"Pattern P\nO*\n:8,s\nA*\n;lib(A) =< 2\n",
+        "5 5:9 kind 15: '=<' is no operator; is '<=' meant?\n",
+    ),
+    (
+        b"Pattern P\nO*\n:8,s\nA*\n;lib(A)&1\n",
+        "5 5:8 kind 15: '&' is no operator; is '&&' meant?\n",
+    ),
+    (
+        b"Pattern P\nO*\n:8,s\nA*\n;lib(A)|1\n",
+        "5 5:8 kind 15: '|' is no operator; is '||' meant?\n",
     ),
     (
         b"Pattern P\nO*\n:8,s\nA*\n;lib[A]\n",
@@ -304,18 +354,52 @@ fn each_fault_has_its_cause(rt: HostRuntime) {
     compare(&rt, rt.alloc(), &EXPRESSIONS);
 }
 
-/// A text of so many entries.
-fn entries(alloc: Global, count: usize) -> Result<Vec<u8>, AllocError> {
+/// A text of these lines and so many entries.
+fn entries(alloc: Global, first: &[u8], count: usize) -> Result<Vec<u8>, AllocError> {
     let mut text = Vec::new(alloc);
+    text.extend_from_slice(first)?;
     for _ in 0..count {
         text.extend_from_slice(b"Pattern A\nO*\n:8,s\n")?;
     }
     Ok(text)
 }
 
+/// How many entries of a text are taken, where there is memory.
+fn taken(alloc: Global, text: &[u8]) -> Option<usize> {
+    let report: Report = report_on(alloc, text, &[]).ok()?;
+    Some(report.entries.len())
+}
+
 #[test]
-fn an_entry_too_many_is_told_at_its_line(rt: HostRuntime) {
-    let text = entries(rt.alloc(), 4097).expect(&rt, "there is memory");
-    let want = "12289 12289:1 kind 18: a text has at most 4096 entries\n";
+fn an_entry_too_many_is_told_at_its_line_and_not_taken(rt: HostRuntime) {
+    let too_many = "12289 12289:1 kind 18: a text has at most 4096 entries\n";
+    let text = entries(rt.alloc(), &[], 4098).expect(&rt, "there is memory");
+    assert!(rt; is_told(rt.alloc(), &text, too_many));
+    assert!(rt; taken(rt.alloc(), &text) == Some(4096));
+    let text = entries(rt.alloc(), b"Pattern B\nO0\n:8,s\n", 4096).expect(&rt, "there is memory");
+    let want = "2 2:2 kind 6: '0' is no letter of a diagram (O X o x . ? *)\n\
+                12289 12289:1 kind 18: a text has at most 4096 entries\n";
     assert!(rt; is_told(rt.alloc(), &text, want));
+    assert!(rt; taken(rt.alloc(), &text) == Some(4095));
+}
+
+/// An entry whose expression is these bytes, so many blanks and a 1, on two lines.
+fn long_expression(alloc: Global, front: &[u8], blanks: usize) -> Result<Vec<u8>, AllocError> {
+    let mut text = Vec::new(alloc);
+    text.extend_from_slice(b"Pattern A\nO*\n:8,s\n")?;
+    text.extend_from_slice(front)?;
+    for _ in 0..blanks {
+        text.extend_from_slice(b" ")?;
+    }
+    text.extend_from_slice(b"1\n")?;
+    Ok(text)
+}
+
+#[test]
+fn an_empty_expression_line_counts_its_blank(rt: HostRuntime) {
+    let longest = long_expression(rt.alloc(), b";\n;1+", 4092).expect(&rt, "there is memory");
+    assert!(rt; is_told(rt.alloc(), &longest, ""));
+    let longer = long_expression(rt.alloc(), b";\n;1+", 4093).expect(&rt, "there is memory");
+    let want = "4 4:1 kind 15: an expression has at most 4096 bytes\n";
+    assert!(rt; is_told(rt.alloc(), &longer, want));
 }

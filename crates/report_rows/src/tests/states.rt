@@ -4,7 +4,7 @@ use db_read::read;
 use dfa_core::Automaton;
 use dfa_join::compile;
 use pat_types::Pattern;
-use pattern_states::added_by_each;
+use pattern_states::{States, added_by_each, states_of};
 use std::alloc::{AllocError, Global};
 
 /// Entries with one diagram, with fronts in common, and with lengths of their own.
@@ -71,6 +71,69 @@ fn an_entry_adds_what_the_list_without_it_lacks(rt: HostRuntime) {
         assert!(rt;
             sum_of(rt.alloc(), index, *states) == Some(all),
             "entry {index}"
+        );
+    }
+}
+
+/// Writes how many states a list has, and how many each of the patterns adds that add most.
+fn write_states(told: &mut String, states: &States) -> Result<(), AllocError> {
+    match states {
+        States::TooManyPatterns => told.push_str("too many patterns"),
+        States::More => told.push_str("more"),
+        States::Counted { all, most } => {
+            write!(told, "{all}:")?;
+            for added in most {
+                write!(told, " {} adds {}", added.pattern, added.states)?;
+            }
+            Ok(())
+        }
+    }
+}
+
+/// Whether this is told of the states of a text's entries, up to so many.
+fn is_told(alloc: Global, text: &[u8], limit: u32, want: &str) -> Option<bool> {
+    let patterns = read(alloc, text, &[], Vec::new(alloc)).ok()?;
+    let states = states_of(alloc, patterns.as_slice(), limit).ok()?;
+    let mut told = String::new(alloc);
+    write_states(&mut told, &states).ok()?;
+    Some(told.as_str() == want)
+}
+
+/// Texts with limits and what is told of the states of their entries.
+static LISTS: [(&str, &[u8], u32, &str); 4] = [
+    (
+        "a star has a state before it, one behind it, and the sink",
+        b"Pattern A\n*\n:O\n",
+        3,
+        "3: 0 adds 2",
+    ),
+    (
+        "the limit is what the list has",
+        b"Pattern A\n*\n:O\n",
+        2,
+        "more",
+    ),
+    (
+        "the cell at the right of a stone is the fifth that is looked at",
+        b"Pattern A\n*\n:O\nPattern B\nX*\n:O\n",
+        1000,
+        "8: 1 adds 5 0 adds 1",
+    ),
+    (
+        "of entries that add as much the first ten are told",
+        b"Pattern A\n*\n:O\nPattern A\n*\n:O\nPattern A\n*\n:O\nPattern A\n*\n:O\nPattern A\n*\n:O\nPattern A\n*\n:O\n\
+          Pattern A\n*\n:O\nPattern A\n*\n:O\nPattern A\n*\n:O\nPattern A\n*\n:O\nPattern A\n*\n:O\n",
+        1000,
+        "3: 0 adds 0 1 adds 0 2 adds 0 3 adds 0 4 adds 0 5 adds 0 6 adds 0 7 adds 0 8 adds 0 9 adds 0",
+    ),
+];
+
+#[test]
+fn the_entries_that_add_most_are_told_first(rt: HostRuntime) {
+    for &(what, text, limit, want) in &LISTS {
+        assert!(rt;
+            is_told(rt.alloc(), text, limit, want) == Some(true),
+            "{what}"
         );
     }
 }
