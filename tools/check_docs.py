@@ -4,10 +4,11 @@ usage: python3 tools/check_docs.py [--map | FILE ...]
 
 Without files these are README.md and docs/FORMATS.md, docs/USING.md, docs/AUTHORS.md and docs/LIBRARY.md, in this
 order, and the manual page docs/gopat.1, in which `man` may find nothing to warn of; and the map of docs/ARCHITECTURE.md
-is compared with crates.txt, and tools/README.md with the scripts. It runs at the top of a fresh clone: README's
-commands prove and build the program, docs/USING.md says what has to stand beside the clone, and docs/AUTHORS.md wants
-the checker that `rt run` makes in crates/pattern_check. `python3 tools/check_docs.py --map` compares the map and the
-scripts alone, and needs no program.
+is compared with crates.txt, tools/README.md with the scripts, and the tables of messages of docs/AUTHORS.md with the
+texts of the checker. It runs at the top of a fresh clone: README's commands prove and build the program, docs/USING.md
+says what has to stand beside the clone, and docs/AUTHORS.md wants the checker that `rt run` makes in
+crates/pattern_check. `python3 tools/check_docs.py --map` compares the map, the scripts and the messages alone, and needs
+no program.
 
 A command is a line `$ ..` of a block that is set off by three backticks; it goes on over lines that end in a backslash.
 All commands of a document run in one shell, one after another, with nothing to read. The lines below a command, up to
@@ -15,7 +16,9 @@ the next one or the end of the block, are its standard output; blank lines at th
 stands for lines that are left out. A block that is named `rust PATH` is a part of the file of this path, with the same
 use of `..`. In the table of kinds of docs/FORMATS.md each example is a text as printf takes it, and the program's note
 has to be the one beside it. A block under a line `<!-- not run: WHY -->` is passed over and told, and so is one under
-`<!-- needs: NAME .. -->` if a name is neither a program on the path nor a file.
+`<!-- needs: NAME .. -->` if a name is neither a program on the path nor a file. A cell of messages is texts of the
+checker, one behind the other with `; ` between them, in which `..` stands for a value; each text of the checker stands
+in one of them.
 
 In the map each crate of crates.txt has a row, under the heading under which it stands in crates.txt. Its column
 `stands on` names crates that it uses, and each crate that it uses is named or stands below one that is.
@@ -37,6 +40,14 @@ MANUAL_PAGE = "docs/gopat.1"
 MAP = "docs/ARCHITECTURE.md"
 CRATES = "crates.txt"
 SCRIPTS = "tools/README.md"
+AUTHORS = "docs/AUTHORS.md"
+MESSAGES = [
+    "crates/pattern_faults/src/cause.rt",
+    "crates/pattern_hints/src/caution.rt",
+    "crates/pattern_hints/src/port.rt",
+]
+NEVER_TOLD = {"a fault", "a fault of kind .."}
+MESSAGE = re.compile(r'=>\s*(?:\{\s*)?"((?:[^"\\]|\\.)*)"', re.DOTALL)
 GOPAT = "crates/gopat/out/gopat"
 USES = re.compile(r"(\w+)(?: staticlib)?:(.*)")
 ROW = re.compile(r"\| `(\w+)` \|[^|]*\|([^|]*)\|[^|]*\|[^|]*\|")
@@ -204,10 +215,44 @@ def check_scripts() -> Iterator[str | None]:
         yield None if f"`{path.name}`" in table else f"{SCRIPTS}: nothing of {path.name}"
 
 
+def messages() -> set[str]:
+    """The texts that the checker of pattern files may print, with `..` in the place of each value."""
+    literals = [text for path in MESSAGES for text in MESSAGE.findall(pathlib.Path(path).read_text(encoding="utf-8"))]
+    texts = (re.sub(r"\\\n\s*", "", text).replace("\\\\", "\\").replace("{}", "..") for text in literals)
+    return set(texts) - NEVER_TOLD
+
+
+def cells_of_messages() -> Iterator[str]:
+    """The cells below `what is told` of the tables for authors."""
+    column = None
+    for line in pathlib.Path(AUTHORS).read_text(encoding="utf-8").splitlines():
+        cells = [cell.strip().replace("\\|", "|") for cell in re.split(r"(?<!\\)\|", line)[1:-1]]
+        if "what is told" in cells:
+            column = cells.index("what is told")
+        elif not cells:
+            column = None
+        elif column is not None and set(cells[column]) != {"-"}:
+            yield cells[column]
+
+
+def check_messages() -> Iterator[str | None]:
+    """For each text of the checker, and for each cell of the tables for authors, None or what is wrong."""
+    texts = sorted(messages(), key=len, reverse=True)
+    missing = set(texts)
+    for cell in cells_of_messages():
+        rest = f"; {cell}"
+        while found := next((text for text in texts if rest.startswith(f"; {text}")), None):
+            missing.discard(found)
+            rest = rest[len(found) + 2 :]
+        yield f"{AUTHORS}: not told: {rest[2:]}" if rest else None
+    for text in sorted(missing):
+        yield f"{AUTHORS}: nothing of: {text}"
+
+
 def main(*words: str) -> int:
     documents, found = list(words) or DOCUMENTS, []
     if documents in (DOCUMENTS, ["--map"]):
-        found += [*check_map(), *check_scripts()]
+        found += [*check_map(), *check_scripts(), *check_messages()]
     for document in documents if documents != ["--map"] else []:
         shell = Shell()
         for block in blocks(document):
