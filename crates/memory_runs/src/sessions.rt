@@ -112,8 +112,11 @@ pub static SESSIONS: [Session; 33] = [
         input: b"depths 200 12\ndepths 1 0\ndepths 0 2\ndepths 201 2\ndepths 10 13\ndepths 10\n",
         output: b"=\n\n=\n\n? syntax error\n\n? syntax error\n\n? syntax error\n\n? syntax error\n\n",
     },
-    // . . . . . . . X O .     White's last play, at C3, takes D3, and black may not retake at once.
-    // . X O . O . . X O . . . . . .
+    // . . . . .
+    // . . X O .     White's last play, at C3, took the black stone at D3,
+    // . X O . O     and Black may not retake there at once.
+    // . . X O .
+    // . . . . .
     Session {
         name: "ko_capture_needs_the_attackers_allowance",
         files: &[],
@@ -227,8 +230,11 @@ pub static SESSIONS: [Session; 33] = [
         input: b"boardsize 9\nplay b C5\nmatch_patterns b\n",
         output: b"=\n\n=\n\n= P 2 B5\nP 4 B5\n\n",
     },
-    // . . . . . . . X O .     White's last play, at C3, takes D3, and the ban stands until the next
-    // move. . X O . O . . X O . . . . . .
+    // . . . . .
+    // . . X O .     White's last play, at C3, took the black stone at D3,
+    // . X O . O     and the ban at D3 stands until the next move.
+    // . . X O .
+    // . . . . .
     Session {
         name: "helper_asks_for_no_ban",
         files: &[File {
