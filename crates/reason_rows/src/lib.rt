@@ -1,0 +1,6 @@
+//! Worked rows of the reasons why patterns do not match, from the text of a database to the reason. There is no code
+//! here but tests, which cross the crates of the layer.
+#![tactic(auto)]
+
+#[cfg(test)]
+mod tests;
