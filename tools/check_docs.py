@@ -13,8 +13,8 @@ no program.
 A command is a line `$ ..` of a block that is set off by three backticks; it goes on over lines that end in a backslash.
 All commands of a document run in one shell, one after another, with nothing to read. The lines below a command, up to
 the next one or the end of the block, are its standard output; blank lines at the end do not count. A line `..` alone
-stands for lines that are left out. A block that is named `rust PATH` is a part of the file of this path, with the same
-use of `..`. In the table of kinds of docs/FORMATS.md each example is a text as printf takes it, and the program's note
+stands for lines that are left out. A block that is named `rust PATH`, or `c`, `python` or `go` and a path, is a part of
+the file of this path, with the same use of `..`. In the table of kinds of docs/FORMATS.md each example is a text as printf takes it, and the program's note
 has to be the one beside it. A block under a line `<!-- not run: WHY -->` is passed over and told, and so is one under
 `<!-- needs: NAME .. -->` if a name is neither a program on the path nor a file. A cell of messages is texts of the
 checker, one behind the other with `; ` between them, in which `..` stands for a value; each text of the checker stands
@@ -132,7 +132,7 @@ def agrees(wanted: list[str], got: list[str]) -> bool:
 
 def check_block(block: Block, shell: Shell) -> Iterator[str | None]:
     """For each command of a block, or for what it quotes, None or what is wrong."""
-    source = re.fullmatch(r"rust (\S+)", block.name)
+    source = re.fullmatch(r"(?:rust|c|python|go) (\S+)", block.name)
     if source:
         text = pathlib.Path(source[1]).read_text(encoding="utf-8").splitlines()
         yield None if agrees(["..", *block.lines, ".."], text) else f"{block.place}: not so in {source[1]}"

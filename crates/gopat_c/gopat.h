@@ -90,8 +90,8 @@ GopatAnswer gopat_attack(GopatBoard board, uint16_t target, GopatDepths depths);
    GOPAT_PASS if no stone need be added. */
 GopatAnswer gopat_defend(GopatBoard board, uint16_t target, GopatDepths depths);
 
-/* Whether the strings at a and b can be joined when their own colour plays first. The move is GOPAT_PASS if they are one
-   string already. Faults: of the board (1 to 4), of a and then b (5, 6), two colours (8), the plies (7). */
+/* Whether the strings at a and b can be joined when their own colour plays first. The move is GOPAT_PASS if they are
+   one string already. Faults: of the board (1 to 4), of a and then b (5, 6), two colours (8), the plies (7). */
 GopatAnswer gopat_connect(GopatBoard board, uint16_t a, uint16_t b, uint8_t plies);
 
 /* Whether they can be kept apart when the other colour plays first. Faults as above. */

@@ -17,4 +17,5 @@ board = gopat.Board.of_rows(
 )
 attack, defend = board.attack("E5"), board.defend("E5")
 after = board.play(gopat.BLACK, attack.move)
-print(f"attack {attack.code} {attack.move}, defend {defend.code} {defend.move}, liberties {after.liberties(attack.move)}")
+left = after.liberties(attack.move)
+print(f"attack {attack.code} {attack.move}, defend {defend.code} {defend.move}, liberties {left}")

@@ -1,0 +1,460 @@
+"""Tries gopat's library from outside: builds it, runs the programs of docs/examples/doors, and compares its answers on
+random boards with those of the program and with plain rules in Python.
+
+usage: python3 tools/try_doors.py GOPAT QUESTIONS [SEED]
+
+It runs at the top of a clone and wants `rt`, a C compiler and Python; GOPAT is the path of the program. `rustc`, `go`
+and `valgrind` are used if they are there. The questions arise in random games on boards of 2 to 13 rows: the moves go
+to the program line by line and to the library as boards, so that bans are those of real kos. A third of the questions
+have one argument broken, or a ban that no game left: their status is compared with that of the rules in this file. The
+same questions go to the library once more from C, and a part of them under valgrind. The last lines are figures:
+questions by each way in a second of the processor, that of both ends of a pipe together. The exit status is 1 where
+anything differs.
+"""
+
+import ctypes
+import os
+import pathlib
+import random
+import shutil
+import subprocess
+import sys
+import tempfile
+from typing import Iterator, NamedTuple
+
+import command_line
+import gtp
+
+CRATE = pathlib.Path("crates/gopat_c")
+EXAMPLES = pathlib.Path("docs/examples/doors")
+CALLS = ["attack", "defend", "connect", "disconnect", "liberties", "check", "play"]
+UNDER_VALGRIND = 500
+# Stones around a ko, each a colour, a row and a column; the last one takes.
+KO = [(1, 0, 1), (1, 1, 0), (1, 2, 1), (2, 0, 2), (2, 1, 3), (2, 2, 2), (2, 1, 1), (1, 1, 2)]
+
+
+def shared_library(folder: pathlib.Path) -> pathlib.Path:
+    """The shared library, made from the static one by one line."""
+    subprocess.run(["rt", "lib"], cwd=CRATE, check=True, stdout=subprocess.DEVNULL, stderr=subprocess.DEVNULL)
+    made = folder / "libgopat_c.so"
+    archive = CRATE / "out" / "libgopat_c.a"
+    whole = [f"-Wl,--whole-archive,{archive},--no-whole-archive"]
+    subprocess.run(["cc", "-shared", "-o", str(made), *whole], check=True)
+    return made
+
+
+def run_examples(folder: pathlib.Path, gopat: str) -> list[str]:
+    """What each program of the examples prints, behind its name."""
+    out, archive = CRATE / "out", str(CRATE / "out" / "libgopat_c.a")
+    environment = os.environ | {
+        "PYTHONPATH": "python",
+        "GOPAT_LIBRARY": str(folder / "libgopat_c.so"),
+        "CGO_CFLAGS": f"-I{CRATE.resolve()}",
+        "CGO_LDFLAGS": f"-L{out.resolve()}",
+        "GOCACHE": str(folder / "go"),
+        "GO111MODULE": "off",
+    }
+    c_made, rust_made, go_made = (str(folder / name) for name in ("c", "rust", "go.out"))
+    c_command = ["cc", "-O2", "-Wall", "-Wextra", "-Werror", f"-I{CRATE}", "-o", c_made]
+    ways = [
+        ("cc", [*c_command, str(EXAMPLES / "atari.c"), archive], [c_made]),
+        ("python3", [], ["python3", str(EXAMPLES / "atari.py")]),
+        ("rustc", ["rustc", "-O", "-L", str(out), "-o", rust_made, str(EXAMPLES / "atari.rs")], [rust_made]),
+        ("go", ["go", "build", "-o", go_made, str(EXAMPLES / "atari.go")], [go_made]),
+        ("python3", [], ["python3", str(EXAMPLES / "pipe.py"), gopat]),
+    ]
+    said = []
+    for needed, make, start in ways:
+        if not shutil.which(needed):
+            said.append(f"{start[-1]}: not run, {needed} is not there")
+            continue
+        if make:
+            subprocess.run(make, env=environment, check=True)
+        done = subprocess.run(start, env=environment, capture_output=True, text=True, check=True)
+        said.append(f"{pathlib.Path(start[-1] if start[-1] != gopat else start[-2]).name}: {done.stdout.strip()}")
+    return said
+
+
+class Question(ctypes.Structure):
+    """A call and its arguments, as ask_door.c reads them."""
+
+
+def declare(gopat) -> None:
+    """The fields of a question, in the types of the module."""
+    byte, point = ctypes.c_uint8, ctypes.c_uint16
+    Question._fields_ = [
+        ("board", gopat._Board), ("a", point), ("b", point), ("depths", gopat._Depths), ("call", byte),
+        ("number", byte), ("code", byte), ("length", byte), ("text", ctypes.c_char * 256),
+    ]  # fmt: skip
+
+
+def words(question: Question) -> bytes:
+    """The text of a question."""
+    return bytes(question)[Question.text.offset :][: question.length]
+
+
+def ask(library, question: Question) -> tuple[int, int, int]:
+    """The numbers of the reply to a question, as ask_door.c prints them."""
+    board, name = question.board, CALLS[question.call]
+    if name in ("attack", "defend"):
+        reply = getattr(library, f"gopat_{name}")(board, question.a, question.depths)
+        return reply.status, reply.code, reply.at
+    if name in ("connect", "disconnect"):
+        reply = getattr(library, f"gopat_{name}")(board, question.a, question.b, question.depths.plies)
+        return reply.status, reply.code, reply.at
+    if name == "liberties":
+        reply = library.gopat_liberties(board, question.a)
+    elif name == "check":
+        arguments = question.number, question.a, question.depths, question.code, words(question), question.length
+        reply = library.gopat_check(board, *arguments)
+    else:
+        played = library.gopat_play(board, question.number, question.a)
+        number = 0
+        for cell in played.board.cells:
+            number = (number * 31 + cell) % 65536
+        return played.status, 0, number
+    return reply.status, 0, reply.number
+
+
+class Rules:
+    """The board of a question by plain rules."""
+
+    def __init__(self, board):
+        self.size, self.cells = board.size, list(board.cells[: board.size**2])
+
+    def beside(self, p: int) -> Iterator[int]:
+        row, column = divmod(p, self.size)
+        for r, c in ((row - 1, column), (row, column - 1), (row, column + 1), (row + 1, column)):
+            if 0 <= r < self.size and 0 <= c < self.size:
+                yield r * self.size + c
+
+    def string(self, p: int) -> set[int]:
+        found, left = {p}, [p]
+        while left:
+            for q in self.beside(left.pop()):
+                if self.cells[q] == self.cells[p] and q not in found:
+                    found.add(q)
+                    left.append(q)
+        return found
+
+    def liberties(self, p: int) -> set[int]:
+        return {q for stone in self.string(p) for q in self.beside(stone) if not self.cells[q]}
+
+    def dead(self, colours: tuple[int, ...]) -> list[int]:
+        """The stones of these colours whose strings have no liberty."""
+        return [p for p, cell in enumerate(self.cells) if cell in colours and not self.liberties(p)]
+
+    def is_suicide(self, colour: int, p: int) -> bool:
+        self.cells[p] = colour
+        for taken in self.dead((3 - colour,)):
+            self.cells[taken] = 0
+        return not self.liberties(p)
+
+
+def board_fault(board) -> int:
+    """The status of the first fault of a board, 0 for none."""
+    if not 2 <= board.size <= 25:
+        return 1
+    rules = Rules(board)
+    if any(cell > 2 for cell in rules.cells):
+        return 2
+    if rules.dead((1, 2)):
+        return 3
+    if board.ban_colour == 0:
+        return 0
+    on_empty = board.ban_point < board.size**2 and not rules.cells[board.ban_point]
+    return 0 if board.ban_colour < 3 and on_empty else 4
+
+
+def first_fault(question: Question) -> int:
+    """The status of the first fault of a question, 0 for none."""
+    board, depths, name = question.board, question.depths, CALLS[question.call]
+    rules = Rules(board)
+
+    def stone(p: int) -> int:
+        return 5 if p >= board.size**2 else 0 if rules.cells[p] else 6
+
+    def depth() -> int:
+        return 0 if 1 <= depths.plies <= 200 and depths.wide <= 12 and depths.tree <= 1 else 7
+
+    if fault := board_fault(board):
+        return fault
+    if name in ("attack", "defend"):
+        return stone(question.a) or depth()
+    if name in ("connect", "disconnect"):
+        if fault := stone(question.a) or stone(question.b):
+            return fault
+        if rules.cells[question.a] != rules.cells[question.b]:
+            return 8
+        return 0 if 1 <= depths.plies <= 200 else 7
+    if name == "liberties":
+        return stone(question.a)
+    if name == "check":
+        if question.number not in (1, 2):
+            return 10
+        return stone(question.a) or depth() or (11 if question.code > 3 else 0)
+    return play_fault(question, rules)
+
+
+def play_fault(question: Question, rules: Rules) -> int:
+    """The status of the first fault of a play on a board that has none."""
+    board, colour, p = question.board, question.number, question.a
+    if colour not in (1, 2):
+        return 9
+    if p == 65535:
+        return 0
+    if p >= board.size**2:
+        return 5
+    if rules.cells[p]:
+        return 12
+    if board.ban_colour == colour and board.ban_point == p:
+        return 13
+    return 14 if rules.is_suicide(colour, p) else 0
+
+
+class Asked(NamedTuple):
+    """A question, what the library says, and the protocol lines whose last reply has to say the same; no line for a
+    question that is not one of the program's."""
+
+    question: Question
+    reply: tuple[int, int, int]
+    lines: list[str]
+
+
+def vertex(size: int, p: int) -> str:
+    return "PASS" if p == 65535 else f"{gtp.COLUMNS[p % size]}{size - p // size}" if p < size**2 else "Z99"
+
+
+def line_of(question: Question) -> list[str]:
+    """The lines of the program that ask the same."""
+    size, name = question.board.size, CALLS[question.call]
+    a, b = vertex(size, question.a), vertex(size, question.b)
+    depths = f"depths {question.depths.plies} {question.depths.wide}"
+    if name in ("attack", "defend"):
+        return [depths, f"{name} {a}"]
+    if name in ("connect", "disconnect"):
+        return [f"depths {question.depths.plies} 0", f"{name} {a} {b}"]
+    if name == "liberties":
+        return [f"countlib {a}"]
+    text = words(question).decode()
+    return [depths, f"check_proof {CALLS[question.number - 1]} {a} {question.code} {text}"]
+
+
+def expected(asked: Asked, shown: str) -> gtp.Reply:
+    """The reply of the program that says the same as the library."""
+    status, code, at = asked.reply
+    name, size = CALLS[asked.question.call], asked.question.board.size
+    if status:
+        texts = {6: "vertex must not be empty", 8: "colours differ", 12: "illegal move", 13: "illegal move"}
+        return gtp.Reply(False, texts.get(status, "illegal move" if status == 14 else shown))
+    if name == "liberties":
+        return gtp.Reply(True, str(at))
+    if name == "check":
+        return gtp.Reply(True, "true" if at else "false")
+    return gtp.Reply(True, f"{code} {vertex(size, at)}" if code else "0")
+
+
+class Games:
+    """Random games, and questions about their positions."""
+
+    def __init__(self, gopat, seed: int):
+        self.gopat, self.library, self.choose = gopat, gopat._LIBRARY, random.Random(seed)
+        self.bans = 0
+
+    def asked(self, board) -> Asked:
+        """A question about a board that a game has led to; a third of them are broken."""
+        question = self.question(board)
+        lines = line_of(question)
+        if self.choose.random() < 1 / 3:
+            self.break_one(question)
+            lines = []
+        return Asked(question, ask(self.library, question), lines)
+
+    def question(self, board) -> Question:
+        choose, points = self.choose, board.size**2
+        stones = [p for p in range(points) if board.cells[p]] or [0]
+        near = [p for p in Rules(board).beside(board.ban_point) if board.cells[p]] if board.ban_colour else []
+        target = choose.choice(near or stones) if choose.random() < 0.9 else choose.randrange(points + 1)
+        number = choose.choice([1, 2])
+        text = choose.choice(["W .", "N .", "N . N . N .", "", f"W {vertex(board.size, choose.randrange(points))} ."])
+        plies = choose.choice([1, 2, 3, 4, 5, 6, 7, 10]) if board.size < 7 else choose.choice([1, 2, 3, 5, 8])
+        depths = self.gopat._Depths(plies, choose.choice([0, 0, 1, 2]), 0)
+        call, code = choose.randrange(6), choose.randrange(4)
+        return Question(board, target, choose.choice(stones), depths, call, number, code, len(text), text.encode())
+
+    def break_one(self, question: Question) -> None:
+        """Changes one argument to any number, or the call to a play."""
+        choose, board = self.choose, question.board
+        way = choose.randrange(9)
+        if way == 0:
+            board.size = choose.randrange(256)
+        elif way == 1:
+            board.cells[choose.randrange(board.size**2)] = choose.randrange(256)
+        elif way == 2:
+            p = choose.randrange(board.size**2)
+            board.cells[p] = 1
+            for q in Rules(board).beside(p):
+                board.cells[q] = 2
+        elif way == 3:
+            board.ban_colour, board.ban_point = choose.randrange(4), choose.randrange(board.size**2 + 2)
+        elif way == 4:
+            question.a = choose.choice([choose.randrange(65536), choose.randrange(board.size**2)])
+        elif way == 5:
+            question.depths.plies = choose.choice([0, 201, 255])
+        elif way == 6:
+            question.depths.wide, question.depths.tree = choose.choice([(13, 0), (255, 1), (0, 2), (1, 1)])
+        elif way == 7:
+            question.code, question.number = choose.choice([(4, 1), (255, 2), (0, 0), (3, 3)])
+        else:
+            question.call, question.number = 6, choose.choice([0, 1, 2, 2, 1, 3])
+
+    def moves(self, size: int, turn: int) -> Iterator[tuple[int, int]]:
+        """Random plays and passes, or those that make a ko somewhere on the board."""
+        choose = self.choose
+        if size > 3 and turn % 3 == 0:
+            row, column = choose.randrange(size - 2), choose.randrange(size - 3)
+            yield from ((colour, (row + r) * size + column + c) for colour, r, c in KO)
+            return
+        for _ in range(choose.randrange(1, 2 + size // 2)):
+            p = choose.randrange(size**2 + 1)
+            yield choose.choice([1 + turn % 2, 1, 2]), 65535 if p == size**2 else p
+
+    def game(self, turns: int) -> Iterator[tuple[list[str], Asked | None, bool]]:
+        """The steps of a game: the lines of a move and whether it is legal, or the lines of a question."""
+        size = self.choose.choice([2, 3, 4, 4, 5, 5, 6, 7, 9, 13])
+        board = self.gopat._Board(size)
+        yield [f"boardsize {size}"], None, True
+        for turn in range(turns):
+            for colour, p in self.moves(size, turn):
+                played = self.library.gopat_play(board, colour, p)
+                board = played.board
+                yield [f"play {' bw'[colour]} {vertex(size, p)}"], None, played.status == 0
+                if board.ban_colour:
+                    break
+            self.bans += board.ban_colour > 0
+            one = self.asked(board)
+            yield one.lines, one, True
+
+
+def differences(gopat_path: str, steps: list[tuple[list[str], Asked | None, bool]]) -> Iterator[str]:
+    """What the program says otherwise, and the statuses that are not those of the rules."""
+    lines = [line for step in steps for line in step[0]]
+    replies, _ = gtp.session([gopat_path], lines)
+    at = 0
+    for step_lines, asked, legal in steps:
+        at += len(step_lines)
+        reply = replies[at - 1] if step_lines else None
+        if asked is None:
+            if reply.ok != legal:
+                yield f"{step_lines[-1]}: {reply.text!r}, the library says {legal}"
+            continue
+        if asked.reply[0] != first_fault(asked.question):
+            yield f"{CALLS[asked.question.call]}: status {asked.reply[0]}, by the rules {first_fault(asked.question)}"
+        if step_lines and reply != expected(asked, reply.text):
+            yield f"{step_lines[-1]}: {reply}, the library says {asked.reply}"
+
+
+def from_c(folder: pathlib.Path, questions: list[Question], before: list[str], times: int | None = None) -> list[str]:
+    """What ask_door.c prints for the questions."""
+    made, kept = folder / "ask_door", folder / "questions"
+    flags = ["-O2", "-Wall", "-Wextra", f"-I{CRATE}"]
+    archive = str(CRATE / "out" / "libgopat_c.a")
+    subprocess.run(["cc", *flags, "-o", str(made), "tools/ask_door.c", archive], check=True)
+    kept.write_bytes(b"".join(map(bytes, questions)))
+    command = [*before, str(made), str(kept), *([str(times)] if times else [])]
+    return subprocess.run(command, capture_output=True, text=True, check=True).stdout.splitlines()
+
+
+class Timed(NamedTuple):
+    """A reading that is timed, the lines that put its stones on an empty board, and the line that asks it."""
+
+    question: Question
+    plays: list[str]
+    line: str
+
+
+def readings(gopat, choose: random.Random) -> Iterator[Timed]:
+    """Attacks and defences at 10 plies, 2 of them wide, of strings with at most 4 liberties, on boards of 19 rows with
+    some 110 stones put at random."""
+    for _ in range(500):
+        board, plays = gopat._Board(19), ["boardsize 19", "depths 10 2"]
+        for colour in [1, 2] * 60:
+            p = choose.randrange(361)
+            played = gopat._LIBRARY.gopat_play(board, colour, p)
+            if played.status == 0 and played.board.ban_colour == 0:
+                board = played.board
+                plays.append(f"play {' bw'[colour]} {vertex(19, p)}")
+        stones = [p for p in range(361) if 1 <= gopat._LIBRARY.gopat_liberties(board, p).number <= 4]
+        for target in choose.sample(stones, 20):
+            call = choose.randrange(2)
+            question = Question(board, target, 0, gopat._Depths(10, 2, 0), call)
+            yield Timed(question, plays, f"{CALLS[call]} {vertex(19, target)}")
+            plays = []
+
+
+def figures(folder: pathlib.Path, gopat, gopat_path: str, seed: int) -> Iterator[str]:
+    """Questions a second by each way."""
+    some = list(readings(gopat, random.Random(seed)))
+    seconds = float(from_c(folder, [one.question for one in some], [], 5)[0].split()[0]) / 5
+    yield f"{len(some)} readings: from C {len(some) / seconds:.0f} a second"
+    start = processor()
+    for one in some:
+        ask(gopat._LIBRARY, one.question)
+    yield f"from Python {len(some) / (processor() - start):.0f} a second"
+    lines = [line for one in some for line in [*one.plays, one.line]]
+    yield f"through the pipe, each line after the reply to the one before, {len(some) / waiting(gopat_path, lines):.0f}"
+    start = processor()
+    gtp.session([gopat_path], lines)
+    yield f"through the pipe, all lines at once, {len(some) / (processor() - start):.0f}"
+    seconds = waiting(gopat_path, ["name"] * 10000)
+    yield f"through the pipe, lines that ask nothing of the board, each after a reply, {10000 / seconds:.0f}"
+
+
+def waiting(gopat_path: str, lines: list[str]) -> float:
+    """The processor's seconds of a session in which each line waits for the reply to the one before."""
+    start = processor()
+    program = gtp.Running([gopat_path])
+    for line in lines:
+        program.ask(line)
+    program.end()
+    return processor() - start
+
+
+def processor() -> float:
+    """The processor's seconds of this script and of the programs that it started and that have ended."""
+    return sum(os.times()[:4])
+
+
+def main(gopat_path: str, count: str, seed: str = "1") -> int:
+    gopat_path = str(pathlib.Path(gopat_path).resolve())
+    with tempfile.TemporaryDirectory() as name:
+        folder = pathlib.Path(name)
+        os.environ["GOPAT_LIBRARY"] = str(shared_library(folder))
+        said = run_examples(folder, gopat_path)
+        print("\n".join(said))
+        sys.path.insert(0, "python")
+        import gopat
+
+        declare(gopat)
+        games = Games(gopat, int(seed))
+        asked, wrong = [], []
+        while len(asked) < int(count):
+            steps = list(games.game(20))
+            asked += [one for _, one, _ in steps if one]
+            wrong += differences(gopat_path, steps)
+        questions = [one.question for one in asked]
+        told = [" ".join(map(str, one.reply)) for one in asked]
+        wrong += [f"from C {c}, from Python {p}" for c, p in zip(from_c(folder, questions, []), told) if c != p]
+        with_status = sum(one.reply[0] > 0 for one in asked)
+        print(f"{len(asked)} questions, {with_status} with a status, {games.bans} boards with a ban of a ko,", end=" ")
+        print(f"{sum(bool(one.lines) for one in asked)} asked of the program too: {len(wrong)} differ")
+        if shutil.which("valgrind"):
+            checked = from_c(folder, questions[:UNDER_VALGRIND], ["valgrind", "-q", "--error-exitcode=1"])
+            print(f"{len(checked)} questions under valgrind without an error")
+        print("\n".join([*wrong[:20], *figures(folder, gopat, gopat_path, int(seed))]))
+        lines_said = {line.split(": ", 1)[1] for line in said if ": not run" not in line}
+        return int(bool(wrong) or len(lines_said) != 1)
+
+
+if __name__ == "__main__":
+    command_line.run(main, __doc__)
