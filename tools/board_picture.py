@@ -26,7 +26,7 @@ import command_line
 import gtp
 import html_page
 import positions
-from go_rules import BLACK, EMPTY, Position, vertex_of
+from go_rules import BLACK, EMPTY, Position
 
 
 class Spot(NamedTuple):

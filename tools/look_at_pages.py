@@ -4,7 +4,7 @@ usage: python3 tools/look_at_pages.py CHROMIUM OUT PAGE ..
 
 A PAGE is an HTML or SVG file. OUT is a folder, which gets a file NAME-WIDTH-light.png and NAME-WIDTH-dark.png for each
 page and width, 1200 and 420 points, of the first 1600 points from the top. Says which file was made. The exit status is
-1 where Chromium made none, and 2 where the words cannot be taken.
+1 where a page is missing or Chromium made none, and 2 where the words cannot be taken.
 """
 
 import pathlib
@@ -48,7 +48,7 @@ def main(chromium: str, folder: str, *pages: str) -> int:
     for page in map(pathlib.Path, pages):
         for width in WIDTHS:
             for scheme in SCHEMES:
-                made = look(chromium, page, out, width, scheme)
+                made = page.is_file() and look(chromium, page, out, width, scheme)
                 missing += not made
                 print(f"{page}: {width} {scheme}: {'made' if made else 'nothing'}")
     return 1 if missing else 0

@@ -1,6 +1,6 @@
 """Shows the matches of a position: as a page, or as a game record that any editor opens.
 
-usage: python3 tools/show_matches.py GOPAT POSITION COLOUR FILE.db .. [--sgf] > OUT
+usage: python3 tools/show_matches.py GOPAT POSITION COLOUR FILE.db .. [--sgf | --svg] > OUT
 
 POSITION is a game record `*.sgf`, of which the end of the main line counts, or a file of protocol lines, of which
 `boardsize`, `clear_board`, `play`, `undo` and `loadsgf` count. COLOUR is `b` or `w`, the side to move. gopat is started
@@ -10,7 +10,8 @@ with the pattern files and asked, at the depths that its options say, by `showbo
 The page has the board with a letter at each point where something matches; then for each match, in gopat's order, the
 diagram as gopat turned it, the place on the board, and the entry. In a diagram the blue square is the move, a faint
 stone may be there or not, and `?` admits any point. With --sgf the first node has the letters, and each match is a
-variation with its move, with squares on the other points of the diagram and the labels of the entry.
+variation with its move, with squares on the other points of the diagram and the labels of the entry. With --svg only
+the board with the letters is drawn.
 
 Each match is looked at a second time: its diagram, turned by this script, has to fit on the board that `showboard`
 tells. The exit status is 1 where one does not, or that board is another than the script's, and 2 where the words cannot
@@ -97,19 +98,28 @@ def section(match: diagrams.Match, position: Position, letter: str, friend: str,
     return f'<section><div class="row">{drawn}</div><div>{heading}{remarks}{whole}</div></section>'
 
 
+def lettered(told: Told, position: Position) -> board_picture.Picture:
+    """The board with a letter at each point where something matches."""
+    picture, frame = board_picture.of_position(position), board_picture.whole(position.size)
+    picture.labels.update({frame.spot(point): letter for point, letter in labels_of(told.matches).items()})
+    return picture
+
+
+def board(told: Told, situation: positions.Situation, _colour: int, _files: list[str]) -> str:
+    """The board alone."""
+    return board_picture.svg(lettered(told, situation.position), 26)
+
+
 def page(told: Told, situation: positions.Situation, colour: int, files: list[str]) -> str:
     """The whole page."""
     grids, position, letters = board_picture.Grids(), situation.position, labels_of(told.matches)
-    picture = board_picture.of_position(position)
-    frame = board_picture.whole(position.size)
-    picture.labels.update({frame.spot(point): letter for point, letter in letters.items()})
     friend, name = positions.LETTERS[colour], positions.NAMES[colour]
-    board = board_picture.svg(picture, 26, grids)
+    drawing = board_picture.svg(lettered(told, position), 26, grids)
     sections = [section(match, position, letters[match.point], friend, grids) for match in told.matches]
     head = f"<p>{html.escape(names_of(files))}: {in_words(told, name)}</p>"
     legend = f'<p class="soft">In a diagram the side to move is {name}; the blue square is the move, a faint stone may '
     legend += "be there or not, and ? admits any point.</p>"
-    parts = [grids.definitions(), head, board, legend, *sections]
+    parts = [grids.definitions(), head, drawing, legend, *sections]
     return html_page.page("Matches", board_picture.STYLE, parts)
 
 
@@ -153,7 +163,9 @@ def read_words(given: tuple[str, ...]) -> argparse.Namespace:
     words.add_argument("position")
     words.add_argument("colour", choices=("b", "w"))
     words.add_argument("files", nargs="+")
-    words.add_argument("--sgf", action="store_true")
+    forms = words.add_mutually_exclusive_group()
+    forms.add_argument("--sgf", action="store_true")
+    forms.add_argument("--svg", action="store_true")
     return words.parse_args(given)
 
 
@@ -165,7 +177,7 @@ def main(*given: str) -> int:
     except (positions.NotRead, diagrams.NotRead, asking.Refused, diagrams.Differs) as why:
         print(why, file=sys.stderr)
         return 1 if isinstance(why, diagrams.Differs) else 2
-    shown = record if words.sgf else page
+    shown = record if words.sgf else board if words.svg else page
     sys.stdout.write(shown(told, situation, COLOURS[words.colour], words.files))
     return 0
 

@@ -1,0 +1,219 @@
+"""Problems: game records with a question about a string, what is expected of the answer, and what gopat answers."""
+
+import pathlib
+import re
+from typing import Iterator, NamedTuple
+
+import asking
+import gtp
+import positions
+import sgf
+from go_rules import EMPTY, Move, other, play, vertex_of
+from proof_tree import Depths
+
+LINE = re.compile(r"^gopat:\s*(attack|defend)\s+([A-Za-z]\d+)\b(.*)$", re.MULTILINE)
+CLAUSE = re.compile(r"\s+(depths\s+\d+\s+\d+|code\s+[0-3]|answer(?:\s+(?:[A-Za-z]\d+|pass|PASS))+|only)(?=\s|$)")
+IS_RIGHT = re.compile(r"\b(RIGHT|CORRECT)\b")
+
+
+class Expected(NamedTuple):
+    """What a record expects: the moves that attain the code, the code, and whether no other move does."""
+
+    moves: list[str]
+    code: int | None = None
+    is_only: bool = False
+
+
+class Problem(NamedTuple):
+    """A record with its question."""
+
+    name: str
+    comment: str
+    situation: positions.Situation
+    question: asking.Question
+    expected: Expected
+
+    def target(self) -> int:
+        return positions.point_named(self.situation.position, self.question.vertex)
+
+    def mover(self) -> int:
+        """The colour that moves first."""
+        defender = self.situation.position.cells[self.target()]
+        return defender if self.question.kind == "defend" else other(defender)
+
+
+class NoQuestion(Exception):
+    """A record has no question. The text says why."""
+
+
+# Reading problems.
+
+
+def said(text: str) -> tuple[str, str, dict[str, list[str]]] | None:
+    """The kind, the vertex and the clauses of the line `gopat:` of a comment; none where there is none."""
+    found = LINE.search(text)
+    if not found:
+        return None
+    clauses = CLAUSE.findall(found[3].rstrip())
+    if "".join(clause.replace(" ", "") for clause in clauses) != "".join(found[3].split()):
+        raise NoQuestion(f"the line `gopat:` is not understood: {found[0]}")
+    words = [clause.split() for clause in clauses]
+    return found[1], found[2].upper(), {one[0]: one[1:] for one in words}
+
+
+def from_line(told: tuple[str, str, dict[str, list[str]]], depths: Depths) -> tuple[asking.Question, Expected]:
+    """The question and what is expected, by a line."""
+    kind, vertex, clauses = told
+    if "depths" in clauses:
+        depths = depths._replace(plies=int(clauses["depths"][0]), wide=int(clauses["depths"][1]))
+    moves = [move.upper() for move in clauses.get("answer", [])]
+    code = int(clauses["code"][0]) if "code" in clauses else None
+    return asking.Question(kind, vertex, depths), Expected(moves, code, "only" in clauses)
+
+
+def is_right(node: sgf.Node) -> bool:
+    """Whether a variation says that it is right."""
+    return any(IS_RIGHT.search(text) for text in node.texts("C")) or "TE" in node.properties or any(
+        map(is_right, node.children)
+    )
+
+
+def from_marks(root: sgf.Node, situation: positions.Situation, depths: Depths) -> tuple[asking.Question, Expected]:
+    """The question about the one marked stone, and the moves that are said to be right."""
+    size, cells = situation.position.size, situation.position.cells
+    marked = [positions.point_of(size, value) for value in sgf.listed(root.texts("TR", "SQ", "CR", "MA"))]
+    if len(marked) != 1 or cells[marked[0]] == EMPTY or not root.texts("PL"):
+        raise NoQuestion("it has no line `gopat:`, and not one marked stone and PL")
+    plays = positions.MOVES.get(root.texts("PL")[0][:1].upper())
+    kind = "defend" if cells[marked[0]] == plays else "attack"
+    right = [value for child in filter(is_right, root.children) for value in child.texts("B", "W")]
+    moves = [sgf.vertex(value, size) for value in right]
+    return asking.Question(kind, vertex_of(size, marked[0]), depths), Expected(moves)
+
+
+def problem_of(path: pathlib.Path, name: str, depths: Depths) -> Problem:
+    """The problem of a record."""
+    try:
+        text = path.read_bytes().decode("utf-8", "replace")
+        root, situation = sgf.tree(text), positions.record(text)[0]
+        comment = "\n".join(root.texts("C"))
+        told = said(comment)
+        question, expected = from_line(told, depths) if told else from_marks(root, situation, depths)
+        if situation.position.cells[positions.point_named(situation.position, question.vertex)] == EMPTY:
+            raise NoQuestion(f"no stone stands at {question.vertex}")
+    except (sgf.NoTree, positions.NotRead, ValueError, KeyError, IndexError) as why:
+        raise NoQuestion(str(why)) from why
+    return Problem(name, comment.strip(), situation, question, expected)
+
+
+def problems_in(folder: str, depths: Depths) -> tuple[list[Problem], list[str]]:
+    """The problems of a folder, and what is told of the records that have no question."""
+    found, without = [], []
+    for path in sorted(pathlib.Path(folder).rglob("*.sgf")):
+        name = str(path.relative_to(folder))
+        try:
+            found.append(problem_of(path, name, depths))
+        except NoQuestion as why:
+            without.append(f"{name}: {why}")
+    if not found:
+        raise positions.NotRead("\n".join([*without, f"{folder}: no problem"]))
+    return found, without
+
+
+# What gopat is asked.
+
+
+class Answer(NamedTuple):
+    """What gopat told of a problem: the code and the move, the moves that attain the code, the fewest plies for it, and
+    the proof or why there is none."""
+
+    code: int
+    move: str
+    moves: list[str]
+    plies: int
+    proof: str
+
+
+def legal_moves(problem: Problem) -> Iterator[Move]:
+    """The moves of the side to move: the pass for a defence, and each legal play."""
+    position = problem.situation.position
+    if problem.question.kind == "defend":
+        yield Move(None)
+    for point in range(position.size**2):
+        if play(position, problem.mover(), point):
+            yield Move(point)
+
+
+def depths_line(plies: int, wide: int) -> str:
+    return f"depths {plies} {wide}"
+
+
+def ask(gopat: gtp.Running, problem: Problem) -> Answer:
+    """Asks all about a problem."""
+    kind, vertex, depths = problem.question
+    for line in [*problem.situation.lines, depths_line(depths.plies, depths.wide)]:
+        told(gopat, line)
+    answer = told(gopat, f"{kind} {vertex}").split()
+    proof = gopat.ask(f"{kind}_proof {vertex}").text
+    code = int(answer[0])
+    plies = fewest_plies(gopat, problem, code)
+    moves = [move for move in legal_moves(problem) if code and attains(gopat, problem, move, code)]
+    names = [vertex_of(problem.situation.position.size, move.point) for move in moves]
+    return Answer(code, answer[1] if code else "", names, plies, proof)
+
+
+def told(gopat: gtp.Running, line: str) -> str:
+    """The text of a reply."""
+    reply = gopat.ask(line)
+    if not reply.ok:
+        raise asking.Refused(f"{line}: {reply.text}")
+    return reply.text
+
+
+def fewest_plies(gopat: gtp.Running, problem: Problem, code: int) -> int:
+    """The fewest plies at which the code is this one."""
+    kind, vertex, depths = problem.question
+    for plies in range(1, depths.plies):
+        told(gopat, depths_line(plies, depths.wide))
+        if told(gopat, f"{kind} {vertex}")[0] == str(code):
+            return plies
+    return depths.plies
+
+
+def attains(gopat: gtp.Running, problem: Problem, move: Move, code: int) -> bool:
+    """Whether after a move the other side's question leaves this code."""
+    kind, vertex, depths = problem.question
+    size = problem.situation.position.size
+    after = play(problem.situation.position, problem.mover(), move.point)
+    if after.cells[problem.target()] == EMPTY:
+        return True
+    if depths.plies == 1:
+        return kind == "defend"
+    told(gopat, depths_line(depths.plies - 1, max(depths.wide - 1, 0)))
+    told(gopat, f"play {positions.LETTERS[problem.mover()]} {vertex_of(size, move.point)}")
+    against = told(gopat, f"{'defend' if kind == 'attack' else 'attack'} {vertex}")
+    told(gopat, "undo")
+    return int(against[0]) <= 3 - code
+
+
+class Verdict(NamedTuple):
+    """Whether an answer is as expected, and in words."""
+
+    is_right: bool
+    text: str
+
+
+def verdict(expected: Expected, answer: Answer) -> Verdict:
+    """How an answer compares with what is expected."""
+    wrong = [move for move in expected.moves if move not in answer.moves]
+    others = [move for move in answer.moves if move not in expected.moves]
+    if expected.code not in (None, answer.code):
+        return Verdict(False, f"code {expected.code} is expected")
+    if wrong and answer.code == 0:
+        return Verdict(False, "not solved at these depths")
+    if wrong:
+        return Verdict(False, f"{' '.join(wrong)} expected")
+    if expected.moves and others:
+        return Verdict(not expected.is_only, "as expected, and other moves do as well")
+    is_told = expected.moves or expected.code is not None
+    return Verdict(True, "as expected" if is_told else "nothing is expected")
