@@ -5,7 +5,7 @@ use Rattle.std.proofs.Common.{sym, ap, ◌∙◌, subst, arith}
 use Rattle.std.specs.List.{position_from}
 use Rattle.std.specs.Option.{option_or}
 use Rattle.std.specs.Ordering.{int_eq}
-use Rattle.std.proofs.lemmas.Bool.{false≢true, and_parts, eqb-true, eq-eqb, not-true, not-false, and_from}
+use Rattle.std.proofs.lemmas.Bool.{false≢true, and_parts, eq-eqb, not-true, not-false, and_from}
 use Rattle.std.proofs.lemmas.Bool.Decides.{Decides-int_eq}
 use Rattle.std.proofs.lemmas.Option.{none-some, same_Some}
 use Rattle.go_rules.specs.declared.Colour.{Colour}
@@ -20,21 +20,21 @@ use Rattle.read_rules.specs.declared.depths.Depths.{Depths}
 use Rattle.read_rules.specs.declared.question.Answer.{Answer}
 use Rattle.read_rules.specs.declared.question.Kind.TheVariants.{Attack}
 use Rattle.cons_eval.specs.Readings.{code_at}
-use Rattle.cons_eval.specs.Values.{is_so, value_of}
+use Rattle.cons_eval.specs.Values.{value_of}
 use Rattle.match_rules.specs.Fits.{fits}
 use Rattle.match_rules.specs.Conditions.{has_class, unsafe_class, enemy_class, is_safe, is_enemy_safe, meanings_at}
 use Rattle.match_rules.specs.Conditions.{is_so_valued, is_constraint_true, Advice}
 use Rattle.match_misfit.specs.declared.diagram.Misfit.{Misfit}
-use Rattle.match_misfit.specs.Misfits.{first_misfit, IsMisfit}
+use Rattle.match_misfit.specs.Misfits.{first_misfit}
 use Rattle.match_misfit.proofs.InWords.{is_misfit_in_words}
 use Rattle.match_reasons.specs.declared.reason.Reason.{Reason}
 use Rattle.match_reasons.specs.declared.reason.Reason.TheVariants as reason
 use Rattle.match_reasons.specs.FreshReadings.{fresh_codes, fresh_answer, capture_of}
 use Rattle.match_reasons.specs.Reasons.{after_play, move_reason, enemy_reason, constraint_reason, helper_reason}
 use Rattle.match_reasons.specs.Reasons.{reason_before_helpers, first_reason}
-use Rattle.match_reasons.specs.FirstReasons.{MayMove, SaysNo, IsFirst, diagram, move_refused, stone_captured}
+use Rattle.match_reasons.specs.FirstReasons.{MayMove, IsFirst, diagram, move_refused, stone_captured}
 use Rattle.match_reasons.specs.FirstReasons.{enemy_refused, enemy_captured, constraint_is_0, helper_says_no}
-use Rattle.match_reasons.proofs.NoReason.{is_nothing, no_diagram_reason, no_move_reason, no_enemy_reason, nothing_if}
+use Rattle.match_reasons.proofs.NoReason.{is_nothing, no_diagram_reason, no_move_reason, no_enemy_reason}
 use Rattle.match_reasons.proofs.NoReason.{nothing_before}
 
 -- what the first or else the second gives is given by the first, or the first gives nothing
