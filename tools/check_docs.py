@@ -2,8 +2,8 @@
 
 usage: python3 tools/check_docs.py [--map | FILE ...]
 
-Without files these are README.md and docs/FORMATS.md, docs/USING.md, docs/AUTHORS.md and docs/LIBRARY.md, in this
-order, and the manual page docs/gopat.1, in which `man` may find nothing to warn of; and the map of docs/ARCHITECTURE.md
+Without files these are README.md and docs/FORMATS.md, docs/USING.md, docs/AUTHORS.md, docs/LIBRARY.md and docs/DOORS.md,
+in this order, and the manual page docs/gopat.1, in which `man` may find nothing to warn of; and the map of docs/ARCHITECTURE.md
 is compared with crates.txt, tools/README.md with the scripts, and the tables of messages of docs/AUTHORS.md with the
 texts of the checker. It runs at the top of a fresh clone: README's commands prove and build the program, docs/USING.md
 says what has to stand beside the clone, and docs/AUTHORS.md wants the checker that `rt run` makes in
@@ -35,7 +35,7 @@ from typing import Iterator, NamedTuple
 
 import command_line
 
-DOCUMENTS = ["README.md", "docs/FORMATS.md", "docs/USING.md", "docs/AUTHORS.md", "docs/LIBRARY.md"]
+DOCUMENTS = ["README.md", "docs/FORMATS.md", "docs/USING.md", "docs/AUTHORS.md", "docs/LIBRARY.md", "docs/DOORS.md"]
 MANUAL_PAGE = "docs/gopat.1"
 MAP = "docs/ARCHITECTURE.md"
 CRATES = "crates.txt"
