@@ -7,7 +7,8 @@ REGRESSION is the folder regression/ of GNU Go's source. OUT gets a file *.tst f
 each record is set up by boardsize and play lines in place of its loadsgf line, trymove and popgo are play and undo,
 and the cases stand with their expected answers as they are. Then `sh eval.sh SUITE.tst` runs as GNU Go's authors run
 it, with gopat behind tools/as_gnugo.py, and what it printed is left in SUITE.out. Prints a line for each suite: the
-cases, how many pass by the driver, how many have the expected code, and how many the expected yes or no.
+cases, how many pass by the driver, how many have the expected code, and how many the expected yes or no. The last line
+tells how many cases of each kind expect a no, and to how many of these the answer is a yes.
 """
 
 import pathlib
@@ -110,11 +111,19 @@ def agreement(found: dict[str, Case], printed: str) -> tuple[int, int, int]:
     return passed, coded, sided
 
 
+def false_yeses(kind: str, found: dict[str, Case], printed: str) -> tuple[int, int]:
+    """How many questions of a kind expect a no, and to how many of these the answer is a yes."""
+    of_kind = [number for number, case in found.items() if case.question.startswith(kind)]
+    expect_no = {number for number in of_kind if codes(found[number].expected) == {"0"}}
+    failed = [result[1] for result in map(RESULT.fullmatch, printed.splitlines()) if result and result[3]]
+    return len(expect_no), len(expect_no.intersection(failed))
+
+
 def main(gopat: str, regression: str, out: str, plies: str, wide: str):
     folder, kept, tools = pathlib.Path(regression).resolve(), pathlib.Path(out), pathlib.Path(__file__).resolve().parent
     kept.mkdir(parents=True, exist_ok=True)
     client = f"{sys.executable} {tools / 'as_gnugo.py'} {pathlib.Path(gopat).resolve()} {plies} {wide}"
-    totals = [0, 0, 0, 0]
+    totals, yeses = [0, 0, 0, 0], [0, 0, 0, 0]
     for path in sorted(folder.glob("*.tst")):
         lines = list(cut(path))
         found = cases(lines)
@@ -127,8 +136,11 @@ def main(gopat: str, regression: str, out: str, plies: str, wide: str):
         (kept / (path.stem + ".out")).write_text(done.stdout, encoding="ascii")
         row = [len(found), *agreement(found, done.stdout)]
         totals = [total + count for total, count in zip(totals, row)]
+        row_of_yeses = [*false_yeses("attack", found, done.stdout), *false_yeses("defend", found, done.stdout)]
+        yeses = [total + count for total, count in zip(yeses, row_of_yeses)]
         print("{}: {} cases, {} pass, {} have the code, {} the yes or no".format(path.stem, *row))
     print("all: {} cases, {} pass, {} have the code, {} the yes or no".format(*totals))
+    print("expected to be no: {} attack, {} of them a yes; {} defend, {} of them a yes".format(*yeses))
 
 
 if __name__ == "__main__":
