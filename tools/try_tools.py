@@ -382,13 +382,15 @@ def wrong_pictures() -> Iterator[str]:
 
 
 def wrong_words() -> Iterator[str]:
-    """Which script does not tell its usage at --help, or takes words that are none."""
+    """Which script does not tell its usage at --help, or takes words that are none, or too few."""
     for script in SCRIPTS:
         asked, none = execute([script, "--help"]), execute([script, "--no-such-word", "-x", "-y", "-z", "1", "2", "3"])
         if asked.status != 0 or f"usage: python3 tools/{script}" not in asked.out:
             yield f"{script} --help: status {asked.status}"
         if none.status != 2 or none.out:
             yield f"{script} --no-such-word: status {none.status}"
+        if script != "plot_costs.py" and execute([script]).status != 2:
+            yield f"{script} without words: not status 2"
 
 
 def wrong_proofs() -> Iterator[str]:
