@@ -4,6 +4,7 @@ mod automata;
 mod counts;
 mod faults;
 mod files_and_words;
+mod long_runs;
 mod option_runs;
 mod pieces;
 mod records;

@@ -275,136 +275,7 @@ const PATTERN: &[File<'static>] = &[File {
 
 /// Lines that come together, the call of the output that fails, and what is out then. A call that is not made cannot
 /// fail, so the failing call shows how the replies were put together.
-static CALLS_OF_THE_OUTPUT: [Case<'static>; 18] = [
-    Case {
-        name: "what waits goes out before a fresh reading of an attack",
-        files: PATTERN,
-        input: b"name\nplay b D4\nattack D4\nname\n",
-        way: Way {
-            sink_fails: 2,
-            ..WHOLE
-        },
-        status: 5,
-        output: b"= gopat\n\n=\n\n",
-        notes: b"output failed\n",
-        ..CASE
-    },
-    Case {
-        name: "and before one of a defence",
-        files: PATTERN,
-        input: b"name\nplay b D4\ndefend D4\nname\n",
-        way: Way {
-            sink_fails: 2,
-            ..WHOLE
-        },
-        status: 5,
-        output: b"= gopat\n\n=\n\n",
-        notes: b"output failed\n",
-        ..CASE
-    },
-    Case {
-        name: "before a printed proof",
-        files: PATTERN,
-        input: b"name\nplay b D4\nattack_proof D4\nname\n",
-        way: Way {
-            sink_fails: 2,
-            ..WHOLE
-        },
-        status: 5,
-        output: b"= gopat\n\n=\n\n",
-        notes: b"output failed\n",
-        ..CASE
-    },
-    Case {
-        name: "before the check of a proof",
-        files: PATTERN,
-        input: b"name\nplay b D4\ncheck_proof attack D4 3 W D3 .\nname\n",
-        way: Way {
-            sink_fails: 2,
-            ..WHOLE
-        },
-        status: 5,
-        output: b"= gopat\n\n=\n\n",
-        notes: b"output failed\n",
-        ..CASE
-    },
-    Case {
-        name: "before a fresh connection",
-        files: PATTERN,
-        input: b"name\nplay b D4\nconnect D4 D4\nname\n",
-        way: Way {
-            sink_fails: 2,
-            ..WHOLE
-        },
-        status: 5,
-        output: b"= gopat\n\n=\n\n",
-        notes: b"output failed\n",
-        ..CASE
-    },
-    Case {
-        name: "and before a fresh cut",
-        files: PATTERN,
-        input: b"name\nplay b D4\ndisconnect D4 D4\nname\n",
-        way: Way {
-            sink_fails: 2,
-            ..WHOLE
-        },
-        status: 5,
-        output: b"= gopat\n\n=\n\n",
-        notes: b"output failed\n",
-        ..CASE
-    },
-    Case {
-        name: "before a move chosen",
-        files: PATTERN,
-        input: b"name\nplay b D4\ngenmove w\nname\n",
-        way: Way {
-            sink_fails: 2,
-            ..WHOLE
-        },
-        status: 5,
-        output: b"= gopat\n\n=\n\n",
-        notes: b"output failed\n",
-        ..CASE
-    },
-    Case {
-        name: "before a record that is loaded",
-        files: PATTERN,
-        input: b"name\nplay b D4\nloadsgf game.sgf\nname\n",
-        way: Way {
-            sink_fails: 2,
-            ..WHOLE
-        },
-        status: 5,
-        output: b"= gopat\n\n=\n\n",
-        notes: b"output failed\n",
-        ..CASE
-    },
-    Case {
-        name: "it is the first call",
-        files: PATTERN,
-        input: b"name\nplay b D4\nattack D4\nname\n",
-        way: Way {
-            sink_fails: 1,
-            ..WHOLE
-        },
-        status: 5,
-        notes: b"output failed\n",
-        ..CASE
-    },
-    Case {
-        name: "a fresh reading's reply goes out at once",
-        files: PATTERN,
-        input: b"name\nplay b D4\nattack D4\nname\n",
-        way: Way {
-            sink_fails: 3,
-            ..WHOLE
-        },
-        status: 5,
-        output: b"= gopat\n\n=\n\n= 0\n\n",
-        notes: b"output failed\n",
-        ..CASE
-    },
+static CALLS_OF_THE_OUTPUT: [Case<'static>; 4] = [
     Case {
         name: "no call is made where nothing waits",
         files: PATTERN,
@@ -415,54 +286,6 @@ static CALLS_OF_THE_OUTPUT: [Case<'static>; 18] = [
         },
         status: 5,
         output: b"=\n\n= 0\n\n",
-        notes: b"output failed\n",
-        ..CASE
-    },
-    Case {
-        name: "a kept reading's reply waits with quick ones",
-        files: PATTERN,
-        input: b"play b D4\nattack D4\nname\nattack D4\nname\n",
-        way: Way {
-            sink_fails: 4,
-            ..WHOLE
-        },
-        output: b"=\n\n= 0\n\n= gopat\n\n= 0\n\n= gopat\n\n",
-        ..CASE
-    },
-    Case {
-        name: "a kept connection's reply waits with quick ones",
-        files: PATTERN,
-        input: b"play b D4\nconnect D4 D4\nname\nconnect D4 D4\nname\n",
-        way: Way {
-            sink_fails: 4,
-            ..WHOLE
-        },
-        output: b"=\n\n= 1 PASS\n\n= gopat\n\n= 1 PASS\n\n= gopat\n\n",
-        ..CASE
-    },
-    Case {
-        name: "what waits goes out before matches are sought",
-        files: PATTERN,
-        input: b"boardsize 2\nplay b A1\nmatch_patterns b\nname\n",
-        way: Way {
-            sink_fails: 2,
-            ..WHOLE
-        },
-        status: 5,
-        output: b"=\n\n=\n\n",
-        notes: b"output failed\n",
-        ..CASE
-    },
-    Case {
-        name: "matches go out at once",
-        files: PATTERN,
-        input: b"boardsize 2\nplay b A1\nmatch_patterns b\nname\n",
-        way: Way {
-            sink_fails: 3,
-            ..WHOLE
-        },
-        status: 5,
-        output: b"=\n\n=\n\n= P 0 B1\nP 3 A2\nP 5 A2\nP 6 B1\n\n",
         notes: b"output failed\n",
         ..CASE
     },
@@ -478,7 +301,7 @@ static CALLS_OF_THE_OUTPUT: [Case<'static>; 18] = [
         ..CASE
     },
     Case {
-        name: "nor is one about two stones of different colours",
+        name: "a question about two stones of different colours is no reading",
         files: PATTERN,
         input: b"play b D4\nplay w E4\nconnect D4 E4\nname\n",
         way: Way {
@@ -509,213 +332,143 @@ fn replies_that_wait_go_out_and_are_counted(rt: HostRuntime) {
     assert_cases(&rt, rt.alloc(), &CALLS_OF_THE_OUTPUT);
 }
 
-/// The reply to `showboard` on nine lines, of 214 bytes.
-const BOARD: &[u8] =
-    b"= \n 9 . . . . . . . . .\n 8 . . . . . . . . .\n 7 . . . . . . . . .\n 6 . . . . . . . . .\n\
-    \x205 . . . . . . . . .\n 4 . . . . . . . . .\n 3 . . . . . . . . .\n 2 . . . . . . . . .\n\
-    \x201 . . . . . . . . .\n   A B C D E F G H J\n\n";
+/// Quick lines, which come before a question.
+const FIRST_LINES: &[u8] = b"name\nplay b D4\ndepths 1 0\n";
 
-/// Runs of many replies, with texts that are made of parts, so many times each: the pattern file, if there is one, the
-/// lines, the call of the output that fails, if one is to, and what comes of it.
-struct Long {
-    name: &'static str,
-    patterns: &'static [(usize, &'static [u8])],
-    lines: &'static [(usize, &'static [u8])],
-    sink_fails: u64,
-    status: u8,
-    output: &'static [(usize, &'static [u8])],
-    notes: &'static [u8],
+/// The replies to them.
+const FIRST_REPLIES: &[u8] = b"= gopat\n\n=\n\n=\n\n";
+
+/// A quick line, which comes behind a question, and its reply.
+const NEXT: (&[u8], &[u8]) = (b"name\n", b"= gopat\n\n");
+
+/// A question between quick lines, and its reply. All lines come together.
+struct Question {
+    line: &'static str,
+    reply: &'static str,
+    /// How many times it is asked again, each time with a quick line behind it.
+    again: usize,
 }
 
-/// Patterns whose list is a reply of more bytes than may wait.
-const MANY_PATTERNS: &[(usize, &[u8])] = &[(
-    100,
-    b"Pattern one_of_many_patterns_that_have_a_rather_long_name\nO*\n:8,s\n",
-)];
-
-/// What is listed of each of them: 58 bytes.
-const MANY_LISTED: &[u8] = b"one_of_many_patterns_that_have_a_rather_long_name 1x2 8 s\n";
-
-/// As many replies wait as there is room for: 128 of them, and 4096 bytes. A reply of more bytes goes out behind those
-/// that wait, as many bytes a call as the output takes.
-static LONG_RUNS: [Long; 11] = [
-    Long {
-        name: "as many replies wait as there is room for, and go out in one call",
-        patterns: &[],
-        lines: &[(128, b"1 name\n")],
-        sink_fails: 2,
-        status: 0,
-        output: &[(128, b"=1 gopat\n\n")],
-        notes: b"",
+/// Each line that may take long: what waits goes out before it, and its own reply goes out at once. If its answer is
+/// kept, the same line is quick when it comes again.
+static QUESTIONS: [Question; 11] = [
+    Question {
+        line: "attack D4\n",
+        reply: "= 0\n\n",
+        again: 1,
     },
-    Long {
-        name: "with one reply more they go out in two calls",
-        patterns: &[],
-        lines: &[(129, b"1 name\n")],
-        sink_fails: 2,
-        status: 5,
-        output: &[(128, b"=1 gopat\n\n")],
-        notes: b"output failed\n",
+    Question {
+        line: "defend D4\n",
+        reply: "= 3 PASS\n\n",
+        again: 1,
     },
-    Long {
-        name: "replies of as many bytes as there is room for",
-        patterns: &[],
-        lines: &[
-            (1, b"boardsize 9\n"),
-            (18, b"showboard\n"),
-            (20, b"1 name\n"),
-            (1, b"11 name\n12 name\n1111111111 name\n"),
-        ],
-        sink_fails: 0,
-        status: 0,
-        output: &[
-            (1, b"=\n\n"),
-            (18, BOARD),
-            (20, b"=1 gopat\n\n"),
-            (1, b"=11 gopat\n\n=12 gopat\n\n=1111111111 gopat\n\n"),
-        ],
-        notes: b"",
+    Question {
+        line: "connect D4 D4\n",
+        reply: "= 1 PASS\n\n",
+        again: 1,
     },
-    Long {
-        name: "they go out in one call",
-        patterns: &[],
-        lines: &[
-            (1, b"boardsize 9\n"),
-            (18, b"showboard\n"),
-            (20, b"1 name\n"),
-            (1, b"11 name\n12 name\n1111111111 name\n"),
-        ],
-        sink_fails: 2,
-        status: 0,
-        output: &[
-            (1, b"=\n\n"),
-            (18, BOARD),
-            (20, b"=1 gopat\n\n"),
-            (1, b"=11 gopat\n\n=12 gopat\n\n=1111111111 gopat\n\n"),
-        ],
-        notes: b"",
+    Question {
+        line: "disconnect D4 D4\n",
+        reply: "= 0\n\n",
+        again: 1,
     },
-    Long {
-        name: "replies of a byte more",
-        patterns: &[],
-        lines: &[
-            (1, b"boardsize 9\n"),
-            (18, b"showboard\n"),
-            (20, b"1 name\n"),
-            (1, b"11 name\n123 name\n1111111111 name\n"),
-        ],
-        sink_fails: 0,
-        status: 0,
-        output: &[
-            (1, b"=\n\n"),
-            (18, BOARD),
-            (20, b"=1 gopat\n\n"),
-            (1, b"=11 gopat\n\n=123 gopat\n\n=1111111111 gopat\n\n"),
-        ],
-        notes: b"",
+    Question {
+        line: "attack_proof D4\n",
+        reply: "= 0 N . N . N .\n\n",
+        again: 0,
     },
-    Long {
-        name: "the last of them goes out by itself",
-        patterns: &[],
-        lines: &[
-            (1, b"boardsize 9\n"),
-            (18, b"showboard\n"),
-            (20, b"1 name\n"),
-            (1, b"11 name\n123 name\n1111111111 name\n"),
-        ],
-        sink_fails: 2,
-        status: 5,
-        output: &[
-            (1, b"=\n\n"),
-            (18, BOARD),
-            (20, b"=1 gopat\n\n"),
-            (1, b"=11 gopat\n\n=123 gopat\n\n"),
-        ],
-        notes: b"output failed\n",
+    Question {
+        line: "defend_proof D4\n",
+        reply: "= 3 N .\n\n",
+        again: 0,
     },
-    Long {
-        name: "a reply that may not wait, and the first call fails",
-        patterns: MANY_PATTERNS,
-        lines: &[(1, b"name\nlist_patterns\nversion\n")],
-        sink_fails: 1,
-        status: 5,
-        output: &[],
-        notes: b"output failed\n",
+    Question {
+        line: "check_proof defend D4 3 N .\n",
+        reply: "= true\n\n",
+        again: 0,
     },
-    Long {
-        name: "what waits goes out before it",
-        patterns: MANY_PATTERNS,
-        lines: &[(1, b"name\nlist_patterns\nversion\n")],
-        sink_fails: 2,
-        status: 5,
-        output: &[(1, b"= gopat\n\n")],
-        notes: b"output failed\n",
+    Question {
+        line: "match_patterns b\n",
+        reply: "= P 0 E4\nP 1 D3\nP 2 C4\nP 3 D5\nP 4 C4\nP 5 D5\nP 6 E4\nP 7 D3\n\n",
+        again: 0,
     },
-    Long {
-        name: "as many bytes of it go out in a call as the output takes",
-        patterns: MANY_PATTERNS,
-        lines: &[(1, b"name\nlist_patterns\nversion\n")],
-        sink_fails: 3,
-        status: 5,
-        output: &[
-            (1, b"= gopat\n\n= "),
-            (70, MANY_LISTED),
-            (1, b"one_of_many_patterns_that_have_a_r"),
-        ],
-        notes: b"output failed\n",
+    Question {
+        line: "genmove b\n",
+        reply: "= E4\n\n",
+        again: 0,
     },
-    Long {
-        name: "the rest of it goes out by itself",
-        patterns: MANY_PATTERNS,
-        lines: &[(1, b"name\nlist_patterns\nversion\n")],
-        sink_fails: 4,
-        status: 5,
-        output: &[(1, b"= gopat\n\n= "), (100, MANY_LISTED), (1, b"\n")],
-        notes: b"output failed\n",
+    Question {
+        line: "reg_genmove b\n",
+        reply: "= E4\n\n",
+        again: 0,
     },
-    Long {
-        name: "and the reply to the next line after it",
-        patterns: MANY_PATTERNS,
-        lines: &[(1, b"name\nlist_patterns\nversion\n")],
-        sink_fails: 0,
-        status: 0,
-        output: &[(1, b"= gopat\n\n= "), (100, MANY_LISTED), (1, b"\n= 1\n\n")],
-        notes: b"",
+    Question {
+        line: "loadsgf game.sgf\n",
+        reply: "? cannot load file\n\n",
+        again: 0,
     },
 ];
 
-/// What comes of a run of many replies, over this pattern file, if it is not empty.
-fn ran_long(rt: &impl Abort, alloc: Global, run: &Long, text: &[u8]) -> Ran {
+/// What comes of the lines around a question, if this call of the output fails.
+fn ran_asking(rt: &impl Abort, alloc: Global, question: &Question, sink_fails: u64) -> Ran {
+    let (line, again) = (question.line.as_bytes(), question.again);
+    let (next, _) = NEXT;
+    let parts = [
+        (1, FIRST_LINES),
+        (1, line),
+        (1, next),
+        (again, line),
+        (again, next),
+    ];
+    let input = repeated(rt, alloc, &parts);
+    let words = words(rt, alloc, &[], PATTERN);
     let way = Way {
-        sink_fails: run.sink_fails,
+        sink_fails,
         ..WHOLE
     };
-    let input = repeated(rt, alloc, run.lines);
-    if text.is_empty() {
-        return run_on(rt, alloc, &[], &[], &input, way);
-    }
-    let files = [File { name: "p", text }];
-    let words = words(rt, alloc, &[], &files);
-    run_on(rt, alloc, &words, &files, &input, way)
+    run_on(rt, alloc, &words, PATTERN, &input, way)
 }
 
-/// Runs a run of many replies, and compares all that came of it.
-fn assert_long(rt: &impl Abort, alloc: Global, run: &Long) {
-    let text = repeated(rt, alloc, run.patterns);
-    let ran = ran_long(rt, alloc, run, &text);
-    let output = repeated(rt, alloc, run.output);
+/// Looks at what is out if this call of the output fails. The status is 0 if it is not made.
+fn assert_out(
+    rt: &impl Abort,
+    alloc: Global,
+    question: &Question,
+    sink_fails: u64,
+    status: u8,
+    output: &[(usize, &[u8])],
+) {
+    let ran = ran_asking(rt, alloc, question, sink_fails);
+    let output = repeated(rt, alloc, output);
+    let notes: &[u8] = if status == 0 { b"" } else { b"output failed\n" };
     let told = Told {
         output: &output,
-        noted: ran.notes.bytes() == run.notes,
-        status: run.status,
+        noted: ran.notes.bytes() == notes,
+        status,
         left: 0,
     };
-    compare(rt, run.name, &ran, told);
+    compare(rt, question.line, &ran, told);
+}
+
+/// Looks at the three calls of the output: the replies before the question, its own, and all others.
+fn assert_three_calls(rt: &impl Abort, alloc: Global, question: &Question) {
+    let (reply, again) = (question.reply.as_bytes(), question.again);
+    let (_, next) = NEXT;
+    let out = [
+        (1, FIRST_REPLIES),
+        (1, reply),
+        (1, next),
+        (again, reply),
+        (again, next),
+    ];
+    assert_out(rt, alloc, question, 2, 5, &out[..1]);
+    assert_out(rt, alloc, question, 3, 5, &out[..2]);
+    assert_out(rt, alloc, question, 4, 0, &out);
 }
 
 #[test]
-fn as_much_waits_as_there_is_room_for(rt: HostRuntime) {
-    for run in &LONG_RUNS {
-        assert_long(&rt, rt.alloc(), run);
+fn a_line_that_may_take_long_is_answered_in_a_call_of_its_own(rt: HostRuntime) {
+    for question in &QUESTIONS {
+        assert_three_calls(&rt, rt.alloc(), question);
     }
 }
