@@ -179,13 +179,13 @@ def page(catalogues: list[Catalogue], places: list[tuple[Place, list[str]]], is_
             named.append((name, entry))
             never += [(name, entry)] if is_asked and not found else []
             parts.append(section(name, entry, matched(found, grids) if is_asked else "", grids))
-    told = f"{len(named)} entries of {', '.join(html.escape(pathlib.Path(one.file).name) for one in catalogues)}."
+    told = f"{counted(len(named), 'entry')} of {', '.join(html.escape(pathlib.Path(one.file).name) for one in catalogues)}."
     told += " The side to move is black; the blue square is the move, a faint stone may be there or not, and ? admits "
     head = [f"<p>{told}any point.</p>"]
     if is_asked:
         records = len({place.record for place, _ in places})
         asked = f"Asked in {counted(len(places), 'position')} of {counted(records, 'record')}, for both colours:"
-        head.append(f"<p>{asked} {len(named) - len(never)} entries match, {len(never)} never.</p>")
+        head.append(f"<p>{asked} {counted(len(named) - len(never), 'entry')} matched, {len(never)} never.</p>")
     head += indices(named)
     head += [index(f"Never matched: {len(never)}", f"<p>{links(never)}</p>")] if is_asked else []
     style = f"{board_picture.STYLE}\n{STYLE}"

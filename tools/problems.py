@@ -212,7 +212,7 @@ def verdict(expected: Expected, answer: Answer) -> Verdict:
     if wrong and answer.code == 0:
         return Verdict(False, "not solved at these depths")
     if wrong:
-        return Verdict(False, f"{' '.join(wrong)} expected")
+        return Verdict(False, f"expected: {' '.join(wrong)}")
     if expected.moves and others:
         return Verdict(not expected.is_only, "as expected, and other moves do as well")
     is_told = expected.moves or expected.code is not None
