@@ -1,5 +1,5 @@
 -- When a caller's numbers are depths.
-use Rattle.std.proofs.Common.{◌≡◌, ◌||◌, ◌↔◌, ◌<◌, ◌≤◌, ◌∙◌, true, false, not, ltb, refl, sym, ap, subst, arith, inl, inr}
+use Rattle.std.proofs.Common.{◌≡◌, ◌↔◌, ◌<◌, ◌≤◌, ◌∙◌, true, false, not, ltb, refl, sym, ap, subst, arith, inl, inr}
 use Rattle.std.proofs.lemmas.Bool.{cases_lt, lt-ltb, le-ltb}
 use Rattle.std.specs.Prelude.{Option, Some, None, IsSome}
 use Rattle.read_rules.specs.declared.depths.Depths.{Depths}

@@ -1,2 +1,1 @@
 pub mod DepthNumbers
-pub mod WholeProofs
