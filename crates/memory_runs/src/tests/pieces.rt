@@ -74,10 +74,10 @@ struct Twice {
     checksum: u32,
 }
 
-/// The replies to the generated lines, none of which is `out of memory`, are those of a second program: the plain reader
-/// of tools/, which was given `undo`. Those of the other run were put together from the formats. In it there are boards
-/// of more bytes than may wait, and more short replies than may wait, each between others; whole pieces, in which
-/// replies wait, give the same as pieces of some bytes, in which none does.
+/// The replies to the generated lines, none of which is `out of memory`, are those of a second program: the plain
+/// reader of tools/, which was given `undo`. Those of the other run were put together from the formats. In it there are
+/// boards of more bytes than may wait, and more short replies than may wait, each between others; whole pieces, in
+/// which replies wait, give the same as pieces of some bytes, in which none does.
 static RUNS_MADE_TWICE: [Twice; 2] = [
     Twice {
         name: "a long generated run repeats",

@@ -264,8 +264,8 @@ static COUNTED: [Counted; 12] = [
         most: 2,
     },
     // A ladder of so many plies does not work with two plies less. So some line of it is played to its end but for the
-    // last two plies, which may be seen without a play: the defender's turn in atari, and the play that takes the string.
-    // At each ply two moves at most are tried.
+    // last two plies, which may be seen without a play: the turn of the defender in atari, and the play that takes the
+    // string. At each ply two moves at most are tried.
     Counted {
         name: "a ladder of eleven plies takes nine plays at least",
         stones: (9, "F4", "E4 F5 G5"),
