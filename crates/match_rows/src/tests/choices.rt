@@ -31,8 +31,8 @@ static WORTHS: [(&str, u32); 19] = [
 ];
 
 /// Matches, each of a pattern by its place in that list and at a point, and the point of the choice: that of the first
-/// match of the greatest worth.
-static CHOICES: [(&str, &[(u16, Point)], Option<Point>); 9] = [
+/// match of the greatest worth by its pattern and then by its point, wherever it stands.
+static CHOICES: [(&str, &[(u16, Point)], Option<Point>); 10] = [
     ("no match", &[], None),
     ("one match of no worth", &[(2, 40)], Some(40)),
     ("the greater worth last", &[(0, 40), (1, 4)], Some(4)),
@@ -47,9 +47,14 @@ static CHOICES: [(&str, &[(u16, Point)], Option<Point>); 9] = [
         &[(0, 40), (1, 7), (3, 4)],
         Some(7),
     ),
-    ("one pattern twice", &[(1, 7), (1, 4)], Some(7)),
+    (
+        "equal worths, the later pattern first",
+        &[(3, 4), (1, 7)],
+        Some(7),
+    ),
+    ("one pattern twice", &[(1, 7), (1, 4)], Some(4)),
     ("more digits are more", &[(3, 7), (4, 4)], Some(4)),
-    ("none has a worth", &[(2, 7), (5, 4), (2, 1)], Some(7)),
+    ("none has a worth", &[(2, 7), (5, 4), (2, 1)], Some(1)),
 ];
 
 /// The text of the list.
