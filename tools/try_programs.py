@@ -34,7 +34,14 @@ class Run(NamedTuple):
 RUNS = [
     Run("the end of the input", [], b"1 name\n", 0, b"=1 gopat\n\n", b""),
     Run("quit", [], b"quit\n1 name\n", 0, b"=\n\n", b""),
-    Run("counts", [b"--stats"], b"play b D4\n1 attack D4\n", 0, b"=\n\n=1 0\n\n", b"readings 1 fresh 1 trials 0 refused 0\n"),
+    Run(
+        "counts",
+        [b"--stats", b"--depth=1"],
+        b"play b D4\n1 attack D4\n",
+        0,
+        b"=\n\n=1 0\n\n",
+        b"readings 1 fresh 1 trials 0 refused 0\n",
+    ),
     Run("a first fault", [b"faulty.db"], b"1 name\n", 1, b"", b"bad database: line 2 kind 10\n"),
     Run("depth 0", [b"--depth", b"0"], b"1 name\n", 2, b"", USAGE),
     Run("an unknown option", [b"--help"], b"1 name\n", 2, b"", USAGE),
