@@ -50,9 +50,29 @@ RUNS = [
     Run("a missing file", [b"missing.db"], b"1 name\n", 6, b"", b"file failed\n"),
     Run("a missing file behind a good one", [b"star.db", b"missing.db"], b"1 name\n", 6, b"", b"file failed\n"),
     Run("too many states", [b"--states", b"1", b"star.db"], b"1 name\n", 7, b"", b"too many states: limit 1\n"),
+    Run(
+        "patterns of more than a million states",
+        [b"--states", b"1000000", b"squares.db"],
+        b"1 name\n",
+        7,
+        b"",
+        b"too many states: limit 1000000\n",
+    ),
 ]
 
-FILES = {"star.db": "Pattern Star\n\nO*\n\n:8\n", "faulty.db": "Pattern P\n"}
+
+def square(place: int) -> str:
+    """An entry of 5 by 5 that asks at this place alone, with its star in the middle."""
+    letters = ["*" if at == 12 else "o" if at == place else "?" for at in range(25)]
+    rows = ["".join(letters[row : row + 5]) for row in range(0, 25, 5)]
+    return "\n".join([f"Pattern M{place}", *rows, ":O,s", ""])
+
+
+FILES = {
+    "star.db": "Pattern Star\n\nO*\n\n:8\n",
+    "faulty.db": "Pattern P\n",
+    "squares.db": "".join(square(place) for place in range(25) if place != 12),
+}
 
 
 def ran(gopat: str, room: pathlib.Path, words: list[bytes], lines: bytes) -> tuple[int, bytes, bytes]:
