@@ -16,9 +16,9 @@ use Rattle.read_rules.specs.declared.question.Kind.TheVariants.{Attack, Defend}
 use Rattle.read_rules.specs.declared.question.Answer.{Answer}
 use Rattle.read_rules.specs.Ranges.{least_plies, most_plies, most_wide}
 use Rattle.read_rules.specs.Answer.{answer_of, asked_in}
-use Rattle.link_rules.specs.declared.question.LinkKind.{LinkKind}
-use Rattle.link_rules.specs.declared.question.Linkage.{Linkage}
-use Rattle.link_rules.specs.Linkages.{linkage_of, asked_on}
+use Rattle.connect_rules.specs.declared.question.LinkKind.{LinkKind}
+use Rattle.connect_rules.specs.declared.question.Linkage.{Linkage}
+use Rattle.connect_rules.specs.Linkages.{linkage_of, asked_on}
 use Rattle.read_proof.specs.Tokens.{Word, words_in}
 use Rattle.read_proof.specs.ProofOf.{proves_all, codes_down_to}
 use Rattle.board_bytes.specs.declared.board.BoardBytes.{BoardBytes}

@@ -5,7 +5,7 @@ use Rattle.go_rules.specs.declared.Illegal.TheVariants.{Occupied, Ko, Suicide}
 use Rattle.read_rules.specs.declared.question.Spot.{Spot}
 use Rattle.read_rules.specs.declared.question.Spot.TheVariants.{At, Pass}
 use Rattle.read_rules.specs.declared.question.Answer.{Answer}
-use Rattle.link_rules.specs.declared.question.Linkage.{Linkage}
+use Rattle.connect_rules.specs.declared.question.Linkage.{Linkage}
 use Rattle.board_bytes.specs.declared.board.BoardBytes.{BoardBytes}
 use Rattle.board_bytes.specs.declared.board.BoardFault.TheVariants.{Size, Cell, NoLiberty, Ban}
 use Rattle.board_bytes.specs.Bytes.{bytes_of}

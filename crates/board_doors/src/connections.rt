@@ -6,8 +6,8 @@ ghost use Rattle.board_doors.specs.Doors.{link_on, linking_of};
 use crate::fault::DoorFault;
 use crate::stones::stone_at;
 use board_bytes::{BoardBytes, position_of};
+use connect_rules::{LinkKind, Linkage};
 use go_base::{Point, Position, Watch};
-use link_rules::{LinkKind, Linkage};
 use read_rules::{MAX_PLIES, MIN_PLIES};
 
 /// The answer to the question about the stones at `a` and `b`, or the first fault: of the first point, of the second

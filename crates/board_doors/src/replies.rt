@@ -7,8 +7,8 @@ ghost use Rattle.board_doors.specs.Replies.{truth_number, truth_reply, play_repl
 use crate::fault::DoorFault;
 use crate::plays::PASS;
 use board_bytes::{BoardBytes, BoardFault, bytes_of};
+use connect_rules::Linkage;
 use go_base::{Illegal, Position};
-use link_rules::Linkage;
 use read_rules::{Answer, Spot};
 
 /// The point's number that says that there is no move.

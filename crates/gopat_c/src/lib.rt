@@ -12,7 +12,7 @@ ghost use Rattle.board_doors.specs.Replies.{answer_reply, linkage_reply, play_re
 
 use board_doors::replies::{answer_reply, linkage_reply, number_reply, play_reply, truth_reply};
 use board_doors::{AnswerReply, BoardBytes, DepthBytes, NumberReply, PlayReply};
-use link_rules::LinkKind;
+use connect_rules::LinkKind;
 use read_rules::Kind;
 
 /// Whether the string at `target` can be captured when the attacker plays first: the code, and the first move that

@@ -26,13 +26,13 @@ use Rattle.machine_rules.specs.HelperCommands.{of_helper}
 use Rattle.machine_rules.specs.LinkCommands.{linked, linkage_at, linkage_text}
 use Rattle.machine_rules.specs.LinkQuestions.{have_one_colour, asks_link_at, asks_link_of, asks_link_of_parsed}
 use Rattle.machine_rules.specs.LinkQuestions.{asks_link_of_line}
-use Rattle.link_rules.specs.declared.question.LinkQuestion.{LinkQuestion}
+use Rattle.connect_rules.specs.declared.question.LinkQuestion.{LinkQuestion}
 use Rattle.machine_rules.specs.ProofCommands.{proved}
 use Rattle.machine_rules.specs.RecordCommands.{is_utf8, recorded, loaded, loaded_by}
 use Rattle.sgf_rules.specs.declared.kind.FaultKind.{FaultKind}
 use Rattle.sgf_rules.specs.Game.{game_of}
-use Rattle.link_rules.specs.declared.question.LinkKind.{LinkKind}
-use Rattle.link_rules.specs.declared.question.LinkKind.TheVariants.{Connect, Disconnect}
+use Rattle.connect_rules.specs.declared.question.LinkKind.{LinkKind}
+use Rattle.connect_rules.specs.declared.question.LinkKind.TheVariants.{Connect, Disconnect}
 use Rattle.go_rules.specs.Position.{BoardState}
 use Rattle.read_rules.specs.declared.question.Kind.{Kind}
 use Rattle.machine_rules.specs.Loads.{Load, load_in, IsFileOf}

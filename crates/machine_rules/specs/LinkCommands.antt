@@ -1,9 +1,9 @@
 -- What the commands do that read whether two strings can be joined or kept apart.
 use Rattle.std.specs.Prelude.{ℕ, List, ◌++◌, if◌then◌else◌}
 use Rattle.go_rules.specs.Strings.{cell_at, same_cell}
-use Rattle.link_rules.specs.declared.question.LinkKind.{LinkKind}
-use Rattle.link_rules.specs.declared.question.Linkage.{Linkage}
-use Rattle.link_rules.specs.Linkages.{linkage_of, asked_on}
+use Rattle.connect_rules.specs.declared.question.LinkKind.{LinkKind}
+use Rattle.connect_rules.specs.declared.question.Linkage.{Linkage}
+use Rattle.connect_rules.specs.Linkages.{linkage_of, asked_on}
 use Rattle.gtp_cmd.specs.declared.refusals.RefuseText.TheVariants.{ColoursDiffer}
 use Rattle.machine_rules.specs.Machine.{Machine, position_of}
 use Rattle.machine_rules.specs.Effects.{Effect, refused, told}

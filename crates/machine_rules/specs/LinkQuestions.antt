@@ -7,10 +7,10 @@ use Rattle.gtp_cmd.specs.declared.commands.Command.{Command}
 use Rattle.gtp_cmd.specs.declared.commands.Command.TheVariants as command
 use Rattle.gtp_cmd.specs.declared.commands.Parsed.{Parsed}
 use Rattle.gtp_cmd.specs.declared.commands.Parsed.TheVariants as parsed
-use Rattle.link_rules.specs.declared.question.LinkKind.{LinkKind}
-use Rattle.link_rules.specs.declared.question.LinkKind.TheVariants.{Connect, Disconnect}
-use Rattle.link_rules.specs.declared.question.LinkQuestion.{LinkQuestion}
-use Rattle.link_rules.specs.Linkages.{asked_on}
+use Rattle.connect_rules.specs.declared.question.LinkKind.{LinkKind}
+use Rattle.connect_rules.specs.declared.question.LinkKind.TheVariants.{Connect, Disconnect}
+use Rattle.connect_rules.specs.declared.question.LinkQuestion.{LinkQuestion}
+use Rattle.connect_rules.specs.Linkages.{asked_on}
 use Rattle.machine_rules.specs.Counting.{has_stone}
 use Rattle.machine_rules.specs.Machine.{Machine, position_of}
 use Rattle.machine_rules.specs.Turns.{Turn}

@@ -18,7 +18,7 @@ use Rattle.machine_rules.specs.Files.{Contents}
 use Rattle.machine_rules.specs.Loads.{load_in, IsFileOf}
 use Rattle.machine_rules.specs.BoardCommands.{resized, cleared, komi_kept, played, taken_back, shown, allowed}
 use Rattle.machine_rules.specs.BoardCommands.{all_allowed, liberties_counted, liberties_found, captures_counted}
-use Rattle.link_rules.specs.declared.question.LinkKind.TheVariants.{Connect, Disconnect}
+use Rattle.connect_rules.specs.declared.question.LinkKind.TheVariants.{Connect, Disconnect}
 use Rattle.machine_rules.specs.ChoiceCommands.{move_made, move_told}
 use Rattle.machine_rules.specs.HelperCommands.{switched_off, calls_told, dropped}
 use Rattle.machine_rules.specs.LinkCommands.{linked}

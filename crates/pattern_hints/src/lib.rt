@@ -1,7 +1,7 @@
 //! What an author of pattern files is told beside the faults: what may not have been meant, and what of GNU Go's
 //! entries gopat does not have or values otherwise.
 //!
-//! No clause speaks of them; they are tested, in `report_rows`.
+//! No clause speaks of them; they are tested, in `report_tests`.
 #![tactic(auto)]
 
 mod alone;

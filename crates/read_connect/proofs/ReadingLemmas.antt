@@ -17,14 +17,14 @@ use Rattle.read_rules.specs.declared.question.Spot.{Spot}
 use Rattle.read_rules.specs.declared.question.Spot.TheVariants.{Pass}
 use Rattle.read_rules.specs.GameTree.{at_point}
 use Rattle.read_rules.specs.GoodMoves.{IsOnBoard}
-use Rattle.link_rules.specs.declared.link.Link.{Link}
-use Rattle.link_rules.specs.declared.question.LinkKind.{LinkKind}
-use Rattle.link_rules.specs.declared.question.LinkKind.TheVariants.{Connect, Disconnect}
-use Rattle.link_rules.specs.declared.question.LinkQuestion.{LinkQuestion}
-use Rattle.link_rules.specs.Connection.{is_one_string, first_success, pass_parts}
-use Rattle.link_rules.specs.ConnectionArea.{first, InConnectionArea}
-use Rattle.link_rules.specs.Linkages.{is_connect, link_of, is_about, first_move_of, linkage_of, asked_on}
-use Rattle.link_rules.proofs.LinkageLemmas.{linkage_one, linkage_apart}
+use Rattle.connect_rules.specs.declared.link.Link.{Link}
+use Rattle.connect_rules.specs.declared.question.LinkKind.{LinkKind}
+use Rattle.connect_rules.specs.declared.question.LinkKind.TheVariants.{Connect, Disconnect}
+use Rattle.connect_rules.specs.declared.question.LinkQuestion.{LinkQuestion}
+use Rattle.connect_rules.specs.Connection.{is_one_string, first_success, pass_parts}
+use Rattle.connect_rules.specs.ConnectionArea.{first, InConnectionArea}
+use Rattle.connect_rules.specs.Linkages.{is_connect, link_of, is_about, first_move_of, linkage_of, asked_on}
+use Rattle.connect_rules.proofs.LinkageLemmas.{linkage_one, linkage_apart}
 use Rattle.read_connect.specs.Readings.{first_move, one_string}
 use Rattle.read_connect.proofs.StandingNodes.{IsStandingNode, a_in, b_in}
 

@@ -17,11 +17,11 @@ use Rattle.go_rules.proofs.Paths.{IsLiberty-from_test}
 use Rattle.go_base.specs.Surroundings.{is_only_liberty, is_last_liberty_of_enemy}
 use Rattle.go_base.proofs.LastLiberties.{contains-liberty_points}
 use Rattle.go_base.proofs.Liberties.{len-liberty_points}
-use Rattle.link_rules.specs.declared.link.Link.{Link}
-use Rattle.link_rules.specs.Connection.{is_one_string}
-use Rattle.link_rules.specs.ConnectingMoves.{is_facing, is_between, is_capture, is_connecting_move}
+use Rattle.connect_rules.specs.declared.link.Link.{Link}
+use Rattle.connect_rules.specs.Connection.{is_one_string}
+use Rattle.connect_rules.specs.ConnectingMoves.{is_facing, is_between, is_capture, is_connecting_move}
 use Rattle.std.proofs.Common.{None}
-use Rattle.link_rules.proofs.MoveLemmas.{move_on}
+use Rattle.connect_rules.proofs.MoveLemmas.{move_on}
 use Rattle.go_base.specs.Facts.{Fact, Agrees}
 use Rattle.trial_board.specs.Trials.{Trying, after}
 use Rattle.trial_board.proofs.AfterLemmas.{size-after}

@@ -11,13 +11,13 @@ use Rattle.trial_board.specs.Trials.{Trying, after}
 use Rattle.trial_board.proofs.AfterLemmas.{size-after}
 use Rattle.read_rules.specs.ActiveArea.{AddsNear}
 use Rattle.read_rules.proofs.AreaLemmas.{AddsNear-in}
-use Rattle.link_rules.specs.declared.link.Link.{Link}
-use Rattle.link_rules.specs.declared.question.LinkQuestion.{LinkQuestion}
-use Rattle.link_rules.specs.ConnectingMoves.{is_connecting_move}
-use Rattle.link_rules.specs.Connection.{both_stand, mover_of}
-use Rattle.link_rules.specs.Linkages.{link_of}
-use Rattle.link_rules.specs.ConnectionArea.{IsUndecided, InConnectionArea, by_play, by_pass}
-use Rattle.link_rules.proofs.LinkAreaLemmas.{area_twice, area_once, area_end, area_play}
+use Rattle.connect_rules.specs.declared.link.Link.{Link}
+use Rattle.connect_rules.specs.declared.question.LinkQuestion.{LinkQuestion}
+use Rattle.connect_rules.specs.ConnectingMoves.{is_connecting_move}
+use Rattle.connect_rules.specs.Connection.{both_stand, mover_of}
+use Rattle.connect_rules.specs.Linkages.{link_of}
+use Rattle.connect_rules.specs.ConnectionArea.{IsUndecided, InConnectionArea, by_play, by_pass}
+use Rattle.connect_rules.proofs.LinkAreaLemmas.{area_twice, area_once, area_end, area_play}
 use Rattle.read_connect.specs.Stages.{surround_ends, is_end}
 use Rattle.read_connect.specs.Walk.{AreOnBoard, IsReady, IsNodeFor, IsChildFor}
 

@@ -6,12 +6,12 @@ use Rattle.go_rules.specs.Below.{any_below}
 use Rattle.go_rules.specs.Position.{BoardState}
 use Rattle.go_rules.specs.Play.{pass}
 use Rattle.go_rules.proofs.Counts.{any_below_from, any_below_false, first_below_is, first_below_none}
-use Rattle.link_rules.specs.declared.link.Link.{Link}
-use Rattle.link_rules.specs.ConnectingMoves.{is_connecting_move}
-use Rattle.link_rules.specs.Connection.{can_connect, succeeds, first_success, pass_parts}
-use Rattle.link_rules.specs.ConnectionArea.{IsUndecided}
-use Rattle.link_rules.proofs.MoveLemmas.{move_on}
-use Rattle.link_rules.proofs.TreeLemmas.{connects-own, connects-other}
+use Rattle.connect_rules.specs.declared.link.Link.{Link}
+use Rattle.connect_rules.specs.ConnectingMoves.{is_connecting_move}
+use Rattle.connect_rules.specs.Connection.{can_connect, succeeds, first_success, pass_parts}
+use Rattle.connect_rules.specs.ConnectionArea.{IsUndecided}
+use Rattle.connect_rules.proofs.MoveLemmas.{move_on}
+use Rattle.connect_rules.proofs.TreeLemmas.{connects-own, connects-other}
 use Rattle.go_base.proofs.FilteredSets.{and_false_right}
 use Rattle.read_connect.specs.Stages.{attains, TellsSome}
 

@@ -14,6 +14,6 @@ mod sets;
 pub mod told;
 mod tree;
 
-pub use link_rules::{Link, LinkKind, LinkQuestion, LinkSpot, Linkage};
+pub use connect_rules::{Link, LinkKind, LinkQuestion, LinkSpot, Linkage};
 pub use reading::{connect, disconnect, read};
 pub use told::LinkTold;

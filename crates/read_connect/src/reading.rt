@@ -9,19 +9,19 @@ ghost use Rattle.trial_board.specs.Trials.{Stays, most_moves, after};
 ghost use Rattle.read_rules.specs.ActiveArea.{AddsNear};
 ghost use Rattle.read_rules.specs.GameTree.{at_point};
 ghost use Rattle.read_rules.specs.GoodMoves.{IsOnBoard};
-ghost use Rattle.link_rules.specs.Connection.{first_success, pass_parts};
-ghost use Rattle.link_rules.specs.ConnectionArea.{InConnectionArea};
-ghost use Rattle.link_rules.specs.Linkages.{is_connect, link_of, is_about, linkage_of, asked_on};
+ghost use Rattle.connect_rules.specs.Connection.{first_success, pass_parts};
+ghost use Rattle.connect_rules.specs.ConnectionArea.{InConnectionArea};
+ghost use Rattle.connect_rules.specs.Linkages.{is_connect, link_of, is_about, linkage_of, asked_on};
 ghost use Rattle.read_connect.specs.Walk.{IsPointOf, AreOnBoard, AreLiberties, IsReady, OnEachAgreeing, LooksNear};
 ghost use Rattle.read_connect.specs.Readings.{first_move, one_string};
 
 use crate::moves::{captures_of, crossing};
 use crate::told::LinkTold;
 use crate::tree::{attains, pass_parts};
+use connect_rules::{Link, LinkKind, LinkQuestion, LinkSpot, Linkage};
 use go_base::flood::Found;
 use go_base::points::PointSet;
 use go_base::{Cell, Look, Point};
-use link_rules::{Link, LinkKind, LinkQuestion, LinkSpot, Linkage};
 use trial_board::Trial;
 
 /// The first connecting move in reading order that gives the side to play its way, with `plies` plies left after it.

@@ -5,17 +5,17 @@ ghost use Rattle.std.specs.FinSet as set;
 ghost use Rattle.go_rules.specs.Position.{BoardState};
 ghost use Rattle.go_base.specs.Facts.{AddsIn};
 ghost use Rattle.trial_board.specs.Trials.{Stays, most_moves, after};
-ghost use Rattle.link_rules.specs.ConnectingMoves.{is_connecting_move};
-ghost use Rattle.link_rules.specs.Connection.{both_stand, can_connect, has_way, pass_parts};
+ghost use Rattle.connect_rules.specs.ConnectingMoves.{is_connecting_move};
+ghost use Rattle.connect_rules.specs.Connection.{both_stand, can_connect, has_way, pass_parts};
 ghost use Rattle.read_connect.specs.Stages.{is_end, attains, TellsSome};
 ghost use Rattle.read_connect.specs.Walk.{IsPointOf, AreOnBoard, AreLiberties, IsReady, OnEachAgreeing};
 ghost use Rattle.read_connect.specs.Walk.{LooksNear, LooksNearWhere, LooksNearFrom};
 
 use crate::moves::{captures_of, crossing};
+use connect_rules::Link;
 use go_base::flood::Found;
 use go_base::points::PointSet;
 use go_base::{Cell, Colour, Look, Point};
-use link_rules::Link;
 use trial_board::{Trial, Tried};
 
 /// Whether both points hold stones of the strings' colour.

@@ -17,8 +17,8 @@ use Rattle.go_base.proofs.SidesOfPoints.{neighbour_at-near}
 use Rattle.go_base.proofs.PointNeighbourhoods.{whole_self, close_next, close_again, close_mono, alone_self}
 use Rattle.go_rules.specs.Neighbourhood.{neighbourhood_of}
 use Rattle.trial_board.specs.Overlays.{neighbourhood_twice}
-use Rattle.further_rules.specs.Strings.{holds_next}
-use Rattle.further_moves.proofs.SideLemmas.{IsSide}
+use Rattle.wider_rules.specs.Strings.{holds_next}
+use Rattle.wider_moves.proofs.SideLemmas.{IsSide}
 use Rattle.read_rules.specs.Candidates.{is_empty_beside, IsEmptyNeighbour}
 
 -- the points next to those of S at which nothing stands are the empty ones

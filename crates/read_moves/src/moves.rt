@@ -15,11 +15,11 @@ ghost use Rattle.read_moves.specs.Steps.{is_left};
 
 use crate::quiet::is_quiet;
 use crate::reach::{Reach, reach_of};
-use further_moves::sides;
 use go_base::points::PointSet;
 use go_base::size::Point;
 use go_base::{Cell, Colour, Look};
 use trial_board::Trial;
+use wider_moves::sides;
 
 /// Adds the empty neighbours of l.
 pub fn add_sides<L: Look>(board: &mut Trial<L>, l: Point, found: &mut PointSet)

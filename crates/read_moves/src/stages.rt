@@ -12,14 +12,14 @@ ghost use Rattle.read_rules.specs.Candidates.{attacker_of, is_empty_beside, is_c
 ghost use Rattle.read_rules.specs.Stages.{is_wide_candidate};
 
 use crate::moves::add_backfilling;
-use further_moves::further_candidates;
-use further_moves::sides::add_sides_of;
 use go_base::points::PointSet;
 use go_base::size::Point;
 use go_base::surroundings::Surroundings;
 use go_base::{Cell, Colour, Look};
 use read_rules::Tree;
 use trial_board::Trial;
+use wider_moves::further_candidates;
+use wider_moves::sides::add_sides_of;
 
 /// Adds the empty points next to a point of the set, where it has at most two.
 fn add_beside_few<L: Look>(board: &mut Trial<L>, points: &PointSet, found: &mut PointSet)

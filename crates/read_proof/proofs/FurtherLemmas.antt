@@ -11,7 +11,7 @@ use Rattle.go_rules.proofs.Counts.{any_below_false, any_below_same, count_below_
 use Rattle.go_rules.proofs.Paths.{IsLiberty-from_test}
 use Rattle.go_rules.proofs.Tests.{same_tests, and-false}
 use Rattle.go_base.specs.Surroundings.{is_only_liberty}
-use Rattle.further_rules.specs.Strings.{holds_next, is_few_liberty}
+use Rattle.wider_rules.specs.Strings.{holds_next, is_few_liberty}
 use Rattle.read_proof.specs.Beside.{stands_beside}
 
 -- a test of the point alone may stand before a test of some number, or in it

@@ -6,8 +6,8 @@ ghost use Rattle.go_rules.specs.Below.{any_below};
 ghost use Rattle.go_rules.specs.Strings.{liberty_points, string_at};
 ghost use Rattle.go_base.specs.Floods.{enemy_points};
 ghost use Rattle.go_base.specs.Surroundings.{is_only_liberty};
-ghost use Rattle.further_rules.specs.Further.{netted, is_net, is_beside, is_ally, is_join, is_cutter, is_further};
-ghost use Rattle.further_rules.specs.Strings.{is_few_liberty, is_few_enemy, is_near_friend};
+ghost use Rattle.wider_rules.specs.Further.{netted, is_net, is_beside, is_ally, is_join, is_cutter, is_further};
+ghost use Rattle.wider_rules.specs.Strings.{is_few_liberty, is_few_enemy, is_near_friend};
 
 use crate::beside::beside;
 use go_base::flood::{Found, flood};

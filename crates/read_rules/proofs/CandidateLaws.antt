@@ -15,8 +15,8 @@ use Rattle.go_rules.proofs.Paths.{IsLiberty-from_test, is_liberty-from_fact}
 use Rattle.go_rules.proofs.StringMembers.{is_in_string_on}
 use Rattle.go_rules.proofs.PlayLaws.{done_state}
 use Rattle.go_base.specs.Surroundings.{is_only_liberty, is_last_liberty_of_enemy}
-use Rattle.further_rules.specs.Further.{is_further}
-use Rattle.further_rules.proofs.FurtherLaws.{further_gives, further_from}
+use Rattle.wider_rules.specs.Further.{is_further}
+use Rattle.wider_rules.proofs.FurtherLaws.{further_gives, further_from}
 use Rattle.read_rules.specs.declared.node.Node.{Node}
 use Rattle.read_rules.specs.declared.tree.Tree.{Tree}
 use Rattle.read_rules.specs.declared.tree.Tree.TheVariants.{Stated, Wider}

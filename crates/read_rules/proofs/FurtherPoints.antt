@@ -4,8 +4,8 @@ use Rattle.std.proofs.lemmas.Bool.{and_parts, or_cases}
 use Rattle.go_rules.specs.declared.Cell.{Cell}
 use Rattle.go_rules.proofs.Counts.{any_below_gives}
 use Rattle.go_rules.proofs.Paths.{IsLiberty-from_test}
-use Rattle.further_rules.specs.Further.{is_net, is_beside, is_rescue, is_join, is_cut, is_further}
-use Rattle.further_rules.proofs.FurtherLaws.{net_gives, beside_gives, last_gives}
+use Rattle.wider_rules.specs.Further.{is_net, is_beside, is_rescue, is_join, is_cut, is_further}
+use Rattle.wider_rules.proofs.FurtherLaws.{net_gives, beside_gives, last_gives}
 
 -- The sets of one target.
 module _ (s : ℕ) (cells : List Cell) (target p : ℕ) where

@@ -16,7 +16,7 @@ use Rattle.go_rules.proofs.Tests.{same_tests}
 use Rattle.go_base.specs.Surroundings.{is_last_liberty_of_enemy}
 use Rattle.go_base.proofs.LastLiberties.{contains-liberty_points}
 use Rattle.go_base.proofs.Liberties.{len-liberty_points}
-use Rattle.further_rules.specs.Further.{is_further}
+use Rattle.wider_rules.specs.Further.{is_further}
 use Rattle.read_rules.specs.declared.tree.Tree.{Tree}
 use Rattle.read_rules.specs.declared.tree.Tree.TheVariants.{Stated}
 use Rattle.read_rules.specs.Trees.{is_wider}

@@ -17,8 +17,8 @@ use Rattle.go_rules.specs.Position.{BoardState}
 use Rattle.go_rules.specs.Play.{play_free}
 use Rattle.go_base.specs.Surroundings.{is_only_liberty, is_last_liberty_of_enemy}
 use Rattle.go_base.specs.Views.{alone}
-use Rattle.further_rules.specs.Further.{is_further}
-use Rattle.further_rules.specs.FurtherInWords.{IsFurther}
+use Rattle.wider_rules.specs.Further.{is_further}
+use Rattle.wider_rules.specs.FurtherInWords.{IsFurther}
 use Rattle.read_rules.specs.declared.node.Node.{Node}
 use Rattle.read_rules.specs.declared.tree.Tree.{Tree}
 use Rattle.read_rules.specs.declared.tree.Tree.TheVariants.{Wider}

@@ -2,7 +2,7 @@
 use Rattle.std.specs.Prelude.{ℕ, ◌&&◌, ◌||◌, Bool, nat_lt}
 use Rattle.go_rules.specs.Strings.{is_liberty, liberties}
 use Rattle.go_rules.specs.Position.{BoardState}
-use Rattle.further_rules.specs.Further.{is_further}
+use Rattle.wider_rules.specs.Further.{is_further}
 use Rattle.read_rules.specs.declared.tree.Tree.{Tree}
 use Rattle.read_rules.specs.Trees.{is_wider}
 use Rattle.read_rules.specs.Candidates.{is_empty_beside, is_backfilling}

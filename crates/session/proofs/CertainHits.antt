@@ -13,11 +13,11 @@ use Rattle.read_rules.specs.declared.question.Answer.{Answer}
 use Rattle.match_engine.proofs.RepeatedQuestions.{IsAtHand, IsAtHand-first, IsAtHand-later, IsAtHand-kept}
 use Rattle.match_engine.proofs.RepeatedQuestions.{HasRead-capacity, HasRead-refused}
 use Rattle.machine_rules.specs.Machine.{Machine, position_of}
-use Rattle.engine.specs.EngineView.{EngineView, board_of}
-use Rattle.engine.specs.Kept.{Kept}
+use Rattle.session_core.specs.EngineView.{EngineView, board_of}
+use Rattle.session_core.specs.Kept.{Kept}
 use Rattle.machine_rules.specs.Counting.{counted, is_read_line}
 use Rattle.machine_rules.specs.Questions.{Asks, Nothing, One, Many, asks_of_line}
-use Rattle.engine.specs.AfterLine.{ReadsAs, ReadsOnce, IsAfterLine}
+use Rattle.session_core.specs.AfterLine.{ReadsAs, ReadsOnce, IsAfterLine}
 use Rattle.machine_rules.specs.Turns.{Turn, IsAlong}
 use Rattle.machine_rules.specs.CertainHit.{IsCertainHit, HaveCertainHits, board_at, is_reading, is_matching, named_in}
 use Rattle.machine_rules.specs.CertainHit.{reading_lines, matching_lines}

@@ -11,7 +11,7 @@ use Rattle.machine_rules.specs.Machine.{Machine, first_machine, position_of}
 use Rattle.machine_rules.specs.Matcher.{plain_matcher, codes_of}
 use Rattle.machine_rules.specs.Step.{step}
 use Rattle.session.specs.Tallies.{Tally}
-use Rattle.engine.specs.EngineView.{EngineView, machine_with, matcher_of, first_kept}
+use Rattle.session_core.specs.EngineView.{EngineView, machine_with, matcher_of, first_kept}
 use Rattle.session.specs.FirstSession.{IsPlainWith}
 use Rattle.session.specs.Ends.{Streams}
 use Rattle.session.specs.Headline.{ServesLines}

@@ -11,13 +11,13 @@ use Rattle.machine_rules.specs.Files.{Contents}
 use Rattle.machine_rules.specs.Machine.{Machine}
 use Rattle.machine_rules.specs.Step.{step}
 use Rattle.machine_rules.specs.Turns.{IsAlong}
-use Rattle.engine.specs.AfterLine.{IsAfterLine}
-use Rattle.engine.specs.LineAnswers.{AnswersLine}
-use Rattle.engine.specs.Kept.{Kept, machine_of}
-use Rattle.engine.specs.Replies.{reply_bytes, reply_ends, reply_count}
-use Rattle.engine.specs.EngineView.{matcher_of}
-use Rattle.engine.specs.declared.reply.Reply.{Reply}
-use Rattle.engine.specs.declared.reply.Reply.TheVariants.{Nothing, Short, Text, NoMemory}
+use Rattle.session_core.specs.AfterLine.{IsAfterLine}
+use Rattle.session_core.specs.LineAnswers.{AnswersLine}
+use Rattle.session_core.specs.Kept.{Kept, machine_of}
+use Rattle.session_core.specs.Replies.{reply_bytes, reply_ends, reply_count}
+use Rattle.session_core.specs.EngineView.{matcher_of}
+use Rattle.session_core.specs.declared.reply.Reply.{Reply}
+use Rattle.session_core.specs.declared.reply.Reply.TheVariants.{Nothing, Short, Text, NoMemory}
 use Rattle.session.specs.Tallies.{kept_sum, one_turn}
 use Rattle.session.specs.Serving.{PutsPart, PutsReply, Replies, RepliesPart, RunsTo, progress_of}
 use Rattle.session.specs.Waiting.{WaitingState, holds_with, sent_with, progress_with, Stop, IsStop, CutsReply, MayStop}

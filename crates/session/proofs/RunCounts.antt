@@ -11,21 +11,21 @@ use Rattle.gtp_lex.specs.Held.{lines_from, held_from, held_line, longer}
 use Rattle.gtp_lex.proofs.HeldLemmas.{lines_with_rest-lines_from}
 use Rattle.run_notes.specs.declared.notes.Counts.{Counts}
 use Rattle.run_notes.specs.declared.notes.Links.{Links}
-use Rattle.link_rules.specs.declared.question.LinkQuestion.{LinkQuestion}
-use Rattle.link_rules.specs.declared.question.Linkage.{Linkage}
-use Rattle.link_readings.specs.Connections.{HasAsked}
-use Rattle.link_readings.specs.declared.key.LinkKey.{LinkKey}
+use Rattle.connect_rules.specs.declared.question.LinkQuestion.{LinkQuestion}
+use Rattle.connect_rules.specs.declared.question.Linkage.{Linkage}
+use Rattle.kept_connections.specs.Connections.{HasAsked}
+use Rattle.kept_connections.specs.declared.key.LinkKey.{LinkKey}
 use Rattle.read_cache.specs.Keeping.{Keeping, raised, first_keeping}
 use Rattle.read_rules.specs.declared.question.Answer.{Answer}
 use Rattle.match_engine.specs.declared.keys.Key.{Key}
 use Rattle.machine_rules.specs.Machine.{Machine}
-use Rattle.engine.specs.Kept.{Kept}
-use Rattle.engine.specs.AskedLinks.{LinksAs}
-use Rattle.engine.specs.EngineView.{EngineView, board_of, no_counts}
+use Rattle.session_core.specs.Kept.{Kept}
+use Rattle.session_core.specs.AskedLinks.{LinksAs}
+use Rattle.session_core.specs.EngineView.{EngineView, board_of, no_counts}
 use Rattle.machine_rules.specs.LinkQuestions.{asks_link_of_line, connections_in}
 use Rattle.machine_rules.specs.Counting.{counted, is_read_line, readings_in}
 use Rattle.machine_rules.specs.Questions.{Asks, Nothing, One, Many, AskNothing, asks_of_line}
-use Rattle.engine.specs.AfterLine.{ReadsAs, ReadsNothing, IsAfterLine, after_trials, HasFewFresh, of_readings}
+use Rattle.session_core.specs.AfterLine.{ReadsAs, ReadsNothing, IsAfterLine, after_trials, HasFewFresh, of_readings}
 use Rattle.machine_rules.specs.Turns.{Turn, IsAlong}
 use Rattle.session.specs.Tallies.{Tally, IsTallied, BreaksOff, one_turn}
 use Rattle.session.specs.Ends.{Streams, Serves, AreTallied, IsRight, most_taken}
@@ -34,7 +34,7 @@ use Rattle.session.specs.Headline.{ServesLines}
 use Rattle.machine_rules.specs.CertainHit.{HaveCertainHits}
 use Rattle.session.specs.declared.outcome.End.{End}
 use Rattle.session.specs.declared.outcome.End.TheVariants.{Done, InputFault, OutputFault, InputTooLong}
-use Rattle.engine.proofs.LineCounts.{few_fresh-line}
+use Rattle.session_core.proofs.LineCounts.{few_fresh-line}
 use Rattle.session.proofs.CertainHits.{hits_are_kept}
 
 -- How many lines a run answers.

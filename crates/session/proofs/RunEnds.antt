@@ -11,7 +11,7 @@ use Rattle.gtp_rules.proofs.Runs.{Cut-front}
 use Rattle.gtp_lex.specs.Held.{lines_from, held_from, held_line}
 use Rattle.gtp_lex.proofs.HeldLemmas.{lines_from-append, held_from-append, lines_of-lines_from}
 use Rattle.gtp_lex.proofs.HeldLemmas.{lines_with_rest-lines_from}
-use Rattle.engine.specs.Kept.{Kept}
+use Rattle.session_core.specs.Kept.{Kept}
 use Rattle.machine_rules.specs.Turns.{Turn}
 use Rattle.session.specs.Tallies.{Tally, Progress, Advances, IsTallied, together}
 use Rattle.session.specs.Serving.{RunsTo, RunsPart}

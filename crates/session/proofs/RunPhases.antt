@@ -13,7 +13,7 @@ use Rattle.machine_rules.specs.Machine.{Machine}
 use Rattle.machine_rules.specs.Files.{Contents}
 use Rattle.machine_rules.specs.Loads.{missed_in}
 use Rattle.machine_rules.specs.Turns.{Turn, IsAlong}
-use Rattle.engine.specs.AfterLine.{IsAfterLine}
+use Rattle.session_core.specs.AfterLine.{IsAfterLine}
 use Rattle.session.specs.Tallies.{Tally, Progress, kept_sum}
 use Rattle.gtp_rules.specs.Lines.{RawLine}
 use Rattle.gtp_rules.specs.Steps.{Step}
@@ -21,9 +21,9 @@ use Rattle.workload.specs.GeneratedLines.{generated_text}
 use Rattle.workload.proofs.LengthLemmas.{generated_length}
 use Rattle.helpers.specs.HelperStates.{SlotState}
 use Rattle.machine_rules.specs.Step.{step}
-use Rattle.engine.specs.Handed.{helper_names}
-use Rattle.engine.specs.Kept.{Kept, kept_with}
-use Rattle.engine.specs.EngineView.{EngineView, machine_with, matcher_of, depths_in}
+use Rattle.session_core.specs.Handed.{helper_names}
+use Rattle.session_core.specs.Kept.{Kept, kept_with}
+use Rattle.session_core.specs.EngineView.{EngineView, machine_with, matcher_of, depths_in}
 use Rattle.read_rules.specs.declared.tree.Tree.{Tree}
 use Rattle.session.specs.PatternFiles.{IsRefused, MissedIn}
 use Rattle.session.specs.FirstSession.{Opens, CameBy, ServesCounting, EndsCounting}

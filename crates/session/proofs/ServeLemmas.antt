@@ -18,7 +18,7 @@ use Rattle.machine_rules.specs.Machine.{Machine}
 use Rattle.machine_rules.specs.Files.{Contents}
 use Rattle.machine_rules.specs.Matcher.{Matcher}
 use Rattle.machine_rules.specs.Step as answering
-use Rattle.engine.specs.Kept.{Kept}
+use Rattle.session_core.specs.Kept.{Kept}
 use Rattle.machine_rules.specs.Turns.{Turn}
 use Rattle.session.specs.Tallies.{Progress, IsTallied, tally_of, cut_tally, no_tally, together}
 use Rattle.session.specs.Serving.{Replies, RepliesPart, RunsTo, RunsPart, progress_of}

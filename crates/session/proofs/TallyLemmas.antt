@@ -9,7 +9,7 @@ use Rattle.gtp_rules.specs.Lines.{RawLine}
 use Rattle.gtp_rules.specs.Steps.{Step}
 use Rattle.gtp_rules.specs.Transcript.{Answers, IsRun}
 use Rattle.gtp_rules.proofs.Runs.{Cut-one, Cut-after, Cut-more}
-use Rattle.engine.specs.Kept.{Kept}
+use Rattle.session_core.specs.Kept.{Kept}
 use Rattle.machine_rules.specs.Turns.{Turn, IsAlong}
 use Rattle.session.specs.Tallies.{Tally, no_tally, together, tally_of, cut_tally, kept_sum, Progress, Advances}
 use Rattle.session.specs.Tallies.{IsTallied, BreaksOff}

@@ -10,7 +10,7 @@ use Rattle.std.proofs.lemmas.List.{take_more_set, take_rest, take-append-le, len
 use Rattle.std.proofs.Math.Seq.{take-append-add}
 use Rattle.run_notes.specs.declared.notes.Counts.{Counts}
 use Rattle.run_notes.specs.declared.notes.Sent.{Sent}
-use Rattle.engine.specs.EngineView.{no_counts}
+use Rattle.session_core.specs.EngineView.{no_counts}
 use Rattle.session.specs.Tallies.{kept_sum}
 use Rattle.session.specs.Serving.{Puts, PutsFront, PutsPart, PutsReply}
 use Rattle.session.specs.Waiting.{WaitingState, none_wait, gone, counts_at, AreMarked, holds_with, sent_with, Stop}

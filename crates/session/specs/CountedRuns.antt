@@ -13,9 +13,9 @@ use Rattle.machine_rules.specs.CertainHit.{HaveCertainHits}
 use Rattle.read_cache.specs.Keeping.{first_keeping}
 use Rattle.read_rules.specs.declared.tree.Tree.{Tree}
 use Rattle.read_rules.specs.declared.tree.Tree.TheVariants.{Stated}
-use Rattle.engine.specs.AfterLine.{IsAfterLine, of_readings}
-use Rattle.engine.specs.Kept.{Kept}
-use Rattle.engine.specs.EngineView.{no_counts}
+use Rattle.session_core.specs.AfterLine.{IsAfterLine, of_readings}
+use Rattle.session_core.specs.Kept.{Kept}
+use Rattle.session_core.specs.EngineView.{no_counts}
 use Rattle.go_options.specs.CommandLine.{is_taken}
 use Rattle.go_options.specs.declared.options.Options.{Options}
 use Rattle.run_notes.specs.Notes.{counts_line, notes_text}

@@ -8,10 +8,10 @@ use Rattle.match_engine.specs.ReadingDepths.{ReadingDepths}
 use Rattle.machine_rules.specs.Machine.{first_machine}
 use Rattle.helpers.specs.HelperStates.{SlotState}
 use Rattle.machine_rules.specs.Files.{Contents}
-use Rattle.engine.specs.Handed.{helper_names}
+use Rattle.session_core.specs.Handed.{helper_names}
 use Rattle.machine_rules.specs.Matcher.{plain_matcher}
-use Rattle.engine.specs.Kept.{Kept}
-use Rattle.engine.specs.EngineView.{EngineView, machine_with, matcher_of, no_counts, depths_in}
+use Rattle.session_core.specs.Kept.{Kept}
+use Rattle.session_core.specs.EngineView.{EngineView, machine_with, matcher_of, no_counts, depths_in}
 use Rattle.session.specs.PatternFiles.{IsOpened, IsRefused}
 use Rattle.session.specs.Outcomes.{Phase, NotTaken, NotOpened, Served}
 use Rattle.session.specs.Ends.{Streams}

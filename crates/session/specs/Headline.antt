@@ -12,13 +12,13 @@ use Rattle.machine_rules.specs.Files.{Contents}
 use Rattle.machine_rules.specs.Machine.{Machine, first_machine}
 use Rattle.machine_rules.specs.Matcher.{plain_matcher}
 use Rattle.machine_rules.specs.Step.{step}
-use Rattle.engine.specs.EngineView.{depths_in}
+use Rattle.session_core.specs.EngineView.{depths_in}
 use Rattle.read_rules.specs.declared.tree.Tree.{Tree}
 use Rattle.read_rules.specs.declared.tree.Tree.TheVariants.{Stated}
 use Rattle.session.specs.Tallies.{Tally, kept_sum}
 use Rattle.session.specs.Ends.{Streams, Serves}
 use Rattle.session.specs.PatternFiles.{IsOpened, IsRefused, MissedIn}
-use Rattle.engine.specs.Handed.{helper_names}
+use Rattle.session_core.specs.Handed.{helper_names}
 use Rattle.session.specs.Notes.{note_of}
 use Rattle.go_options.specs.CommandLine.{is_taken, rows_in}
 use Rattle.go_options.specs.Found.{AreFound, words_in}

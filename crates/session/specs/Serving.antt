@@ -6,7 +6,7 @@ use Rattle.gtp_rules.specs.Lines.{RawLine}
 use Rattle.gtp_rules.specs.Steps.{Step}
 use Rattle.gtp_rules.specs.Transcript.{Answers}
 use Rattle.run_notes.specs.declared.notes.Sent.{Sent}
-use Rattle.engine.specs.Kept.{Kept}
+use Rattle.session_core.specs.Kept.{Kept}
 use Rattle.machine_rules.specs.Turns.{Turn}
 use Rattle.session.specs.Tallies.{Tally, Progress, Advances, IsTallied, BreaksOff, tally_of, cut_tally, kept_sum}
 

@@ -1,14 +1,14 @@
 -- What a run counts of the lines that it answers, by any machine M and any step: each line was answered, as in a
 -- transcript, and is tallied with its reply. A count in ℕ is exact; the program's counts stand still at the greatest
 -- value of a u64.
-use Rattle.engine.specs.Replies.{reply_count}
+use Rattle.session_core.specs.Replies.{reply_count}
 use Rattle.std.specs.Prelude.{◌≡◌, ℕ, zero, suc, ◌+◌, ◌-◌, ◌^◌, min, Bool, true, false, MatchBool, List, [], ◌∷◌}
 use Rattle.std.specs.Prelude.{◌++◌, length, Option}
 use Rattle.std.specs.Io.KnownBytes.{Appends}
 use Rattle.gtp_rules.specs.Lines.{RawLine}
 use Rattle.gtp_rules.specs.Steps.{Step}
 use Rattle.gtp_rules.specs.Transcript.{Answers, Cut}
-use Rattle.engine.specs.Kept.{Kept}
+use Rattle.session_core.specs.Kept.{Kept}
 use Rattle.machine_rules.specs.Turns.{Turn, IsAlong}
 
 -- the bytes that were put, how many replies they are, and the lines that were answered, each with its machine

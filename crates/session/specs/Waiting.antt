@@ -5,15 +5,15 @@ use Rattle.run_notes.specs.declared.notes.Counts.{Counts}
 use Rattle.run_notes.specs.declared.notes.Sent.{Sent}
 use Rattle.gtp_rules.specs.Lines.{RawLine}
 use Rattle.gtp_rules.specs.Steps.{Step}
-use Rattle.engine.specs.Kept.{Kept}
-use Rattle.engine.specs.EngineView.{no_counts}
+use Rattle.session_core.specs.Kept.{Kept}
+use Rattle.session_core.specs.EngineView.{no_counts}
 use Rattle.machine_rules.specs.Turns.{Turn}
 use Rattle.session.specs.Tallies.{Progress, kept_sum}
 use Rattle.session.specs.Serving.{PutsPart, PutsReply, RunsPart, progress_of}
-use Rattle.engine.specs.Replies.{reply_bytes}
+use Rattle.session_core.specs.Replies.{reply_bytes}
 use Rattle.session.specs.declared.outbox.ReplyMark.{ReplyMark}
-use Rattle.engine.specs.declared.reply.Reply.{Reply}
-use Rattle.engine.specs.declared.reply.Reply.TheVariants as reply
+use Rattle.session_core.specs.declared.reply.Reply.{Reply}
+use Rattle.session_core.specs.declared.reply.Reply.TheVariants as reply
 
 -- the bytes of the replies that wait, in their order, and where each ends, with the counts after its line
 pub record WaitingState : Type 0 where

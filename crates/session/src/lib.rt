@@ -11,6 +11,6 @@ mod pattern_files;
 mod serve;
 mod top_call;
 
-pub use engine::{Engine, Reply, Session, Slow, Work};
 pub use outcome::{End, OpenError, Outcome, WordsError};
+pub use session_core::{Engine, Reply, Session, Slow, Work};
 pub use top_call::{run, run_in, run_words, run_words_in};

@@ -8,14 +8,13 @@ ghost use Rattle.go_options.specs.Found.{AreInRange};
 ghost use Rattle.session.specs.PatternFiles.{most_patterns, needs_feed, added_feed, Adds, IsJoined, MissedBy, MissedIn};
 ghost use Rattle.session.specs.PatternFiles.{HasFewStates, RefusesStates, IsRefused};
 ghost use Rattle.helpers.specs.Slots.{states_of};
-ghost use Rattle.engine.specs.EngineView.{depths_in};
-ghost use Rattle.engine.specs.Handed.{helper_names};
+ghost use Rattle.session_core.specs.EngineView.{depths_in};
+ghost use Rattle.session_core.specs.Handed.{helper_names};
 ghost use Rattle.session.specs.FirstSession.{IsPlainWith, Opens};
 
 use crate::outcome::OpenError;
 use db_read::{DbError, read};
 use dfa_join::compile;
-use engine::Session;
 use go_base::Bytes;
 use go_options::Options;
 use gtp_io::{LoadError, Loader};
@@ -23,6 +22,7 @@ use gtp_lex::Lines;
 use helpers::Helpers;
 use pat_types::Pattern;
 use read_rules::Tree;
+use session_core::Session;
 use std::alloc::{AllocError, Global};
 
 /// Whether the contents of a file are not empty and do not end in a line feed.

@@ -11,24 +11,24 @@ ghost use Rattle.gtp_lex.specs.LinesTaken.{taken_of, given_state};
 ghost use Rattle.gtp_lex.specs.Raw.{raw_line};
 ghost use Rattle.gtp_cmd.specs.Rooms.{longest_line};
 ghost use Rattle.machine_rules.specs.Heard.{bytes_in};
-ghost use Rattle.engine.specs.AfterLine.{IsAfterLine};
+ghost use Rattle.session_core.specs.AfterLine.{IsAfterLine};
 ghost use Rattle.session.specs.Headline.{IsCauseOf};
 ghost use Rattle.session.specs.FirstSession.{EndsCounting};
-ghost use Rattle.engine.specs.EngineView.{matcher_of};
-ghost use Rattle.engine.specs.SessionView.{machine_now, kept_of, step_of};
+ghost use Rattle.session_core.specs.EngineView.{matcher_of};
+ghost use Rattle.session_core.specs.SessionView.{machine_now, kept_of, step_of};
 ghost use Rattle.session.specs.Ends.{streams};
 ghost use Rattle.session.specs.Serving.{progress_of, RunsTo};
-ghost use Rattle.engine.specs.Replies.{reply_bytes, reply_ends};
+ghost use Rattle.session_core.specs.Replies.{reply_bytes, reply_ends};
 ghost use Rattle.session.specs.Waiting.{none_wait, progress_with, Stop, IsStop, MayStop, MayCut, CutsShort};
 ghost use Rattle.session.specs.Waiting.{SendsReply};
 
 use crate::outbox::Outbox;
 use crate::outcome::End;
-use engine::{Reply, Session};
 use gtp_cmd::{RefuseText, refusal};
 use gtp_io::{Failed, Loader, Sink, Source};
 use gtp_lex::{Lines, Raw, Taken};
 use run_notes::{Counts, Sent};
+use session_core::{Reply, Session};
 
 /// The most bytes that are asked of a source at once.
 const PIECE: usize = 4096;

@@ -5,9 +5,9 @@ use Rattle.go_rules.specs.Position.{BoardState, stone_of}
 use Rattle.go_base.specs.Facts.{CellIs, same_size}
 use Rattle.read_rules.specs.ActiveArea.{AddsNear}
 use Rattle.read_rules.proofs.AreaLemmas.{AddsNear-trans}
-use Rattle.link_rules.specs.declared.question.LinkQuestion.{LinkQuestion}
-use Rattle.link_rules.specs.ConnectionArea.{InConnectionArea}
-use Rattle.link_rules.specs.Linkages.{linkage_of, asked_on}
+use Rattle.connect_rules.specs.declared.question.LinkQuestion.{LinkQuestion}
+use Rattle.connect_rules.specs.ConnectionArea.{InConnectionArea}
+use Rattle.connect_rules.specs.Linkages.{linkage_of, asked_on}
 use Rattle.read_connect.proofs.StandingNodes.{point_on}
 use Rattle.read_connect.proofs.ReadingLemmas.{about_stones, look_a, question_is}
 use Rattle.read_connect.proofs.reading.answered.Given.{Over}

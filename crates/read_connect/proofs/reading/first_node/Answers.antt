@@ -8,9 +8,9 @@ use Rattle.trial_board.specs.Trials.{after, Stays-trans}
 use Rattle.trial_board.proofs.AfterLemmas.{size-after}
 use Rattle.read_rules.specs.GoodMoves.{IsOnBoard}
 use Rattle.read_rules.proofs.AreaLemmas.{AddsNear-trans}
-use Rattle.link_rules.specs.Connection.{is_one_string}
-use Rattle.link_rules.specs.ConnectionArea.{IsUndecided}
-use Rattle.link_rules.specs.Linkages.{link_of}
+use Rattle.connect_rules.specs.Connection.{is_one_string}
+use Rattle.connect_rules.specs.ConnectionArea.{IsUndecided}
+use Rattle.connect_rules.specs.Linkages.{link_of}
 use Rattle.read_connect.specs.Walk.{IsNodeFor}
 use Rattle.read_connect.proofs.StageLemmas.{one_by}
 use Rattle.read_connect.proofs.StandingNodes.{standing_node, near_a, near_b, point_on}

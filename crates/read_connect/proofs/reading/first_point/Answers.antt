@@ -6,8 +6,8 @@ use Rattle.go_rules.specs.Position.{BoardState}
 use Rattle.trial_board.specs.Trials.{after, Stays-trans}
 use Rattle.trial_board.proofs.AfterLemmas.{size-after}
 use Rattle.read_rules.proofs.AreaLemmas.{AddsNear-trans}
-use Rattle.link_rules.specs.ConnectingMoves.{is_connecting_move}
-use Rattle.link_rules.proofs.MoveLemmas.{move_on}
+use Rattle.connect_rules.specs.ConnectingMoves.{is_connecting_move}
+use Rattle.connect_rules.proofs.MoveLemmas.{move_on}
 use Rattle.read_connect.specs.Stages.{attains}
 use Rattle.read_connect.proofs.StageLemmas.{a_inside, b_inside, stages_found, all_moves}
 use Rattle.read_connect.proofs.TurnLemmas.{first_hit, first_none}

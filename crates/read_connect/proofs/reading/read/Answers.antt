@@ -5,8 +5,8 @@ use Rattle.go_base.specs.Facts.{Agrees, agrees_before, same_size}
 use Rattle.trial_board.specs.Trials.{after}
 use Rattle.read_rules.specs.ActiveArea.{AddsNear}
 use Rattle.read_rules.proofs.AreaLemmas.{AddsNear-trans}
-use Rattle.link_rules.specs.ConnectionArea.{first, InConnectionArea}
-use Rattle.link_rules.specs.Linkages.{is_connect, link_of, is_about}
+use Rattle.connect_rules.specs.ConnectionArea.{first, InConnectionArea}
+use Rattle.connect_rules.specs.Linkages.{is_connect, link_of, is_about}
 use Rattle.read_connect.specs.Walk.{IsNodeFor}
 use Rattle.read_connect.proofs.StandingNodes.{point_on}
 use Rattle.read_connect.proofs.ReadingLemmas.{about_stones, stands_too, look_a, look_b}

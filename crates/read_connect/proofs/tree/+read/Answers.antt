@@ -9,10 +9,10 @@ use Rattle.go_base.proofs.SidesOfPoints.{square_small}
 use Rattle.trial_board.specs.Trials.{after, Stays-trans}
 use Rattle.trial_board.proofs.AfterLemmas.{size-after}
 use Rattle.read_rules.proofs.AreaLemmas.{AddsNear-trans}
-use Rattle.link_rules.specs.ConnectingMoves.{is_connecting_move}
-use Rattle.link_rules.specs.Connection.{can_connect, has_way, is_one_string, leads_to, mover_of}
-use Rattle.link_rules.specs.ConnectionArea.{IsUndecided}
-use Rattle.link_rules.proofs.TreeLemmas.{connects-gone, connects-joined, connects-no_plies}
+use Rattle.connect_rules.specs.ConnectingMoves.{is_connecting_move}
+use Rattle.connect_rules.specs.Connection.{can_connect, has_way, is_one_string, leads_to, mover_of}
+use Rattle.connect_rules.specs.ConnectionArea.{IsUndecided}
+use Rattle.connect_rules.proofs.TreeLemmas.{connects-gone, connects-joined, connects-no_plies}
 use Rattle.read_connect.specs.Stages.{attains}
 use Rattle.read_connect.specs.Walk.{IsPointOf, AreOnBoard, AreLiberties, IsReady, IsNodeFor, LooksNear, LooksNearFrom}
 use Rattle.read_connect.proofs.StageLemmas.{in_both}

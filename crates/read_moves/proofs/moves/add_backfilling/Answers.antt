@@ -7,7 +7,7 @@ use Rattle.go_base.specs.Facts.{agrees_before}
 use Rattle.trial_board.specs.Overlays.{neighbourhood_twice}
 use Rattle.trial_board.specs.Trials.{after}
 use Rattle.trial_board.proofs.WalkLemmas.{Walked-none, Walked-next, on_agreed}
-use Rattle.further_moves.proofs.AddLemmas.{AddsBelow-none, AddsBelow-next, AddsBelow-all}
+use Rattle.wider_moves.proofs.AddLemmas.{AddsBelow-none, AddsBelow-next, AddsBelow-all}
 use Rattle.read_moves.specs.Steps.{is_left}
 use Rattle.read_moves.proofs.moves.add_backfilling.Goals as goal
 

@@ -4,7 +4,7 @@ use Rattle.go_rules.specs.Below.{any_below}
 use Rattle.go_rules.specs.Board.{largest_points}
 use Rattle.trial_board.proofs.WalkLemmas.{Walked}
 use Rattle.trial_board.specs.Overlays.{neighbourhood_twice}
-use Rattle.further_moves.proofs.AddLemmas.{AddsBelow}
+use Rattle.wider_moves.proofs.AddLemmas.{AddsBelow}
 use Rattle.read_moves.specs.Steps.{is_left}
 use Rattle.read_moves.proofs.moves.add_backfilling.Given as goal
 

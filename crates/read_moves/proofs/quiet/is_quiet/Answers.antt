@@ -7,7 +7,7 @@ use Rattle.go_base.specs.Views.{alone}
 use Rattle.go_base.proofs.SidesOfPoints.{neighbour_at-near}
 use Rattle.trial_board.specs.Trials.{after}
 use Rattle.trial_board.proofs.WalkLemmas.{on_agreed}
-use Rattle.further_moves.proofs.SideLemmas.{IsSide, side_found, Walked-side, Walked-off}
+use Rattle.wider_moves.proofs.SideLemmas.{IsSide, side_found, Walked-side, Walked-off}
 use Rattle.read_moves.specs.Steps.{LivesWithout}
 use Rattle.read_moves.proofs.LiveLemmas.{LiveAtSides-next, LiveAtSides-all}
 use Rattle.read_moves.proofs.SideLemmas.{string_near}

@@ -11,7 +11,7 @@ use Rattle.go_base.specs.Views.{alone}
 use Rattle.go_base.proofs.PointNeighbourhoods.{close_alone}
 use Rattle.trial_board.proofs.WalkLemmas.{on_agreed}
 use Rattle.trial_board.specs.Trials.{after}
-use Rattle.further_rules.proofs.StringLemmas.{has_liberty}
+use Rattle.wider_rules.proofs.StringLemmas.{has_liberty}
 use Rattle.read_moves.proofs.OtherLiberties.{other_of_two}
 use Rattle.read_moves.proofs.quiet.lives_without.Given.{Over}
 use Rattle.read_moves.proofs.quiet.lives_without.Goals as goal

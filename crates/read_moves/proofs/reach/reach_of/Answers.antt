@@ -5,7 +5,7 @@ use Rattle.go_base.specs.Facts.{agrees_before, AddsIn-mono}
 use Rattle.go_base.specs.Views.{alone}
 use Rattle.trial_board.specs.Trials.{after}
 use Rattle.trial_board.proofs.WalkLemmas.{on_agreed}
-use Rattle.further_moves.proofs.SideLemmas.{Walked-side, Walked-off}
+use Rattle.wider_moves.proofs.SideLemmas.{Walked-side, Walked-off}
 use Rattle.read_rules.specs.Candidates.{IsEmptyNeighbour}
 use Rattle.read_moves.specs.Reaches.{Tells, IsOtherLibertyOf, IsReached}
 use Rattle.read_moves.proofs.SideLemmas.{sides_near, string_near}

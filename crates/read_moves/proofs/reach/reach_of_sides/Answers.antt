@@ -6,7 +6,7 @@ use Rattle.go_base.specs.Facts.{agrees_before}
 use Rattle.go_base.specs.Views.{alone}
 use Rattle.trial_board.specs.Trials.{after}
 use Rattle.trial_board.proofs.WalkLemmas.{Walked-none, on_agreed}
-use Rattle.further_moves.proofs.SideLemmas.{side_near, Walked-side, Walked-off}
+use Rattle.wider_moves.proofs.SideLemmas.{side_near, Walked-side, Walked-off}
 use Rattle.read_moves.specs.declared.reach.Reach.TheVariants.{Nothing, Only}
 use Rattle.read_moves.proofs.TellLemmas.{IsEmptySide, Nowhere, SoFar-none, SoFar-skip, SoFar-next, side_told}
 use Rattle.read_moves.proofs.TellLemmas.{sides_told}

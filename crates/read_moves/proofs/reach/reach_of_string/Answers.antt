@@ -16,7 +16,7 @@ use Rattle.go_base.proofs.PointNeighbourhoods.{close_alone}
 use Rattle.trial_board.proofs.WalkLemmas.{on_agreed}
 use Rattle.trial_board.specs.Trials.{after}
 use Rattle.read_moves.specs.Reaches.{IsOtherMember, IsOtherLibertyOf}
-use Rattle.further_rules.proofs.StringLemmas.{has_liberty}
+use Rattle.wider_rules.proofs.StringLemmas.{has_liberty}
 use Rattle.read_moves.proofs.OtherLiberties.{other_of_three}
 use Rattle.read_moves.proofs.TellLemmas.{Tells-same}
 use Rattle.read_moves.proofs.reach.reach_of_string.Given.{Over}

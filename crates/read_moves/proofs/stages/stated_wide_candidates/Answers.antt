@@ -7,7 +7,7 @@ use Rattle.trial_board.proofs.WalkLemmas.{on_agreed}
 use Rattle.trial_board.specs.Trials.{after}
 use Rattle.trial_board.proofs.AfterLemmas.{size-after}
 use Rattle.read_rules.specs.Candidates.{attacker_of}
-use Rattle.further_moves.proofs.NearLemmas.{liberty_on}
+use Rattle.wider_moves.proofs.NearLemmas.{liberty_on}
 use Rattle.read_moves.proofs.CandidateLemmas.{stated_found, near_self, near_liberties, near_plays}
 use Rattle.read_moves.proofs.stages.stated_wide_candidates.Given.{Over}
 use Rattle.read_moves.proofs.stages.stated_wide_candidates.Goals as goal

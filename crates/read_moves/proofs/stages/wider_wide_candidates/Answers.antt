@@ -6,7 +6,7 @@ use Rattle.go_base.specs.Facts.{agrees_before, AddsIn-trans, AddsIn-mono}
 use Rattle.trial_board.proofs.WalkLemmas.{on_agreed}
 use Rattle.trial_board.specs.Trials.{after}
 use Rattle.trial_board.proofs.AfterLemmas.{size-after}
-use Rattle.further_rules.specs.Further.{is_further}
+use Rattle.wider_rules.specs.Further.{is_further}
 use Rattle.read_rules.specs.declared.tree.Tree.TheVariants.{Wider}
 use Rattle.read_rules.proofs.AreaLemmas.{search_further}
 use Rattle.read_rules.proofs.StageLemmas.{wide_further}

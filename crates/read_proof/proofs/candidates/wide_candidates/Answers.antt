@@ -1,9 +1,9 @@
 use Rattle.std.proofs.Common.{ap, ◌∙◌, sym, ◌&&◌}
 use Rattle.std.specs.FinSet as set
-use Rattle.further_rules.specs.Further.{is_further}
+use Rattle.wider_rules.specs.Further.{is_further}
 use Rattle.go_rules.proofs.Tests.{or-false}
 use Rattle.read_rules.proofs.StageLemmas.{wide_further}
-use Rattle.further_rules.proofs.StringLemmas.{joined}
+use Rattle.wider_rules.proofs.StringLemmas.{joined}
 use Rattle.read_proof.proofs.candidates.wide_candidates.Goals as goal
 
 -- the further candidates were joined in the wider tree

@@ -1,8 +1,8 @@
 -- What stands around the strings came, string by string.
 use Rattle.std.proofs.Common.{◌*◌}
-use Rattle.further_rules.specs.Strings.{is_few_liberty, is_few_enemy}
-use Rattle.further_rules.proofs.GatherLemmas.{Gathers-none, Gathers-all}
-use Rattle.further_rules.proofs.StringLemmas.{AddsAround, GathersAround-next}
+use Rattle.wider_rules.specs.Strings.{is_few_liberty, is_few_enemy}
+use Rattle.wider_rules.proofs.GatherLemmas.{Gathers-none, Gathers-all}
+use Rattle.wider_rules.proofs.StringLemmas.{AddsAround, GathersAround-next}
 use Rattle.read_proof.proofs.further.around_strings.Goals as goal
 
 -- nothing came, and all points are left

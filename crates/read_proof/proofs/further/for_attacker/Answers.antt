@@ -1,6 +1,6 @@
 use Rattle.std.proofs.Common.{◌*◌, sym, ◌∙◌}
 use Rattle.std.proofs.lemmas.Bool.{and_parts, ltb-true}
-use Rattle.further_rules.proofs.SetLemmas.{attacker_joined}
+use Rattle.wider_rules.proofs.SetLemmas.{attacker_joined}
 use Rattle.read_proof.proofs.further.for_attacker.Goals as goal
 
 -- the allies are on the board

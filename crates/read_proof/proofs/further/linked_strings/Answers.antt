@@ -1,7 +1,7 @@
 -- What stands around the linked strings is Join and the enemies that may cut.
 use Rattle.std.proofs.Common.{◌*◌, ◌∙◌, sym}
 use Rattle.std.proofs.lemmas.Bool.{and_parts, ltb-true}
-use Rattle.further_rules.proofs.SetLemmas.{join_is, cutter_is}
+use Rattle.wider_rules.proofs.SetLemmas.{join_is, cutter_is}
 use Rattle.read_proof.proofs.further.linked_strings.Goals as goal
 
 -- the near friends are on the board

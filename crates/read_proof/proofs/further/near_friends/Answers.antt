@@ -1,6 +1,6 @@
 use Rattle.std.proofs.Common.{◌∙◌}
 use Rattle.std.specs.FinSet as set
-use Rattle.further_rules.proofs.SetLemmas.{friend_is}
+use Rattle.wider_rules.proofs.SetLemmas.{friend_is}
 use Rattle.read_proof.proofs.FurtherLemmas.{beside_next}
 use Rattle.read_proof.proofs.further.near_friends.Goals as goal
 

@@ -3,7 +3,7 @@ use Rattle.std.proofs.Common.{eqb, ◌∙◌, sym}
 use Rattle.std.proofs.lemmas.Bool.{eqb-true, eq-eqb, both_ways}
 use Rattle.std.specs.FinSet as set
 use Rattle.go_rules.specs.declared.Cell.TheVariants.{Empty}
-use Rattle.further_rules.proofs.SetLemmas.{net_is, no_net}
+use Rattle.wider_rules.proofs.SetLemmas.{net_is, no_net}
 use Rattle.read_proof.proofs.FurtherLemmas.{beside_next}
 use Rattle.read_proof.proofs.further.net.Goals as goal
 

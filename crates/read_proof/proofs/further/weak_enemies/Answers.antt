@@ -1,8 +1,8 @@
 -- What stands around the enemies next to the target that have few liberties is Beside and the allies.
 use Rattle.std.proofs.Common.{◌*◌, sym, ◌∙◌}
 use Rattle.std.proofs.lemmas.Bool.{and_parts, ltb-true}
-use Rattle.further_rules.proofs.StringLemmas.{has_enemy}
-use Rattle.further_rules.proofs.SetLemmas.{beside_is, ally_is}
+use Rattle.wider_rules.proofs.StringLemmas.{has_enemy}
+use Rattle.wider_rules.proofs.SetLemmas.{beside_is, ally_is}
 use Rattle.read_proof.proofs.further.weak_enemies.Goals as goal
 
 -- the enemies next to the target are on the board

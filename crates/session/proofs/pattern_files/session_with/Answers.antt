@@ -1,7 +1,7 @@
 -- The automaton accepts the patterns' numbers alone, and by it and the helpers the session is plain.
 use Rattle.std.proofs.Common.{sym, subst}
 use Rattle.dfa_core.specs.States.{IsAutomatonOf}
-use Rattle.engine.specs.EngineView.{NumbersPatterns, depths_in}
+use Rattle.session_core.specs.EngineView.{NumbersPatterns, depths_in}
 use Rattle.session.specs.FirstSession.{IsPlainWith}
 use Rattle.session.proofs.PlainSessions.{plain-first}
 use Rattle.session.proofs.pattern_files.session_with.Goals as goal

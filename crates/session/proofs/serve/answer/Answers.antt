@@ -4,11 +4,11 @@ use Rattle.gtp_lex.specs.Raw.{raw_line}
 use Rattle.run_notes.specs.declared.notes.Sent.{Sent}
 use Rattle.machine_rules.specs.Heard.{heard}
 use Rattle.machine_rules.specs.Machine.{Machine}
-use Rattle.engine.specs.AfterLine.{IsAfterLine}
-use Rattle.engine.specs.LineAnswers.{AnswersLine}
-use Rattle.engine.specs.Kept.{Kept, machine_of}
-use Rattle.engine.specs.SessionView.{kept_of}
-use Rattle.engine.proofs.LineAnswers.{if_err_map}
+use Rattle.session_core.specs.AfterLine.{IsAfterLine}
+use Rattle.session_core.specs.LineAnswers.{AnswersLine}
+use Rattle.session_core.specs.Kept.{Kept, machine_of}
+use Rattle.session_core.specs.SessionView.{kept_of}
+use Rattle.session_core.proofs.LineAnswers.{if_err_map}
 use Rattle.session.specs.Waiting.{WaitingState, none_wait, Stop, IsStop}
 use Rattle.session.proofs.ReplyBytes.{turn-sent, turn-stops, turn-stop}
 use Rattle.session.proofs.ServeLemmas.{RunsTo-after, MayCut-after}

@@ -1,8 +1,8 @@
 use Rattle.std.proofs.Common.{◌≡◌, length, false}
 use Rattle.gtp_lex.specs.Held.{lines_from, held_from}
-use Rattle.engine.specs.AfterLine.{IsAfterLine}
-use Rattle.engine.specs.EngineView.{matcher_of}
-use Rattle.engine.specs.SessionView.{machine_now, kept_of, step_of}
+use Rattle.session_core.specs.AfterLine.{IsAfterLine}
+use Rattle.session_core.specs.EngineView.{matcher_of}
+use Rattle.session_core.specs.SessionView.{machine_now, kept_of, step_of}
 use Rattle.session.specs.Serving.{progress_of}
 use Rattle.session.proofs.ServeLemmas.{PieceSoFar}
 use Rattle.session.proofs.serve.answer_piece.Given as goal

@@ -1,6 +1,6 @@
 -- A reply was sent, or it or one before it broke off.
 use Rattle.std.proofs.Common.{sym, ap, ◌∙◌}
-use Rattle.engine.specs.Replies.{reply_bytes}
+use Rattle.session_core.specs.Replies.{reply_bytes}
 use Rattle.session.proofs.ReplyBytes.{sends-reply}
 use Rattle.session.proofs.WaitingReplies.{may-stop-is, passed_up}
 use Rattle.session.proofs.serve.send.Goals as goal

@@ -1,7 +1,7 @@
 use Rattle.std.proofs.Common.{◌≡◌, length, false}
-use Rattle.engine.specs.AfterLine.{IsAfterLine}
-use Rattle.engine.specs.EngineView.{matcher_of}
-use Rattle.engine.specs.SessionView.{machine_now, kept_of, step_of}
+use Rattle.session_core.specs.AfterLine.{IsAfterLine}
+use Rattle.session_core.specs.EngineView.{matcher_of}
+use Rattle.session_core.specs.SessionView.{machine_now, kept_of, step_of}
 use Rattle.session.specs.Serving.{progress_of}
 use Rattle.session.specs.Waiting.{none_wait}
 use Rattle.session.proofs.RunEnds.{Served}

@@ -1,6 +1,6 @@
 -- The reply waits, and may be put at once with what waits.
 use Rattle.session.proofs.WaitingReplies.{on_ok_map, sends-stays}
-use Rattle.engine.proofs.LineAnswers.{if_err_map}
+use Rattle.session_core.proofs.LineAnswers.{if_err_map}
 use Rattle.session.proofs.outbox.Outbox.keep.Goals as goal
 
 -- it went out

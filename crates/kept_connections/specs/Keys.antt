@@ -1,0 +1,36 @@
+-- Questions about connections as they are kept.
+use Rattle.std.specs.Prelude.{◌≡◌, ℕ, ◌+◌, ◌*◌, true, Bool}
+use Rattle.std.proofs.Common.{ap, rules}
+use Rattle.go_rules.specs.Position.{BoardState}
+use Rattle.connect_rules.specs.declared.question.Linkage.{Linkage}
+use Rattle.connect_rules.specs.declared.question.LinkKind.{LinkKind}
+use Rattle.connect_rules.specs.declared.question.LinkKind.TheVariants as kind
+use Rattle.connect_rules.specs.declared.question.LinkQuestion.{LinkQuestion}
+use Rattle.connect_rules.specs.Linkages.{linkage_of}
+use Rattle.kept_connections.specs.declared.key.LinkKey.{LinkKey}
+use Rattle.kept_connections.specs.contracts.key.LinkKeyPartialEq.TheImpl.{ghosts}
+
+-- the test of equality of the code
+abbrev pub same_key : LinkKey → LinkKey → Bool
+same_key = ghosts.eq
+
+-- equal questions are one
+pub same_key-is : (p q : LinkKey) → same_key p q ≡ true → p ≡ q
+same_key-is p q e = search rules
+
+-- the answer to the question on a position
+abbrev pub meaning_of : LinkKey → BoardState → Linkage
+meaning_of key pos = linkage_of key.question pos
+
+-- the number of a kind
+abbrev pub number_of_kind : LinkKind → ℕ
+number_of_kind kind.Connect = 0
+number_of_kind kind.Disconnect = 1
+
+-- the number that a question is hashed as: its size, points, kind and plies, each in digits of its own
+abbrev pub number_of : LinkQuestion → ℕ
+number_of q = (((q.size * 65536 + q.a) * 65536 + q.b) * 2 + number_of_kind q.kind) * 256 + q.plies
+
+-- equal questions have one number
+pub same_number : (p q : LinkKey) → same_key p q ≡ true → number_of p.question ≡ number_of q.question
+same_number p q e = ap (λ (key : LinkKey). number_of key.question) (same_key-is p q e)

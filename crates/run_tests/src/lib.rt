@@ -1,0 +1,69 @@
+//! Runs over objects in memory: what the contract of the top call says there, and the worked sessions as tests.
+//!
+//! A feed tells the bytes that it has left and a page those that it holds, so over these the contract names the
+//! bytes, and a shelf tells the contents of its files. Over objects that never fail no fault is told.
+#![tactic(auto)]
+
+ghost use Rattle.std.specs.Prelude.{◌≢◌, map, string_bytes};
+ghost use Rattle.gtp_io.specs.Loading.{named};
+ghost use Rattle.session_core.specs.Handed.{handed};
+ghost use Rattle.session.specs.Outcomes.{phase_of};
+ghost use Rattle.run_tests.specs.MemoryRuns.{ComesTo};
+
+use gtp_io::{Feed, Page, Shelf, SureFeed, SurePage, SureShelf};
+use helpers::Helper;
+use session::{Outcome, run};
+use std::alloc::Global;
+
+/// Runs over bytes and files in memory, and puts the replies on the page.
+pub fn run_in_memory(
+    alloc: Global,
+    words: &[String],
+    shelf: &mut Shelf,
+    feed: &mut Feed,
+    page: &mut Page,
+    helpers: Vec<Box<dyn Helper>>,
+) -> Outcome
+    ensures { ComesTo (handed state helpers.items) (map string_bytes words.now)
+        (named shelf.old.names shelf.old.contents) feed.old.left feed.new.left
+        page.old.written page.new.written feed.new.piece (phase_of result) }
+{
+    run(
+        alloc,
+        words,
+        shelf,
+        feed,
+        page,
+        &mut SurePage::new(),
+        helpers,
+    )
+}
+
+/// Runs over objects that never fail.
+pub fn run_surely(
+    alloc: Global,
+    words: &[String],
+    shelf: &mut SureShelf,
+    feed: &mut SureFeed,
+    page: &mut SurePage,
+    helpers: Vec<Box<dyn Helper>>,
+) -> Outcome
+    ensures file { result ≢ Outcome.FileFault }
+    ensures input { result ≢ Outcome.InputFault }
+    ensures output { result ≢ Outcome.OutputFault }
+{
+    run(
+        alloc,
+        words,
+        shelf,
+        feed,
+        page,
+        &mut SurePage::new(),
+        helpers,
+    )
+}
+
+#[cfg(test)]
+mod sessions;
+#[cfg(test)]
+mod tests;

@@ -1,0 +1,92 @@
+-- What a line asks of a session's connections, and what is told of that.
+use Rattle.std.proofs.Common.{◌≡◌, ℕ, true, false, cond, List, Option, Some, None, refl, sym, ap, subst, ◌∙◌}
+use Rattle.go_rules.specs.Position.{BoardState, IsPosition}
+use Rattle.helpers.specs.HelperStates.{SlotState}
+use Rattle.connect_rules.specs.Linkages.{asked_on, linkage_of}
+use Rattle.connect_rules.specs.declared.question.LinkKind.{LinkKind}
+use Rattle.connect_rules.specs.declared.question.LinkQuestion.{LinkQuestion}
+use Rattle.connect_rules.specs.declared.question.Linkage.{Linkage}
+use Rattle.read_cache.specs.Kept.{HoldsOfEach}
+use Rattle.kept_connections.specs.Connections.{ConnectionsView, Rests, HasAsked, key_on}
+use Rattle.machine_rules.specs.Counting.{counted}
+use Rattle.machine_rules.specs.Effects.{told}
+use Rattle.machine_rules.specs.LinkCommands.{linked, linkage_at, linkage_text}
+use Rattle.machine_rules.specs.LinkQuestions.{have_one_colour, asks_link_at}
+use Rattle.machine_rules.specs.Machine.{Machine}
+use Rattle.machine_rules.proofs.Soundness.{linked-told}
+use Rattle.session_core.specs.AskedLinks.{LinksAs, LinksNothing, CountsFreshLinks}
+use Rattle.session_core.specs.CommandAnswers.{IsAnswer}
+use Rattle.session_core.specs.EngineView.{EngineView, board_of, machine_alone, machine_with}
+use Rattle.session_core.specs.declared.answer.Answer.{Answer}
+use Rattle.session_core.specs.declared.answer.Answer.TheVariants as answer
+
+-- where no question about a connection was asked, what is kept and counted of them stays
+pub unasked-links : (old new : EngineView) (asks : Option LinkQuestion) → LinksAs asks old new
+    → ((q : LinkQuestion) → asks ≡ Some q → ⊥) → LinksNothing old new
+unasked-links old new None links never = links
+unasked-links old new (Some q) links never = absurd (never q refl)
+
+-- a question that is refused asks nothing
+pub LinksAs-refused : (session : EngineView) (kind : LinkKind) (a b : ℕ)
+    → have_one_colour (machine_alone session) a b ≡ false
+    → LinksAs (asks_link_at (machine_alone session) kind a b) session session
+LinksAs-refused session kind a b apart =
+    let question = asked_on (board_of session) kind a b session.depths.plies in
+    subst (λ one. LinksAs (cond one (Some question) None) session session) (sym apart)
+    (record { counts = refl; answers = refl })
+
+-- The connections were asked once on the board of a session, where stones of one colour stand at both points.
+module _ (old new : EngineView) (kind : LinkKind) (a b : ℕ)
+    (one : have_one_colour (machine_alone old) a b ≡ true) where
+  -- that is what was asked
+  pub LinksAs-once : (pos : BoardState) (linkage : Linkage) (before after : ConnectionsView)
+      → pos ≡ board_of old → before ≡ old.links → before.plies ≡ old.depths.plies → new.links ≡ after
+      → HasAsked (key_on pos kind a b before.plies) pos linkage before.answers after.answers
+      → IsPosition pos → HoldsOfEach Rests after.answers.kept
+      → new.counts.links.connections ≡ counted old.counts.links.connections true
+      → CountsFreshLinks old → CountsFreshLinks new
+      → LinksAs (asks_link_at (machine_alone old) kind a b) old new
+  LinksAs-once pos linkage before after board was plies is asked sound rest connections fresh_before fresh =
+      let question = asked_on (board_of old) kind a b old.depths.plies in
+      let family : ConnectionsView → ConnectionsView → BoardState → ℕ → Type 0 =
+      λ v w p n. HasAsked (key_on p kind a b n) p linkage v.answers w.answers in
+      let here : family old.links new.links (board_of old) old.depths.plies =
+      subst (λ v. family v new.links (board_of old) old.depths.plies) was
+      (subst (λ n. family before new.links (board_of old) n) plies
+      (subst (λ p. family before new.links p before.plies) board
+      (subst (λ w. family before w pos before.plies) (sym is) asked))) in
+      subst (λ o. LinksAs (cond o (Some question) None) old new) (sym one) (record {
+        answer = linkage;
+        asked = here;
+        board = subst IsPosition board sound;
+        rest = subst (λ (v : ConnectionsView). HoldsOfEach Rests v.answers.kept) (sym is) rest;
+        connections = connections;
+        fresh_before = fresh_before;
+        fresh = fresh;
+      })
+
+-- the answer to a question on the board of a session, at its plies, is that of its machine
+linkage-here : (session : EngineView) (kind : LinkKind) (a b : ℕ) (pos : BoardState) (n : ℕ) (linkage : Linkage)
+    → linkage ≡ linkage_of (asked_on pos kind a b n) pos → pos ≡ board_of session → n ≡ session.depths.plies
+    → linkage ≡ linkage_at (machine_alone session) kind a b
+linkage-here session kind a b pos n linkage is board plies =
+    is ∙ ap (λ p. linkage_of (asked_on p kind a b n) p) board
+    ∙ ap (λ k. linkage_of (asked_on (board_of session) kind a b k) (board_of session)) plies
+
+-- where stones of one colour stand at both points of the board of a session, what is told of their linkage there is an
+-- answer, whoever the helpers are
+pub told-linked : (session : EngineView) (helpers : List SlotState) (kind : LinkKind) (a b : ℕ) (pos : BoardState)
+    (n size : ℕ) (linkage : Linkage) (result : List ℕ) (said : Answer) (new : Machine)
+    → have_one_colour (machine_alone session) a b ≡ true → said ≡ answer.Told result
+    → result ≡ linkage_text size linkage → size ≡ pos.size → (board_of session).size ≡ session.base.size
+    → pos ≡ board_of session → n ≡ session.depths.plies → linkage ≡ linkage_of (asked_on pos kind a b n) pos
+    → new ≡ machine_with helpers session → IsAnswer (linked (machine_with helpers session) kind a b) said new
+told-linked session helpers kind a b pos n size linkage result said new one says text is own board plies links keeps =
+    let machine = machine_with helpers session in
+    let effect = told (linkage_text session.base.size (linkage_at machine kind a b)) machine in
+    let same : result ≡ linkage_text session.base.size (linkage_at machine kind a b) =
+    text ∙ ap (λ s. linkage_text s linkage) (is ∙ ap (λ (p : BoardState). p.size) board ∙ own)
+    ∙ ap (linkage_text session.base.size) (linkage-here session kind a b pos n linkage links board plies) in
+    subst (λ e. IsAnswer e said new) (sym (linked-told machine kind a b one))
+    (subst (λ s. IsAnswer effect s new) (sym says)
+    (record { allowed = refl; told = sym same; next = keeps; goes_on = refl }))

@@ -1,0 +1,35 @@
+-- What a session has asked of its connections after a line, and what it counted of that.
+use Rattle.std.specs.Prelude.{◌≡◌, true, Option, Some, None}
+use Rattle.go_rules.specs.Position.{IsPosition}
+use Rattle.connect_rules.specs.declared.question.LinkQuestion.{LinkQuestion}
+use Rattle.connect_rules.specs.declared.question.Linkage.{Linkage}
+use Rattle.read_cache.specs.Kept.{HoldsOfEach}
+use Rattle.kept_connections.specs.Connections.{HasAsked, Rests}
+use Rattle.machine_rules.specs.Counting.{counted}
+use Rattle.session_core.specs.EngineView.{EngineView, board_of}
+
+-- the session counts as many fresh connections as those that it keeps
+abbrev pub CountsFreshLinks : EngineView → Type 0
+CountsFreshLinks session = session.counts.links.fresh ≡ session.links.answers.fresh
+
+-- The connections were asked once, this question, and the line is counted. The answer was kept, or it was fresh, and is
+-- kept first or refused; fresh answers are counted exactly where the connections say so. The board is a position, and
+-- each kept answer rests on its facts.
+pub record LinksOnce (question : LinkQuestion) (old new : EngineView) : Type 0 where
+  pub answer : Linkage
+  pub asked : HasAsked (record { question = question }) (board_of old) answer old.links.answers new.links.answers
+  pub board : IsPosition (board_of old)
+  pub rest : HoldsOfEach Rests new.links.answers.kept
+  pub connections : new.counts.links.connections ≡ counted old.counts.links.connections true
+  pub fresh_before : CountsFreshLinks old
+  pub fresh : CountsFreshLinks new
+
+-- nothing was asked of the connections: what is kept and counted of them stays
+pub record LinksNothing (old new : EngineView) : Type 0 where
+  pub counts : new.counts.links ≡ old.counts.links
+  pub answers : new.links.answers ≡ old.links.answers
+
+-- new is old after the question about a connection that was asked, if one was
+abbrev pub LinksAs : Option LinkQuestion → EngineView → EngineView → Type 0
+LinksAs None old new = LinksNothing old new
+LinksAs (Some question) old new = LinksOnce question old new

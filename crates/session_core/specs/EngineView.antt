@@ -1,0 +1,89 @@
+-- What a session keeps beside its helpers: the machine that it is, and how it finds matches.
+use Rattle.std.specs.Prelude.{ℕ, ◌<◌, List, [], length, codes, Contains}
+use Rattle.go_rules.specs.declared.Move.{Move}
+use Rattle.go_rules.specs.Position.{BoardState}
+use Rattle.go_rules.specs.Replay.{empty_board, replay_from}
+use Rattle.pat_types.specs.declared.pattern.Pattern.{Pattern}
+use Rattle.dfa_core.specs.Automata.{Row, accepted}
+use Rattle.dfa_core.specs.Words.{Word}
+use Rattle.run_notes.specs.declared.notes.Counts.{Counts}
+use Rattle.run_notes.specs.declared.notes.Links.{Links}
+use Rattle.go_options.specs.declared.options.Options.{Options}
+use Rattle.read_rules.specs.declared.tree.Tree.{Tree}
+use Rattle.read_cache.specs.Keeping.{first_keeping}
+use Rattle.kept_connections.specs.Connections.{ConnectionsView}
+use Rattle.match_engine.specs.ReadingDepths.{ReadingDepths}
+use Rattle.match_engine.specs.Readings.{ReadingsView, first_readings}
+use Rattle.helpers.specs.HelperStates.{SlotState}
+use Rattle.machine_rules.specs.Machine.{Machine, first_size}
+use Rattle.machine_rules.specs.Matcher.{Matcher, automaton_matcher}
+
+-- settings, the position from which the moves are played, the moves, the patterns, the automaton by which their matches
+-- are found, what was counted, and the readings and the connections with those that are kept
+pub record EngineView : Type 0 where
+  pub base : BoardState
+  pub moves : List Move
+  pub komi : List ℕ
+  pub depths : ReadingDepths
+  pub patterns : List Pattern
+  pub automaton : List Row
+  pub counts : Counts
+  pub readings : ReadingsView
+  pub links : ConnectionsView
+
+-- the machine that a session with these helpers is
+abbrev pub machine_with : List SlotState → EngineView → Machine
+machine_with helpers kept = record {
+  base = kept.base;
+  moves = kept.moves;
+  komi = kept.komi;
+  depths = kept.depths;
+  helpers = helpers;
+}
+
+-- the machine, of whose helpers nothing is said
+abbrev pub machine_alone : EngineView → Machine
+machine_alone kept = machine_with [] kept
+
+-- the position of the game
+abbrev pub board_of : EngineView → BoardState
+board_of kept = replay_from kept.base kept.moves
+
+-- how matches are found: by the automaton
+abbrev pub matcher_of : EngineView → Matcher
+matcher_of kept = automaton_matcher kept.patterns kept.automaton
+
+-- no connection was counted
+abbrev pub no_links : Links
+no_links = record { connections = 0; fresh = 0 }
+
+-- nothing was counted
+abbrev pub no_counts : Counts
+no_counts = record { readings = 0; fresh = 0; trials = 0; refused = 0; links = no_links }
+
+-- new connections of these plies, of which so many questions may be kept
+abbrev pub first_links : ℕ → ℕ → ConnectionsView
+first_links plies capacity = record { plies = plies; answers = first_keeping capacity }
+
+-- the depths of the options, in a tree
+abbrev pub depths_in : Tree → Options → ReadingDepths
+depths_in tree options = record { tree = tree; plies = options.depth; wide = options.branch }
+
+-- what a session with these patterns, this automaton and readings of these depths keeps before the first line, where so
+-- many questions may be kept, and as many about connections
+abbrev pub first_kept : List Pattern → List Row → ReadingDepths → ℕ → EngineView
+first_kept patterns automaton depths capacity = record {
+  base = empty_board first_size;
+  moves = [];
+  komi = codes "0.0";
+  depths = depths;
+  patterns = patterns;
+  automaton = automaton;
+  counts = no_counts;
+  readings = first_readings depths capacity;
+  links = first_links depths.plies capacity;
+}
+
+-- each number that the automaton accepts is the place of one of the patterns
+abbrev pub NumbersPatterns : List Row → List Pattern → Type 0
+NumbersPatterns automaton patterns = (w : Word) (n : ℕ) → Contains (accepted automaton w) n → n < length patterns

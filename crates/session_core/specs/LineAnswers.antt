@@ -1,0 +1,61 @@
+-- What an answered line leaves of a session.
+use Rattle.std.specs.Prelude.{◌≡◌, ◌≢◌, ◌↔◌, ◌++◌}
+use Rattle.gtp_rules.specs.Lines.{RawLine}
+use Rattle.gtp_rules.specs.Transcript.{MayGive, Answers}
+use Rattle.gtp_cmd.specs.declared.commands.Parsed.{Parsed}
+use Rattle.gtp_cmd.specs.declared.commands.Parsed.TheVariants as parsed
+use Rattle.machine_rules.specs.Calls.{AreSameButCalls}
+use Rattle.machine_rules.specs.Counting.{counted, is_parsed_read, is_read_line}
+use Rattle.machine_rules.specs.Files.{Contents}
+use Rattle.machine_rules.specs.LinkQuestions.{asks_link_of_parsed, asks_link_of_line}
+use Rattle.machine_rules.specs.Loads.{parsed_load, load_in, missed_by}
+use Rattle.machine_rules.specs.Questions.{asks_of_parsed, asks_of_line}
+use Rattle.machine_rules.specs.Soundness.{IsWithoutWords, IsRefusal}
+use Rattle.machine_rules.specs.Step.{Input, parsed_step, step}
+use Rattle.session_core.specs.EngineView.{matcher_of}
+use Rattle.session_core.specs.Kept.{Kept, machine_of}
+use Rattle.session_core.specs.AfterLine.{ReadsAs, KeepsCounts, HasFewFresh}
+use Rattle.session_core.specs.AskedLinks.{LinksAs, LinksNothing}
+use Rattle.session_core.specs.Replies.{reply_bytes, reply_ends, reply_count}
+use Rattle.session_core.specs.declared.reply.Reply.{Reply}
+use Rattle.session_core.specs.declared.reply.Reply.TheVariants as replies
+
+-- the session that kept old answered what a line says, and keeps new; input is what stands behind the line's words
+pub record AnswersParsed (old : Kept) (input : Input) (said : Parsed) (answer : Reply) (new : Kept) : Type 0 where
+  pub reply : MayGive (parsed_step (matcher_of old.engine) (machine_of old) input said) (reply_bytes answer)
+      (machine_of new) (reply_ends answer)
+  pub nothing : (answer ≡ replies.Nothing) ↔ (said ≡ parsed.Nothing)
+  pub bytes : answer ≢ replies.Nothing → reply_count (reply_bytes answer) ≡ 1
+  pub patterns : new.engine.patterns ≡ old.engine.patterns
+  pub automaton : new.engine.automaton ≡ old.engine.automaton
+  pub readings : new.engine.counts.readings
+      ≡ counted old.engine.counts.readings (is_parsed_read (machine_of old) said)
+  pub read : ReadsAs (asks_of_parsed (machine_of old) said) old.engine new.engine
+  pub links : LinksAs (asks_link_of_parsed (machine_of old) said) old.engine new.engine
+  pub missed : new.missed ≡ old.missed ++ missed_by (parsed_load input.line said) (reply_bytes answer)
+
+-- The session that kept old answered a line, where files have these contents, and keeps new.
+pub record AnswersLine (contents : Contents) (old : Kept) (line : RawLine) (answer : Reply) (new : Kept) : Type 0 where
+  -- the reply is one that the step gives
+  pub reply : Answers (step (matcher_of old.engine) contents) (machine_of old) line (reply_bytes answer)
+      (machine_of new) (reply_ends answer)
+  -- it is nothing exactly for a line without words
+  pub nothing : (answer ≡ replies.Nothing) ↔ IsWithoutWords line
+  pub bytes : answer ≢ replies.Nothing → reply_count (reply_bytes answer) ≡ 1
+  pub patterns : new.engine.patterns ≡ old.engine.patterns
+  pub automaton : new.engine.automaton ≡ old.engine.automaton
+  -- a line that asks for a reading and is answered with a code is counted
+  pub readings : new.engine.counts.readings ≡ counted old.engine.counts.readings (is_read_line (machine_of old) line)
+  -- it makes one reading, which is kept or fresh; a line that asks for matches may make any number, and no other line
+  -- makes one
+  pub read : ReadsAs (asks_of_line (machine_of old) line) old.engine new.engine
+  -- a line that asks about two stones of one colour asks the connections once, and is counted; no other line asks them
+  pub links : LinksAs (asks_link_of_line (machine_of old) line) old.engine new.engine
+  -- the file that could not be loaded is told as missed, and no other name
+  pub missed : new.missed ≡ old.missed ++ missed_by (load_in (machine_of old) line) (reply_bytes answer)
+  pub few_fresh : HasFewFresh old.engine.counts → HasFewFresh new.engine.counts
+  -- a refused line leaves the machine, but for the calls of helpers where there was no memory, and of the counts only
+  -- that of refused keepings may have risen
+  pub refused : IsRefusal (reply_bytes answer)
+      → AreSameButCalls (machine_of old) (machine_of new) × KeepsCounts old.engine new.engine
+      × LinksNothing old.engine new.engine

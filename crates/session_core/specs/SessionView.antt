@@ -1,0 +1,25 @@
+-- What a session keeps with its helpers, and how it answers lines.
+use Rattle.std.specs.Prelude.{ℕ, List}
+use Rattle.gtp_rules.specs.Lines.{RawLine}
+use Rattle.gtp_rules.specs.Steps.{Step}
+use Rattle.helpers.specs.HelperStates.{HelperState}
+use Rattle.helpers.specs.Slots.{states_of}
+use Rattle.machine_rules.specs.Machine.{Machine}
+use Rattle.machine_rules.specs.Files.{Contents}
+use Rattle.machine_rules.specs.Step.{step}
+use Rattle.session_core.specs.EngineView.{machine_with, matcher_of}
+use Rattle.session_core.specs.Kept.{Kept}
+use Rattle.session_core.specs.declared.session.Session.{Session}
+
+-- all that a line may change, where these names were missed
+abbrev pub kept_of : {V : Type 0} {F : V → Type 0} → ((i : V) × F i → HelperState) → Session V F → List (List ℕ) → Kept
+kept_of state session missed =
+    record { engine = session.engine; helpers = states_of state session.helpers; missed = missed }
+
+-- the machine that a session is
+abbrev pub machine_now : {V : Type 0} {F : V → Type 0} → ((i : V) × F i → HelperState) → Session V F → Machine
+machine_now state session = machine_with (states_of state session.helpers) session.engine
+
+-- the step by which a session answers a line, where files have these contents
+abbrev pub step_of : {V : Type 0} {F : V → Type 0} → Session V F → Contents → Machine → RawLine → Step Machine → Type 0
+step_of session contents machine line given = step (matcher_of session.engine) contents machine line given

@@ -1,0 +1,160 @@
+//! A session of the protocol: what it keeps, and the helpers that its patterns ask.
+ghost use Rattle.std.specs.Prelude.{⊤, ◌≡◌, ◌≤◌, ℕ, List, length, IfOk, IfErr};
+ghost use Rattle.gtp_lex.specs.Raw.{raw_line};
+ghost use Rattle.gtp_cmd.specs.Rooms.{longest_line};
+ghost use Rattle.gtp_cmd.specs.Within.{SaysWithin, SaysWithinLine};
+ghost use Rattle.go_options.specs.Found.{AreInRange};
+ghost use Rattle.machine_rules.specs.Files.{Contents};
+ghost use Rattle.machine_rules.specs.Heard.{heard, bytes_in};
+ghost use Rattle.session_core.specs.SlowLines.{said_by, IsLeft};
+ghost use Rattle.session_core.specs.LineAnswers.{AnswersLine};
+ghost use Rattle.session_core.specs.EngineView.{first_kept, depths_in, matcher_of, NumbersPatterns};
+ghost use Rattle.session_core.specs.SessionView.{machine_now, kept_of};
+
+use crate::engine::Engine;
+use crate::reply::Reply;
+use crate::slow::Slow;
+use dfa_core::Automaton;
+use go_base::NoMemory;
+use go_options::Options;
+use gtp_io::Loader;
+use gtp_lex::Raw;
+use helpers::Helpers;
+use pat_types::Pattern;
+use read_rules::Tree;
+use run_notes::{Counts, Links};
+use std::alloc::Global;
+
+/// The bytes of a line; of one that is too long none count.
+fn bytes_of(raw: Raw<'_>) -> &[u8]
+    ensures { result.now ≡ bytes_in (raw_line raw.entry) }
+{
+    match raw {
+        Raw::Line(text) => text,
+        Raw::TooLong => b"",
+    }
+}
+
+/// A session of the protocol.
+#[derive(Drop)]
+pub struct Session {
+    /// The machine that it is, its patterns and what it counted.
+    pub engine: Engine,
+    /// The helpers that its patterns ask.
+    pub helpers: Helpers,
+}
+
+impl Session {
+    /// A session with these patterns, whose matches it finds by this automaton, and these helpers, before its first
+    /// line: a board of 19 by 19, no moves, the komi 0.0, readings in the stated tree, as deep as the options say,
+    /// nothing counted. Takes memory.
+    pub fn new(
+        alloc: Global,
+        patterns: Vec<Pattern>,
+        automaton: Automaton,
+        helpers: Helpers,
+        options: &Options,
+    ) -> Result<Session, NoMemory>
+        requires numbers { NumbersPatterns automaton patterns.items }
+        requires ranges { AreInRange options.now }
+        ensures engine { IfOk result (λ session. session.engine
+            ≡ first_kept patterns.items automaton (depths_in Tree.Stated options.now) options.now.cache) }
+        ensures helpers { IfOk result (λ session. session.helpers ≡ helpers) }
+    {
+        Session::in_tree(alloc, patterns, automaton, helpers, Tree::Stated, options)
+    }
+
+    /// The same with readings in this tree.
+    pub fn in_tree(
+        alloc: Global,
+        patterns: Vec<Pattern>,
+        automaton: Automaton,
+        helpers: Helpers,
+        tree: Tree,
+        options: &Options,
+    ) -> Result<Session, NoMemory>
+        requires numbers { NumbersPatterns automaton patterns.items }
+        requires ranges { AreInRange options.now }
+        ensures engine { IfOk result (λ session. session.engine
+            ≡ first_kept patterns.items automaton (depths_in tree options.now) options.now.cache) }
+        ensures helpers { IfOk result (λ session. session.helpers ≡ helpers) }
+    {
+        let engine = Engine::new(alloc, patterns, automaton, tree, options)?;
+        Ok(Session { engine, helpers })
+    }
+
+    /// What the session counted: its lines that asked for a reading and were answered with a code, those of them that
+    /// were read afresh, the moves that these tried, and the readings that could not be kept for want of memory; and
+    /// what `links` tells.
+    pub fn stats(&self) -> Counts
+        ensures { result ≡ self.now.engine.counts }
+    {
+        self.engine.stats()
+    }
+
+    /// What the session counted of connections: its lines that asked about one and were answered with a result, and
+    /// those of them that were read afresh. Takes no memory.
+    pub fn links(&self) -> Links
+        ensures { result ≡ self.now.engine.counts.links }
+    {
+        self.engine.stats().links
+    }
+
+    /// Answers one line, by the step of the machine that the session is, unless it may take long: a question that is
+    /// not kept, a list of matches, a chosen move, a game record, a printed proof or the check of one. Then nothing is
+    /// done, and `finish` answers it.
+    ///
+    /// Nothing comes exactly for a line without words. NoMemory comes only in place of a growing reply. It leaves the
+    /// machine as it was, and so does a refused line; of the counts only that of refused keepings may have risen. The
+    /// empty condition says that the call makes no helper of its own.
+    pub fn try_line(&mut self, raw: Raw<'_>) -> Result<Reply, Slow>
+        requires own { ⊤ }
+        requires short { length (bytes_in (raw_line raw)) ≤ longest_line }
+        // No file is loaded: whatever files hold, and whichever were missed, this answers the line.
+        ensures answers { (contents : Contents) (missed : List (List ℕ)) → IfOk result (λ reply. AnswersLine contents
+            (kept_of state self.old missed) (raw_line raw.entry) reply (kept_of state self.new missed)) }
+        ensures left { (missed : List (List ℕ)) → IfErr result (λ slow. IsLeft (kept_of state self.old missed)
+            (bytes_in (raw_line raw.entry)) (heard (machine_now state self.old) (raw_line raw.entry)) slow
+            (kept_of state self.new missed)) }
+        ensures matcher { matcher_of self.new.engine ≡ matcher_of self.old.engine }
+    {
+        let said = self.engine.heard(raw);
+        self.engine
+            .try_answer(&mut self.helpers, bytes_of(raw), said)
+    }
+
+    /// Answers a line that was left, which may take long, by the step of the machine that the session is: for the
+    /// matches of its patterns this takes those by its automaton, to which its helpers say yes. With the automaton of
+    /// the patterns it is the plain machine.
+    ///
+    /// NoMemory comes only in place of a growing reply, and leaves the machine as it was, but for the calls of helpers.
+    /// The empty condition says that the call makes no helper of its own.
+    pub fn finish<L: Loader>(&mut self, slow: Slow, raw: Raw<'_>, files: &mut L) -> Reply
+        requires own { ⊤ }
+        requires within { SaysWithin self.old.engine.base.size (said_by slow) }
+        requires spans { SaysWithinLine (bytes_in (raw_line raw)) (said_by slow) }
+        requires says { heard (machine_now state self.old) (raw_line raw) ≡ said_by slow }
+        ensures answers { AnswersLine (L.contents files.old) (kept_of state self.old (L.missed files.old))
+            (raw_line raw.entry) result (kept_of state self.new (L.missed files.new)) }
+        ensures same { L.contents files.new ≡ L.contents files.old }
+        ensures matcher { matcher_of self.new.engine ≡ matcher_of self.old.engine }
+    {
+        self.engine
+            .finish(&mut self.helpers, slow, bytes_of(raw), files)
+    }
+
+    /// Answers one line, however long it takes: as `try_line` and, where that leaves it, `finish`. A file that it names
+    /// is loaded from `files`.
+    pub fn line<L: Loader>(&mut self, raw: Raw<'_>, files: &mut L) -> Reply
+        requires short { length (bytes_in (raw_line raw)) ≤ longest_line }
+        ensures answers { AnswersLine (L.contents files.old) (kept_of state self.old (L.missed files.old))
+            (raw_line raw.entry) result (kept_of state self.new (L.missed files.new)) }
+        ensures same { L.contents files.new ≡ L.contents files.old }
+        ensures matcher { matcher_of self.new.engine ≡ matcher_of self.old.engine }
+    {
+        match self.try_line(raw) {
+            Ok(reply) => reply,
+            Err(slow) => self.finish(slow, raw, files),
+        }
+    }
+}

@@ -1,0 +1,2 @@
+pub use Rattle.wider_rules.specs.Further
+pub use Rattle.wider_rules.specs.FurtherAreas

@@ -1,0 +1,153 @@
+-- Where the further candidates lie, and that they are empty points.
+use Rattle.std.proofs.Common.{◌≡◌, ℕ, ◌*◌, ◌<◌, Bool, true, false, List, ap, inl, inr}
+use Rattle.std.proofs.lemmas.Bool.{cases_Bool, both_ways}
+use Rattle.go_rules.specs.declared.Cell.{Cell}
+use Rattle.go_rules.specs.declared.Cell.TheVariants.{Empty}
+use Rattle.go_rules.specs.Board.{are_neighbours}
+use Rattle.go_rules.specs.Strings.{cell_at, is_stone, IsInString, IsLiberty}
+use Rattle.go_rules.specs.Neighbourhood.{neighbourhood_of}
+use Rattle.go_rules.proofs.Paths.{is_is_in_string-from_fact}
+use Rattle.go_base.specs.Views.{alone}
+use Rattle.go_base.proofs.PointNeighbourhoods.{whole_self, whole_string, close_next, close_again, alone_self}
+use Rattle.wider_rules.specs.Further.{is_further}
+use Rattle.wider_rules.specs.FurtherInWords.{IsNetAt, IsEnemyBeside, IsWeakEnemy, IsLastAt, IsAlly, IsLinkedAt}
+use Rattle.wider_rules.specs.FurtherInWords.{IsFurther, nets, strengthens, rescues, presses, joins, cuts}
+use Rattle.wider_rules.specs.FurtherAreas.{first_area, second_area, third_area, fourth_area, near_further}
+use Rattle.wider_rules.proofs.FurtherLaws.{further_gives}
+
+-- What is close to a point of S.
+module _ (s : ℕ) (cells : List Cell) (S : ℕ → Bool) where
+  -- its neighbours are
+  pub side_close : (x q : ℕ) → x < s * s → S x ≡ true → q < s * s → are_neighbours s x q ≡ true
+      → neighbourhood_of s cells S q ≡ true
+  side_close x q on h on_q near = close_next s cells S x q on_q (whole_self s cells S x on h) near
+
+  -- a neighbour of its string is
+  string_close : (x y q : ℕ) → x < s * s → S x ≡ true → IsInString s cells x y → q < s * s
+      → are_neighbours s y q ≡ true
+      → neighbourhood_of s cells S q ≡ true
+  string_close x y q on h inside on_q near =
+      close_next s cells S y q on_q
+      (whole_string s cells S x y on h (is_is_in_string-from_fact s cells x y on inside)) near
+
+  -- its liberties are
+  pub liberty_close : (x l : ℕ) → x < s * s → S x ≡ true → IsLiberty s cells x l → neighbourhood_of s cells S l ≡ true
+  liberty_close x l on h lib = string_close x lib.beside.0 l on h lib.beside.1 lib.on_board lib.beside.2
+
+  -- the enemies next to its string are
+  pub enemy_close : (x q : ℕ) → x < s * s → S x ≡ true → IsEnemyBeside s cells x q
+      → neighbourhood_of s cells S q ≡ true
+  enemy_close x q on h w = string_close x w.beside.0 q on h w.beside.1 w.on_board w.beside.2
+
+-- Where the further candidates of a target lie.
+module _ (s : ℕ) (cells : List Cell) (target : ℕ) (on : target < s * s) where
+  -- the target's liberties are in the first area
+  pub liberty_first : (l : ℕ) → IsLiberty s cells target l → first_area s cells target l ≡ true
+  liberty_first l lib = liberty_close s cells (alone target) target l on (alone_self target) lib
+
+  -- and the enemies next to its string
+  pub enemy_first : (q : ℕ) → IsEnemyBeside s cells target q → first_area s cells target q ≡ true
+  enemy_first q w = enemy_close s cells (alone target) target q on (alone_self target) w
+
+  -- a linked stone is in the second
+  pub linked_second : (l q : ℕ) → IsLinkedAt s cells target l q → second_area s cells target q ≡ true
+  linked_second l q w =
+      side_close s cells (first_area s cells target) l q w.liberty.on_board (liberty_first l w.liberty) w.on_board
+      w.beside
+
+  -- and so is an ally
+  pub ally_second : (most q r : ℕ) → IsAlly most s cells target q r → second_area s cells target r ≡ true
+  ally_second most q r w =
+      enemy_close s cells (first_area s cells target) q r w.weak.enemy.on_board (enemy_first q w.weak.enemy)
+      w.beside_weak
+
+  -- Net lies in the second
+  pub net_second : (l p : ℕ) → IsNetAt s cells target l p → second_area s cells target p ≡ true
+  net_second l p w =
+      side_close s cells (first_area s cells target) l p w.liberty.on_board (liberty_first l w.liberty) w.on_board
+      w.beside
+
+  -- and so does Beside
+  pub beside_second : (most q p : ℕ) → IsWeakEnemy most s cells target q → IsLiberty s cells q p
+      → second_area s cells target p ≡ true
+  beside_second most q p w lib =
+      liberty_close s cells (first_area s cells target) q p w.enemy.on_board (enemy_first q w.enemy) lib
+
+  -- Rescue lies in the third
+  pub rescue_third : (q r p : ℕ) → IsAlly 2 s cells target q r → IsLastAt s cells r p
+      → third_area s cells target p ≡ true
+  rescue_third q r p ally last =
+      liberty_close s cells (second_area s cells target) r p ally.beside_weak.on_board (ally_second 2 q r ally)
+      last.last
+
+  -- and so does Join
+  pub join_third : (l q p : ℕ) → IsLinkedAt s cells target l q → IsLiberty s cells q p
+      → third_area s cells target p ≡ true
+  join_third l q p linked lib =
+      liberty_close s cells (second_area s cells target) q p linked.on_board (linked_second l q linked) lib
+
+  -- Cut lies in the fourth
+  pub cut_fourth : (l q r p : ℕ) → IsLinkedAt s cells target l q → IsEnemyBeside s cells q r → IsLastAt s cells r p
+      → fourth_area s cells target p ≡ true
+  cut_fourth l q r p linked enemy last =
+      liberty_close s cells (third_area s cells target) r p enemy.on_board
+      (enemy_close s cells (second_area s cells target) q r linked.on_board (linked_second l q linked) enemy) last.last
+
+  -- what is in the second area is in the third
+  pub second_third : (p : ℕ) → second_area s cells target p ≡ true → third_area s cells target p ≡ true
+  second_third p h = close_again s cells (first_area s cells target) p h
+
+  -- what is in the third area is in the fourth
+  pub third_fourth : (p : ℕ) → third_area s cells target p ≡ true → fourth_area s cells target p ≡ true
+  third_fourth p h = close_again s cells (second_area s cells target) p h
+
+  -- a further candidate lies near
+  further_in : (attacker : Bool) (p : ℕ) → IsFurther attacker s cells target p
+      → near_further attacker s cells target p ≡ true
+  further_in attacker p (nets turn l w) = rw turn (second_third p (net_second l p w))
+  further_in attacker p (strengthens turn q weak lib) = rw turn (second_third p (beside_second 2 q p weak lib))
+  further_in attacker p (rescues turn q r ally last) = rw turn (rescue_third q r p ally last)
+  further_in attacker p (presses turn q weak lib) =
+      rw turn (third_fourth p (second_third p (beside_second 4 q p weak lib)))
+  further_in attacker p (joins turn l q linked lib) = rw turn (third_fourth p (join_third l q p linked lib))
+  further_in attacker p (cuts turn l q r linked enemy last) = rw turn (cut_fourth l q r p linked enemy last)
+
+  -- and so by the test
+  pub further_near : (attacker : Bool) (p : ℕ) → is_further attacker s cells target p ≡ true
+      → near_further attacker s cells target p ≡ true
+  further_near attacker p h = further_in attacker p (further_gives s cells target attacker p on h)
+
+-- each further candidate is an empty point of the board
+empty_in : (attacker : Bool) (s : ℕ) (cells : List Cell) (target p : ℕ) → IsFurther attacker s cells target p
+    → (p < s * s) × (cell_at cells p ≡ Empty)
+empty_in attacker s cells target p (nets turn l w) = (w.on_board, w.is_empty)
+empty_in attacker s cells target p (strengthens turn q weak lib) = (lib.on_board, lib.is_empty)
+empty_in attacker s cells target p (rescues turn q r ally last) = (last.last.on_board, last.last.is_empty)
+empty_in attacker s cells target p (presses turn q weak lib) = (lib.on_board, lib.is_empty)
+empty_in attacker s cells target p (joins turn l q linked lib) = (lib.on_board, lib.is_empty)
+empty_in attacker s cells target p (cuts turn l q r linked enemy last) = (last.last.on_board, last.last.is_empty)
+
+-- and so by the test
+pub further_empty : (attacker : Bool) (s : ℕ) (cells : List Cell) (target p : ℕ) → target < s * s
+    → is_further attacker s cells target p ≡ true → (p < s * s) × (cell_at cells p ≡ Empty)
+further_empty attacker s cells target p on h =
+    empty_in attacker s cells target p (further_gives s cells target attacker p on h)
+
+-- the target of a further candidate is a stone
+stone_in : (attacker : Bool) (s : ℕ) (cells : List Cell) (target p : ℕ) → IsFurther attacker s cells target p
+    → is_stone (cell_at cells target) ≡ true
+stone_in attacker s cells target p (nets turn l w) = w.liberty.beside.1.stone
+stone_in attacker s cells target p (strengthens turn q weak lib) = weak.enemy.beside.1.stone
+stone_in attacker s cells target p (rescues turn q r ally last) = ally.weak.enemy.beside.1.stone
+stone_in attacker s cells target p (presses turn q weak lib) = weak.enemy.beside.1.stone
+stone_in attacker s cells target p (joins turn l q linked lib) = linked.liberty.beside.1.stone
+stone_in attacker s cells target p (cuts turn l q r linked enemy last) = linked.liberty.beside.1.stone
+
+-- an empty point has no further candidates
+pub further_of_none : (attacker : Bool) (s : ℕ) (cells : List Cell) (target p : ℕ) → target < s * s
+    → cell_at cells target ≡ Empty → is_further attacker s cells target p ≡ false
+further_of_none attacker s cells target p on e = elim (cases_Bool (is_further attacker s cells target p)) [
+  | inl h ↦ absurd (both_ways (is_stone (cell_at cells target)) (ap is_stone e)
+      (stone_in attacker s cells target p (further_gives s cells target attacker p on h)))
+  | inr n ↦ n
+]

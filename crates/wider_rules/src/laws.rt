@@ -1,0 +1,70 @@
+//! What the computing definitions of the further candidates mean, in Go's words. Each function here is a law: its
+//! contract is what is proved, and it does nothing.
+
+ghost use Rattle.std.specs.Prelude.{◌≡◌, ◌↔◌, ℕ, ◌*◌, ◌<◌, Bool, IsTrue, false, List};
+ghost use Rattle.go_rules.specs.declared.Cell.{Cell};
+ghost use Rattle.go_rules.specs.Strings.{cell_at, IsLiberty};
+ghost use Rattle.wider_rules.specs.Further.{is_net, is_beside, is_rescue, is_linked, is_join, is_cut, is_further};
+ghost use Rattle.wider_rules.specs.FurtherInWords.{IsNetAt, IsEnemyBeside, IsWeakEnemy, IsAlly, IsLinkedAt, IsLastAt};
+ghost use Rattle.wider_rules.specs.FurtherInWords.{IsFurther};
+ghost use Rattle.wider_rules.specs.FurtherAreas.{second_area, third_area, fourth_area, near_further};
+
+/// Each set by strings, liberties and neighbours: Net is the empty neighbours of the liberties of a target with
+/// exactly three; Beside the liberties of an enemy string next to the target with at most so many; Rescue the one
+/// liberty of a string that is next to an enemy string with at most two and is not the target's own; Join the liberties
+/// of a linked string, which is another of the target's colour, next to a liberty of the target, with at most four;
+/// Cut the one liberty of an enemy string next to a linked one.
+pub fn further_sets_are_by_strings()
+    ensures net { (s : ℕ) (cells : List Cell) (target p : ℕ) → target < s * s →
+        IsTrue (is_net s cells target p) ↔ ((l : ℕ) × IsNetAt s cells target l p) }
+    ensures beside { (most s : ℕ) (cells : List Cell) (target p : ℕ) → target < s * s →
+        IsTrue (is_beside most s cells target p)
+        ↔ ((q : ℕ) × IsWeakEnemy most s cells target q × IsLiberty s cells q p) }
+    ensures rescue { (s : ℕ) (cells : List Cell) (target p : ℕ) → target < s * s →
+        IsTrue (is_rescue s cells target p)
+        ↔ ((q : ℕ) × (r : ℕ) × IsAlly 2 s cells target q r × IsLastAt s cells r p) }
+    ensures linked { (s : ℕ) (cells : List Cell) (target q : ℕ) → target < s * s → q < s * s →
+        IsTrue (is_linked s cells target q) ↔ ((l : ℕ) × IsLinkedAt s cells target l q) }
+    ensures join { (s : ℕ) (cells : List Cell) (target p : ℕ) → target < s * s →
+        IsTrue (is_join s cells target p)
+        ↔ ((l : ℕ) × (q : ℕ) × IsLinkedAt s cells target l q × IsLiberty s cells q p) }
+    ensures cut { (s : ℕ) (cells : List Cell) (target p : ℕ) → target < s * s →
+        IsTrue (is_cut s cells target p)
+        ↔ ((l : ℕ) × (q : ℕ) × (r : ℕ) × IsLinkedAt s cells target l q × IsEnemyBeside s cells q r
+        × IsLastAt s cells r p) }
+{}
+
+/// A further candidate is, at the attacker's turn, one of Net, of Beside by strings with at most two liberties, or of
+/// Rescue; at the defender's turn one of Beside by strings with at most four, of Join, or of Cut.
+pub fn further_candidates_are_by_strings()
+    ensures further { (attacker_to_play : Bool) (s : ℕ) (cells : List Cell) (target p : ℕ) → target < s * s →
+        IsTrue (is_further attacker_to_play s cells target p) ↔ IsFurther attacker_to_play s cells target p }
+{}
+
+/// A further candidate is an empty point of the board, and an empty point has none.
+pub fn further_candidates_are_empty_points()
+    ensures on_board { (attacker_to_play : Bool) (s : ℕ) (cells : List Cell) (target p : ℕ) → target < s * s
+        → IsTrue (is_further attacker_to_play s cells target p) → p < s * s }
+    ensures is_empty { (attacker_to_play : Bool) (s : ℕ) (cells : List Cell) (target p : ℕ) → target < s * s
+        → IsTrue (is_further attacker_to_play s cells target p) → cell_at cells p ≡ Cell.Empty }
+    ensures of_a_stone { (attacker_to_play : Bool) (s : ℕ) (cells : List Cell) (target p : ℕ) → target < s * s
+        → cell_at cells target ≡ Cell.Empty → is_further attacker_to_play s cells target p ≡ false }
+{}
+
+/// Where the sets lie: Net and Beside in the neighbourhood of the target's point taken twice, Rescue and Join in that
+/// taken three times, Cut in that taken four times.
+pub fn further_candidates_lie_near()
+    ensures net { (s : ℕ) (cells : List Cell) (target p : ℕ) → target < s * s
+        → IsTrue (is_net s cells target p) → IsTrue (second_area s cells target p) }
+    ensures beside { (most s : ℕ) (cells : List Cell) (target p : ℕ) → target < s * s
+        → IsTrue (is_beside most s cells target p) → IsTrue (second_area s cells target p) }
+    ensures rescue { (s : ℕ) (cells : List Cell) (target p : ℕ) → target < s * s
+        → IsTrue (is_rescue s cells target p) → IsTrue (third_area s cells target p) }
+    ensures join { (s : ℕ) (cells : List Cell) (target p : ℕ) → target < s * s
+        → IsTrue (is_join s cells target p) → IsTrue (third_area s cells target p) }
+    ensures cut { (s : ℕ) (cells : List Cell) (target p : ℕ) → target < s * s
+        → IsTrue (is_cut s cells target p) → IsTrue (fourth_area s cells target p) }
+    ensures further { (attacker_to_play : Bool) (s : ℕ) (cells : List Cell) (target p : ℕ) → target < s * s
+        → IsTrue (is_further attacker_to_play s cells target p)
+        → IsTrue (near_further attacker_to_play s cells target p) }
+{}
