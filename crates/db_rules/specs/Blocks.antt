@@ -78,7 +78,7 @@ blocks_of s = s.done ++ option_to_list s.now
 abbrev pub begun_with : KeptLine → Block
 begun_with line = record { head = line; diagram = []; colon = []; constraint = []; expression = []; actions = [] }
 
--- the same, with a change of the block that may go on
+-- the blocks so far, with the stage, and a change of the block that may go on
 abbrev pub with_now : Stage → SoFar → (Block → Block) → SoFar
 with_now stage s f = record { stage = stage; front = s.front; done = s.done; now = option_map f s.now }
 
@@ -99,12 +99,12 @@ placed line Actions s Other = s
 abbrev pub cell_for : Stage → KeptLine → TableCell
 cell_for stage line = table stage (kind_of line.bytes) (slice_index line.bytes 0)
 
--- the same lines and one more; a line that the table refuses changes nothing
+-- the blocks after one more line, by the table's cell for it; a line that the table refuses changes nothing
 abbrev pub with_cell : SoFar → KeptLine → TableCell → SoFar
 with_cell s line (Next stage) = placed line stage s (kind_of line.bytes)
 with_cell s line (Refused kind) = s
 
--- the same lines and one more, which goes where the table takes it
+-- the blocks after one more line, which goes where the table takes it
 unfoldable pub after_line : SoFar → KeptLine → SoFar
 after_line s line = with_cell s line (cell_for s.stage line)
 

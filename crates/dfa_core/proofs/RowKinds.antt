@@ -34,7 +34,7 @@ AreKinds-push rows row kinds kind before is = record {
   ];
 }
 
--- so do lists that are known to be longer by it
+-- the kinds of a list of rows that is known to be longer by one row
 pub AreKinds-more : (rows all : List Row) (row : Row) (kinds more : List RowKind) (kind : RowKind) → AreKinds rows kinds
     → all ≡ rows ++ row ∷ [] → more ≡ kinds ++ kind ∷ []
     → kind ≡ kind_with (length rows) row.targets row.numbers → AreKinds all more

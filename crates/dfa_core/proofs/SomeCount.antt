@@ -244,7 +244,7 @@ long_same ps u v long long' =
 long_word : Word
 long_word = replicate (offset_count + 1) Friend
 
--- it has one letter more than the spiral has indices
+-- the long word has one letter more than the spiral has indices
 long_length : length long_word ≡ offset_count + 1
 unfolding long_word
 long_length = length-replicate (offset_count + 1) Friend

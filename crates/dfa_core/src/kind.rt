@@ -5,11 +5,11 @@ ghost use Rattle.dfa_core.specs.RowKinds.{stays_at, kind_with};
 /// What a row means to a walk that enters it. It follows from the row.
 #[derive(Clone, Copy, Debug, PartialEq, Eq)]
 pub enum RowKind {
-    /// It accepts nothing, and some letter leads on.
+    /// The row accepts nothing, and some letter leads on.
     Plain,
-    /// It accepts something.
+    /// The row accepts something.
     Accepting,
-    /// It accepts nothing, and each letter leads back to it.
+    /// The row accepts nothing, and each letter leads back to it.
     Dead,
 }
 

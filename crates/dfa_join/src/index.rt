@@ -25,9 +25,9 @@ fn dead_row(automaton: &Automaton) -> u32 {
 /// The numbers of the pairs of one automaton's rows with one row of the other.
 #[derive(Drop)]
 pub struct Side {
-    /// The one row of the other.
+    /// The dead row of the other automaton.
     dead: u32,
-    /// By the rows, the numbers, and NO_NUMBER for a pair without one.
+    /// For each row of this automaton the number of its pair with that dead row, or NO_NUMBER.
     numbers: Vec<u32>,
 }
 

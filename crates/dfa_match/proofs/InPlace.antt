@@ -12,7 +12,7 @@ pub record GathersInFront {X : Type 0} (f : X → X) (p : X → Bool) (xs ys : L
   pub front : take k ys ≡ filter p (map f (take i xs))
   pub behind : k ≤ i
 
--- these stand in front of a list that began as xs, and from i on is as it was
+-- the chosen images of the first i entries stand in front of a list that began as xs, and from i on it is as it was
 pub record MapsInPlace {X : Type 0} (f : X → X) (p : X → Bool) (xs ys : List X) (k i : ℕ) : Type 0 where
   pub gathered : GathersInFront f p xs ys k i
   pub rest : drop i ys ≡ drop i xs

@@ -36,7 +36,7 @@ begun_letters : (automaton : List Row) (letters : List Seen) (walks : List Walk)
 begun_letters automaton letters walks w there =
     sym (ap (λ (v : Walk). v.letters) (Contains-map (after_anchor automaton letters) walks w there).2)
 
--- so have those that go on
+-- a walk behind its second letter has read one letter
 second_letters : (automaton : List Row) (letters : List Seen) (s : ℕ) (w : Walk)
     → Contains (second_walks_of automaton letters s) w → w.letters ≡ 1
 second_letters automaton letters s w there = begun_letters automaton letters (first_walks_of automaton s) w

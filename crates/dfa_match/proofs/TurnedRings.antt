@@ -20,7 +20,7 @@ use Rattle.dfa_match.proofs.StepLists.{offset_at-zero, still}
 abbrev eight : (ℕ → Seen) → Word
 eight seen = seen 1 ∷ seen 2 ∷ seen 3 ∷ seen 4 ∷ seen 5 ∷ seen 6 ∷ seen 7 ∷ seen 8 ∷ []
 
--- those that are seen at the same places from the third one on, and then at the first two
+-- the eight letters, from the third one on, and then the first two
 abbrev two_on : (ℕ → Seen) → Word
 two_on seen = seen 3 ∷ seen 4 ∷ seen 5 ∷ seen 6 ∷ seen 7 ∷ seen 8 ∷ seen 1 ∷ seen 2 ∷ []
 
@@ -116,7 +116,7 @@ module _ (letters : List Seen) (steps : List ℕ) (t corner : ℕ) (are : AreSte
       ∙ ap (λ w. 65536 * letter_number (seen 0) + word_number w) (sym (word-eight seen) ∙ ring_by_steps)
       ∙ ap (λ x. 65536 * letter_number x + word_number (letters_around letters t corner)) anchor_by_steps
 
--- so it is where the ring is turned
+-- an opening under t is found by the turned ring
 pub opening_turned : (letters : List Seen) (steps : List ℕ) (t : ℕ) (w : Walk) (anchor : Seen) (ring : Ring)
     → t < transformations → AreSteps t steps → anchor ≡ get_or letters (w.corner + no_step) Off
     → ring ≡ ring_of letters w

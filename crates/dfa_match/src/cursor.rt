@@ -15,7 +15,7 @@ pub struct Cursor {
 }
 
 impl Cursor {
-    /// That of the first point.
+    /// The cursor at the first point.
     pub fn first() -> Cursor
         ensures { (size : ℕ) → 0 < size → result ≡ cursor_at size 0 }
     {
@@ -25,7 +25,7 @@ impl Cursor {
         }
     }
 
-    /// That of the next point.
+    /// The cursor at the next point.
     pub fn next(self, size: Size) -> Cursor
         requires column { self.column < size }
         requires corner { self.corner ≤ last_corner }

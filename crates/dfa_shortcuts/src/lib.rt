@@ -26,9 +26,9 @@ use std::alloc::Global;
 #[derive(Drop)]
 pub struct Shortcuts {
     /// For each row and letter, in the order of the automaton's entries, the entry of the row behind the letter and
-    /// those that are passed over.
+    /// the letters that are passed over.
     pub entries: Vec<u32>,
-    /// For each of these, how many letters are passed over behind the one that is read.
+    /// For each row and letter, how many letters are passed over behind the letter that is read.
     pub passed: Vec<u8>,
     /// By the numbers of openings, the entries of the rows behind them. It has none for a small automaton.
     pub openings: Vec<u32>,

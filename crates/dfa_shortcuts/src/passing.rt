@@ -50,8 +50,8 @@ fn lengthen(from: &[u32], entries: &mut [u32], passed: &mut [u8], place: usize)
     passed[place] = letters + 1;
 }
 
-/// Makes all shortcuts longer, from the last one on: most letters lead to a row behind, whose own are then as long as
-/// they become.
+/// Makes all shortcuts longer, from the last one on: most letters lead to a row further back, whose shortcuts are final
+/// then.
 pub fn lengthen_all(from: &[u32], entries: &mut [u32], passed: &mut [u8])
     requires rows { HaveRows from.now }
     requires entries { length entries.old ≡ length from.now }

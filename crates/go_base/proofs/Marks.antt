@@ -23,7 +23,7 @@ pub contains-marked : (words : List ℕ) (q : ℕ)
 unfolding marked
 contains-marked words q = contains-set_below largest_points (is_marked words) q
 
--- it has no more members than the largest board has points
+-- the set of marked points has no more members than the largest board has points
 pub len-marked : (words : List ℕ) → sets.len (marked words) ≤ largest_points
 unfolding marked
 len-marked words = rw (len-set_below largest_points (is_marked words))

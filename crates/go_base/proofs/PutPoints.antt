@@ -1,4 +1,4 @@
--- The same put on points one by one.
+-- One cell put on the points of a set, one by one.
 use Rattle.std.proofs.Common.{◌≡◌, ℕ, ◌+◌, ◌<◌, ◌≤◌, true, false, cond, List, length, map, refl, sym, ap, arith, inl}
 use Rattle.std.proofs.Common.{inr, ◌∙◌, get_or-set_same, get_or-set_other}
 use Rattle.std.proofs.Math.ListN.{set}
@@ -44,7 +44,7 @@ PutOn-hit cell points old new n h i t = record {
   rest = λ k l. get_or-set_other new n k cell Empty (λ e. omega arith) ∙ h.rest k (omega arith);
 }
 
--- it was put on the next member
+-- after the put on the next member, the cell stands on each member up to it
 pub PutOn-next : (cell : Cell) (points : sets.FinSet nat_cmp) (old new : List Cell) (n m : ℕ) → n ≤ m
     → PutOn cell points old new n → ((k : ℕ) → n ≤ k → k < m → sets.contains points k ≡ false)
     → m < length new → sets.contains points m ≡ true → PutOn cell points old (set new m cell) (m + 1)

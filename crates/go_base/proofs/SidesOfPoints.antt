@@ -149,7 +149,7 @@ neighbour_at-all s p q h k n = elim (next_cases s p q n) [
 pub square_small : (s : ℕ) → s ≤ largest_size → s * s ≤ largest_points
 square_small s h = mul-le s s largest_size largest_size h h
 
--- The same with the bound of the largest board, where the code has t for s.
+-- q is a neighbour of p on a board of size s, and a point of the largest board.
 abbrev pub IsNear : ℕ → ℕ → ℕ → Type 0
 IsNear s p q = (q < s * s) × (q < largest_points) × (are_neighbours s p q ≡ true)
 

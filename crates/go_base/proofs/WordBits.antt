@@ -14,7 +14,7 @@ use Rattle.go_base.specs.Bits.{is_marked}
 abbrev pub without_lowest : ℕ → ℕ
 without_lowest word = bit_and word (word - 1)
 
--- it is less
+-- a word without its lowest bit is less
 pub without_lowest-lt : (word : ℕ) → 0 < word → without_lowest word < word
 without_lowest-lt word some = let most : without_lowest word ≤ word - 1 = and_le_r word (word - 1) in
     omega (arith, most, some)

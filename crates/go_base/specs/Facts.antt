@@ -22,7 +22,7 @@ IsFactOf pos (SizeIs n) = pos.size ≡ n
 IsFactOf pos (CellIs p cell) = cell_at pos.cells p ≡ cell
 IsFactOf pos (BanIs p c forbidden) = is_banned pos.ban c p ≡ forbidden
 
--- it is a position, and each fact seen is so on it
+-- pos is a position, and each fact seen is so on it
 pub record Agrees (seen : Fact → Bool) (pos : BoardState) : Type 0 where
   pub sound : IsPosition pos
   pub each : (fact : Fact) → IsTrue (seen fact) → IsFactOf pos fact

@@ -177,8 +177,8 @@ impl PointBits {
         Some(word * WORD_BITS + lowest_bit(self.words[word as usize], 0))
     }
 
-    /// The least point from `first` on whose bit is set, None exactly where there is none. Of the words, `used` notes
-    /// those that have a bit, and the others are passed over.
+    /// The least point from `first` on whose bit is set, None exactly if there is none. `used` notes which words have a
+    /// bit; the other words are passed over.
     pub(crate) fn first_in_use(&self, used: u16, first: u16) -> Option<Point>
         requires { IsNoteOf self.now used }
         ensures some { IfSome result (λ q. (first ≤ q) × (q < largest_points) × IsTrue (is_marked self.now q)

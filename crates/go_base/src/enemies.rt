@@ -17,7 +17,7 @@ pub(crate) trait Enemies {
     /// Whether they are asked for.
     ghost asked: { Bool };
 
-    /// Those that were put there so far.
+    /// The enemy stones that were put there so far.
     ghost met: { Self → set.FinSet nat_cmp };
 
     /// Puts the enemy at r there, where enemies are asked for.

@@ -18,7 +18,7 @@ whole_from low high = parser.Signed (pos low) (pos high)
 abbrev pub option_rule : Text → ValueParser → Rule
 option_rule name values = record (new_rule name) { long = Some name; action = Some Set; parser = Some values }
 
--- the same with a value that stands where the option does not
+-- the rule of an option with a value, and the value that stands if the option is not given
 abbrev pub default_rule : Text → ValueParser → Text → Rule
 default_rule name values text = record (option_rule name values) { defaults = text ∷ [] }
 

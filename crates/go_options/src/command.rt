@@ -21,7 +21,7 @@ fn option<'a>(alloc: Global, name: &'a str, values: ValueParser<'a>) -> Arg<'a>
         .value_parser(values)
 }
 
-/// The same with a value that stands where the option does not.
+/// An option with a value, and the value that stands if the option is not given.
 fn option_or<'a>(alloc: Global, name: &'a str, values: ValueParser<'a>, text: &'a str) -> Arg<'a>
     ensures rule { rule_of result ≡ default_rule name.entry.now values.entry text.entry.now }
     ensures local { result.global ≡ false }

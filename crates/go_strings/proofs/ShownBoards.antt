@@ -10,7 +10,7 @@ use Rattle.go_strings.proofs.PlayAnswers.{kept_reached}
 pub shown : (a : Inside) (game : BoardGame) → IsStringBoard a → game_of a ≡ game → reached game ≡ position_in a.present
 shown a game kept view = ap reached (sym view) ∙ kept_reached a kept
 
--- it is a position
+-- what a string board shows is a position
 pub shown_sound : (a : Inside) (game : BoardGame) → IsStringBoard a → game_of a ≡ game → IsPosition (reached game)
 shown_sound a game kept view = subst IsPosition (sym (shown a game kept view)) kept.sound.holds.position
 

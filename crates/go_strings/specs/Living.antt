@@ -14,7 +14,7 @@ abbrev pub IsAlive : ℕ → List Cell → Colour → ℕ → Type 0
 IsAlive s cells c p = ((l : ℕ) × (set.contains (liberty_points s (slice_set cells p (stone_of c)) p) l ≡ true))
     ⊎ ((q : ℕ) × (set.contains (taken_at s (slice_set cells p (stone_of c)) c) q ≡ true))
 
--- it has no liberty and, where all that it takes hangs on its sides, takes no stone
+-- the stone that c puts at p has no liberty; if all that is taken hangs on its sides, it takes no stone
 pub record IsDead (s : ℕ) (cells : List Cell) (c : Colour) (p : ℕ) : Type 0 where
   pub no_liberty : liberty_points s (slice_set cells p (stone_of c)) p ≡ set.empty
   pub none_taken : TakenBeside s (slice_set cells p (stone_of c)) c p

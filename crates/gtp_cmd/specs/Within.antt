@@ -28,7 +28,7 @@ IsWithin s (command.Disconnect p q) = (p < s * s) × (q < s * s)
 IsWithin s (command.CheckProof attack target code tokens) = (target < s * s) × (code ≤ greatest_code)
 IsWithin s _ = Unit {0}
 
--- the same of a command that a line says
+-- what a line says: if it is a command, its points, depths and code are within their ranges
 abbrev pub SaysWithin : ℕ → Parsed → Type 0
 SaysWithin s (parsed.Command id command) = IsWithin s command
 SaysWithin s _ = Unit {0}
@@ -42,7 +42,7 @@ IsWithinLine line (command.HelperDrop name) = IsSpanOf line name
 IsWithinLine line (command.CheckProof attack target code tokens) = IsSpanOf line tokens
 IsWithinLine line _ = Unit {0}
 
--- the same of a command that the line says
+-- what a line says: if it is a command, its spans lie within the line
 abbrev pub SaysWithinLine : List ℕ → Parsed → Type 0
 SaysWithinLine line (parsed.Command id command) = IsWithinLine line command
 SaysWithinLine line _ = Unit {0}

@@ -42,7 +42,7 @@ pub fn success(id: Option<u32>, text: &[u8], mut out: Bytes) -> Result<Bytes, No
     Ok(out)
 }
 
-/// The same success for a result of at most 32 bytes. Takes no memory.
+/// The success of a command, with a result of at most 32 bytes. Takes no memory.
 pub fn short(id: Option<u32>, text: &[u8]) -> Short
     requires { length text.now ≤ result_room }
     ensures { result ≡ success_text id text.now }

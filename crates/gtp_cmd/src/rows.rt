@@ -203,7 +203,7 @@ fn first_command(rows: &[Row], word: &[u8]) -> Option<CommandName>
     }
 }
 
-/// The same, by rows as the definitions have them.
+/// The command of a word in a table of rows, None if no row has the word.
 fn command_in(rows: &[Row], word: &[u8]) -> Option<CommandName>
     requires { list_all is_plain rows.now ≡ true }
     ensures { result ≡ command_in (map row_seen rows.now) (kept word.now) }

@@ -70,7 +70,7 @@ impl<'a, R: Files> FileLoader<'a, R> {
         FileLoader::up_to(alloc, files, LONGEST_FILE)
     }
 
-    /// The same with a smaller number of bytes.
+    /// A loader of the files that takes at most `most` bytes of each.
     pub fn up_to(alloc: Global, files: &'a R, most: usize) -> FileLoader<'a, R>
         requires { most ≤ longest_file }
         ensures { result ≡ record { most = most; missed = [] } }

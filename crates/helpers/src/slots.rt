@@ -85,7 +85,7 @@ impl Helpers {
         }
     }
 
-    /// The same, with the allocator's own error.
+    /// The helpers of a list, each switched on, or the error of the allocator.
     fn all_on(alloc: Global, list: Vec<Box<dyn Helper>>) -> Result<Helpers, AllocError>
         ensures { IfOk result
             (λ helpers. helpers.slots.items ≡ map (λ b. record { helper = b; on = true }) list.items) }

@@ -56,8 +56,8 @@ unfoldable pub is_rescue : ℕ → List Cell → ℕ → ℕ → Bool
 is_rescue s cells target p =
     any_below (s * s) (λ r. is_ally few_of_attacker s cells target r && is_only_liberty s cells r p)
 
--- q is a stone of the target's colour next to a liberty of the target, its string is another than the target's, and
--- this has at most four liberties
+-- q is a stone of the target's colour next to a liberty of the target; its string is another than the target's and has
+-- at most four liberties
 unfoldable pub is_linked : ℕ → List Cell → ℕ → ℕ → Bool
 is_linked s cells target q =
     ((same_cell (cell_at cells q) (cell_at cells target)

@@ -15,7 +15,7 @@ returns-clause-same c =
     length-inside c.args.p.now c.from-k.result ((2 * c.from-k.result + 1) * (2 * c.from-k.result + 1))
     (reach (goal.at.returns-clause-same c).After-from-k) refl
 
--- it is at most that of all offsets
+-- the number of letters is at most that of all offsets
 pub returns-clause-bound : goal.returns-clause-bound
 returns-clause-bound c =
     let few : 2 * c.from-k.result + 1 ≤ 2 * largest_offset + 1 =

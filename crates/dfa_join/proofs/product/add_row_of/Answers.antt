@@ -24,7 +24,7 @@ row_of c = record {
   depth = c.max-depth.result;
 }
 
--- it is that of the pair
+-- the row that is added is the row of the pair
 is_row : (c : In-Ok) → IsRowOf c.args.a.now c.args.b.now c.expand.new.pairs c.args.pair (row_of c)
 is_row c = record {
   leads = c.in_ok-targets.ensures.leads;

@@ -17,12 +17,12 @@ none = record { entry = 0; letters = 0; corner = 0 }
 on : (c : In-walks) → c.walks.index < length c.args.walks.now
 on c = omega (arith, c.walks-test.true, c.walks.auto.walks, c.walks.invariant.long)
 
--- it was not changed before
+-- the walk at the index was not changed before
 is_walk : (c : In-walks) → get_or c.walks.walks c.walks.index none ≡ get_or c.args.walks.now c.walks.index none
 is_walk c = same_next c.args.walks.now c.walks.walks c.walks.index none c.walks.invariant.rest
     c.walks.invariant.long (on c)
 
--- it reads on the padded board
+-- the walk at the index reads on the padded board
 pub behind_opening-next-requires-clause-corner : goal.behind_opening-next-requires-clause-corner
 behind_opening-next-requires-clause-corner c =
     let at = (goal.at.behind_opening-next-requires-clause-corner c).In-walks in

@@ -39,7 +39,7 @@ next_same f xs ys i x low is =
 abbrev none : Walk
 none = record { entry = 0; letters = 0; corner = 0 }
 
--- it has read as few letters as it had at first
+-- the next walk has read as few letters as it had at first
 next_few : (f : Walk → Walk) (xs ys : List Walk) (i n : ℕ) → i < length xs → ys ≡ map f (take i xs) ++ drop i xs
     → All (λ w. w.letters < n) xs → (get_or ys i none).letters < n
 next_few f xs ys i n low is read =

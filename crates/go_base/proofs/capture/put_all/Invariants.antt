@@ -5,7 +5,7 @@ use Rattle.go_base.specs.Views.{nowhere}
 use Rattle.go_base.proofs.PutPoints.{PutOn}
 use Rattle.go_base.proofs.capture.put_all.Given as goal
 
--- it was put on the members below the next point
+-- the cell was put on the members below the next point
 abbrev pub invariant-loop-q : goal.invariant-loop-q
 invariant-loop-q g l = record {
   asks : g.V.View.asks l.initial.board l.board nowhere;

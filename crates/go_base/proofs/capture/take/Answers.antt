@@ -83,7 +83,7 @@ returns-in-Some-clause-over g c = λ pos a whole.
     (sym c.in-Some.is ∙ told (ap is_stone enemy ∙ stone_is (other c.args.c))) in
     rw taken.0 (c.join.ensures ∙ ap (set.union c.args.taken.now) taken.1)
 
--- they lie on the board
+-- the points that are taken lie on the board
 pub returns-in-Some-clause-on_board : goal.returns-in-Some-clause-on_board
 returns-in-Some-clause-on_board g c = λ r h.
     elim (or_cases _ _ (sym (ap (λ t. set.contains t r) c.join.ensures

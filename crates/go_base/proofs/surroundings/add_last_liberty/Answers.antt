@@ -9,7 +9,7 @@ use Rattle.go_base.proofs.surroundings.add_last_liberty.Goals as goal
 pub returns-then-has-clause-looks : goal.returns-then-has-clause-looks
 returns-then-has-clause-looks g c = Looks-none g.met.V.View.asks_none _ _
 
--- it looked at nothing
+-- nothing was looked at
 pub returns-then-has-clause-near : goal.returns-then-has-clause-near
 returns-then-has-clause-near g c = λ pos a. g.met.V.View.asks_none _ _
 

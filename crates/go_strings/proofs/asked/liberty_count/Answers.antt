@@ -7,7 +7,7 @@ use Rattle.go_strings.specs.Stands.{cells_of}
 use Rattle.go_strings.proofs.Outcomes.{liberties-none}
 use Rattle.go_strings.proofs.asked.liberty_count.Goals as goal
 
--- those of the string that is kept
+-- the liberties that are counted are those of the string that is kept
 pub returns-in-Some : goal.returns-in-Some
 returns-in-Some c = c.count.ensures ∙ ap sets.len c.in-Some.ensures.liberties
     ∙ len-liberty_points c.args.now.now.board.size (cells_of c.args.now.now.board) c.args.p

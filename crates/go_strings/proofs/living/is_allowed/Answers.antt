@@ -33,7 +33,7 @@ is_alive-requires-clause-put c =
     puts_of c.args.now.now c.args.now.now.names c.args.strings.now c.args.c c.args.p c.requires.stands
     c.requires.on_board (sym (stone_was at.After-ne) ∙ c.if-ne.false)
 
--- it lives exactly where the play is legal
+-- the stone that is played lives exactly if the play is legal
 pub returns : goal.returns
 returns c =
     let at = goal.at.returns c in

@@ -10,7 +10,7 @@ returns-then-count-eq-IN_ATARI-clause-over g c = λ pos a p.
     c.some_liberties-liberties.result c.args.found.now c.join.new.self
     (c.some_liberties-liberties.ensures.over pos a) c.count.ensures.value c.if-count-eq-IN_ATARI.true c.join.ensures
 
--- it has not just one
+-- the string has not just one liberty
 pub returns-else-count-eq-IN_ATARI-clause-over : goal.returns-else-count-eq-IN_ATARI-clause-over
 returns-else-count-eq-IN_ATARI-clause-over g c = λ pos a p.
     other_liberties pos.size (after pos c.args.board.now.moves).cells c.args.r c.count.result p

@@ -32,7 +32,7 @@ one_depth : (c : After-push_reserved-3)
 one_depth c = c.push_reserved-2.ensures.items
     ∙ ap (λ xs. xs ++ c.args.depth ∷ []) c.in_ok-make_room.ensures.depths
 
--- it comes behind the others, and the lists belong together still
+-- the row comes behind the others, and the lists still belong together
 grown : (c : After-push_reserved-3)
     → (rows_in (new_table c) ≡ rows_in (old_table c) ++ row_of c ∷ []) × IsFlat (new_table c)
 grown c =

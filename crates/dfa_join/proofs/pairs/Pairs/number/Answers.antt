@@ -10,7 +10,7 @@ list_is : (c : After-push_reserved)
     → c.push_reserved.new.self.items ≡ c.self.inside.list.items ++ c.args.pair ∷ []
 list_is c = c.push_reserved.ensures.items ∙ ap (λ pairs. pairs ++ c.args.pair ∷ []) c.reserve.ensures.items
 
--- it was not there, so its number is the count of those before
+-- the pair was not in the list, so its number is the count of the pairs before it
 adds : (c : After-push_reserved) → Adds c.args.limit c.self.inside.list.items
     (c.self.inside.list.items ++ c.args.pair ∷ []) c.args.pair (length c.self.inside.list.items)
 adds c =

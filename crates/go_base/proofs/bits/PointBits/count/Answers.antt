@@ -16,7 +16,7 @@ pub loop-i-preserved : goal.loop-i-preserved
 loop-i-preserved c = counted_next c.self.inside.words c.loop-i.i c.loop-i.count c.ones_of-count.result
     c.loop-i.invariant c.ones_of-count.ensures
 
--- those of all words
+-- the bits of all words are counted
 pub returns : goal.returns
 returns c =
     counted_all c.self.inside.words c.loop-i.i c.loop-i.count (omega (arith, c.loop-i-test.false))

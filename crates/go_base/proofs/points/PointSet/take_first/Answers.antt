@@ -10,11 +10,11 @@ member : (c : In-Some) → set.contains c.args.self.now c.in-Some.q ≡ true
 member c = ap (λ s. set.contains s c.in-Some.q) (sym c.self.view_is)
     ∙ contains-small c.self.inside.bits c.in-Some.q c.in-Some.ensures.some.0 ∙ c.in-Some.ensures.some.1
 
--- it can be taken out
+-- the point that was found is a member, so it can be taken out
 pub take-requires-clause-member : goal.take-requires-clause-member
 take-requires-clause-member c = member (goal.at.take-requires-clause-member c).In-Some
 
--- it was a member, and was taken out
+-- the point that was found was a member, and was taken out
 pub returns-clause-some : goal.returns-clause-some
 returns-clause-some c =
     (c.in-Some.ensures.some.0, member (goal.at.returns-clause-some c).In-Some, c.take.ensures)
