@@ -164,12 +164,3 @@ noted_passed words n used none is = record {
   ];
   only = λ i h. let before = is.only i h in (omega (arith, before.0), before.1);
 }
-
--- all words were looked at, and each point that is marked is one of the largest board
-pub noted_all : (words : List ℕ) (n used : ℕ) → n ≡ set_words
-    → ((q : ℕ) → is_marked words q ≡ true → q < largest_points) → IsNoteBelow words n used → IsNoteOf words used
-noted_all words n used all on is = record {
-  on_board = on;
-  noted = λ q h. is.noted q (let low = on q h in omega (arith, all, low)) h;
-  only = λ i h. (is.only i h).1;
-}

@@ -43,50 +43,8 @@ pub record IsMadeBelow (test : Bool → Bool → Bool) (old more : List ℕ) (n 
   pub made : (q : ℕ) → q / 64 < n → is_marked new q ≡ test (is_marked old q) (is_marked more q)
   pub rest : (j : ℕ) → n ≤ j → get_or new j 0 ≡ get_or old j 0
 
--- no word is made yet
-pub made_none : (test : Bool → Bool → Bool) (old more : List ℕ) → length old ≡ set_words
-    → IsMadeBelow test old more 0 old
-made_none test old more ten = record { length = ten; made = λ q h. absurd (omega (arith, h)); rest = λ j h. refl }
-
--- word n is made of the two
-pub made_next : (test : Bool → Bool → Bool) (old more new : List ℕ) (n word : ℕ) → n < set_words
-    → ((k : ℕ) → k < 64 → eqb (bit_at word k) 1
-    ≡ test (eqb (bit_at (get_or new n 0) k) 1) (eqb (bit_at (get_or more n 0) k) 1))
-    → IsMadeBelow test old more n new → IsMadeBelow test old more (n + 1) (set new n word)
-made_next test old more new n word on made h = record {
-  length = length-set new n word ∙ h.length;
-  made = λ q below. elim (cases_eq (q / 64) n) [
-    | inl e ↦ here q e
-    | inr ne ↦ ap (λ w. eqb (bit_at w (q % 64)) 1) (get_or-set_other new n (q / 64) word 0 ne)
-        ∙ h.made q (omega (arith, below, ne))
-  ];
-  rest = λ j above.
-      let ne : j ≡ n → ⊥ = λ e. omega (arith, above, e) in
-      get_or-set_other new n j word 0 ne ∙ h.rest j (omega (arith, above));
-}
-  where
-    here : (q : ℕ) → q / 64 ≡ n → is_marked (set new n word) q ≡ test (is_marked old q) (is_marked more q)
-    here q e =
-        rw e (ap (λ w. eqb (bit_at w (q % 64)) 1) (get_or-set_same new n word 0 (omega (arith, h.length, on)))
-        ∙ made (q % 64) (omega arith)
-        ∙ ap (λ w. test (eqb (bit_at w (q % 64)) 1) (eqb (bit_at (get_or more n 0) (q % 64)) 1))
-        (h.rest n (omega arith)))
-
 -- no point past the last word is marked
 none_past : (words : List ℕ) (q : ℕ) → length words ≡ set_words → set_words ≤ q / 64 → is_marked words q ≡ false
 none_past words q ten g =
     ap (λ w. eqb (bit_at w (q % 64)) 1) (get_or-eq_default words 0 (omega (arith, ten, g)))
     ∙ ap (λ n. eqb n 1) (bit_at-zero (q % 64))
-
--- all words are made
-pub made_all : (test : Bool → Bool → Bool) (old more new : List ℕ) (n : ℕ) → n ≡ set_words → length old ≡ set_words
-    → length more ≡ set_words → test false false ≡ false → IsMadeBelow test old more n new
-    → (q : ℕ) → is_marked new q ≡ test (is_marked old q) (is_marked more q)
-made_all test old more new n all ten others off h q = elim (cases_lt (q / 64) n) [
-  | inl l ↦ h.made q l
-  | inr g ↦
-      let past : set_words ≤ q / 64 = omega (arith, all, g) in
-      none_past new q h.length past ∙ sym off
-      ∙ ap (λ b. test b false) (sym (none_past old q ten past))
-      ∙ ap (λ b. test (is_marked old q) b) (sym (none_past more q others past))
-]

@@ -125,23 +125,6 @@ pub record IsSetTo (s : ℕ) (black white : sets.FinSet nat_cmp) (n : ℕ) (cell
   pub filled : (k : ℕ) → k < n → cell_at cells k ≡ cell_among black white k
   pub padded : drop (s * s) cells ≡ padding s
 
--- one cell more
-pub IsSetTo-more : {s : ℕ} {black white : sets.FinSet nat_cmp} {n : ℕ} {cells : List Cell}
-    → IsSetTo s black white n cells → n < s * s → s ≤ largest_size
-    → IsSetTo s black white (n + 1) (set cells n (cell_among black white n))
-IsSetTo-more {s} {black} {white} {n} {cells} h on small =
-    let few = square_small s small in
-    record {
-      whole = length-set cells n (cell_among black white n) ∙ h.whole;
-      filled = λ k below. elim (cases_eq k n) [
-        | inl e ↦ subst (λ q. cell_at (set cells n (cell_among black white n)) q ≡ cell_among black white q) (sym e)
-            (get_or-set_same cells n (cell_among black white n) Empty (omega (arith, h.whole, few, on)))
-        | inr ne ↦ get_or-set_other cells n k (cell_among black white n) Empty ne
-            ∙ h.filled k (omega (arith, below, ne))
-      ];
-      padded = drop-set-lt (s * s) cells n (cell_among black white n) on ∙ h.padded;
-    }
-
 -- all cells of the board
 pub IsSetTo-all : {s : ℕ} {black white : sets.FinSet nat_cmp} {cells : List Cell}
     → IsSetTo s black white (s * s) cells → s ≤ largest_size → take (s * s) cells ≡ cells_with s black white

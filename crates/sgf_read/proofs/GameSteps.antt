@@ -113,10 +113,6 @@ pub set_end : (s : ℕ) (cells : List Cell) (us : List Use) → us ≡ [] → ce
 unfolding cells_after_uses
 set_end s cells us e = ap (cells_after_uses s cells) e
 
--- a node without setup leaves the position
-pub setup_idle : (pos : BoardState) (us : List Use) → list_any is_setup us ≡ false → after_setup pos us ≡ Ok pos
-setup_idle pos us e = rw e refl
-
 -- a node with setup leads to the position with its cells
 pub setup_made : (pos : BoardState) (us : List Use) (s points : ℕ) (board : Flat) (cells : List Cell)
     → list_any is_setup us ≡ true → s ≡ pos.size → points ≡ s * s → Holds pos board

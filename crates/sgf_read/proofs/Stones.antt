@@ -94,9 +94,3 @@ setup_answers s cells r long e =
           ∙ setup_done s (stones_in cells Black) (stones_in cells White) (apart s cells long)
           (ap (has_dead_string s) (sym again) ∙ alive) ∙ sym e) (rw alive refl)
     ]
-
--- the cells of a board are as many as its points
-pub cells_length : (s points : ℕ) (cells board : List Cell) → length cells ≡ length (take points board)
-    → length board ≡ largest_points → points ≤ largest_points → points ≡ s * s → length cells ≡ s * s
-cells_length s points cells board same whole few is =
-    same ∙ (length-take-le points board (omega arith) ∙ is)
