@@ -98,7 +98,7 @@ apart_gives : (link : Link) (here : BoardState) → link.a < here.size * here.si
 apart_gives link here a_on undecided joined = both_ways (is_one_string link here) undecided.apart
     (is_is_in_string-from_fact here.size here.cells link.a link.b a_on joined)
 
--- where both strings stand and no path joins them, the node is undecided
+-- if both strings stand and no path joins them, the node is undecided
 undecided_from : (link : Link) (here : BoardState) → BothStand link here
     → (IsInString here.size here.cells link.a link.b → ⊥) → IsUndecided link here
 undecided_from link here stand apart =

@@ -104,7 +104,7 @@ near_end : (link : Link) (pos : BoardState) (x p : ℕ) → IsEnd link x → IsI
 near_end link pos x p (inl e) w = by_a (subst (λ y. IsInReach link pos y p) e w)
 near_end link pos x p (inr e) w = by_b (subst (λ y. IsInReach link pos y p) e w)
 
--- The looks at a node of the tree where both strings stand, on a board of size s.
+-- The looks at a node of the tree if both strings stand, on a board of size s.
 module _ (q : LinkQuestion) (root here : BoardState) (n : ℕ) (own : Bool) (tree : IsNodeOf q root n own here)
     (s : ℕ) (size : here.size ≡ s) (a_on : q.a < s * s) (b_on : q.b < s * s)
     (stand : both_stand (link_of q) here ≡ true) where

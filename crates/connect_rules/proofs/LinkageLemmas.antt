@@ -27,7 +27,7 @@ or_true : (b : Bool) → (b || true) ≡ true
 or_true true = refl
 or_true false = refl
 
--- there is a least number that passes exactly where one passes
+-- there is a least number that passes exactly if one passes
 pub first_any : (n : ℕ) (test : ℕ → Bool) → is_some (at_point (first_below n test)) ≡ any_below n test
 first_any zero test = refl
 first_any (suc n) test = elim (cases_Bool (any_below n test)) [
@@ -69,7 +69,7 @@ attained_by : (kind : LinkKind) (n : ℕ) (link : Link) (pos : BoardState) → b
 attained_by Connect n link pos stand apart = connect_apart n link pos stand apart
 attained_by Disconnect n link pos stand apart = disconnect_apart n link pos stand apart
 
--- a question about strings that are apart is attained exactly where it has a first move
+-- a question about strings that are apart is attained exactly if it has a first move
 pub attained_apart : (q : LinkQuestion) (pos : BoardState) → q.plies ≢ 0 → both_stand (link_of q) pos ≡ true
     → is_one_string (link_of q) pos ≡ false → is_attained q pos ≡ is_some (first_move_of q pos)
 attained_apart q pos some stand apart =
@@ -104,11 +104,11 @@ linkage_another q pos f = linkage_by q pos false (rw f refl)
 yes_about : (q : LinkQuestion) (pos : BoardState) → is_about q pos ≡ true → is_yes q pos ≡ is_attained q pos
 yes_about q pos t = rw t refl
 
--- the answer is yes where the question is attained
+-- the answer is yes if the question is attained
 pub yes_of : (q : LinkQuestion) (pos : BoardState) → is_about q pos ≡ true → (linkage_of q pos).yes ≡ is_attained q pos
 yes_of q pos t = ap (λ (x : Linkage). x.yes) (linkage_by q pos (is_attained q pos) (yes_about q pos t))
 
--- a move where it is there, and else none, is the move
+-- a move if it is there, and else none, is the move
 if_some : (move : Option Spot) → cond (is_some move) move None ≡ move
 if_some None = refl
 if_some (Some spot) = refl

@@ -73,7 +73,7 @@ pub connects-other : (n : ℕ) (link : Link) (pos : BoardState) → both_stand l
 unfolding can_connect
 connects-other n link pos h apart = rw (h, apart) refl
 
--- a move that passes a test, where some does
+-- a move that passes a test, if some does
 pub some_move_gives : (test : BoardState → Bool) (link : Link) (own : Bool) (pos : BoardState)
     → some_move_to test link own pos ≡ true
     → (p : ℕ) × ((new : BoardState) × (IsMove link own pos p new × (test new ≡ true)))
@@ -90,7 +90,7 @@ some_move_from test link own pos p new w h =
     any_below_from (pos.size * pos.size) (is_move_to test link own pos) p (move_on link pos p w.connecting)
     (and_from _ _ w.connecting (leads_from test (play pos (mover_of link own) p) new w.legal h))
 
--- the strings are apart by the test where no path joins them
+-- the strings are apart by the test if no path joins them
 pub apart_from : (link : Link) (pos : BoardState) → (IsInString pos.size pos.cells link.a link.b → ⊥)
     → is_one_string link pos ≡ false
 apart_from link pos h = elim (cases_Bool (is_one_string link pos)) [

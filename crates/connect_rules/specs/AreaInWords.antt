@@ -41,7 +41,7 @@ pub record IsByPass (side : Bool) (there here : BoardState) : Type 0 where
   pub passed : here ≡ pass there
 
 -- a connecting move of the side to play, or the other colour's pass, leads to the node from one of the question with a
--- ply more, where both strings stand and are not one
+-- ply more, if both strings stand and are not one
 pub record IsNextOf (q : LinkQuestion) (pos : BoardState) (n : ℕ) (own : Bool) (here : BoardState) : Type 0 where
   pub side : Bool
   pub there : BoardState

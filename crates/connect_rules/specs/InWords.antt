@@ -44,7 +44,7 @@ pub record Succeeds (n : ℕ) (link : Link) (own : Bool) (pos : BoardState) (p :
   pub move : IsMove link own pos p new
   pub attains : IsTrue (has_way own (can_connect n link (not own) new))
 
--- p is the first point in reading order that succeeds, where the pass does not attain what is asked
+-- p is the first point in reading order that succeeds, if the pass does not attain what is asked
 pub record IsFirstPoint (q : LinkQuestion) (pos : BoardState) (p : ℕ) : Type 0 where
   pub no_pass : pass_attains q pos ≡ false
   pub succeeds : Succeeds (q.plies - 1) (link_of q) (is_connect q.kind) pos p

@@ -46,7 +46,7 @@ first_move_of q pos = if pass_attains q pos then Some Pass
 abbrev pub is_yes : LinkQuestion → BoardState → Bool
 is_yes q pos = is_about q pos && is_attained q pos
 
--- the answer to the question on the position; no where it is about another one
+-- the answer to the question on the position; no if it is about another one
 unfoldable pub linkage_of : LinkQuestion → BoardState → Linkage
 linkage_of q pos = record { yes = is_yes q pos; at = if is_yes q pos then first_move_of q pos else None }
 

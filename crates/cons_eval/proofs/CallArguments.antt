@@ -20,7 +20,7 @@ only_on_board s point [] a e h = cc
 only_on_board s point (x ∷ []) a e h = on_board_at s (point x) a e (first_of (is_on_board s (point x)) true h)
 only_on_board s point (x ∷ y ∷ more) a e h = cc
 
--- where both points are there, each is
+-- if both points are there, each is
 both_at : (o p : Option ℕ) (a b : ℕ) → both_points o p ≡ Some (a, b) → (o ≡ Some a) × (p ≡ Some b)
 both_at None p a b e = cc
 both_at (Some x) None a b e = cc

@@ -78,7 +78,7 @@ value_of_sides m e left right op a b x y q r p h k =
     ap (λ (z : ℤ). joined_value op z y) (h ∙ ap (value_of m) q)
     ∙ (ap (joined_value op (value_of m a.value)) (k ∙ ap (value_of m) r) ∙ sym (ap (value_of m) p))
 
--- where the right side is not needed, the left one decides
+-- if the right side is not needed, the left one decides
 left_decides : (op : Op) (x y : ℤ) → needs_right op x ≡ false → worth (is_so x) ≡ joined_value op x y
 left_decides Or x y h = or_decides (is_so x) (is_so y) h
   where

@@ -65,7 +65,7 @@ readings_of_sides m e left right op a b x q r p h n =
     ∙ (with_right (needs_right op (value_of m a.value)) (readings_of m a.value) (readings_of m b.value)
     (ap (needs_right op) same ∙ n) ∙ sym (ap (readings_of m) p)))
 
--- where the right side is not needed, they ask for those of the left one
+-- if the right side is not needed, they ask for those of the left one
 pub readings_of_left : (m : Meanings) (e left : Expr) (op : Op) (a b : Box Expr Global) (x : ℤ) → left ≡ a.value
     → e ≡ Bin op a b → x ≡ value_of m left → needs_right op x ≡ false → readings_of m left ≡ readings_of m e
 unfolding readings_of

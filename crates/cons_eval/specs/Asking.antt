@@ -37,7 +37,7 @@ is_reading (OfPair f) = is_pair_reading f
 is_reading (OfPoints f) = false
 is_reading (OfMoves f) = true
 
--- the right side is needed, where this is the value of the left one
+-- the right side is needed, if this is the value of the left one
 abbrev pub needs_right : Op → ℤ → Bool
 needs_right Or x = not (is_so x)
 needs_right And x = is_so x

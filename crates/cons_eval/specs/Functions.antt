@@ -16,7 +16,7 @@ use Rattle.read_rules.specs.declared.question.Kind.{Kind}
 use Rattle.read_rules.specs.declared.question.Kind.TheVariants.{Attack, Defend}
 use Rattle.cons_eval.specs.Readings.{Codes, code_at}
 
--- what f says of the position after a play, and d where the play is illegal
+-- what f says of the position after a play, and d if the play is illegal
 abbrev pub after_play : {A : Type 0} → A → (BoardState → A) → Result BoardState Illegal → A
 after_play d f (Ok next) = f next
 after_play d f (Err e) = d
@@ -25,15 +25,15 @@ after_play d f (Err e) = d
 abbrev pub lib : BoardState → ℕ → ℕ
 lib pos a = liberties pos.size pos.cells a
 
--- how many liberties the string of the stone has that c plays at a, 0 where the play is illegal
+-- how many liberties the string of the stone has that c plays at a, 0 if the play is illegal
 unfoldable pub liberties_after : BoardState → Colour → ℕ → ℕ
 liberties_after pos c a = after_play 0 (λ next. liberties next.size next.cells a) (play pos c a)
 
--- how many liberties the string of the enemy's stone has after a play at a, 0 where the play is illegal
+-- how many liberties the string of the enemy's stone has after a play at a, 0 if the play is illegal
 abbrev pub xlib : BoardState → Colour → ℕ → ℕ
 xlib pos friend a = liberties_after pos (other friend) a
 
--- how many liberties the string of the friend's stone has after a play at a, 0 where the play is illegal
+-- how many liberties the string of the friend's stone has after a play at a, 0 if the play is illegal
 abbrev pub olib : BoardState → Colour → ℕ → ℕ
 olib pos friend a = liberties_after pos friend a
 
@@ -96,12 +96,12 @@ colour_of Empty = None
 colour_of Black = Some black
 colour_of White = Some white
 
--- what f says of the colour of a stone, and d where there is none
+-- what f says of the colour of a stone, and d if there is none
 abbrev pub of_stone : {A : Type 0} → A → (Colour → A) → Option Colour → A
 of_stone d f None = d
 of_stone d f (Some c) = f c
 
--- how far the code at b stays below 3 after c plays at a; 0 where the play is illegal
+-- how far the code at b stays below 3 after c plays at a; 0 if the play is illegal
 unfoldable pub lack_after : Codes → Kind → BoardState → Colour → ℕ → ℕ → ℤ
 lack_after code kind pos c a b =
     after_play (whole 0) (λ next. whole 3 -ℤ whole (code_at code kind next b)) (play pos c a)
@@ -135,7 +135,7 @@ odefend_against code pos friend a b = is_defended_against code pos friend a b
 abbrev pub xdefend_against : Codes → BoardState → Colour → ℕ → ℕ → Bool
 xdefend_against code pos friend a b = is_defended_against code pos (other friend) a b
 
--- the position after a move of c: a play at a point, or a pass where there is no point or the play is illegal
+-- the position after a move of c: a play at a point, or a pass if there is no point or the play is illegal
 unfoldable pub after_move : BoardState → Colour → Option ℕ → BoardState
 after_move pos c None = pass pos
 after_move pos c (Some a) = after_play (pass pos) (λ next. next) (play pos c a)

@@ -1,4 +1,4 @@
--- How many readings an expression asks for. A reading is asked for only where a stone stands, and a side of `&&` or
+-- How many readings an expression asks for. A reading is asked for only if a stone stands, and a side of `&&` or
 -- `||` that is not needed asks for none.
 use Rattle.std.specs.Prelude.{ℕ, zero, suc, ◌+◌, ◌-◌, ◌^◌, min, if◌then◌else◌, List, map, Option, Some, None}
 use Rattle.go_rules.specs.declared.Colour.{Colour}
@@ -19,11 +19,11 @@ use Rattle.cons_eval.specs.Functions.{after_play, after_moves, colour_of, of_sto
 use Rattle.cons_eval.specs.Meanings.{Meanings}
 use Rattle.cons_eval.specs.Values.{only_point, two_points, moves_and_point, value_of}
 
--- one reading where a stone stands at p, and none where it is empty
+-- one reading if a stone stands at p, and none if it is empty
 abbrev pub readings_at : BoardState → ℕ → ℕ
 readings_at pos p = if is_stone (cell_at pos.cells p) then 1 else 0
 
--- one reading where a stone stands at b after c plays at a, and none where the play is illegal
+-- one reading if a stone stands at b after c plays at a, and none if the play is illegal
 unfoldable pub readings_after : BoardState → Colour → ℕ → ℕ → ℕ
 readings_after pos c a b = after_play 0 (λ next. readings_at next b) (play pos c a)
 
@@ -62,7 +62,7 @@ moves_readings m moves.OplayDefend play = readings_at (after_moves m.position m.
 moves_readings m moves.XplayAttack play = readings_at (after_moves m.position (other m.friend) play.0) play.1
 moves_readings m moves.XplayDefend play = readings_at (after_moves m.position (other m.friend) play.0) play.1
 
--- how many there are at what is there, and none where nothing is
+-- how many there are at what is there, and none if nothing is
 abbrev pub many_there : {A : Type 0} → (A → ℕ) → Option A → ℕ
 many_there f None = 0
 many_there f (Some a) = f a
@@ -74,7 +74,7 @@ call_readings m (OfPair f) args = many_there (pair_readings m f) (two_points arg
 call_readings m (OfPoints f) args = 0
 call_readings m (OfMoves f) args = many_there (moves_readings m f) (moves_and_point args)
 
--- how many readings an expression asks for: those of its calls, a right side's only where it is needed
+-- how many readings an expression asks for: those of its calls, a right side's only if it is needed
 unfoldable pub readings_of : Meanings → Expr → ℕ
 readings_of m (Num n) = 0
 readings_of m (Call f args) = call_readings m f (map m.point args)

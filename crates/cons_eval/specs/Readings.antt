@@ -8,6 +8,6 @@ use Rattle.read_rules.specs.declared.question.Kind.{Kind}
 abbrev pub Codes : Type 0
 Codes = Kind → BoardState → ℕ → ℕ
 
--- the code of the reading at p, which is 0 where p is empty
+-- the code of the reading at p, which is 0 if p is empty
 abbrev pub code_at : Codes → Kind → BoardState → ℕ → ℕ
 code_at code kind pos p = if is_stone (cell_at pos.cells p) then code kind pos p else 0

@@ -32,7 +32,7 @@ worth false = pos 0
 abbrev pub is_so : ℤ → Bool
 is_so x = not (int_eq x (pos 0))
 
--- the only point, where there is one argument and it has a point
+-- the only point, if there is one argument and it has a point
 abbrev pub only_point : List (Option ℕ) → Option ℕ
 only_point [] = None
 only_point (a ∷ []) = a
@@ -44,7 +44,7 @@ both_points None b = None
 both_points (Some a) None = None
 both_points (Some a) (Some b) = Some (a, b)
 
--- the two points, where there are two arguments and both have points
+-- the two points, if there are two arguments and both have points
 abbrev pub two_points : List (Option ℕ) → Option (ℕ × ℕ)
 two_points [] = None
 two_points (a ∷ []) = None
@@ -55,13 +55,13 @@ two_points (a ∷ b ∷ c ∷ more) = None
 abbrev pub with_move : Option ℕ → Option (List (Option ℕ) × ℕ) → Option (List (Option ℕ) × ℕ)
 with_move m rest = option_map (λ play. (m ∷ play.0, play.1)) rest
 
--- the moves and the point behind them, where the last argument has a point
+-- the moves and the point behind them, if the last argument has a point
 unfoldable pub moves_and_point : List (Option ℕ) → Option (List (Option ℕ) × ℕ)
 moves_and_point [] = None
 moves_and_point (a ∷ []) = option_map (λ p. ([], p)) a
 moves_and_point (m ∷ n ∷ more) = with_move m (moves_and_point (n ∷ more))
 
--- the value at what is there, and 0 where nothing is
+-- the value at what is there, and 0 if nothing is
 abbrev pub if_there : {A : Type 0} → (A → ℤ) → Option A → ℤ
 if_there f None = pos 0
 if_there f (Some a) = f a
@@ -99,7 +99,7 @@ moves_value m moves.OplayDefend play = pos (oplay_defend m.code m.position m.fri
 moves_value m moves.XplayAttack play = pos (xplay_attack m.code m.position m.friend play.0 play.1)
 moves_value m moves.XplayDefend play = pos (xplay_defend m.code m.position m.friend play.0 play.1)
 
--- the value of a call at the points of its arguments; 0 where these are not as the function takes them, which no
+-- the value of a call at the points of its arguments; 0 if these are not as the function takes them, which no
 -- pattern has
 unfoldable pub call_value : Meanings → Function → List (Option ℕ) → ℤ
 call_value m (OfPoint f) args = if_there (point_value m f) (only_point args)

@@ -233,7 +233,7 @@ fn value_after<E: Env>(env: &mut E, function: MovesFunction, moves: &[Arg], at: 
     }
 }
 
-/// The value of a function of moves and a point, 0 where the last argument has no point.
+/// The value of a function of moves and a point, 0 if the last argument has no point.
 #[tactic(auto, using(crate::proofs::CallCounts::stays_same))]
 fn of_moves<E: Env>(env: &mut E, function: MovesFunction, args: &[Arg]) -> i64
     requires { are_on_board (E.view env.old).meanings.position.size (E.view env.old).meanings.point args.now ≡ true }

@@ -8,7 +8,7 @@ ghost use Rattle.cons_eval.specs.Functions.{after_move as move_from};
 use go_base::{Point, Position};
 use go_rules::{Cell, Colour};
 
-/// How many liberties the string of the stone has that `colour` plays at `at`, 0 where the play is illegal.
+/// How many liberties the string of the stone has that `colour` plays at `at`, 0 if the play is illegal.
 #[tactic(auto, unfolding(crate::specs::Functions::liberties_after))]
 pub fn liberties_after(position: &Position, colour: Colour, at: Point) -> u16
     requires { at < position.now.size * position.now.size }
@@ -59,7 +59,7 @@ pub fn is_same_string(position: &Position, a: Point, b: Point) -> bool
     position.string(a).has(b)
 }
 
-/// The position after a move: a play at a point, or a pass where there is no point or the play is illegal.
+/// The position after a move: a play at a point, or a pass if there is no point or the play is illegal.
 #[tactic(auto, unfolding(crate::specs::Functions::after_move))]
 pub fn after_move(position: &Position, colour: Colour, at: Option<Point>) -> Position
     requires { IfSome at (λ p. p < position.now.size * position.now.size) }

@@ -62,12 +62,12 @@ pub fn eval<E: Env>(expr: &Expr, env: &mut E) -> i64
     ensures value { result ≡ value_of (E.view env.old).meanings expr.now }
     // It is as small as the number of leaves says.
     ensures small { IsWithin (leaf_count expr.now * most) result }
-    // It asks for exactly the readings that the definition says: a right side's only where it is needed.
+    // It asks for exactly the readings that the definition says: a right side's only if it is needed.
     ensures asked { (E.view env.new).asked
         ≡ counted (readings_of (E.view env.old).meanings expr.now) (E.view env.old).asked }
     // Only what was asked and counts have changed, and no count is lower.
     ensures stays { Stays (E.view env.old) (E.view env.new) }
-    // Where no part that is needed may ask for a reading, the counts have not changed either.
+    // If no part that is needed may ask for a reading, the counts have not changed either.
     ensures quiet { asks (E.view env.old).meanings expr.now ≡ false
         → (E.view env.new).counts ≡ (E.view env.old).counts }
 {

@@ -37,7 +37,7 @@ item_step : (t : Token) (ts : List Token) (i : Item) (more : ℕ) → item_at t 
 unfolding items_after
 item_step t ts i more h = rw h (ap (and_more i) (items_skip more ts))
 
--- where no item begins, there are no items
+-- if no item begins, there are no items
 none_step : (t : Token) (ts : List Token) → item_at t ts ≡ None → items_after 0 (t ∷ ts) ≡ None
 unfolding items_after
 none_step t ts h = rw h refl

@@ -40,7 +40,7 @@ leaves (NotTree e) = leaves e
 leaves (NegTree e) = leaves e
 leaves (BinTree op a b) = leaves a + leaves b
 
--- an expression can be evaluated exactly where its tree can
+-- an expression can be evaluated exactly if its tree can
 pub can_tree : (labels : List LabelAt) (e : Expr) → can_evaluate labels e ≡ can_be labels (tree_of e)
 unfolding can_evaluate
 can_tree labels (Num n) = refl

@@ -21,7 +21,7 @@ record NonePass (a b c d : Bool) : Type 0 where
   third : c ≡ false
   fourth : d ≡ false
 
--- where no first fault is found, no test passes
+-- if no first fault is found, no test passes
 none_pass : (a b c d : Bool)
     → first_of ((a, TooDeep) ∷ (b, UnknownFunction) ∷ (c, Arity) ∷ (d, UnknownLabel) ∷ []) ≡ None → NonePass a b c d
 none_pass true b c d h = cc

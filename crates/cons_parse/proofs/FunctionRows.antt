@@ -52,7 +52,7 @@ behind_first row all (r ∷ rows) apart found =
     All-cons (IsFoundIn (row ∷ all)) r rows first
     (behind_first row all rows parts.1 (All-tail (IsFoundIn all) r rows found))
 
--- where no two rows have one name, each is found by its own
+-- if no two rows have one name, each is found by its own
 pub found_apart : (rows : List FunctionRow) → are_apart rows ≡ true → All (IsFoundIn rows) rows
 found_apart [] apart = All-nil (IsFoundIn [])
 found_apart (row ∷ rows) apart =

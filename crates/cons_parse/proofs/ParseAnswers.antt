@@ -27,13 +27,13 @@ use Rattle.cons_parse.proofs.SpellingScans.{scanned_spelling}
 use Rattle.cons_parse.proofs.ScanSoundness.{scanned_is_spelled}
 use Rattle.cons_parse.proofs.Spellings.{built_spelling, tree_is_meaning}
 
--- some call passes exactly where the test of some item does
+-- some call passes exactly if the test of some item does
 any_append : (t : Item → Bool) (is js : List Item) → list_any t (is ++ js) ≡ (list_any t is || list_any t js)
 any_append t [] js = refl
 any_append t (i ∷ is) js =
     ap (λ (b : Bool). t i || b) (any_append t is js) ∙ sym (or_assoc (t i) (list_any t is) (list_any t js))
 
--- some call of an expression passes exactly where some item of its spelling does
+-- some call of an expression passes exactly if some item of its spelling does
 pub some_call_spelled : (test : Name → List Arg → Bool) (w : Written)
     → list_any (calls test) (spelling w) ≡ some_call test w
 some_call_spelled test (Num n) = refl
@@ -98,7 +98,7 @@ shallow labels w h =
           (is_unlabelled labels) w,
     ) refl
 
--- where none stands too deep, the first fault of the calls is the first fault
+-- if none stands too deep, the first fault of the calls is the first fault
 pub call_told : (labels : List LabelAt) (text : List ℕ) (items : List Item) (fault : Option ConsError)
     → IsScanned text items false → call_fault labels items ≡ fault → Tells labels text fault
 call_told labels text items fault t h =

@@ -34,7 +34,7 @@ op_level Ge = omega arith
 op_level Add = omega arith
 op_level Sub = omega arith
 
--- both sides of an operator are one operand, where each of them is one
+-- both sides of an operator are one operand, if each of them is one
 sides : (op : Op) (a b : Written) (ms : List Opener) (d : Bool) (is : List Item) → settled ms ≡ ms
     → scanned_from (to_come ms d) (spelling a ++ item.Operator op ∷ (spelling b ++ is))
     ≡ scanned_from (come (settled ms) (d || is_too_deep (length ms) a)) (item.Operator op ∷ (spelling b ++ is))

@@ -87,7 +87,7 @@ token_step : (b : ℕ) (bs : List ℕ) (t : Token) (more : ℕ) → is_blank b �
 unfolding tokens_after
 token_step b bs t more e h = rw (e, h) (ap (and_more t) (tokens_skip more bs))
 
--- where no token begins, there are no tokens
+-- if no token begins, there are no tokens
 none_step : (b : ℕ) (bs : List ℕ) → is_blank b ≡ false → first_token (b ∷ bs) ≡ None → tokens_after 0 (b ∷ bs) ≡ None
 unfolding tokens_after
 none_step b bs e h = rw (e, h) refl

@@ -63,7 +63,7 @@ standing s = record { pending = s.0; now = Some s.1 }
 abbrev pub waiting : {P : Type 0} → List (Pending P) → State P
 waiting ps = record { pending = ps; now = None }
 
--- behind an operator, which is a sign where no operand stands before it
+-- behind an operator, which is a sign if no operand stands before it
 abbrev pub operated : {P : Type 0} → Forms P → List (Pending P) → Option P → Op → State P
 operated f ps None op = waiting (OpenNeg ∷ ps)
 operated f ps (Some e) op = let s = joined_in f (level_of_op op) ps e in waiting (OpenLeft op s.1 ∷ s.0)

@@ -130,7 +130,7 @@ fn join(
     }
 }
 
-/// Goes over an operator, which is a sign where no operand stands before it.
+/// Goes over an operator, which is a sign if no operand stands before it.
 fn operator(
     alloc: Global,
     frames: &mut Vec<Frame>,

@@ -53,7 +53,7 @@ fn read(alloc: Global, text: &[u8], labels: &[LabelAt]) -> Result<Expr, ConsErro
     }
 }
 
-/// The expression that a text spells, where these are the labels of the constraint diagram, or the first fault of the
+/// The expression that a text spells, if these are the labels of the constraint diagram, or the first fault of the
 /// text, in the order of the variants of `ConsError`.
 pub fn parse(alloc: Global, text: &[u8], labels: &[LabelAt]) -> Result<Expr, ConsError>
     // The expression is the one that the text spells, and no fault stands in the text.

@@ -209,7 +209,7 @@ fn token_at(bytes: &[u8]) -> Option<(Token, usize)>
     }
 }
 
-/// The tokens of a text, or Syntax where it is not made of tokens and blanks.
+/// The tokens of a text, or Syntax if it is not made of tokens and blanks.
 pub fn tokens_of(alloc: Global, text: &[u8]) -> Result<Vec<Token>, ConsError>
     ensures { Gives (λ v. v.items) result (all_tokens text.now) }
 {

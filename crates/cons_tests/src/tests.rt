@@ -64,7 +64,7 @@ fn value(alloc: Global, env: &mut LibertyCodes, text: &str) -> Result<i64, ConsE
 /// An expression, the points of the star and of the labels A and B, and the value.
 type Row = (&'static str, [Point; 3], i64);
 
-/// Values where a stone is in atari.
+/// Values if a stone is in atari.
 static ON_ATARI: [Row; 61] = [
     ("lib(A)", [0, 6, 0], 1),
     ("lib(A)", [0, 18, 0], 5),
@@ -188,7 +188,7 @@ fn functions_on_a_stone_in_atari_and_on_a_ko(rt: HostRuntime) {
     }
 }
 
-/// An expression with the star at 7 and the labels at 6 and 18, its value where a stone is in atari, and how many codes
+/// An expression with the star at 7 and the labels at 6 and 18, its value if a stone is in atari, and how many codes
 /// are asked for.
 static READINGS: [(&str, i64, u64); 13] = [
     ("0&&attack(A)", 0, 0),
@@ -206,7 +206,7 @@ static READINGS: [(&str, i64, u64); 13] = [
     ("does_attack(*,*)", 0, 0),
 ];
 
-/// The value of an expression where a stone is in atari, and how many codes are asked for.
+/// The value of an expression if a stone is in atari, and how many codes are asked for.
 fn read_on_atari(alloc: Global, text: &str) -> Option<(i64, u64)> {
     let position = drawn(ATARI, Colour::White)?;
     let mut env = LibertyCodes::new(position, Colour::White, 7, 6, 18)?;

@@ -56,7 +56,7 @@ pub record AreThreeFalse (a b c : Bool) : Type 0 where
   pub second : b ≡ false
   pub third : c ≡ false
 
--- where no fault of a list of three fits, no test passes
+-- if no fault of a list of three fits, no test passes
 pub none_of_three : (a b c : Bool) (k l m : FaultKind) → first_of ((a, k) ∷ (b, l) ∷ (c, m) ∷ []) ≡ None
     → AreThreeFalse a b c
 none_of_three true b c k l m e = absurd cc

@@ -78,7 +78,7 @@ few_are_all helpers diagram all none =
     take_all most_fields all
     (omega (arith, further_few, length-drop 2 (take most_fields all), length-take most_fields all))
 
--- where the last part of a line is read, the fields that are read are the first of all
+-- if the last part of a line is read, the fields that are read are the first of all
 pub whole_line_read : (old new parts all : List (List ℕ)) (part : List ℕ) → old ++ map trimmed parts ≡ all
     → parts ≡ part ∷ [] → new ≡ old ++ trimmed part ∷ [] → length old < most_fields → new ≡ take most_fields all
 whole_line_read old new parts all part whole last read few =

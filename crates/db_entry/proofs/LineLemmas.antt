@@ -50,7 +50,7 @@ first-fails : (b : Bool) (kind : FaultKind) (more : List (Bool × FaultKind)) �
 first-fails true kind more e = absurd cc
 first-fails false kind more e = refl
 
--- there is something under a test exactly where it passes
+-- there is something under a test exactly if it passes
 pub is_some-where : (b : Bool) (shape : Shape) → is_some (cond b (Some shape) None) ≡ b
 is_some-where true shape = refl
 is_some-where false shape = refl

@@ -5,7 +5,7 @@ use Rattle.db_rules.specs.Diagram.{is_row as is_row_word, is_edge_line, shape_of
 use Rattle.db_entry.specs.declared.line.DiagramLine.{DiagramLine}
 use Rattle.db_entry.specs.declared.line.DiagramLine.TheVariants.{Edge, Row}
 
--- the line that a word is, with its shape: a row or an edge line, and none where it is neither
+-- the line that a word is, with its shape: a row or an edge line, and none if it is neither
 abbrev pub line_of : List ℕ → Option DiagramLine
 line_of word =
     if is_row_word word then Some (Row (shape_of bar word))

@@ -57,7 +57,7 @@ fn mark_of(fields: &[&[u8]]) -> Option<Mark>
     }
 }
 
-/// The second field, or nothing where it is missing.
+/// The second field, or nothing if it is missing.
 fn class_field<'a>(fields: &[&'a [u8]]) -> &'a [u8]
     ensures { result.now ≡ second_field (map (λ f. f.now) fields.now) }
 {

@@ -49,7 +49,7 @@ Shows-now r n stage next front done b d s stage_is done_is begun_is drafts fresh
 some-pushed : (lines : List KeptLine) (line : KeptLine) → 0 < length (lines ++ line ∷ [])
 some-pushed lines line = omega (arith, length-append lines (line ∷ []))
 
--- a draft with the expression and the constraint of another is unjudged where that is
+-- a draft with the expression and the constraint of another is unjudged if that is
 unjudged-rest : (old new : Draft) → (new.expression ≡ old.expression) × (new.constraint ≡ old.constraint)
     → IsUnjudged old → IsUnjudged new
 unjudged-rest old new rest h = record { no_line = rest.0 ∙ h.no_line; no_constraint = rest.1 ∙ h.no_constraint }

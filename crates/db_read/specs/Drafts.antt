@@ -23,12 +23,12 @@ pub record IsTextOf (kept : ExpressionText) (lines : List KeptLine) : Type 0 whe
   pub line : kept.line ≡ first_number lines
   pub text : kept.text ≡ expression_text lines
 
--- what is kept of these expression lines: nothing where there is none, or else their text
+-- what is kept of these expression lines: nothing if there is none, or else their text
 abbrev pub KeepsText : Option ExpressionText → List KeptLine → Type 0
 KeepsText None lines = lines ≡ []
 KeepsText (Some kept) lines = IsTextOf kept lines
 
--- what is kept of these colon lines: nothing where there is none, or else what the first says
+-- what is kept of these colon lines: nothing if there is none, or else what the first says
 abbrev pub KeepsColon : Option ColonLine → List KeptLine → Type 0
 KeepsColon None lines = lines ≡ []
 KeepsColon (Some colon) lines = Says colon (colon_bytes lines)

@@ -31,7 +31,7 @@ pub struct Draft<'a> {
     pub colon: Option<ColonLine>,
     /// The constraint diagram so far.
     pub marks: Marks,
-    /// What is kept of the expression lines, where there is one.
+    /// What is kept of the expression lines, if there is one.
     pub expression: Option<ExpressionText>,
     /// The constraint, once the expression is judged.
     pub constraint: Option<Expr>,

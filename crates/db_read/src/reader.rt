@@ -361,7 +361,7 @@ pub fn read(
     out: Vec<Pattern>,
 ) -> Result<Vec<Pattern>, DbError>
     requires { out.items ≡ [] }
-    // The entries are told exactly where there is no fault, want of memory aside.
+    // The entries are told exactly if there is no fault, want of memory aside.
     ensures ok { IfOk result (λ v. (first_fault helpers.now text.now ≡ None)
         × (map entry_of v.items ≡ entries text.now)) }
     // A fault that is told is the first one.

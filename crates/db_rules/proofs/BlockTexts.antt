@@ -106,7 +106,7 @@ action_line_ends : (b : Block) (line : KeptLine)
 action_line_ends b line =
     ap (λ t. b.head ∷ t) (at_end (b.diagram ++ b.colon ++ b.constraint ++ b.expression) b.actions line)
 
--- where no fault is told at a line the line has none
+-- if no fault is told at a line the line has none
 no_kind : (number : ℕ) (kind : Option FaultKind) → at_line number kind ≡ None → kind ≡ None
 no_kind number None none = refl
 no_kind number (Some kind) none = absurd cc
@@ -162,7 +162,7 @@ action_taken Actions next byte e = (cc, (λ same. absurd cc), (λ same. absurd c
 abbrev ClosesBoth : Option LineKind → Type 0
 ClosesBoth kind = (closes Labels kind ≡ true) × (closes Expression kind ≡ true)
 
--- what is closed has no fault where it is found to have none
+-- what is closed has no fault if it is found to have none
 gathered_where_closed : (number : ℕ) (kind : Option LineKind) (stage : Stage) (front : List KeptLine)
     (done : List Block) (now : Option Block) → ClosesBoth kind
     → closing_fault number kind (parts stage front done now) ≡ None → gathered_fault number stage now ≡ None
@@ -231,7 +231,7 @@ module _ (helpers : List (List ℕ)) where
     expression : All (IsLineOf Semicolon) b.expression
     actions : All (IsLineOf Action) b.actions
 
-  -- the constraint diagram of the block has no fault where it is closed
+  -- the constraint diagram of the block has no fault if it is closed
   abbrev IsClosed : Block → Type 0
   IsClosed b = labels_closing_fault (words_in b.diagram) (words_in b.constraint) ≡ None
 

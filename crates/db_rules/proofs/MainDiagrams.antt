@@ -191,7 +191,7 @@ drawn_whole _ no_line = omega arith
 drawn_whole _ (one_line_more words word drawn none) =
     whole-push words word (drawn_whole words drawn) (fine_line words word none).even
 
--- its shape fits, where it has one
+-- its shape fits, if it has one
 pub drawn_fits : (words : List (List ℕ)) → IsDrawn words → IfSome (wanted words) IsFit
 unfolding wanted
 drawn_fits _ no_line = tt

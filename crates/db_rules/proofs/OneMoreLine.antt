@@ -23,7 +23,7 @@ pub record AreFalse (a b c d : Bool) : Type 0 where
   pub third : c ≡ false
   pub fourth : d ≡ false
 
--- where no fault of a list of four fits, no test passes
+-- if no fault of a list of four fits, no test passes
 pub none_of_four : (a b c d : Bool) (k l m n : FaultKind) → first_of ((a, k) ∷ (b, l) ∷ (c, m) ∷ (d, n) ∷ []) ≡ None
     → AreFalse a b c d
 none_of_four true b c d k l m n e = absurd cc
@@ -72,7 +72,7 @@ wanted_of-push [] words word true e = rw e refl
 wanted_of-push [] [] word false e = rw e refl
 wanted_of-push [] (w ∷ ws) word false e = rw (lt-ltb 0 (length (w ∷ ws)) (omega arith)) refl
 
--- a further line gives the shape that is wanted where it is the first row or the first line
+-- a further line gives the shape that is wanted if it is the first row or the first line
 pub wanted-push : (words : List (List ℕ)) (word : List ℕ)
     → wanted (words ++ word ∷ []) ≡ cond (nat_lt 0 (length (rows_of words)) || not (is_row word)
     && nat_lt 0 (length words)) (wanted words) (Some (line_shape word))

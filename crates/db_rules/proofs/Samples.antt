@@ -21,7 +21,7 @@ abbrev text_of : List (List ℕ) → List ℕ
 text_of [] = []
 text_of (line ∷ lines) = line ++ 10 ∷ text_of lines
 
--- the first faults of these texts, where no helper is handed in
+-- the first faults of these texts, if no helper is handed in
 abbrev faults_in : List (List (List ℕ)) → List (Option Fault)
 faults_in texts = map (λ lines. first_fault [] (text_of lines)) texts
 

@@ -11,16 +11,16 @@ use Rattle.pat_types.specs.declared.letter.Letter.TheVariants.{Friend}
 use Rattle.pat_types.specs.Diagrams.{is_star}
 use Rattle.db_rules.specs.Diagram.{star_count}
 
--- numbers are equal exactly where the next ones are
+-- numbers are equal exactly if the next ones are
 suc_suc : (a b : ℕ) → (suc a == 1 + b) ≡ (a == b)
 suc_suc a b = let next : 1 + b ≡ suc b = omega arith in ap (λ n. suc a == n) next ∙ eqb-suc-suc a b
 
--- the first letter counts where it is the star
+-- the first letter counts if it is the star
 star_count-cons : (l : Letter) (letters : List Letter)
     → star_count (l ∷ letters) ≡ cond (is_star l) 1 0 + star_count letters
 star_count-cons l letters = sum_by-cons (λ x. cond (is_star x) 1 0) l letters
 
--- where there is no star, no letter is one
+-- if there is no star, no letter is one
 no_star : (letters : List Letter) → star_count letters ≡ 0 → (j : ℕ) → is_star (get_or letters j Friend) ≡ false
 no_star [] none j = refl
 no_star (l ∷ letters) none j =
@@ -45,7 +45,7 @@ star_within (l ∷ letters) one =
     by_letter true sum rest = omega arith
     by_letter false sum rest = omega (arith, rest (omega (arith, sum)))
 
--- the letter at an index is the star exactly where the index is that of the star
+-- the letter at an index is the star exactly if the index is that of the star
 pub one_star_at : (letters : List Letter) → star_count letters ≡ 1 → (j : ℕ) → j < length letters
     → is_star (get_or letters j Friend) ≡ (j == position_or_len is_star letters)
 one_star_at [] one j lt = absurd (omega (arith, one))

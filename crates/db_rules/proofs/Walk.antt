@@ -23,7 +23,7 @@ or_else-assoc : (a b c : Option Fault) → or_else (or_else a b) c ≡ or_else a
 or_else-assoc None b c = refl
 or_else-assoc (Some a) b c = refl
 
--- where there is no second fault the first decides
+-- if there is no second fault the first decides
 or_else-none : (a : Option Fault) → or_else a None ≡ a
 or_else-none None = refl
 or_else-none (Some a) = refl
@@ -89,13 +89,13 @@ Reaches-fault helpers text s line left f r some =
     let one : walk helpers (end_number text) s (line ∷ left) ≡ Some f = rw some refl in
     sym r.fault ∙ one
 
--- where no line is left, the first fault of the text is the one at its end
+-- if no line is left, the first fault of the text is the one at its end
 pub Reaches-end : (helpers : List (List ℕ)) (text : List ℕ) (s : SoFar) → Reaches helpers text s []
     → first_fault helpers text ≡ found_at_end (end_number text) s
 unfolding walk
 Reaches-end helpers text s r = sym r.fault
 
--- where no line is left, the entries are those of the blocks so far
+-- if no line is left, the entries are those of the blocks so far
 pub Reaches-entries : (helpers : List (List ℕ)) (text : List ℕ) (s : SoFar) → Reaches helpers text s []
     → entries text ≡ map entry_of_block (blocks_of s)
 unfolding entries

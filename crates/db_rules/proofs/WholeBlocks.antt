@@ -159,7 +159,7 @@ over_front helpers lines all =
     (rw fine.letter refl) refl refl)
     [] lines (fine_anywhere IsInFront [] lines all)
 
--- a stage that lines lead to, where there are any
+-- a stage that lines lead to, if there are any
 abbrev moved : Stage → Stage → List KeptLine → Stage
 moved to from [] = from
 moved to from (line ∷ lines) = to
@@ -275,7 +275,7 @@ module _ (helpers : List (List ℕ)) (front : List KeptLine) (done : List Block)
       (over_constraint third b.constraint block.constraint block.labelled))
       (over_expression fourth b.expression block.expression block.closed)
 
--- where there is no fault none is found, whatever the condition
+-- if there is no fault none is found, whatever the condition
 on_condition : (c : Bool) (fault : Option Fault) → fault ≡ None → cond c fault None ≡ None
 on_condition true fault none = none
 on_condition false fault none = refl

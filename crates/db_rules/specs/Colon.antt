@@ -72,7 +72,7 @@ mark_of ([] ∷ more) = None
 mark_of ((b ∷ []) ∷ more) = mark_by_byte b
 mark_of ((b ∷ c ∷ bs) ∷ more) = None
 
--- the second field, or nothing where it is missing
+-- the second field, or nothing if it is missing
 abbrev pub class_field : List (List ℕ) → List ℕ
 class_field fields = unwrap_or (slice_get fields 1) []
 

@@ -97,7 +97,7 @@ wanted_of [] (top ∷ more) = Some (shape_of plus top)
 unfoldable pub wanted : List (List ℕ) → Option Shape
 wanted diagram = wanted_of (rows_of diagram) diagram
 
--- the width of a shape, and 0 where there is none
+-- the width of a shape, and 0 if there is none
 abbrev pub width_of : Option Shape → ℕ
 width_of None = 0
 width_of (Some s) = s.width

@@ -34,7 +34,7 @@ kind_told UnknownFunction = kinds.ExprFault
 kind_told Arity = kinds.ExprFault
 kind_told NoMemory = kinds.ExprFault
 
--- the kind of the first fault of the expression on these lines, where these are the labels; no line has none
+-- the kind of the first fault of the expression on these lines, if these are the labels; no line has none
 abbrev pub kind_of_expression : List LabelAt → List KeptLine → Option FaultKind
 kind_of_expression labels [] = None
 kind_of_expression labels (line ∷ lines) = option_map kind_told (fault_in labels (expression_text (line ∷ lines)))

@@ -5,7 +5,7 @@ ghost use Rattle.db_rules.specs.Entries.{entry_of_block};
 ghost use Rattle.db_rules.specs.Database.{IsDatabase};
 ghost use Rattle.db_rules.specs.Faults.{entries, first_fault};
 
-/// A text has no first fault exactly where it is a front and then whole blocks without a fault.
+/// A text has no first fault exactly if it is a front and then whole blocks without a fault.
 pub fn databases_have_no_fault()
     ensures { (helpers : List (List ℕ)) (text : List ℕ) → first_fault helpers text ≡ None ↔ IsDatabase helpers text }
 {}

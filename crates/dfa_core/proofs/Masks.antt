@@ -16,7 +16,7 @@ use Rattle.dfa_core.specs.Fits.{drawn_along, drawn_admits, admits, is_drawn, len
 use Rattle.dfa_core.specs.Masks.{has_letter, no_mask, AreMasks}
 use Rattle.dfa_core.proofs.Lengths.{length_at_drawn, length_at_blank}
 
--- every letter is admitted where nothing is drawn, and nowhere else
+-- every letter is admitted if nothing is drawn, and nowhere else
 all_admitted : (d : Drawn)
     → (drawn_admits d Friend && drawn_admits d Enemy && drawn_admits d Empty && drawn_admits d Off) ≡ not (is_drawn d)
 all_admitted Nothing = refl
@@ -49,12 +49,12 @@ module _ (p : Pattern) (masks : List LetterMask) (n : ℕ) (are : AreMasks p (le
   before : (x : Seen) → has_letter mask x ≡ admits p (n - 1) x
   before x = ap (λ m. has_letter m x) last ∙ are.each (n - 1) x (omega arith)
 
-  -- where the last mask lacks a letter, the length is the number of masks
+  -- if the last mask lacks a letter, the length is the number of masks
   pub length_at_lacking : has_each mask ≡ false → n ≡ length_below p n
   length_at_lacking lacks = length_at_drawn p n some
       (not-false (is_drawn (drawn_along p (n - 1))) (sym (has_each-blank p (n - 1) mask before) ∙ lacks))
 
-  -- where the last mask lacks none, one mask fewer gives the same length
+  -- if the last mask lacks none, one mask fewer gives the same length
   pub length_at_whole : has_each mask ≡ true → length_below p (n - 1) ≡ length_below p n
   length_at_whole whole = length_at_blank p n some
       (not-true (is_drawn (drawn_along p (n - 1))) (sym (has_each-blank p (n - 1) mask before) ∙ whole))

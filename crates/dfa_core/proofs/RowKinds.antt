@@ -46,7 +46,7 @@ dead-stays : (b : Bool) → cond b Dead Plain ≡ Dead → b ≡ true
 dead-stays true is = refl
 dead-stays false is = absurd (let h : ⊥ = cc in h)
 
--- where each of its four targets is the row itself, each letter leads back to it
+-- if each of its four targets is the row itself, each letter leads back to it
 stays-each : (rows : List Row) (r : ℕ) → stays_at r (row_at rows r).targets ≡ true → (x : Seen) → step_at rows r x ≡ r
 stays-each rows r stays Friend = grind (arith, nat_tests)
 stays-each rows r stays Enemy = grind (arith, nat_tests)

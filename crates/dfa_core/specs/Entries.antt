@@ -8,7 +8,7 @@ use Rattle.dfa_core.specs.RowKinds.{kind_at, HasKinds}
 use Rattle.dfa_core.specs.Tables.{Flat}
 use Rattle.dfa_core.specs.Words.{letter_number}
 
--- the number of a kind, which is odd where the row accepts something
+-- the number of a kind, which is odd if the row accepts something
 abbrev pub kind_number : RowKind → ℕ
 kind_number Plain = 0
 kind_number Accepting = 1

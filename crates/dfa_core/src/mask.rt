@@ -66,7 +66,7 @@ fn mask_of_letter(l: Letter) -> LetterMask
     LetterMask { bits }
 }
 
-/// What is admitted where this is drawn.
+/// What is admitted if this is drawn.
 pub fn mask_of(drawn: Drawn) -> LetterMask
     ensures { (x : Seen) → has_letter result x ≡ drawn_admits drawn x }
 {

@@ -151,7 +151,7 @@ impl Table {
     }
 
     /// Adds a row that accepts the numbers of both lists, one list after the other. Takes memory; for more than 2^30
-    /// rows there is none. Where there is none, no row is added.
+    /// rows there is none. If there is none, no row is added.
     pub fn add_row(
         &mut self,
         targets_of_row: [u32; 4],

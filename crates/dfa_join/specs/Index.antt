@@ -18,12 +18,12 @@ same_pair p q = (p.0 == q.0) && (p.1 == q.1)
 abbrev pub has_place : Side → ℕ → ℕ → Bool
 has_place side row other = (other == side.dead) && nat_lt row (length side.numbers.items)
 
--- the number at the place of a row, where there is one
+-- the number at the place of a row, if there is one
 abbrev pub number_at : List ℕ → ℕ → Option ℕ
 number_at numbers row =
     if slice_index_or numbers row no_number == no_number then None else Some (slice_index_or numbers row no_number)
 
--- the number of a pair, where it has one
+-- the number of a pair, if it has one
 abbrev pub told_by : Index → Pair → Option ℕ
 told_by index p =
     if has_place index.left p.0 p.1 then number_at index.left.numbers.items p.0

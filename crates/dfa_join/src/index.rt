@@ -12,7 +12,7 @@ use std::alloc::{AllocError, Global};
 /// What stands at the place of a pair without a number.
 const NO_NUMBER: u32 = u32::MAX;
 
-/// The first row of an automaton after which nothing can be accepted; the count of its rows, where there is none.
+/// The first row of an automaton after which nothing can be accepted; the count of its rows, if there is none.
 fn dead_row(automaton: &Automaton) -> u32 {
     for row in 0..automaton.rows() {
         if automaton.kind(row) == RowKind::Dead {
@@ -49,7 +49,7 @@ impl Side {
         other == self.dead && (row as usize) < self.numbers.len()
     }
 
-    /// The number of a row's pair, where it has one.
+    /// The number of a row's pair, if it has one.
     #[inline(always)]
     fn number(&self, row: u32) -> Option<u32>
         requires { row < length self.now.numbers.items }
@@ -99,7 +99,7 @@ impl Index {
         })
     }
 
-    /// The number of a pair, None exactly where it has none.
+    /// The number of a pair, None exactly if it has none.
     #[inline(always)]
     pub fn number(&self, pair: (u32, u32)) -> Option<u32>
         ensures { result ≡ told_by self.now pair }
@@ -116,7 +116,7 @@ impl Index {
         }
     }
 
-    /// Gives a pair a number; where there is no memory, nothing changes.
+    /// Gives a pair a number; if there is no memory, nothing changes.
     pub fn put(&mut self, pair: (u32, u32), number: u32) -> Result<(), JoinError>
         requires { number ≢ no_number }
         ensures here { OnOk result (told_by self.new pair ≡ Some number) }

@@ -1,4 +1,4 @@
--- What is drawn fits at a place exactly where it admits what is seen there.
+-- What is drawn fits at a place exactly if it admits what is seen there.
 use Rattle.std.proofs.Common.{◌≡◌, ℕ, false, not, ◌||◌, Option, Some, None, refl, sym, ap, ◌∙◌}
 use Rattle.go_rules.specs.declared.Cell.{Cell}
 use Rattle.go_rules.specs.declared.Cell.TheVariants.{Empty as empty_cell, Black as black_stone, White as white_stone}
@@ -59,7 +59,7 @@ off_refused EnemyOrEmpty = refl
 off_refused Any = refl
 off_refused Star = refl
 
--- what is drawn fits at a place exactly where it admits what is seen there
+-- what is drawn fits at a place exactly if it admits what is seen there
 pub fits_seen : (d : Drawn) (board : BoardState) (friend : Colour) (o : Option ℕ)
     → drawn_fits d board friend o ≡ drawn_admits d (seen_at_place board friend o)
 fits_seen Nothing board friend o = refl

@@ -37,7 +37,7 @@ numbered_later k p ps w n there =
       matched = there.matched;
     }
 
--- k itself is a number only where the first pattern matches
+-- k itself is a number only if the first pattern matches
 numbered_first : (k : ℕ) (p : Pattern) (ps : List Pattern) (w : Word) (n : ℕ) (b : Bool) → is_matched w p ≡ b
     → Contains (cond b (k ∷ []) []) n → IsNumbered k (p ∷ ps) w n
 numbered_first k p ps w n true hit (zero, l, e) =

@@ -56,7 +56,7 @@ letters_kept walks k d low = letters_left (get_or (filter goes_on walks) k d) (f
 
 module _ (automaton : List Row) (good : IsAutomaton automaton) (pos : BoardState) (friend : Colour) (t : ℕ)
     (low : t < transformations) where
-  -- behind the row of a walk that does not go on nothing is accepted, but where it has read the whole spiral
+  -- behind the row of a walk that does not go on nothing is accepted, but if it has read the whole spiral
   ended_silent : (walks : List Walk) (w : Walk) (n : ℕ) → AreWalks automaton pos friend t walks
       → Contains walks w → IsStanding automaton w → goes_on w ≡ false → w.letters ≤ n → n ≤ offset_count
       → (offset_count ≤ w.letters → ⊥) → accepted automaton (word_at pos friend t (anchor_of pos.size w) n) ≡ []

@@ -12,7 +12,7 @@ use Rattle.dfa_match.specs.Steps.{anchor_at_corner}
 use Rattle.dfa_match.specs.Walks.{anchor_of}
 
 -- below how many letters the words of the point m of a board of size s have been read: as f says of its walk, and all
--- where it has no walk left
+-- if it has no walk left
 abbrev pub read_below : ℕ → (Walk → ℕ) → List Walk → ℕ → ℕ
 read_below s f [] m = offset_count + 1
 read_below s f (w ∷ walks) m = if anchor_of s w == m then f w else read_below s f walks m

@@ -42,7 +42,7 @@ first_letters automaton s w there =
     sym (ap (λ (v : Walk). v.letters) (Contains-map (first_walk automaton s) (range_with_len 0 (s * s)) w there).2)
 
 module _ (automaton : List Row) (pos : BoardState) (friend : Colour) (t : ℕ) where
-  -- walks that are changed, but for their anchors, are such walks where each of them is
+  -- walks that are changed, but for their anchors, are such walks if each of them is
   pub walks_changed : (f : Walk → Walk) (walks : List Walk) → AreWalks automaton pos friend t walks
       → ((w : Walk) → (f w).corner ≡ w.corner)
       → ((w : Walk) → Contains walks w → IsWalk automaton pos friend t (f w))

@@ -76,7 +76,7 @@ pub letters_left : (w : Walk) → goes_on w ≡ true → w.letters < offset_coun
 letters_left w going = ltb-true w.letters offset_count
     (and_parts (not (is_dead_entry w.entry)) (nat_lt w.letters offset_count) going).1
 
--- where nothing is known of the row behind the opening, the walk stays as it was
+-- if nothing is known of the row behind the opening, the walk stays as it was
 pub unopened : (openings steps : List ℕ) (letters : List Seen) (w : Walk)
     → opening_of openings steps letters w ≡ unknown → w ≡ after_opening openings steps letters w
 unopened openings steps letters w is =

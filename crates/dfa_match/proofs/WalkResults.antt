@@ -42,7 +42,7 @@ module _ (automaton : List Row) (pos : BoardState) (friend : Colour) where
         subst (λ u. Contains (accepted automaton (word_at pos friend u hit.anchor is.letters)) hit.pattern) transform
         is.accepts
 
-    -- words of more letters have been read where nothing is accepted at the end of these
+    -- words of more letters have been read if nothing is accepted at the end of these
     hits_past : (below more : ℕ → ℕ) (hits : List Hit) → AreHitsBefore automaton pos friend t below hits
         → ((m n : ℕ) → m < pos.size * pos.size → n ≤ offset_count → n < below m → n < more m)
         → ((m n : ℕ) → m < pos.size * pos.size → n ≤ offset_count → below m ≤ n → n < more m
@@ -114,7 +114,7 @@ module _ (automaton : List Row) (pos : BoardState) (friend : Colour) where
     }
 
     module _ (walks : List Walk) (are : AreWalks automaton pos friend t walks) where
-      -- walks that are changed go on from where they were, where nothing is accepted between
+      -- walks that are changed go on from where they were, if nothing is accepted between
       pub hits_changed : (f : Walk → Walk) (g h : Walk → ℕ) (hits : List Hit)
           → ((w : Walk) → (f w).corner ≡ w.corner)
           → AreHitsBefore automaton pos friend t (read_below pos.size g walks) hits
@@ -155,7 +155,7 @@ module _ (automaton : List Row) (pos : BoardState) (friend : Colour) where
             )
           ]
 
-      -- walks that fail a test are dropped, where nothing is accepted on their ways
+      -- walks that fail a test are dropped, if nothing is accepted on their ways
       pub hits_kept : (test : Walk → Bool) (f : Walk → ℕ) (hits : List Hit)
           → AreHitsBefore automaton pos friend t (read_below pos.size f walks) hits
           → ((w : Walk) (n : ℕ) → Contains walks w → test w ≡ false → n ≤ offset_count → f w ≤ n

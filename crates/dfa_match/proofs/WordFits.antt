@@ -1,4 +1,4 @@
--- A word matches a pattern exactly where the pattern fits.
+-- A word matches a pattern exactly if the pattern fits.
 use Rattle.std.proofs.Common.{◌≡◌, ℕ, zero, suc, ◌+◌, ◌<◌, ◌≤◌, true, false, not, eqb, length, Option, ℤ, pos, ◌+ℤ◌}
 use Rattle.std.proofs.Common.{◌-ℤ◌, refl, sym, ap, ◌∙◌, subst, arith, ◌⊎◌, inl, inr}
 use Rattle.std.proofs.lemmas.Int.{ints}
@@ -58,7 +58,7 @@ drawn_below p (suc n) i low drawn =
       ]
     ]
 
--- where nothing is drawn anything is admitted
+-- if nothing is drawn anything is admitted
 blank_admits : (d : Drawn) (x : Seen) → is_drawn d ≡ false → drawn_admits d x ≡ true
 blank_admits Nothing x e = refl
 blank_admits OffBoard x e = absurd (false≢true (sym e))
@@ -130,7 +130,7 @@ module _ (p : Pattern) (at : BoardState) (friend : Colour) (t m : ℕ) where
       by r c (inl drawn) = let found = offset_exists _ (drawn_near p r c drawn) in
           drawn_cell r c found.0 found.1 found.2 drawn
 
-  -- where the pattern fits, the word matches
+  -- if the pattern fits, the word matches
   pub match_from_fits : FitsAt p at friend t m → is_matched (word_at at friend t m (pattern_length p)) p ≡ true
   match_from_fits fits =
       and_from (eqb (length (word_at at friend t m (pattern_length p))) (pattern_length p)) _

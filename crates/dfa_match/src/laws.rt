@@ -12,7 +12,7 @@ ghost use Rattle.dfa_match.specs.Fitting.{FitsAt, IsFit};
 ghost use Rattle.dfa_match.specs.declared.Hit.{Hit as HitSeen};
 ghost use Rattle.dfa_match.specs.Hits.{IsHit};
 
-/// A word that is read from an anchor matches a pattern exactly where the pattern fits with its anchor's cell there.
+/// A word that is read from an anchor matches a pattern exactly if the pattern fits with its anchor's cell there.
 pub fn matched_words_are_fits()
     ensures { (p : Pattern) (pos : BoardState) (friend : ColourSeen) (t m : ℕ) →
         (is_matched (word_at pos friend t m (pattern_length p)) p ≡ true) ↔ FitsAt p pos friend t m }

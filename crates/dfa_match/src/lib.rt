@@ -3,8 +3,8 @@
 //! A hit is a number that the automaton accepts at the end of a word, which is what is seen along the moved spiral from
 //! an anchor. `scan` gives exactly the hits, each once; it is given no diagrams. The walks from all anchors stand in
 //! one list: each of them reads a letter, and then each the next. The anchor's own letter is read once for all
-//! transformations, the first nine letters in one look where nothing is accepted among them, and letters at which no
-//! pattern looks are passed over. Two laws say that a word that is read from an anchor matches a pattern exactly where
+//! transformations, the first nine letters in one look if nothing is accepted among them, and letters at which no
+//! pattern looks are passed over. Two laws say that a word that is read from an anchor matches a pattern exactly if
 //! the pattern fits there.
 //!
 //! After GNU Go Manual, "The DFA pattern matcher".

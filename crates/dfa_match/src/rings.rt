@@ -21,7 +21,7 @@ use std::alloc::Global;
 /// The letters of the ring around an anchor, as the digits of a number to the base four, the first one highest.
 #[derive(Clone, Copy)]
 pub struct Ring {
-    /// As they are read where nothing is moved.
+    /// As they are read if nothing is moved.
     pub plain: u16,
     /// As they are read where the ring is mirrored, by transformation 4.
     pub mirrored: u16,

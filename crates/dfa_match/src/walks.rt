@@ -255,7 +255,7 @@ pub fn give_start(
     }
 }
 
-/// Reads a letter on each walk, and answers a number that is even only where no walk came to a row that accepts
+/// Reads a letter on each walk, and answers a number that is even only if no walk came to a row that accepts
 /// something. Apart from its caller it has the registers for itself, and nothing is decided for a walk: what it reads
 /// is far away in memory, and a choice that is foretold wrongly would wait for it.
 #[inline(never)]

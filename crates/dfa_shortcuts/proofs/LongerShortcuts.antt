@@ -61,7 +61,7 @@ AreShortcuts-set rows entries passed place behind letters are new = record {
 module _ (rows : List Row) (from entries passed : List ℕ) (place : ℕ) (are : AreEntries rows from)
     (low : place < length from) (inside : IsOfRow from (get_or from place 0))
     (over : is_passed from (get_or from place 0) ≡ true) (shortcuts : AreShortcuts rows entries passed) where
-  -- where the row of an entry is passed over, the shortcut from that row is one for the entry too, with one letter more
+  -- if the row of an entry is passed over, the shortcut from that row is one for the entry too, with one letter more
   longer : (r : ℕ) (x : Seen) → r < length rows → 4 * r + letter_number x ≡ place
       → LeadsOn rows (step_at rows r x) (get_or passed (4 * row_of (get_or from place 0)) 0 + 1)
       (get_or entries (4 * row_of (get_or from place 0)) 0)

@@ -40,11 +40,11 @@ pub record AreOpenings (rows : List Row) (entries : List ℕ) : Type 0 where
   pub each : (w : Word) → length w ≡ opening_letters
       → IsBehind rows w (slice_index_or entries (word_number w) unknown)
 
--- the entry, or unknown where it is that of a row that accepts something
+-- the entry, or unknown if it is that of a row that accepts something
 abbrev pub silent_entry : ℕ → ℕ
 silent_entry entry = if is_accepting_entry entry then unknown else entry
 
--- the entry behind the letter with this number, where that is known
+-- the entry behind the letter with this number, if that is known
 abbrev pub entry_behind : List ℕ → ℕ → ℕ → ℕ
 entry_behind entries entry letter =
     if entry == unknown then unknown else silent_entry (slice_index_or entries (4 * row_of entry + letter) 0)

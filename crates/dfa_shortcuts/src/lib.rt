@@ -55,7 +55,7 @@ impl Shortcuts {
         })
     }
 
-    /// The entry of the row behind the opening with a number; None where nothing is known of it.
+    /// The entry of the row behind the opening with a number; None if nothing is known of it.
     #[inline(always)]
     pub fn opening(&self, number: u32) -> Option<u32>
         ensures known { IfSome result (λ entry. (entry ≢ unknown)

@@ -25,7 +25,7 @@ fn is_passed_over(entries: &[u32], entry: u32) -> bool
     !is_accepting(entry) && !is_dead(entry) && leads_one_way(entries, row_in(entry))
 }
 
-/// Makes one shortcut longer where the row to which its letter leads is passed over: it leads then to where the
+/// Makes one shortcut longer if the row to which its letter leads is passed over: it leads then to where the
 /// shortcut from that row leads, unless this passes over as many letters as a byte counts.
 fn lengthen(from: &[u32], entries: &mut [u32], passed: &mut [u8], place: usize)
     requires rows { HaveRows from.now }

@@ -29,7 +29,7 @@ fn with_stones(mut position: Position, colour: Colour, names: &str) -> Option<Po
     Some(position)
 }
 
-/// The answer to a question about the stone at a point, None exactly where none stands there.
+/// The answer to a question about the stone at a point, None exactly if none stands there.
 fn asked(position: &Position, kind: Kind, target: Point, depths: Depths) -> Option<Answer>
     ensures stone { IsSome result
         ↔ ((target < position.now.size * position.now.size) × (cell_at position.now.cells target ≢ Cell.Empty)) }

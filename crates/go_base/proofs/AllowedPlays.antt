@@ -19,7 +19,7 @@ banned_is_illegal pos c p banned = elim (cases_Bool (is_stone (cell_at pos.cells
   | inr none ↦ ap is_ok (play_ko pos c p none banned)
 ]
 
--- any other play is legal where it is with the ban dropped
+-- any other play is legal if it is with the ban dropped
 pub free_is_legal : (pos : BoardState) (c : Colour) (p : ℕ) → is_banned pos.ban c p ≡ false
     → is_ok (play_free pos c p) ≡ is_legal pos c p
 free_is_legal pos c p free = elim (cases_Bool (is_stone (cell_at pos.cells p))) [

@@ -34,7 +34,7 @@ module _ (asked : Bool) (s : ℕ) (cells : List Cell) (own : Cell) (q most : ℕ
   pub SpreadsUnder-none : (old : Found) → SpreadsUnder asked s cells own q 0 most old old
   SpreadsUnder-none old = record { sides = 0; whole = λ few. refl; spreads = SpreadsOut-none asked s cells own q old }
 
-  -- where no more liberties than most were seen, the first n sides were visited
+  -- if no more liberties than most were seen, the first n sides were visited
   sides_so_far : (n : ℕ) (old new : Found) → SpreadsUnder asked s cells own q n most old new
       → sets.len new.liberties ≤ most → SpreadsOut asked s cells own q n old new
   sides_so_far n old new h few = subst (λ k. SpreadsOut asked s cells own q k old new) (h.whole few) h.spreads
@@ -59,7 +59,7 @@ module _ (asked : Bool) (s : ℕ) (cells : List Cell) (own : Cell) (q most : ℕ
     spreads = SpreadsOut-visit asked s cells own q n r old mid new (sides_so_far n old mid h few) on at v;
   }
 
--- the stones that do not wait were visited, all whole where no more liberties than most were seen
+-- the stones that do not wait were visited, all whole if no more liberties than most were seen
 pub record FloodsUnder (asked : Bool) (s : ℕ) (cells : List Cell) (own : Cell) (p most : ℕ) (found : Found)
     (wait : sets.FinSet nat_cmp) : Type 0 where
   pub part : (r : ℕ) → sets.contains found.stones r ≡ true → Path s cells p r
@@ -119,7 +119,7 @@ seen_are_liberties s cells p free on stone seen =
     })) in
     omega arith
 
--- where no stone is left to visit, or more liberties than most were seen, the search has what it tells
+-- if no stone is left to visit, or more liberties than most were seen, the search has what it tells
 pub FloodsUnder-all : (asked : Bool) (s : ℕ) (cells : List Cell) (own : Cell) (p most : ℕ) (found : Searched)
     (met wait : sets.FinSet nat_cmp) → p < s * s → own ≡ cell_at cells p → own ≢ Empty
     → FloodsUnder asked s cells own p most (with_enemies found met) wait
@@ -158,7 +158,7 @@ pub Searches-count : (s : ℕ) (cells : List Cell) (p most n : ℕ) (found : Sea
 Searches-count s cells p most n found h count few =
     count ∙ ap sets.len (h.liberties (omega (arith, count, few))) ∙ len-liberty_points s cells p
 
--- a search for one liberty has seen none exactly where the string has none
+-- a search for one liberty has seen none exactly if the string has none
 pub none_seen : (s : ℕ) (cells : List Cell) (p n : ℕ) (found : Searched) → Searches s cells p 0 found
     → n ≡ sets.len found.liberties → eqb n 0 ≡ eqb (liberties s cells p) 0
 none_seen s cells p n found h count = elim (cases_eq n 0) [
@@ -168,7 +168,7 @@ none_seen s cells p n found h count = elim (cases_eq n 0) [
       ne_eqb n 0 nz ∙ sym (ne_eqb (liberties s cells p) 0 (λ z. omega (arith, over, z)))
 ]
 
--- a search for two liberties has seen one where the string has one
+-- a search for two liberties has seen one if the string has one
 pub one_seen : (s : ℕ) (cells : List Cell) (p n : ℕ) (found : Searched) → Searches s cells p 1 found
     → n ≡ sets.len found.liberties → liberties s cells p ≡ 1 → n ≡ 1
 one_seen s cells p n found h count one = elim (cases_lt 1 n) [

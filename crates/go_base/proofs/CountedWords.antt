@@ -70,7 +70,7 @@ count_sum a (suc b) test =
     swapped : (a b c : ℕ) → a + (b + c) ≡ b + (a + c)
     swapped a b c = omega arith
 
--- where no number from n on passes, those below n are counted alone
+-- if no number from n on passes, those below n are counted alone
 count_past : (n spare all : ℕ) (test : ℕ → Bool) → all ≡ n + spare → ((q : ℕ) → test q ≡ true → q < n)
     → count_below all test ≡ count_below n test
 count_past n spare all test e below =

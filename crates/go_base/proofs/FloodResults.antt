@@ -230,7 +230,7 @@ Flooded-next s cells own p q old new wait held waits on h st like sp =
       ];
     }
 
--- where no stone waits, each one that a path leads to was found
+-- if no stone waits, each one that a path leads to was found
 pub Flooded-all : (s : ℕ) (cells : List Cell) (p : ℕ) (stones wait : sets.FinSet nat_cmp)
     → Flooded s cells p stones wait → wait ≡ sets.empty → {q : ℕ} → Path s cells p q → sets.contains stones q ≡ true
 Flooded-all s cells p stones wait h none start = h.begins
@@ -249,7 +249,7 @@ string_has s cells r q on stone path =
     ∙ and_from _ _ (lt-ltb q (s * s) (path_on_board s cells r on path))
     (is_is_in_string-from_fact s cells r q on (record { stone = stone; path = path }))
 
--- where no stone waits, the stones are the string
+-- if no stone waits, the stones are the string
 pub string_is : (s : ℕ) (cells : List Cell) (p : ℕ) (stones wait : sets.FinSet nat_cmp) → p < s * s
     → is_stone (cell_at cells p) ≡ true → Flooded s cells p stones wait → wait ≡ sets.empty
     → stones ≡ string_at s cells p

@@ -148,7 +148,7 @@ Gathered-next s cells test q old new wait held waits found next h on st g = reco
   ];
 }
 
--- what a flood has gathered where no stone waits
+-- what a flood has gathered if no stone waits
 Gathered-all : (s : ℕ) (cells : List Cell) (test : Cell
     → Bool) (p : ℕ) (stones wait found : sets.FinSet nat_cmp) → p < s * s → is_stone (cell_at cells p) ≡ true
     → Flooded s cells p stones wait → wait ≡ sets.empty → Gathered s cells test stones wait found

@@ -9,7 +9,7 @@ use Rattle.std.specs.Int.{bit_at}
 use Rattle.go_rules.proofs.Tests.{or-false}
 use Rattle.go_base.specs.Bits.{set_words, is_marked}
 
--- the larger of two bits is 1 exactly where one of them is
+-- the larger of two bits is 1 exactly if one of them is
 larger_bit : (a b : ℕ) → a < 2 → b < 2 → eqb (max a b) 1 ≡ (eqb a 1 || eqb b 1)
 larger_bit zero zero h k = refl
 larger_bit zero (suc zero) h k = refl
@@ -19,7 +19,7 @@ larger_bit (suc (suc a)) b h k = absurd (omega arith)
 larger_bit zero (suc (suc b)) h k = absurd (omega arith)
 larger_bit (suc zero) (suc (suc b)) h k = absurd (omega arith)
 
--- a bit of two words together is set exactly where it is in one of them
+-- a bit of two words together is set exactly if it is in one of them
 pub bit_of_both : (a b k : ℕ) → eqb (bit_at (bit_or a b) k) 1 ≡ (eqb (bit_at a k) 1 || eqb (bit_at b k) 1)
 bit_of_both a b k =
     ap (λ n. eqb n 1) (bit_at_or a b k) ∙ larger_bit (bit_at a k) (bit_at b k) (bit_at-lt a k) (bit_at-lt b k)
@@ -33,7 +33,7 @@ pub record HasBoth (old more : List ℕ) (n : ℕ) (new : List ℕ) : Type 0 whe
 pub both_none : (old more : List ℕ) → length old ≡ set_words → HasBoth old more 0 old
 both_none old more six = record { length = six; bits = λ q. rw (le-ltb (q / 64) 0 (omega arith)) (or-false _) }
 
--- a test that fails for n passes for n + 1 where the number is n, and for each other number is as before
+-- a test that fails for n passes for n + 1 if the number is n, and for each other number is as before
 below_next : (k n : ℕ) → k ≢ n → ltb k (n + 1) ≡ ltb k n
 below_next k n ne = elim (cases_lt k n) [
   | inl l ↦ lt-ltb k (n + 1) (omega arith) ∙ sym (lt-ltb k n l)

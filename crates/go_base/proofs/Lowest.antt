@@ -17,7 +17,7 @@ bit_at-shift : (word from j : ℕ) → bit_at (word / 2 ^ from) j ≡ bit_at wor
 bit_at-shift word from j =
     ap (λ n. n % 2) (div-div-eq-div-mul word (2 ^ from) (2 ^ j) ∙ ap (λ n. word / n) (sym (pow-add 2 from j)))
 
--- no bit from the place on is set where nothing is left
+-- no bit from the place on is set if nothing is left
 pub nothing_left : (word from : ℕ) → word / 2 ^ from ≡ 0 → (k : ℕ) → from ≤ k → bit_at word k ≡ 0
 nothing_left word from z k h =
     let e : from + (k - from) ≡ k = omega arith in
@@ -76,13 +76,13 @@ IsFirstMarked words p end o =
     IfSome o (λ x. (p ≤ x) × (x < end) × (is_marked words x ≡ true)
     × ((r : ℕ) → p ≤ r → r < x → is_marked words r ≡ false))
 
--- where there is none, no point from p on below the end is marked
+-- if there is none, no point from p on below the end is marked
 abbrev pub NoneMarked : List ℕ → ℕ → ℕ → Option ℕ → Type 0
 NoneMarked words p end o = IfNone o ((r : ℕ) → p ≤ r → r < end → is_marked words r ≡ false)
 
 module _ (words : List ℕ) (p q end : ℕ) (low : p ≤ q)
     (before : (r : ℕ) → p ≤ r → r < q → is_marked words r ≡ false) where
-  -- the first that is marked from p on is q, where q is below the end
+  -- the first that is marked from p on is q, if q is below the end
   pub first_some : is_marked words q ≡ true → (o : Option ℕ) → o ≡ cond (ltb q end) (Some q) None
       → IsFirstMarked words p end o
   first_some hit o e = elim (cases_lt q end) [
@@ -123,7 +123,7 @@ no_member words p None h = λ r l. elim (cases_lt r largest_points) [
 ]
 no_member words p (Some x) h = tt
 
--- nor has it one where no point at all is marked from p on
+-- nor has it one if no point at all is marked from p on
 pub no_member_from : (words : List ℕ) (p : ℕ) (o : Option ℕ) → IfNone o ((r : ℕ) → p ≤ r → is_marked words r ≡ false)
     → IfNone o ((r : ℕ) → p ≤ r → sets.contains (marked words) r ≡ false)
 no_member_from words p None h = λ r l. not_member words r (h r l)

@@ -8,7 +8,7 @@ use Rattle.std.proofs.lemmas.Nat.Bits.{bit_at_and, bit_at-lt, bit_at-zero, bit_a
 use Rattle.std.specs.Int.{bit_at, bit_not, w64}
 use Rattle.go_base.specs.Bits.{set_words, is_marked}
 
--- a bit by which two are joined is 1 exactly where both are
+-- a bit by which two are joined is 1 exactly if both are
 both_bits : (a b : ℕ) → a < 2 → b < 2 → eqb (min a b) 1 ≡ (eqb a 1 && eqb b 1)
 both_bits zero zero h k = refl
 both_bits zero (suc zero) h k = refl
@@ -23,7 +23,7 @@ pub common_bit : (a b k : ℕ) → eqb (bit_at (bit_and a b) k) 1 ≡ (eqb (bit_
 common_bit a b k =
     ap (λ n. eqb n 1) (bit_at_and a b k) ∙ both_bits (bit_at a k) (bit_at b k) (bit_at-lt a k) (bit_at-lt b k)
 
--- a bit that is turned round is set exactly where it was not
+-- a bit that is turned round is set exactly if it was not
 turned_bit : (b : ℕ) → b < 2 → eqb (1 - b) 1 ≡ not (eqb b 1)
 turned_bit zero h = refl
 turned_bit (suc zero) h = refl

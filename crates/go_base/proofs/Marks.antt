@@ -102,7 +102,7 @@ insert-member s p h = same_nat_set _ _ (λ q.
       | inr ne ↦ rw (contains-insert_nat s p q, ne_eqb q p ne) refl
     ])
 
--- a point of the largest board is in the set exactly where it is marked
+-- a point of the largest board is in the set exactly if it is marked
 pub contains-small : (words : List ℕ) (p : ℕ) → p < largest_points → sets.contains (marked words) p ≡ is_marked words p
 contains-small words p h = contains-marked words p ∙ ap (λ b. b && is_marked words p) (lt-ltb p largest_points h)
 
@@ -112,7 +112,7 @@ marked-nothing words none = same_nat_set _ _ (λ q. contains-marked words q
     ∙ ap (λ b. ltb q largest_points && b) (none q) ∙ and-false (ltb q largest_points)
     ∙ sym (sets.contains-empty nat_cmp q))
 
--- where one more point is marked, the set has one more member
+-- if one more point is marked, the set has one more member
 pub marked-more : (old new : List ℕ) (p : ℕ) → p < largest_points → is_marked new p ≡ true
     → ((q : ℕ) → q ≢ p → is_marked new q ≡ is_marked old q) → marked new ≡ sets.insert (marked old) p
 marked-more old new p h here elsewhere = same_nat_set _ _ (λ q.

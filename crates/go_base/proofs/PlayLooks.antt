@@ -30,7 +30,7 @@ use Rattle.go_base.proofs.PointNeighbourhoods.{closeness}
 abbrev twice : ℕ → List Cell → ℕ → ℕ → Bool
 twice s cells p = neighbourhood_of s cells (neighbourhood_of s cells (alone p))
 
--- which has p, where p is a point of the board
+-- which has p, if p is a point of the board
 pub twice_self : (s : ℕ) (cells : List Cell) (p r : ℕ) → p < s * s → alone p r ≡ true → twice s cells p r ≡ true
 twice_self s cells p r on h = close_again s cells (alone p) r (close_alone s cells p r on h)
 

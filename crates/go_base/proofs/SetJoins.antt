@@ -16,7 +16,7 @@ JoinedBelow old more n new = (r : ℕ) → sets.contains new r ≡ (sets.contain
 pub joined_none : (old more : sets.FinSet nat_cmp) → JoinedBelow old more 0 old
 joined_none old more r = rw (le-ltb r 0 (omega arith)) (or-false _)
 
--- a number is n, or below n + 1 exactly where it is below n
+-- a number is n, or below n + 1 exactly if it is below n
 joined_step : (old more : sets.FinSet nat_cmp) (n : ℕ) (r : ℕ) → r ≡ n ⊎ (ltb r (n + 1) ≡ ltb r n)
 joined_step old more n r = elim (cases_eq r n) [
   | inl e ↦ inl e
@@ -59,7 +59,7 @@ pub joined_next : (old more new : sets.FinSet nat_cmp) (n m : ℕ) → n ≤ m �
     → JoinedBelow old more (m + 1) (sets.insert new m)
 joined_next old more new n m l h none hit = joined_add old more new m (joined_jump old more new n m l h none) hit
 
--- where no member is left, all of the other set came
+-- if no member is left, all of the other set came
 pub joined_all : (old more new : sets.FinSet nat_cmp) (n : ℕ) → JoinedBelow old more n new
     → ((r : ℕ) → n ≤ r → sets.contains more r ≡ false) → new ≡ sets.union old more
 joined_all old more new n h above = same_nat_set _ _ (λ r. h r ∙ elim (cases_lt r n) [

@@ -79,7 +79,7 @@ AreAlive-more s cells p n old stones new on its counted ne joined alive q h =
           (in_string_at s cells p q (ap (λ t. sets.contains t q) (sym its) ∙ now))
     ]
 
--- where no point is dead, no string is
+-- if no point is dead, no string is
 pub none_dead : (s : ℕ) (cells : List Cell) → ((k : ℕ) → k < s * s → is_dead_at s cells k ≡ false)
     → has_dead_string s cells ≡ false
 unfolding has_dead_string

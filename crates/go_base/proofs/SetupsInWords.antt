@@ -116,7 +116,7 @@ no_liberty s cells p l on is lib =
     let some = liberties_from s cells p l on lib in
     omega (arith, none, some)
 
--- where none is set up, the stones cannot be
+-- if none is set up, the stones cannot be
 refused_by : (s : ℕ) (black white : sets.FinSet nat_cmp) → setup_of s black white ≡ None → CannotBeSetUp s black white
 unfolding have_common_point has_dead_string
 refused_by s black white h = elim (cases_Bool (have_common_point s black white)) [

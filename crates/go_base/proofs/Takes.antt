@@ -97,7 +97,7 @@ Takes-add s put c p n r taken new h on e t is =
           (λ t' q path. has q ∙ or_right _ _ (string_has s put r q on (taken_stone s put c r t) path));
     }
 
--- the next side gave a point, whose string came where it is taken
+-- the next side gave a point, whose string came if it is taken
 pub Takes-next : (s : ℕ) (put : List Cell) (c : Colour) (p n r : ℕ) (taken new : sets.FinSet nat_cmp)
     → Takes s put c p n taken → r < s * s → neighbour_at s p n ≡ Some r
     → new ≡ cond (is_taken s put c r) (sets.union taken (string_at s put r)) taken → Takes s put c p (n + 1) new

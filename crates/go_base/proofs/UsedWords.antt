@@ -31,7 +31,7 @@ IsNoteOf-none words none = record {
 abbrev pub with_word : ℕ → ℕ → ℕ
 with_word used i = bit_or used (1 * 2 ^ i % 65536)
 
--- where one more point is marked, the bit of its word is noted
+-- if one more point is marked, the bit of its word is noted
 pub IsNoteOf-add : (old new : List ℕ) (used p : ℕ) → IsNoteOf old used → p < largest_points → is_marked new p ≡ true
     → ((q : ℕ) → q ≢ p → is_marked new q ≡ is_marked old q) → IsNoteOf new (with_word used (p / 64))
 IsNoteOf-add old new used p is on here elsewhere = record {

@@ -100,14 +100,14 @@ found_without s cells p found is = elim (cases_Bool (is_stone (cell_at cells p) 
   | inr f ↦ let e : Some found ≡ None = rw f at is in absurd (let k = e in cc)
 ]
 
--- where none are told, a stone's string has a liberty
+-- if none are told, a stone's string has a liberty
 pub none_without : (s : ℕ) (cells : List Cell) (p : ℕ) → is_stone (cell_at cells p) ≡ true
     → None ≡ stones_without_liberty s cells p → liberties s cells p ≢ 0
 unfolding stones_without_liberty
 none_without s cells p stone is z =
     let e : None ≡ Some (string_at s cells p) = rw (stone, z) at is in absurd (let k = e in cc)
 
--- a stone's string is told exactly where it has no liberty
+-- a stone's string is told exactly if it has no liberty
 pub told_where_none : (s : ℕ) (cells : List Cell) (p : ℕ) → is_stone (cell_at cells p) ≡ true
     → is_some (stones_without_liberty s cells p) ≡ eqb (liberties s cells p) 0
 unfolding stones_without_liberty

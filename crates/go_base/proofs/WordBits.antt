@@ -51,7 +51,7 @@ before_above word k i above hit =
 min-ones : (a b : ℕ) → a ≡ 1 → b ≡ 1 → min a b ≡ 1
 min-ones a b one other = rw (one, other) refl
 
--- where no bit below a set one is set, each bit of the word that is not left is that one
+-- if no bit below a set one is set, each bit of the word that is not left is that one
 pub without_lowest-one : (word k i : ℕ) → bit_at word k ≡ 1 → ((j : ℕ) → j < k → bit_at word j ≡ 0)
     → bit_at word i ≡ 1 → bit_at (without_lowest word) i ≡ 0 → i ≡ k
 without_lowest-one word k i lowest misses hit clear = elim (cases_lt i k) [

@@ -58,7 +58,7 @@ pub record AsksBan (old new : Facts) (p : ℕ) (c : Colour) : Type 0 where
 abbrev pub AllShow : List ℕ → Cell → BoardState → Type 0
 AllShow points cell pos = (q : ℕ) → q < pos.size * pos.size → IsTrue (is_marked points q) → cell_at pos.cells q ≡ cell
 
--- at each marked point of the board the position's ban forbids the colour exactly where this ban does
+-- at each marked point of the board the position's ban forbids the colour exactly if this ban does
 abbrev pub BanStays : List ℕ → Option (ℕ × Colour) → Colour → BoardState → Type 0
 BanStays points ban c pos =
     (q : ℕ) → q < pos.size * pos.size → IsTrue (is_marked points q) → is_banned pos.ban c q ≡ is_banned ban c q

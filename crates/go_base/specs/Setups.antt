@@ -18,7 +18,7 @@ is_dead_at s cells p = is_stone (cell_at cells p) && liberties s cells p == 0
 unfoldable pub has_dead_string : ℕ → List Cell → Bool
 has_dead_string s cells = any_below (s * s) (is_dead_at s cells)
 
--- what stands at p where these are the points of the black and of the white stones
+-- what stands at p if these are the points of the black and of the white stones
 abbrev pub cell_among : set.FinSet nat_cmp → set.FinSet nat_cmp → ℕ → Cell
 cell_among black white p =
     if set.contains black p then Black else if set.contains white p then White else Empty
@@ -31,7 +31,7 @@ cells_with s black white = map (cell_among black white) (range_with_len 0 (s * s
 unfoldable pub have_common_point : ℕ → set.FinSet nat_cmp → set.FinSet nat_cmp → Bool
 have_common_point s black white = any_below (s * s) (λ p. set.contains black p && set.contains white p)
 
--- the position with these stones and no ban: None exactly where a point is in both sets or some string has no liberty
+-- the position with these stones and no ban: None exactly if a point is in both sets or some string has no liberty
 unfoldable pub setup_of : ℕ → set.FinSet nat_cmp → set.FinSet nat_cmp → Option BoardState
 setup_of s black white =
     if have_common_point s black white then None

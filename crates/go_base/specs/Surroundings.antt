@@ -17,13 +17,13 @@ is_last_liberty_of_enemy s cells p l =
     any_below (s * s) (λ q. is_enemy (cell_at cells p) (cell_at cells q) && is_beside_string s cells p q
     && is_only_liberty s cells q l)
 
--- the liberty of the string of q came where it is the only one, and nothing else did
+-- the liberty of the string of q came if it is the only one, and nothing else did
 pub record AddsLast (s : ℕ) (cells : List Cell) (q : ℕ) (old new : set.FinSet nat_cmp) : Type 0 where
   pub kept : (l : ℕ) → set.contains old l ≡ true → set.contains new l ≡ true
   pub only : (l : ℕ) → set.contains new l ≡ true → (set.contains old l ≡ true) ⊎ (is_only_liberty s cells q l ≡ true)
   pub all : (l : ℕ) → is_only_liberty s cells q l ≡ true → set.contains new l ≡ true
 
--- the liberty of the string of each point seen is there, where it is the only one
+-- the liberty of the string of each point seen is there, if it is the only one
 abbrev pub KnowsLast : ℕ → List Cell → set.FinSet nat_cmp → set.FinSet nat_cmp → Type 0
 KnowsLast s cells seen last = (q : ℕ) → set.contains seen q ≡ true → (l : ℕ) → is_only_liberty s cells q l ≡ true
     → set.contains last l ≡ true

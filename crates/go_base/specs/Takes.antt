@@ -1,4 +1,4 @@
--- Where a stone was put on a position, it is next to each string that has no liberty; what is gathered side by side is
+-- If a stone was put on a position, it is next to each string that has no liberty; what is gathered side by side is
 -- whole strings.
 use Rattle.std.specs.Prelude.{◌≡◌, ℕ, ◌*◌, ◌<◌, ◌==◌, ◌&&◌, ◌||◌, Bool, true, List, Some}
 use Rattle.std.specs.Ordering.{nat_cmp}

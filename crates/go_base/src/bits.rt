@@ -132,7 +132,7 @@ impl PointBits {
         used
     }
 
-    /// The least point from `first` on whose bit is set, None exactly where there is none below `end`.
+    /// The least point from `first` on whose bit is set, None exactly if there is none below `end`.
     pub fn first_from(&self, first: u16, end: u16) -> Option<Point>
         requires { end ≤ largest_points }
         ensures some { IfSome result (λ q. (first ≤ q) × (q < end) × IsTrue (is_marked self.now q)
@@ -143,7 +143,7 @@ impl PointBits {
     }
 
     /// Whether the test says yes of each point below `end` whose bit is set. No other point is asked for, and none
-    /// after the first where the test says no.
+    /// after the first if the test says no.
     pub fn all_below<F: Fn(Point) -> bool>(&self, end: u16, test: F) -> bool
         requires bound { end ≤ largest_points }
         requires asked { (q : ℕ) → q < end → F.pre test q }
@@ -161,7 +161,7 @@ impl PointBits {
         all_of_word(self.words[base as usize / 64] & below, base, &test)
     }
 
-    /// The least point whose bit is set, None exactly where there is none. Of the words, `used` notes those that have a
+    /// The least point whose bit is set, None exactly if there is none. Of the words, `used` notes those that have a
     /// bit, so only the first of them is looked at.
     #[inline(always)]
     pub(crate) fn first_noted(&self, used: u16) -> Option<Point>
@@ -189,7 +189,7 @@ impl PointBits {
     }
 }
 
-/// The least point from `first` on that the words mark, None exactly where there is none. It looks at the word of
+/// The least point from `first` on that the words mark, None exactly if there is none. It looks at the word of
 /// `first`, and then at the next one that `used` notes, which has a bit.
 fn first_in_words(words: &[u64; WORDS], used: u16, first: u16) -> Option<Point>
     requires { IsNoteOf words.now used }
@@ -212,7 +212,7 @@ fn first_in_words(words: &[u64; WORDS], used: u16, first: u16) -> Option<Point>
     Some(next * WORD_BITS + lowest_bit(words[next as usize], 0))
 }
 
-/// The least point from `first` on that the words mark, None exactly where there is none below `end`. It takes no
+/// The least point from `first` on that the words mark, None exactly if there is none below `end`. It takes no
 /// memory.
 pub fn first_marked(words: &[u64; WORDS], first: u16, end: u16) -> Option<Point>
     requires { end ≤ largest_points }
@@ -233,7 +233,7 @@ pub fn first_marked(words: &[u64; WORDS], first: u16, end: u16) -> Option<Point>
     None
 }
 
-// The point, where it is below the end.
+// The point, if it is below the end.
 fn point_below(q: u16, end: u16) -> Option<Point>
     ensures { result ≡ (if nat_lt q end then Some q else None) }
 {
@@ -279,7 +279,7 @@ fn ones_of(word: u64) -> u16
     word.count_ones() as u16
 }
 
-// The place of the lowest set bit that is not below `from`, and 64 where there is none.
+// The place of the lowest set bit that is not below `from`, and 64 if there is none.
 fn lowest_bit(word: u64, from: u16) -> u16
     requires { from < 64 }
     ensures bound { result ≤ 64 }

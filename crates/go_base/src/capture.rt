@@ -50,7 +50,7 @@ fn take<V: View>(board: &mut V, c: Colour, q: Point, taken: &mut PointSet)
     }
 }
 
-/// Adds the string next to a point on one side to the taken ones, where it is an enemy of c without a liberty.
+/// Adds the string next to a point on one side to the taken ones, if it is an enemy of c without a liberty.
 #[inline(always)]
 fn take_side<V: View>(board: &mut V, c: Colour, spot: &Spot, side: u8, taken: &mut PointSet)
     requires on_board { spot.now.point < V.rows board.old * V.rows board.old }
@@ -71,7 +71,7 @@ fn take_side<V: View>(board: &mut V, c: Colour, spot: &Spot, side: u8, taken: &m
     }
 }
 
-/// The points of the enemy strings without a liberty, where a stone of c was put at p.
+/// The points of the enemy strings without a liberty, if a stone of c was put at p.
 fn captured<V: View>(board: &mut V, c: Colour, p: Point) -> PointSet
     requires { p < V.rows board.old * V.rows board.old }
     ensures looks { Looks V.cells V.asks board.old board.new anywhere }

@@ -101,7 +101,7 @@ impl Facts {
         all_show(&self.white, Cell::White, position)
     }
 
-    /// Whether the ban is as it was seen wherever it was asked for. Where it is the same ban, no point is looked at.
+    /// Whether the ban is as it was seen wherever it was asked for. If it is the same ban, no point is looked at.
     fn ban_stands(&self, position: &Position) -> bool
         ensures { IsTrue result ↔ ((c : Colour) → BanStays (asked_of self.now c) self.now.ban c position.now) }
     {
@@ -115,7 +115,7 @@ impl Facts {
     }
 
     /// Whether the position has the same size and every fact holds there. It looks only at points that a fact is about,
-    /// and at none after one where it does not hold.
+    /// and at none after one if it does not hold.
     pub fn stands(&self, position: &Position) -> bool
         ensures { IsTrue result ↔ Agrees (told self.now) position.now }
     {
@@ -163,7 +163,7 @@ fn all_show(points: &PointBits, cell: Cell, position: &Position) -> bool
     points.all_below(position.size().points(), |q| position.cell(q) == cell)
 }
 
-/// Whether at each marked point of the board the position's ban forbids the colour exactly where this ban does.
+/// Whether at each marked point of the board the position's ban forbids the colour exactly if this ban does.
 fn ban_stays(
     points: &PointBits,
     ban: Option<(Point, Colour)>,

@@ -99,7 +99,7 @@ fn visit<V: View, E: Enemies>(
     }
 }
 
-/// Visits the neighbour of a stone like `own` on one side, where there is one and no more liberties than `most` were
+/// Visits the neighbour of a stone like `own` on one side, if there is one and no more liberties than `most` were
 /// seen.
 #[inline(always)]
 fn visit_side<V: View, E: Enemies>(
@@ -166,7 +166,7 @@ fn spread<V: View, E: Enemies>(
     visit_side(board, own, &spot, 3, most, found, enemies, waiting);
 }
 
-/// The next stone to visit, which waits no longer; None where none waits, or more liberties than `most` were seen.
+/// The next stone to visit, which waits no longer; None if none waits, or more liberties than `most` were seen.
 #[inline(always)]
 fn next_stone(waiting: &mut PointSet, seen: u16, most: u16) -> Option<Point>
     ensures some { IfSome result (λ q. (q < largest_points) × IsTrue (set.contains waiting.old q)
@@ -217,9 +217,9 @@ pub(crate) fn search_into<V: View, E: Enemies>(
     }
 }
 
-/// The string of p and its liberties, where it has at most `most` liberties; else some of each, with more liberties
+/// The string of p and its liberties, if it has at most `most` liberties; else some of each, with more liberties
 /// than `most`. It visits each stone once, the least that waits first, and nothing but the stones and their neighbours,
-/// and stops as soon as it has seen more liberties than `most`. Both sets are empty where p is.
+/// and stops as soon as it has seen more liberties than `most`. Both sets are empty if p is.
 #[inline(always)]
 pub fn search<V: View>(board: &mut V, p: Point, most: u16) -> Searched
     requires { p < V.rows board.old * V.rows board.old }
@@ -237,7 +237,7 @@ pub fn search<V: View>(board: &mut V, p: Point, most: u16) -> Searched
     found
 }
 
-/// The string of p, its liberties and the enemy stones next to it; all three sets are empty where p is.
+/// The string of p, its liberties and the enemy stones next to it; all three sets are empty if p is.
 pub fn flood<V: View>(board: &mut V, p: Point) -> Found
     requires { p < V.rows board.old * V.rows board.old }
     ensures looks { Looks V.cells V.asks board.old board.new anywhere }
@@ -265,7 +265,7 @@ pub fn flood<V: View>(board: &mut V, p: Point) -> Found
     }
 }
 
-/// The stones of the string of p, none where p is empty.
+/// The stones of the string of p, none if p is empty.
 pub(crate) fn string_of<V: View>(board: &mut V, p: Point) -> PointSet
     requires { p < V.rows board.old * V.rows board.old }
     ensures looks { Looks V.cells V.asks board.old board.new anywhere }
@@ -278,7 +278,7 @@ pub(crate) fn string_of<V: View>(board: &mut V, p: Point) -> PointSet
     found.stones
 }
 
-/// The liberties of the string of p, none where p is empty.
+/// The liberties of the string of p, none if p is empty.
 pub fn liberties_of<V: View>(board: &mut V, p: Point) -> PointSet
     requires { p < V.rows board.old * V.rows board.old }
     ensures looks { Looks V.cells V.asks board.old board.new anywhere }

@@ -116,7 +116,7 @@ impl Position {
         }
     }
 
-    /// The stones of the string of p, none where p is empty.
+    /// The stones of the string of p, none if p is empty.
     pub fn string(&self, p: Point) -> PointSet
         requires { p < self.now.size * self.now.size }
         ensures { result ≡ string_at self.now.size self.now.cells p }
@@ -125,7 +125,7 @@ impl Position {
         string_of(&mut board, p)
     }
 
-    /// The liberties of the string of p, none where p is empty.
+    /// The liberties of the string of p, none if p is empty.
     pub fn liberty_points(&self, p: Point) -> PointSet
         requires { p < self.now.size * self.now.size }
         ensures { result ≡ liberty_points self.now.size self.now.cells p }
@@ -134,7 +134,7 @@ impl Position {
         liberties_of(&mut board, p)
     }
 
-    /// How many liberties the string of p has, 0 where p is empty.
+    /// How many liberties the string of p has, 0 if p is empty.
     pub fn liberties(&self, p: Point) -> u16
         requires { p < self.now.size * self.now.size }
         ensures { result ≡ liberties_at self.now.size self.now.cells p }
@@ -166,8 +166,8 @@ impl Position {
         }
     }
 
-    /// The position after c plays at p, or the first reason against it: Occupied where a stone stands at p, Ko where
-    /// the ban forbids the play, Suicide where the stone's string would have no liberty after the captures.
+    /// The position after c plays at p, or the first reason against it: Occupied if a stone stands at p, Ko where
+    /// the ban forbids the play, Suicide if the stone's string would have no liberty after the captures.
     pub fn play(&self, c: Colour, p: Point) -> Result<Position, Illegal>
         requires { p < self.now.size * self.now.size }
         ensures value { result ≡ played self.now c p }

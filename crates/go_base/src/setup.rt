@@ -17,7 +17,7 @@ use crate::size::{Point, Size};
 use crate::view::Flat;
 use go_rules::Cell;
 
-/// What stands at p where these are the points of the stones.
+/// What stands at p if these are the points of the stones.
 fn cell_of(black: &PointSet, white: &PointSet, p: Point) -> Cell
     requires { p < largest_points }
     ensures { result ≡ cell_among black.now white.now p }
@@ -104,7 +104,7 @@ fn has_dead_string(board: &mut Flat) -> bool
 }
 
 impl Position {
-    /// The position with these stones and no ban, None exactly where a point is in both sets or some string has no
+    /// The position with these stones and no ban, None exactly if a point is in both sets or some string has no
     /// liberty.
     pub fn setup(size: Size, black: &PointSet, white: &PointSet) -> Option<Position>
         requires black { (p : ℕ) → IsTrue (set.contains black.now p) → p < size * size }

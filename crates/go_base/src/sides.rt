@@ -33,7 +33,7 @@ impl Spot {
         }
     }
 
-    /// The neighbour above (side 0), below (1), to the left (2) or to the right (3), None where the point is on that
+    /// The neighbour above (side 0), below (1), to the left (2) or to the right (3), None if the point is on that
     /// edge.
     #[inline(always)]
     pub(crate) fn neighbour(&self, side: u8) -> Option<Point>
@@ -59,7 +59,7 @@ impl Spot {
     }
 }
 
-/// The neighbour of p above (side 0), below (1), to the left (2) or to the right (3), None where p is on that edge.
+/// The neighbour of p above (side 0), below (1), to the left (2) or to the right (3), None if p is on that edge.
 #[inline(always)]
 pub fn neighbour(size: Size, p: Point, side: u8) -> Option<Point>
     requires on_board { p < size * size }

@@ -37,7 +37,7 @@ impl Model for Size {
 }
 
 impl Size {
-    /// The size of a board with n rows, None exactly where no board may have that many.
+    /// The size of a board with n rows, None exactly if no board may have that many.
     pub fn new(n: u8) -> Option<Size>
         ensures valid { IsSome result ↔ IsSize n }
         ensures value { IfSome result (λ s. s ≡ n) }

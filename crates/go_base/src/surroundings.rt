@@ -30,7 +30,7 @@ pub struct Surroundings {
     pub last_liberties: PointSet,
 }
 
-/// Adds the liberty of the string of q where it is the only one, unless the string was seen. No more of the string is
+/// Adds the liberty of the string of q if it is the only one, unless the string was seen. No more of the string is
 /// searched once it has shown two liberties.
 fn add_last_liberty<V: View>(board: &mut V, q: Point, seen: &mut PointBits, last: &mut PointSet)
     requires on_board { q < V.rows board.old * V.rows board.old }
@@ -56,7 +56,7 @@ fn add_last_liberty<V: View>(board: &mut V, q: Point, seen: &mut PointBits, last
     }
 }
 
-/// The liberties of the string of p and the last liberties of the enemy strings next to it, both none where p is empty.
+/// The liberties of the string of p and the last liberties of the enemy strings next to it, both none if p is empty.
 /// Each string in atari is searched once.
 pub fn surroundings_of<V: View>(board: &mut V, p: Point) -> Surroundings
     requires { p < V.rows board.old * V.rows board.old }

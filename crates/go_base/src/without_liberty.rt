@@ -65,7 +65,7 @@ fn searched_without_liberty<V: View>(board: &mut V, p: Point) -> Option<PointSet
     Some(found.stones)
 }
 
-/// The stones of the string of the stone at p, where it has no liberty; else None. It looks at the stones and their
+/// The stones of the string of the stone at p, if it has no liberty; else None. It looks at the stones and their
 /// neighbours, and no further once it has seen a liberty. It takes no memory.
 #[inline(always)]
 pub(crate) fn string_without_liberty<V: View>(board: &mut V, p: Point) -> Option<PointSet>

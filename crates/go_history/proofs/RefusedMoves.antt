@@ -11,7 +11,7 @@ use Rattle.go_history.specs.declared.history.HistoryError.TheVariants.{Illegal a
 abbrev pub MoveOutcome : Type 0
 MoveOutcome = Result (Unit {0}) HistoryError
 
--- a refusal is told exactly where the move is refused for it
+-- a refusal is told exactly if the move is refused for it
 pub illegal_is : (r : Result BoardState Illegal) (x : Illegal) → r ≡ Err x → (e : Illegal)
     → (◌≡◌ {A = MoveOutcome} (Err (illegal x)) (Err (illegal e))) ↔ (r ≡ Err e)
 illegal_is r x is e = (λ same. is ∙ ap Err (inside x e same), λ other. same_error x e (sym is ∙ other))

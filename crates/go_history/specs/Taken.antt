@@ -7,7 +7,7 @@ use Rattle.go_rules.specs.Position.{BoardState, same_colour}
 use Rattle.go_rules.specs.Replay.{taken_by}
 use Rattle.go_history.specs.declared.captures.Captures.{Captures}
 
--- how many stones the move takes for the colour c: those that it takes where it is a move of c, and else none
+-- how many stones the move takes for the colour c: those that it takes if it is a move of c, and else none
 abbrev pub stones_taken : BoardState → Colour → Move → ℕ
 stones_taken pos c m = if same_colour m.colour c then taken_by pos m.colour m.at else 0
 

@@ -1,4 +1,4 @@
-//! The list of the moves of a game, with the board that they lead to. A move is added only where it is legal, and the
+//! The list of the moves of a game, with the board that they lead to. A move is added only if it is legal, and the
 //! last one can be taken back.
 //!
 //! A `History` is seen as the size of its board and its moves. Each public call is stated over the replay of these

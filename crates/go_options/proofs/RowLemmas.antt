@@ -56,7 +56,7 @@ words_read f id o is = ap (λ (w : Option (List Text)). unwrap_or w []) (is ∙ 
 abbrev IsInOrNone : NumberOption → Option ℕ → Type 0
 IsInOrNone option number = MatchOption number (Unit {0}) (IsIn option)
 
--- a number that an option may have lies in its range where it is there
+-- a number that an option may have lies in its range if it is there
 pub only_from : (f : Found) (option : NumberOption) (o : Option ℕ) → MayBeGiven f option
     → o ≡ number_in option.name (rows_of f) → IsInOrNone option o
 only_from f option o only is = subst (IsInOrNone option) (sym is) (go (one_text f option.name) refl)

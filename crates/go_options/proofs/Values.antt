@@ -10,7 +10,7 @@ use Rattle.clap.specs.Lexer.{without_minus}
 use Rattle.clap.specs.Values.{IsSignedIn}
 use Rattle.go_options.specs.Numbers.{IsWhole}
 
--- a minus is dropped where the text begins with one
+-- a minus is dropped if the text begins with one
 without_minus-cond : (t : List ℕ) → without_minus t ≡ cond (starts_with_minus t) (drop 1 t) t
 without_minus-cond [] = refl
 without_minus-cond (x ∷ xs) = go (x == 45)

@@ -26,7 +26,7 @@ default_rule name values text = record (option_rule name values) { defaults = te
 abbrev pub range_of : NumberOption → ValueParser
 range_of option = whole_from option.least option.greatest
 
--- the rule of an option that has a number: one value in its range, and its default where it has one
+-- the rule of an option that has a number: one value in its range, and its default if it has one
 abbrev pub number_rule : NumberOption → Rule
 number_rule option = record (option_rule option.name (range_of option)) {
   defaults = unwrap_or (option_map (λ text. text ∷ []) option.default) [];

@@ -13,7 +13,7 @@ use Rattle.go_options.specs.declared.options.Options.{Options}
 abbrev pub number_of : Text → ℕ
 number_of text = digits_value 10 (without_leading_plus text)
 
--- the number of an option, where it has a value
+-- the number of an option, if it has a value
 abbrev pub number_in : Text → List Row → Option ℕ
 number_in name rows = option_map number_of (one_of name rows)
 

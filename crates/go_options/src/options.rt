@@ -32,7 +32,7 @@ pub struct Options {
     pub files: Files,
 }
 
-/// The number of an option, where it has a value.
+/// The number of an option, if it has a value.
 fn number(matches: &ArgMatches<'_>, name: &str) -> Option<u32>
     requires { HasOnlyNumber (found_of matches.now) name.now 0 largest }
     ensures { result ≡ number_in name.now (rows_of (found_of matches.now)) }

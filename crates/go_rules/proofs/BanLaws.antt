@@ -91,12 +91,12 @@ count_one (suc n) test k h = elim (cases_eq k n) [
       rw (miss, rest) refl
 ]
 
--- the point of a ban, and 0 where there is none
+-- the point of a ban, and 0 if there is none
 abbrev ban_point : Option (ℕ × Colour) → ℕ
 ban_point None = 0
 ban_point (Some b) = b.0
 
--- the colour of a ban, and c where there is none
+-- the colour of a ban, and c if there is none
 abbrev ban_colour : Colour → Option (ℕ × Colour) → Colour
 ban_colour c None = c
 ban_colour c (Some b) = b.1
@@ -115,7 +115,7 @@ module _ (pos : BoardState) (c : Colour) (p : ℕ) (new : BoardState) (on : p < 
   unfolding ban_after
   first_ban q one alone free first = done_is pos c p new played ∙ rw (one, alone, free, first) refl
 
-  -- the ban's point and colour, where there is one
+  -- the ban's point and colour, if there is one
   pub ban_parts : (q : ℕ) (k : Colour) → new.ban ≡ Some (q, k)
       → (k ≡ other c) × (count_below (pos.size * pos.size) (is_taken pos.size (put_on pos c p) c) ≡ 1)
       × (count_below (pos.size * pos.size) (is_in_string pos.size new.cells p) ≡ 1)

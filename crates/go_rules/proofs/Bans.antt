@@ -50,7 +50,7 @@ ban_some s put after c p q taken b e is t has least =
     ∙ least r (omega arith) l) in
     rw (sym (is ∙ ko_test_is s put after c p taken e) ∙ t, first) refl
 
--- where nothing was taken there is no ban
+-- if nothing was taken there is no ban
 pub ban_empty : (s : ℕ) (put after : List Cell) (c : Colour) (p : ℕ) (taken : sets.FinSet nat_cmp) (b : Bool)
     → taken ≡ taken_at s put c → b ≡ ko_test s taken after p → b ≡ true
     → ((r : ℕ) → 0 ≤ r → sets.contains taken r ≡ false) → None ≡ ban_after s put after c p

@@ -63,7 +63,7 @@ module _ (pos : BoardState) (c : Colour) (p : ℕ) (new : BoardState) (good : Is
       f ∙ sym (ap (λ k. is_stone (cell_at pos.cells q) && not (is_stone k)) stays
       ∙ none_gone (is_stone (cell_at pos.cells q)))
 
--- after a play without regard to the ban, a stone is taken exactly where it stood before and does not after
+-- after a play without regard to the ban, a stone is taken exactly if it stood before and does not after
 taken_is_gone : (pos : BoardState) (c : Colour) (p : ℕ) (new : BoardState) → IsPosition pos → p < pos.size * pos.size
     → play_free pos c p ≡ Ok new
     → (q : ℕ) → q < pos.size * pos.size

@@ -4,7 +4,7 @@ use Rattle.std.proofs.Common.{inr, ◌∙◌}
 use Rattle.std.proofs.lemmas.Bool.{or_left, or_right, or_cases, or_parts, cases_Bool, cases_eq, both_ways}
 use Rattle.go_rules.specs.Below.{any_below, count_below, first_below}
 
--- where some number passes
+-- if some number passes
 pub any_below_gives : (n : ℕ) (test : ℕ → Bool) → any_below n test ≡ true → (k : ℕ) × (k < n) × (test k ≡ true)
 any_below_gives zero test h = absurd (both_ways false refl h)
 any_below_gives (suc n) test h =
@@ -22,7 +22,7 @@ any_below_from (suc n) test k h t =
       | inr ne ↦ or_right (test n) (any_below n test) (any_below_from n test k (omega arith) t)
     ]
 
--- where none passes, this one does not
+-- if none passes, this one does not
 pub any_below_none : (n : ℕ) (test : ℕ → Bool) (k : ℕ) → any_below n test ≡ false → k < n → test k ≡ false
 any_below_none zero test k h l = absurd (omega arith)
 any_below_none (suc n) test k h l =
@@ -92,7 +92,7 @@ first_below_gives (suc n) test q h =
       ]
     ]
 
--- where each fails, none passes
+-- if each fails, none passes
 pub any_below_false : (n : ℕ) (test : ℕ → Bool) → ((k : ℕ) → k < n → test k ≡ false) → any_below n test ≡ false
 any_below_false zero test h = refl
 any_below_false (suc n) test h = rw (h n (omega arith), any_below_false n test (λ k l. h k (omega arith))) refl
@@ -107,12 +107,12 @@ first_below_is (suc n) test q l t none =
       | inr ne ↦ rw (any_below_from n test q (omega arith) t) (first_below_is n test q (omega arith) t none)
     ]
 
--- where each fails, there is no least
+-- if each fails, there is no least
 pub first_below_none : (n : ℕ) (test : ℕ → Bool) → ((k : ℕ) → k < n → test k ≡ false) → first_below n test ≡ None
 first_below_none zero test h = refl
 first_below_none (suc n) test h = rw (any_below_false n test (λ k l. h k (omega arith)), h n (omega arith)) refl
 
--- where each fails, none is counted
+-- if each fails, none is counted
 pub count_below_none : (n : ℕ) (test : ℕ → Bool) → ((k : ℕ) → k < n → test k ≡ false) → count_below n test ≡ 0
 count_below_none zero test h = refl
 count_below_none (suc n) test h = rw (h n (omega arith), count_below_none n test (λ k l. h k (omega arith))) refl

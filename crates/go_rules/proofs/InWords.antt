@@ -13,7 +13,7 @@ use Rattle.go_rules.proofs.Links.{path_same, path_on, path_back}
 pub string_itself : (s : ℕ) (cells : List Cell) (p : ℕ) → is_stone (cell_at cells p) ≡ true → IsInString s cells p p
 string_itself s cells p stone = record { stone = stone; path = start }
 
--- where q is of the string of p, p is of the string of q
+-- if q is of the string of p, p is of the string of q
 pub string_back_in_words : (s : ℕ) (cells : List Cell) (p q : ℕ) → p < s * s → IsInString s cells p q
     → IsInString s cells q p
 string_back_in_words s cells p q on h =

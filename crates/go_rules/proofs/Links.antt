@@ -81,7 +81,7 @@ liberty_moves s cells p q l h link lib = record {
   );
 }
 
--- where some are counted, some number passes
+-- if some are counted, some number passes
 count_below_some : (n : ℕ) (test : ℕ → Bool) → 0 < count_below n test → any_below n test ≡ true
 count_below_some zero test h = absurd (omega arith)
 count_below_some (suc n) test h =
@@ -97,7 +97,7 @@ liberties_some s cells p h =
     let found = any_below_gives (s * s) (is_liberty s cells p) (count_below_some (s * s) (is_liberty s cells p) h) in
     (found.0, IsLiberty-from_test s cells p found.0 found.2)
 
--- where there is a liberty, some are counted
+-- if there is a liberty, some are counted
 pub liberties_from : (s : ℕ) (cells : List Cell) (p l : ℕ) → p < s * s → IsLiberty s cells p l → 0 < liberties s cells p
 unfolding liberties
 liberties_from s cells p l h lib =

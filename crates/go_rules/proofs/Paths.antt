@@ -97,7 +97,7 @@ reached_later s cells p q k (suc n) le h =
 abbrev IsStable : ℕ → List Cell → ℕ → ℕ → Type 0
 IsStable s cells p k = (q : ℕ) → q < s * s → reached s cells p (suc k) q ≡ true → reached s cells p k q ≡ true
 
--- where one more step reaches nothing new, what a path leads to is reached
+-- if one more step reaches nothing new, what a path leads to is reached
 reached_from_path : (s : ℕ) (cells : List Cell) (p k : ℕ) → p < s * s → IsStable s cells p k → {q : ℕ}
     → Path s cells p q → reached s cells p k q ≡ true
 reached_from_path s cells p k h stable start = reached_start s cells p k
@@ -111,7 +111,7 @@ reached_from_path s cells p k h stable (step {q} {r} path on near same) =
 abbrev new_at : ℕ → List Cell → ℕ → ℕ → ℕ → Bool
 new_at s cells p n q = reached s cells p (suc n) q && not (reached s cells p n q)
 
--- where there is none of these, one more step reaches nothing new
+-- if there is none of these, one more step reaches nothing new
 stable_at : (s : ℕ) (cells : List Cell) (p n : ℕ) → any_below (s * s) (new_at s cells p n) ≡ false
     → IsStable s cells p n
 stable_at s cells p n none q l now = elim (cases_Bool (reached s cells p n q)) [
@@ -119,7 +119,7 @@ stable_at s cells p n none q l now = elim (cases_Bool (reached s cells p n q)) [
   | inr g ↦ absurd (both_ways _ (any_below_none (s * s) _ q none l) (and_from _ _ now (not_from_false _ g)))
 ]
 
--- where there is one, more are reached
+-- if there is one, more are reached
 more_at : (s : ℕ) (cells : List Cell) (p n : ℕ) → any_below (s * s) (new_at s cells p n) ≡ true
     → count_below (s * s) (reached s cells p n) < count_below (s * s) (reached s cells p (suc n))
 more_at s cells p n some =

@@ -25,12 +25,12 @@ use Rattle.go_rules.proofs.Plays.{own_not_taken}
 use Rattle.go_rules.proofs.Results.{after_on, put_on, result_of, free_occupied, free_suicide, free_done, result_good}
 use Rattle.go_rules.proofs.Results.{play_occupied, play_ko, play_else}
 
--- where no liberty is counted there is none
+-- if no liberty is counted there is none
 none_from_zero : (s : ℕ) (cells : List Cell) (p : ℕ) → p < s * s → liberties s cells p ≡ 0 → (l : ℕ)
     → IsLiberty s cells p l → ⊥
 none_from_zero s cells p h z l lib = let some = liberties_from s cells p l h lib in omega arith
 
--- where there is no liberty none is counted
+-- if there is no liberty none is counted
 zero_from_none : (s : ℕ) (cells : List Cell) (p : ℕ) → ((l : ℕ) → IsLiberty s cells p l → ⊥) → liberties s cells p ≡ 0
 zero_from_none s cells p none =
     elim (cases_Bool (eqb (liberties s cells p) 0)) [
@@ -180,11 +180,11 @@ pub same_colour-itself : (c : Colour) → same_colour c c ≡ true
 same_colour-itself black = refl
 same_colour-itself white = refl
 
--- where the ban is on a play, it is banned
+-- if the ban is on a play, it is banned
 is_banned-from : (b : Option (ℕ × Colour)) (c : Colour) (p : ℕ) → b ≡ Some (p, c) → is_banned b c p ≡ true
 is_banned-from b c p e = ap (λ x. is_banned x c p) e ∙ and_from _ _ (eq-eqb p p refl) (same_colour-itself c)
 
--- Ko is told exactly where the point is empty and the ban is on the play
+-- Ko is told exactly if the point is empty and the ban is on the play
 pub ko_exactly : (pos : BoardState) (c : Colour) (p : ℕ)
     → (play pos c p ≡ Err Ko) ↔ ((cell_at pos.cells p ≡ Empty) × (pos.ban ≡ Some (p, c)))
 ko_exactly pos c p = (
@@ -198,7 +198,7 @@ ko_exactly pos c p = (
   λ h. sym (play_ko pos c p (ap is_stone h.0) (is_banned-from pos.ban c p h.1)),
 )
 
--- Occupied is told exactly where a stone stands
+-- Occupied is told exactly if a stone stands
 pub occupied_exactly : (pos : BoardState) (c : Colour) (p : ℕ)
     → (play pos c p ≡ Err Occupied) ↔ (cell_at pos.cells p ≢ Empty)
 occupied_exactly pos c p = (
@@ -279,7 +279,7 @@ follows_same pos c p a b h k q on =
     same_removed pos.size (put_on pos c p) c a.cells h.cells q on
     ∙ sym (same_removed pos.size (put_on pos c p) c b.cells k.cells q on)
 
--- where some position follows by the rules, the play is answered
+-- if some position follows by the rules, the play is answered
 pub answered : (pos : BoardState) (c : Colour) (p : ℕ) (next : BoardState) → p < pos.size * pos.size
     → Follows pos c p next → (new : BoardState) × (play_free pos c p ≡ Ok new)
 answered pos c p next on h = elim (free_cases pos c p) [
@@ -294,7 +294,7 @@ suicide_from pos c p h = sym (free_suicide pos c p (ap is_stone h.was_empty)
     (zero_from_none pos.size (after_on pos c p) p
     (λ l lib. h.dead (after_on pos c p) (removes pos.size (put_on pos c p) c) l lib)))
 
--- with the ban dropped Suicide is told exactly where it is one
+-- with the ban dropped Suicide is told exactly if it is one
 pub free_suicide_exactly : (pos : BoardState) (c : Colour) (p : ℕ) → p < pos.size * pos.size
     → (play_free pos c p ≡ Err Suicide) ↔ IsSuicide pos c p
 free_suicide_exactly pos c p on = (free_suicide_only pos c p on, suicide_from pos c p)
@@ -307,7 +307,7 @@ free_occupied_exactly pos c p = (
   λ ne. sym (free_occupied pos c p (true_from_ne_false _ (λ f. ne (empty_from (cell_at pos.cells p) f)))),
 )
 
--- Suicide is told exactly where it is one and the ban is not on the play
+-- Suicide is told exactly if it is one and the ban is not on the play
 pub suicide_exactly : (pos : BoardState) (c : Colour) (p : ℕ) → p < pos.size * pos.size
     → (play pos c p ≡ Err Suicide) ↔ ((pos.ban ≢ Some (p, c)) × IsSuicide pos c p)
 suicide_exactly pos c p on = (

@@ -114,7 +114,7 @@ taken_whole s put c q x on t path =
           absurd (omega (arith, alive, parts.1))
     ])
 
--- the removal of a set's stones, where the set is what is taken
+-- the removal of a set's stones, if the set is what is taken
 pub after_from : (s : ℕ) (put : List Cell) (c : Colour) (taken : sets.FinSet nat_cmp) → taken ≡ taken_at s put c
     → length put ≡ s * s
     → map (λ q. cond (sets.contains taken q) Empty (cell_at put q)) (range_with_len 0 (length put))

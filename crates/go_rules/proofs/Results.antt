@@ -31,13 +31,13 @@ result_of pos c p = record {
   ban = ban_after pos.size (put_on pos c p) (after_on pos c p) c p;
 }
 
--- where a stone stands, the play with the ban dropped is Occupied
+-- if a stone stands, the play with the ban dropped is Occupied
 pub free_occupied : (pos : BoardState) (c : Colour) (p : ℕ) → is_stone (cell_at pos.cells p) ≡ true
     → Err Occupied ≡ play_free pos c p
 unfolding play_free
 free_occupied pos c p t = rw t refl
 
--- where the stone's string has no liberty afterwards, it is Suicide
+-- if the stone's string has no liberty afterwards, it is Suicide
 pub free_suicide : (pos : BoardState) (c : Colour) (p : ℕ) → is_stone (cell_at pos.cells p) ≡ false
     → liberties pos.size (after_on pos c p) p ≡ 0 → Err Suicide ≡ play_free pos c p
 unfolding play_free
@@ -49,13 +49,13 @@ pub free_done : (pos : BoardState) (c : Colour) (p : ℕ) → is_stone (cell_at 
 unfolding play_free
 free_done pos c p f nz = rw (f, ne_eqb (liberties pos.size (after_on pos c p) p) 0 nz) refl
 
--- where a stone stands, the play is Occupied
+-- if a stone stands, the play is Occupied
 pub play_occupied : (pos : BoardState) (c : Colour) (p : ℕ) → is_stone (cell_at pos.cells p) ≡ true
     → Err Occupied ≡ play pos c p
 unfolding play
 play_occupied pos c p t = rw t refl
 
--- where the ban is on the play, it is Ko
+-- if the ban is on the play, it is Ko
 pub play_ko : (pos : BoardState) (c : Colour) (p : ℕ) → is_stone (cell_at pos.cells p) ≡ false
     → is_banned pos.ban c p ≡ true → Err Ko ≡ play pos c p
 unfolding play

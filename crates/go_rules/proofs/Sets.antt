@@ -21,7 +21,7 @@ contains-insert_nat s k q =
 pub same_nat_set : (s t : set.FinSet nat_cmp) → ((q : ℕ) → set.contains s q ≡ set.contains t q) → s ≡ t
 same_nat_set s t h = set.same_set nat_cmp_total set.nat_cmp-IsAntisymmetric s t h
 
--- another number than n is below n + 1 exactly where it is below n
+-- another number than n is below n + 1 exactly if it is below n
 ltb-other : (q n : ℕ) → q ≢ n → ltb q (suc n) ≡ ltb q n
 ltb-other q n ne = elim (cases_lt q n) [
   | inl l ↦ rw (lt-ltb q n l, lt-ltb q (suc n) (omega arith)) refl

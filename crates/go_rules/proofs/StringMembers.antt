@@ -9,7 +9,7 @@ use Rattle.go_rules.proofs.Links.{path_same, path_back}
 pub is_in_string_on : (s : ℕ) (cells : List Cell) (p q : ℕ) → p < s * s → is_in_string s cells p q ≡ true → q < s * s
 is_in_string_on s cells p q on h = path_on_board s cells p on (IsInString-from_test s cells p q h).path
 
--- where q is of the string of p, p is of the string of q
+-- if q is of the string of p, p is of the string of q
 pub string_back : (s : ℕ) (cells : List Cell) (p q : ℕ) → p < s * s → is_in_string s cells p q ≡ true
     → is_in_string s cells q p ≡ true
 string_back s cells p q on h =

@@ -24,7 +24,7 @@ moved_to pos c (Some p) = play pos c p
 abbrev pub moved : BoardState → Move → Result BoardState Illegal
 moved pos m = moved_to pos m.colour m.at
 
--- the position that a move led to, and this one where the move was refused
+-- the position that a move led to, and this one if the move was refused
 abbrev pub led_to : BoardState → Result BoardState Illegal → BoardState
 led_to pos (Ok next) = next
 led_to pos (Err e) = pos

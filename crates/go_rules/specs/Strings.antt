@@ -60,11 +60,11 @@ is_liberty s cells p l =
     nat_lt l (s * s) && same_cell (cell_at cells l) Empty
     && any_below (s * s) (λ q. is_in_string s cells p q && are_neighbours s q l)
 
--- how many liberties the string of p has; 0 where p is empty
+-- how many liberties the string of p has; 0 if p is empty
 unfoldable pub liberties : ℕ → List Cell → ℕ → ℕ
 liberties s cells p = count_below (s * s) (is_liberty s cells p)
 
--- the stones of the string of p; none where p is empty
+-- the stones of the string of p; none if p is empty
 unfoldable pub string_at : ℕ → List Cell → ℕ → set.FinSet nat_cmp
 string_at s cells p = set_below (s * s) (is_in_string s cells p)
 

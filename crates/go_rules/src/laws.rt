@@ -87,7 +87,7 @@ pub fn plays_are_by_rules()
     ensures never_ko { (pos : BoardState) (c : Colour) (p : ℕ) → play_free pos c p ≢ Err Illegal.Ko }
 {}
 
-/// A play changes no cell but its own point, where the stone stands afterwards, and the captured enemy stones.
+/// A play changes no cell but its own point, if the stone stands afterwards, and the captured enemy stones.
 pub fn plays_change_little()
     ensures stone { (pos : BoardState) (c : Colour) (p : ℕ) (new : BoardState) → IsPosition pos
         → p < pos.size * pos.size
@@ -113,7 +113,7 @@ pub fn bans_are_by_rules()
         → play_free pos c p ≡ Ok new → new.ban ≡ Some (q, k) → k ≡ other c }
 {}
 
-/// The reasons against a play come in their order, each exactly where it should, and a pass is never refused.
+/// The reasons against a play come in their order, each exactly if it should, and a pass is never refused.
 pub fn reasons_are_in_order()
     ensures occupied { (pos : BoardState) (c : Colour) (p : ℕ)
         → (play pos c p ≡ Err Illegal.Occupied) ↔ (cell_at pos.cells p ≢ Cell.Empty) }

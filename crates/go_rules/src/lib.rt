@@ -29,7 +29,7 @@ pub enum Cell {
     White,
 }
 
-/// A move of a game: a colour plays at a point, or passes where there is none.
+/// A move of a game: a colour plays at a point, or passes if there is none.
 #[derive(Clone, Copy, Debug, PartialEq, Eq)]
 pub struct Move {
     pub colour: Colour,

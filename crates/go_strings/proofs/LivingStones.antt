@@ -1,4 +1,4 @@
--- A stone that is put lives exactly where one of its sides gives it life.
+-- A stone that is put lives exactly if one of its sides gives it life.
 use Rattle.std.proofs.Common.{◌≡◌, ℕ, ◌+◌, ◌*◌, ◌<◌, ◌≤◌, true, Some, List, sym, ap, subst}
 use Rattle.std.proofs.Common.{arith, inl, inr, ◌∙◌}
 use Rattle.std.proofs.Math.ListN.{set}
@@ -36,7 +36,7 @@ not_in_empty points q none has = both_ways (sets.contains points q)
 abbrev pub AreDeadSides : ℕ → List Cell → Colour → ℕ → ℕ → Type 0
 AreDeadSides s cells c p n = (k : ℕ) → k < n → (q : ℕ) → neighbour_at s p k ≡ Some q → IsDeadSide s cells c p q
 
--- one side more gives none, where it is on the board
+-- one side more gives none, if it is on the board
 pub dead_next : (s : ℕ) (cells : List Cell) (c : Colour) (p n : ℕ) → AreDeadSides s cells c p n
     → ((q : ℕ) → neighbour_at s p n ≡ Some q → IsDeadSide s cells c p q) → AreDeadSides s cells c p (n + 1)
 dead_next s cells c p n before here = each_next s p n (IsDeadSide s cells c p) before here
@@ -90,7 +90,7 @@ module _ {s : ℕ} {cells : List Cell} {c : Colour} {p : ℕ} (h : Puts s cells 
     stays = enemy_kept h q l on enemy some;
   }
 
-  -- where no side gives life, the stone is dead
+  -- if no side gives life, the stone is dead
   pub dead_all : (n : ℕ) → 4 ≤ n → AreDeadSides s cells c p n → IsDead s cells c p
   dead_all n four dead =
       let put = set cells p (stone_of c) in

@@ -35,7 +35,7 @@ names_before-append : (ns more : List Note) (names : List ℕ)
 names_before-append [] more names = refl
 names_before-append (n ∷ ns) more names = ap (λ t. set t n.at n.name) (names_before-append ns more names)
 
--- where nothing changed, no note is needed
+-- if nothing changed, no note is needed
 pub noted_none : {cells : List Cell} {names : List ℕ} {notes longer : List Note} → longer ≡ notes
     → IsNoted cells cells names names notes longer
 noted_none {notes = notes} e = record {

@@ -141,7 +141,7 @@ code_of-within word =
     if_some-weaken None h = tt
     if_some-weaken (Some k) h = h.1
 
--- what words claim is within, where the point and the code are
+-- what words claim is within, if the point and the code are
 claim-within : (s : ℕ) (attack : Option Bool) (target code : Option ℕ) → IsPointOf s target
     → IfSome code (λ c. c ≤ greatest_code)
     → IfSome {T = Claim} (option_and_then (λ a. option_and_then (λ at. option_map (λ c. record {
@@ -185,7 +185,7 @@ of_point s words make keeps =
     if_some-map make (λ p. p < s * s) (IsWithin s) (first_argument (vertex_of s) words)
     keeps (first_vertex-within s words)
 
--- a command of a move is within where the move's point is on the board
+-- a command of a move is within if the move's point is on the board
 of_move : (s : ℕ) (words : List (List ℕ)) (make : Colour × Option ℕ → Command)
     → ((m : Colour × Option ℕ) → IsPointOf s m.1 → IsWithin s (make m))
     → IfSome (option_map make (move_of s words)) (IsWithin s)
@@ -193,7 +193,7 @@ of_move s words make keeps =
     if_some-map make (λ m. IsPointOf s m.1) (IsWithin s) (move_of s words) keeps
     (move_of-within s words)
 
--- a command of two points is within where both are on the board
+-- a command of two points is within if both are on the board
 of_points : (s : ℕ) (words : List (List ℕ)) (make : ℕ × ℕ → Command)
     → ((m : ℕ × ℕ) → (m.0 < s * s) × (m.1 < s * s) → IsWithin s (make m))
     → IfSome (option_map make (points_of s words)) (IsWithin s)
@@ -201,7 +201,7 @@ of_points s words make keeps =
     if_some-map make (λ m. (m.0 < s * s) × (m.1 < s * s)) (IsWithin s) (points_of s words)
     keeps (points_of-within s words)
 
--- a command of depths is within where both are in their ranges
+-- a command of depths is within if both are in their ranges
 of_depths : (s : ℕ) (words : List (List ℕ)) (make : ℕ × ℕ → Command)
     → ((d : ℕ × ℕ) → AreDepths d.0 d.1 → IsWithin s (make d)) → IfSome (option_map make (depths_of words)) (IsWithin s)
 of_depths s words make keeps =

@@ -78,7 +78,7 @@ named word = command_in table word
 abbrev pub names_text : List ℕ
 names_text = join_with_byte line_feed (map (λ r. r.word) table)
 
--- what a first argument says, where there is one and it is well formed
+-- what a first argument says, if there is one and it is well formed
 abbrev pub first_argument : {X : Type 0} → (List ℕ → Option X) → List (List ℕ) → Option X
 first_argument says [] = None
 first_argument says (word ∷ more) = says word
@@ -91,7 +91,7 @@ known_of words = first_argument (λ word. Some (is_some (named word))) words
 abbrev pub size_of : ℕ → Option ℕ
 size_of n = if nat_le smallest_size n && nat_le n largest_size then Some n else None
 
--- a colour and where it moves on a board of size s, where the first two words say both
+-- a colour and where it moves on a board of size s, if the first two words say both
 abbrev pub move_of : ℕ → List (List ℕ) → Option (Colour × Option ℕ)
 move_of s (colour ∷ target ∷ more) =
     option_and_then (λ c. option_map (λ at. (c, at)) (target_of s target)) (colour_of colour)
@@ -106,7 +106,7 @@ number_between low high word =
 abbrev pub greatest_code : ℕ
 greatest_code = 3
 
--- the plies and the wide plies of readings, where the first two words write both
+-- the plies and the wide plies of readings, if the first two words write both
 abbrev pub depths_of : List (List ℕ) → Option (ℕ × ℕ)
 depths_of (plies ∷ wide ∷ more) =
     option_and_then (λ n. option_map (λ k. (n, k)) (number_between 0 most_wide wide))
@@ -124,14 +124,14 @@ is_attack_of word =
 abbrev pub code_of : List ℕ → Option ℕ
 code_of word = if length word == 1 then number_between 0 greatest_code word else None
 
--- what a proof is said to show on a board of size s, where the first three words say it
+-- what a proof is said to show on a board of size s, if the first three words say it
 abbrev pub claim_of : ℕ → List (List ℕ) → Option Claim
 claim_of s (kind ∷ target ∷ code ∷ more) =
     option_and_then (λ attack. option_and_then (λ at. option_map
     (λ c. record { attack = attack; target = at; code = c }) (code_of code)) (vertex_of s target)) (is_attack_of kind)
 claim_of s _ = None
 
--- two points of a board of size s, where the first two words name both
+-- two points of a board of size s, if the first two words name both
 abbrev pub points_of : ℕ → List (List ℕ) → Option (ℕ × ℕ)
 points_of s (first ∷ second ∷ more) =
     option_and_then (λ p. option_map (λ q. (p, q)) (vertex_of s second)) (vertex_of s first)
@@ -187,12 +187,12 @@ abbrev pub called : Option ℕ → ℕ → Option CommandName → List (List ℕ
 called id s None words spans = parsed.Refused id UnknownCommand
 called id s (Some n) words spans = asked id (command_of n s words spans)
 
--- what the words behind the id say, which stand at these spans; where there is none, no command is named
+-- what the words behind the id say, which stand at these spans; if there is none, no command is named
 abbrev pub said : Option ℕ → ℕ → List (List ℕ) → List Span → Parsed
 said id s [] spans = parsed.Refused id UnknownCommand
 said id s (word ∷ words) spans = called id s (named word) words (drop 1 spans)
 
--- what the words say, which stand at these spans, where the first may be an id
+-- what the words say, which stand at these spans, if the first may be an id
 abbrev pub said_with : Option ℕ → ℕ → List ℕ → List (List ℕ) → List Span → Parsed
 said_with None s first more spans = said None s (first ∷ more) spans
 said_with (Some id) s first more spans = said (Some id) s more (drop 1 spans)

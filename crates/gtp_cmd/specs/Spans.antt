@@ -31,7 +31,7 @@ spans_with from to false spans = span_between from to ∷ spans
 spans_with from to true [] = span_between from to ∷ []
 spans_with from to true (span ∷ spans) = span_between from span.to ∷ spans
 
--- where the words of a text stand, from the first byte of each to its last, where the text begins at this place
+-- where the words of a text stand, from the first byte of each to its last, if the text begins at this place
 abbrev pub spans_from : ℕ → List ℕ → List Span
 spans_from place [] = []
 spans_from place (b ∷ bs) =

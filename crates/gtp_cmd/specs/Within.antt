@@ -8,7 +8,7 @@ use Rattle.gtp_cmd.specs.declared.commands.Command.TheVariants as command
 use Rattle.gtp_cmd.specs.declared.commands.Parsed.{Parsed}
 use Rattle.gtp_cmd.specs.declared.commands.Parsed.TheVariants as parsed
 
--- the point, where there is one, lies on a board of size s
+-- the point, if there is one, lies on a board of size s
 abbrev pub IsPointOf : ℕ → Option ℕ → Type 0
 IsPointOf s at = IfSome at (λ p. p < s * s)
 

@@ -7,7 +7,7 @@ pub use Rattle.vertices.specs.Words.{has_bytes, words_of, is_number, number_of}
 abbrev pub most_id : ℕ
 most_id = 2147483647
 
--- the number, where there is one and it is not above the bound
+-- the number, if there is one and it is not above the bound
 abbrev pub up_to : ℕ → Option ℕ → Option ℕ
 up_to bound None = None
 up_to bound (Some n) = if nat_le n bound then Some n else None

@@ -93,7 +93,7 @@ pub enum Command {
     ListCommands,
     /// Ends the session.
     Quit,
-    /// The size, and none exactly where the number that was given is no size of a board.
+    /// The size, and none exactly if the number that was given is no size of a board.
     BoardSize(Option<Size>),
     /// Takes all moves away.
     ClearBoard,
@@ -172,14 +172,14 @@ pub enum Parsed {
     Nothing,
     /// The line names no command, or its arguments are missing or malformed.
     Refused {
-        /// The id, where the line has one.
+        /// The id, if the line has one.
         id: Option<u32>,
         /// Why it is refused.
         text: RefuseText,
     },
     /// The command that the line asks for.
     Command {
-        /// The id, where the line has one.
+        /// The id, if the line has one.
         id: Option<u32>,
         /// The command with its arguments.
         command: Command,

@@ -39,7 +39,7 @@ fn word_start(text: &[u8], place: usize) -> usize
     text.len()
 }
 
-/// The place behind the last kept byte up to one at a place, where it was this before.
+/// The place behind the last kept byte up to one at a place, if it was this before.
 fn end_after(b: u8, place: usize, end: usize) -> usize
     requires { place ≤ longest_line }
     ensures { result ≡ end_with (is_kept b) place end }
@@ -107,7 +107,7 @@ pub fn second_span(text: &[u8], place: usize) -> Option<Span>
     next_span(text, behind_word(text, place))
 }
 
-/// The place behind the last byte of a word up to one at a place, where it was this before.
+/// The place behind the last byte of a word up to one at a place, if it was this before.
 fn word_end_after(b: u8, place: usize, end: usize) -> usize
     requires { place ≤ longest_line }
     ensures { result ≡ end_with (not (is_skipped b)) place end }

@@ -36,7 +36,7 @@ module _ {X Y : Type 0} (f : X → List ℕ) (g : Y → List ℕ) (xs : List X) 
       ∙ ap (λ t. cond t (Some (g (get_or ys i y)))
       (named (map f (drop (i + 1) xs)) (map g (drop (i + 1) ys)) name)) other
 
-  -- where it is this one, its contents are meant
+  -- if it is this one, its contents are meant
   pub named-here : bytes_eq (f (get_or xs i x)) name ≡ true
       → named (map f (drop i xs)) (map g (drop i ys)) name ≡ slice_get (map g ys) i
   named-here this =

@@ -5,7 +5,7 @@ use Rattle.std.specs.Str.{bytes_eq}
 use Rattle.gtp_io.specs.declared.errors.LoadError.{LoadError}
 use Rattle.gtp_io.specs.declared.errors.LoadError.TheVariants.{Failed, NoMemory}
 
--- the bytes are those that were handed in, followed by the contents where these are told, and by some bytes where they
+-- the bytes are those that were handed in, followed by the contents if these are told, and by some bytes where they
 -- are not
 abbrev pub IsLoaded : Option (List ℕ) → List ℕ → List ℕ → Type 0
 IsLoaded None into bytes = (more : List ℕ) × (bytes ≡ into ++ more)
@@ -31,7 +31,7 @@ pub record FilesState : Type 0 where
   pub most : ℕ
   pub missed : List (List ℕ)
 
--- the text was read behind the bytes, up to one byte more than most, and it is whole exactly where it has at most this
+-- the text was read behind the bytes, up to one byte more than most, and it is whole exactly if it has at most this
 -- many
 pub record IsReadUpTo (most : ℕ) (text into bytes : List ℕ) (whole : Bool) : Type 0 where
   pub read : bytes ≡ into ++ take (most + 1) text

@@ -7,7 +7,7 @@ use std::alloc::AllocError;
 
 /// A loader of contents by their names.
 pub trait Loader {
-    /// The contents of a name, where the loader tells them. No call changes them.
+    /// The contents of a name, if the loader tells them. No call changes them.
     ghost contents: { Self → List ℕ → Option (List ℕ) };
 
     /// The names of the calls that answered Failed, in order. The count of the loader's faults is the length of this

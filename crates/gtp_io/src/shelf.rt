@@ -49,7 +49,7 @@ fn find(names: &[String], contents: &[Vec<u8>], name: &str) -> Option<usize>
     None
 }
 
-// The bytes, followed by the contents of the name where there are some.
+// The bytes, followed by the contents of the name if there are some.
 fn append_named(
     names: &[String],
     contents: &[Vec<u8>],

@@ -7,7 +7,7 @@ use crate::Failed;
 
 /// A sink for bytes.
 pub trait Sink {
-    /// The bytes written, where the sink tells them.
+    /// The bytes written, if the sink tells them.
     ghost written: { Self → Option (List ℕ) };
 
     /// How often the sink has failed, up to the greatest value of a u64.

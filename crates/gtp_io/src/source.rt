@@ -8,7 +8,7 @@ use crate::Failed;
 
 /// A source of bytes.
 pub trait Source {
-    /// The bytes that are left, where the source tells them.
+    /// The bytes that are left, if the source tells them.
     ghost left: { Self → Option (List ℕ) };
 
     /// How many bytes the last call gave.

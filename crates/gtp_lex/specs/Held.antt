@@ -22,7 +22,7 @@ abbrev pub held_from : RawLine → List ℕ → RawLine
 held_from held [] = held
 held_from held (b ∷ bs) = if b == line_feed then held_from (Line []) bs else held_from (longer held b) bs
 
--- a line so far as a last line, where it is not empty
+-- a line so far as a last line, if it is not empty
 abbrev pub held_line : RawLine → List RawLine
 held_line TooLong = TooLong ∷ []
 held_line (Line []) = []

@@ -23,6 +23,6 @@ pub record Feeds (old new : LinesState) (piece : List ℕ) (count : ℕ) : Type 
   -- where a line feed came, it ends the line that is held
   pub ended : new.waits ≡ true
       → (lines_from old.held (take count piece) ≡ new.held ∷ []) × (held_from old.held (take count piece) ≡ Line [])
-  -- where none came, the piece was taken whole
+  -- if none came, the piece was taken whole
   pub open_ended : new.waits ≡ false
       → (count ≡ length piece) × (lines_from old.held piece ≡ []) × (held_from old.held piece ≡ new.held)

@@ -43,7 +43,7 @@ enum Phase {
 /// last.
 #[derive(Drop)]
 pub struct Lines {
-    // the first bytes of the line, and one byte too many where it is too long
+    // the first bytes of the line, and one byte too many if it is too long
     bytes: Vec<u8>,
     phase: Phase,
 }
@@ -125,7 +125,7 @@ impl Lines {
         }
     }
 
-    /// Takes bytes of a piece up to and with its first line feed, and says how many: all where it has none.
+    /// Takes bytes of a piece up to and with its first line feed, and says how many: all if it has none.
     ///
     /// While a line feed that was taken waits for `take` it takes none and answers 0.
     pub fn feed(&mut self, piece: &[u8]) -> usize
@@ -148,7 +148,7 @@ impl Lines {
         len + 1
     }
 
-    /// The line whose line feed waits. None comes exactly where no line feed was taken since the last `take`.
+    /// The line whose line feed waits. None comes exactly if no line feed was taken since the last `take`.
     pub fn take(&mut self) -> Option<Taken>
         ensures none { self.old.waits ≡ false → (result ≡ None) × (self.new ≡ self.old) }
         ensures some { self.old.waits ≡ true
@@ -162,7 +162,7 @@ impl Lines {
         }
     }
 
-    /// The rest of the stream as a last line. None comes exactly where there is no rest.
+    /// The rest of the stream as a last line. None comes exactly if there is no rest.
     pub fn finish(&mut self) -> Option<Taken>
         requires { self.old.waits ≡ false }
         ensures none { self.old.held ≡ Line [] → (result ≡ None) × (self.new ≡ self.old) }

@@ -48,7 +48,7 @@ rest_of bytes = last_text (texts_of bytes)
 abbrev pub lines_of : List ℕ → List RawLine
 lines_of bytes = map line_of (ended_texts bytes)
 
--- a rest as a last line, where it is not empty
+-- a rest as a last line, if it is not empty
 abbrev pub rest_line : List ℕ → List RawLine
 rest_line [] = []
 rest_line (b ∷ bs) = line_of (b ∷ bs) ∷ []

@@ -10,7 +10,7 @@ pub record Fallback (M : Type 0) : Type 0 where
 
 -- the answer to a line, and the machine after it
 pub record Step (M : Type 0) : Type 0 where
-  -- the bytes of the reply, and none where the line has no reply
+  -- the bytes of the reply, and none if the line has no reply
   pub reply : List ℕ
   -- what may stand in its place, as the refusal `out of memory` may for a growing reply
   pub fallbacks : List (Fallback M)

@@ -5,7 +5,7 @@ ghost use Rattle.helper_example.specs.TwoLiberties.{has_two_liberties, two_liber
 use go_base::{Colour, Point, Position};
 use helpers::Helper;
 
-/// Says yes exactly where the play is legal and its string has at least two liberties afterwards. Its name is
+/// Says yes exactly if the play is legal and its string has at least two liberties afterwards. Its name is
 /// `two_liberties`.
 #[derive(Drop)]
 pub struct TwoLiberties {

@@ -12,7 +12,7 @@ use Rattle.helpers.specs.HelperStates.{change_first, after_asking}
 use Rattle.helpers.specs.Agreement.{slot_on, is_on, asked_often, slot_asked_often, raised_from, raised}
 use Rattle.helpers.proofs.Times.{same_name, itself, bytes_eq-false}
 
--- one more call of the helper of a name, where it is on
+-- one more call of the helper of a name, if it is on
 unfoldable pub one_more_of : List ℕ → Bool → (List ℕ → ℕ) → List ℕ → ℕ
 one_more_of m on times n = cond (bytes_eq m n && on) (suc (times n)) (times n)
 
@@ -52,7 +52,7 @@ pub raised-cong : (f g : List ℕ → ℕ) (slots : List SlotState) → ((n : Li
     → raised f slots ≡ raised g slots
 raised-cong f g slots alike = raised_from-cong f g [] slots (λ n e. alike n)
 
--- where nothing was asked, the list is as it was
+-- if nothing was asked, the list is as it was
 raised_from-zero : (before slots : List SlotState) → raised_from before (λ n. 0) slots ≡ slots
 raised_from-zero before [] = refl
 raised_from-zero before (s ∷ slots) =
@@ -187,7 +187,7 @@ module _ (m : List ℕ) (on : Bool) (times : List ℕ → ℕ) where
       (rest_asked (or_from (has_name m s) (list_any (has_name m) before) other unseen)
       (sym (ap (λ t. slot_on (cond t (Some s) (named m slots))) other) ∙ is))
 
-  -- the helper of the name m, which no place before has, is asked once more, where it is on
+  -- the helper of the name m, which no place before has, is asked once more, if it is on
   asked_from : (before slots : List SlotState) → list_any (has_name m) before ≡ false → slot_on (named m slots) ≡ on
       → change_first (has_name m) slot_asked (raised_from before times slots)
       ≡ raised_from before (one_more_of m on times) slots
@@ -195,7 +195,7 @@ module _ (m : List ℕ) (on : Bool) (times : List ℕ → ℕ) where
   asked_from before (s ∷ slots) unseen is =
       asked_by before slots s (has_name m s) refl unseen is (λ u i. asked_from (s ∷ before) slots u i)
 
--- a helper that is asked once more, where it is on
+-- a helper that is asked once more, if it is on
 pub after_asking-raised : (m : List ℕ) (times : List ℕ → ℕ) (slots : List SlotState)
     → after_asking m (raised times slots) ≡ raised (one_more_of m (is_on slots m) times) slots
 after_asking-raised m times slots = asked_from m (is_on slots m) times [] slots refl refl

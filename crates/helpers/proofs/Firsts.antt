@@ -39,7 +39,7 @@ module _ {X : Type 0} (test : X → Bool) where
   missed_behind x xs k behind true passes e = absurd cc
   missed_behind x xs k behind false fails e = other fails (behind e)
 
-  -- where nothing is found, no element passes
+  -- if nothing is found, no element passes
   pub missed : (xs : List X) (k : ℕ) → position_from test k xs ≡ None → PassesNone test xs
   missed [] k e = none
   missed (x ∷ xs) k e = missed_behind x xs k (λ e. missed xs (k + 1) e) (test x) refl e
@@ -49,7 +49,7 @@ module _ {X : Type 0} (test : X → Bool) where
   find-first (here {x} {xs} passes) d = ap (λ b. cond b (Some x) (find test xs)) passes
   find-first (later {x} {xs} fails first) d = ap (λ b. cond b (Some x) (find test xs)) fails ∙ find-first first d
 
-  -- where no element passes, none is found
+  -- if no element passes, none is found
   pub find-none : {xs : List X} → PassesNone test xs → find test xs ≡ None
   find-none none = refl
   find-none (other {x} {xs} fails rest) = ap (λ b. cond b (Some x) (find test xs)) fails ∙ find-none rest
@@ -63,7 +63,7 @@ module _ {X : Type 0} (test : X → Bool) where
       ap (λ b. cond b (change x ∷ xs) (x ∷ change_first test change xs)) fails
       ∙ ap (λ l. x ∷ l) (change_first-first change first d)
 
-  -- where no element passes, nothing is changed
+  -- if no element passes, nothing is changed
   pub change_first-none : (change : X → X) {xs : List X} → PassesNone test xs → change_first test change xs ≡ xs
   change_first-none change none = refl
   change_first-none change (other {x} {xs} fails rest) =
@@ -76,7 +76,7 @@ module _ {X : Type 0} (test : X → Bool) where
   remove_first-first (later {x} {xs} fails first) = ap (λ b. cond b xs (x ∷ remove_first test xs)) fails
       ∙ ap (λ l. x ∷ l) (remove_first-first first)
 
-  -- where no element passes, nothing is taken out
+  -- if no element passes, nothing is taken out
   pub remove_first-none : {xs : List X} → PassesNone test xs → remove_first test xs ≡ xs
   remove_first-none none = refl
   remove_first-none (other {x} {xs} fails rest) = ap (λ b. cond b xs (x ∷ remove_first test xs)) fails

@@ -23,7 +23,7 @@ module _ {X : Type 0} (see : X → SlotState) (name : List ℕ) (xs : List X) wh
   named-at i x placed read = find-first (has_name name) (first_at i placed) (see x)
       ∙ ap Some (get_or-map see xs i x ∙ ap see (sym read))
 
-  -- where there is no place, the name means none
+  -- if there is no place, the name means none
   pub named-none : position_from (has_name name) 0 (map see xs) ≡ None → named name (map see xs) ≡ None
   named-none placed = find-none (has_name name) (missed (has_name name) (map see xs) 0 placed)
 
@@ -36,7 +36,7 @@ module _ {X : Type 0} (see : X → SlotState) (name : List ℕ) (xs : List X) wh
       ∙ ap (λ s. set (map see xs) i s) (changed ∙ ap change (ap see read ∙ sym (get_or-map see xs i x)))
       ∙ sym (change_first-first (has_name name) change (first_at i placed) (see x))
 
-  -- where there is no place, no helper is changed
+  -- if there is no place, no helper is changed
   pub changed-none : (change : SlotState → SlotState) → position_from (has_name name) 0 (map see xs) ≡ None
       → map see xs ≡ change_first (has_name name) change (map see xs)
   changed-none change placed =
@@ -48,12 +48,12 @@ module _ {X : Type 0} (see : X → SlotState) (name : List ℕ) (xs : List X) wh
   removed-at i ys placed removed = ap (map see) removed ∙ map-remove see xs i
       ∙ sym (remove_first-first (has_name name) (first_at i placed))
 
-  -- where there is no place, the list is as it was
+  -- if there is no place, the list is as it was
   pub removed-none : position_from (has_name name) 0 (map see xs) ≡ None
       → map see xs ≡ remove_first (has_name name) (map see xs)
   removed-none placed = sym (remove_first-none (has_name name) (missed (has_name name) (map see xs) 0 placed))
 
-  -- where there is no place, no helper is taken out
+  -- if there is no place, no helper is taken out
   pub taken-none : {B : Type 0} (state : B → HelperState) (out : Option B)
       → position_from (has_name name) 0 (map see xs) ≡ None → out ≡ None
       → option_map state out ≡ option_map (λ s. s.helper) (named name (map see xs))

@@ -16,7 +16,7 @@ abbrev pub is_on : List SlotState → List ℕ → Bool
 is_on slots name = slot_on (named name slots)
 
 -- how often the helper of a name is asked for these names in turn, by which helpers are on and which say yes: once, at
--- the first place of its name, where it is on and the helper of every name before says yes, and else never
+-- the first place of its name, if it is on and the helper of every name before says yes, and else never
 abbrev pub times_asked : (List ℕ → Bool) → (List ℕ → Bool) → List (List ℕ) → List ℕ → ℕ
 times_asked on says [] name = 0
 times_asked on says (m ∷ ms) name = if bytes_eq m name then (if on m then 1 else 0)

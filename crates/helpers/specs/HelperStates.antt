@@ -55,22 +55,22 @@ slot_says (Some s) board at friend = s.on && s.helper.says board at friend
 abbrev pub says_yes : List SlotState → List ℕ → BoardState → ℕ → Colour → Bool
 says_yes slots name board at friend = slot_says (named name slots) board at friend
 
--- the place of a list after its helper was asked, where it is on
+-- the place of a list after its helper was asked, if it is on
 abbrev pub slot_asked : SlotState → SlotState
 slot_asked s = if s.on then record s { helper = asked s.helper } else s
 
--- the list after the helper of the name was asked, where it is there and on
+-- the list after the helper of the name was asked, if it is there and on
 abbrev pub after_asking : List ℕ → List SlotState → List SlotState
 after_asking name slots = change_first (has_name name) slot_asked slots
 
--- the list after the helper of the name was switched off, where it is there
+-- the list after the helper of the name was switched off, if it is there
 abbrev pub after_off : List ℕ → List SlotState → List SlotState
 after_off name slots = change_first (has_name name) (λ s. record s { on = false }) slots
 
--- the list after the helper of the name was taken out, where it is there
+-- the list after the helper of the name was taken out, if it is there
 abbrev pub after_remove : List ℕ → List SlotState → List SlotState
 after_remove name slots = remove_first (has_name name) slots
 
--- how often the helper of the name was asked, where it is there
+-- how often the helper of the name was asked, if it is there
 abbrev pub calls_of : List ℕ → List SlotState → Option ℕ
 calls_of name slots = option_map (λ s. s.helper.calls) (named name slots)

@@ -58,7 +58,7 @@ pub fn all_agree(
     first_refusal(helpers, items, pos, at, friend).is_none()
 }
 
-/// What the helper of a field says, where no field before it names the same; else yes.
+/// What the helper of a field says, if no field before it names the same; else yes.
 fn agrees(
     helpers: &mut Helpers,
     before: &[Item],

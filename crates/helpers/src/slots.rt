@@ -41,7 +41,7 @@ impl HelperSlot {
         self.helper.calls()
     }
 
-    /// What its helper says of a play of `friend` at `at`, no where it is off.
+    /// What its helper says of a play of `friend` at `at`, no if it is off.
     fn decide(&mut self, pos: &Position, at: Point, friend: Colour) -> bool
         requires { at < pos.now.size * pos.now.size }
         ensures answer { result ≡ slot_says (Some (slot_state state self.old)) pos.now at friend }
@@ -121,7 +121,7 @@ impl Helpers {
         None
     }
 
-    /// How often the helper of the name was asked. None exactly where no helper has the name.
+    /// How often the helper of the name was asked. None exactly if no helper has the name.
     pub fn calls(&self, name: &[u8]) -> Option<u64>
         ensures { result ≡ calls_of name.now (listed state self.now) }
     {
@@ -129,7 +129,7 @@ impl Helpers {
         Some(self.slots[place].calls())
     }
 
-    /// Switches the helper of the name off. False exactly where no helper has the name.
+    /// Switches the helper of the name off. False exactly if no helper has the name.
     pub fn off(&mut self, name: &[u8]) -> bool
         requires { ⊤ }
         ensures found { result ≡ is_some (named name.now (listed state self.old)) }
@@ -144,7 +144,7 @@ impl Helpers {
         }
     }
 
-    /// Takes the helper of the name out of the list. None exactly where no helper has the name.
+    /// Takes the helper of the name out of the list. None exactly if no helper has the name.
     pub fn remove(&mut self, name: &[u8]) -> Option<Box<dyn Helper>>
         requires { ⊤ }
         ensures found { option_map state result ≡ option_map (λ s. s.helper) (named name.now (listed state self.old)) }
@@ -155,7 +155,7 @@ impl Helpers {
         Some(slot.helper)
     }
 
-    /// What the helper of the name says of a play of `friend` at `at`. Where there is none, or it is off, this is no,
+    /// What the helper of the name says of a play of `friend` at `at`. If there is none, or it is off, this is no,
     /// and nothing is called.
     pub fn decide(&mut self, name: &[u8], pos: &Position, at: Point, friend: Colour) -> bool
         requires { at < pos.now.size * pos.now.size }

@@ -39,7 +39,7 @@ is_one (One key) = true
 is_one Many = false
 
 module _ (machine : Machine) where
-  -- a question where a stone stands
+  -- a question if a stone stands
   fits_where : (stone : Bool) (key : Key) (n : Option CommandName) → is_reading n ≡ true
       → Fits (cond stone (One key) Nothing) n
   fits_where true key n reads = reads
@@ -52,7 +52,7 @@ module _ (machine : Machine) where
   fits_asked c n each id None = tt
   fits_asked c n each id (Some x) = each x
 
-  -- matches are asked for where the list of moves is not full
+  -- matches are asked for if the list of moves is not full
   fits_full : (full : Bool) → Fits (cond full Nothing Many) (Some name.GenMove)
   fits_full true = tt
   fits_full false = refl
@@ -156,7 +156,7 @@ module _ (machine : Machine) where
   Fits-line TooLong = tt
   Fits-line (Line text) = fits_words machine.base.size (words_of (cleaned text)) (spans_of text)
 
-  -- where a stone stands one question is asked
+  -- if a stone stands one question is asked
   one_where : (stone : Bool) (key : Key) → is_one (cond stone (One key) Nothing) ≡ stone
   one_where true key = refl
   one_where false key = refl
@@ -166,7 +166,7 @@ module _ (machine : Machine) where
   one_full true = refl
   one_full false = refl
 
-  -- a command asks one question exactly where it is a reading that is answered with a code
+  -- a command asks one question exactly if it is a reading that is answered with a code
   one_command : (c : Command) → is_one (asks_of machine c) ≡ is_read machine c
   one_command (command.Attack p) = one_where (has_stone machine p) (key_at machine Attack p)
   one_command (command.Defend p) = one_where (has_stone machine p) (key_at machine Defend p)

@@ -57,7 +57,7 @@ abbrev KeepMachine : Machine → List Excuse → Type 0
 KeepMachine old [] = Unit {0}
 KeepMachine old (excuse ∷ excuses) = AreSameButCalls old excuse.next × KeepMachine old excuses
 
--- What a command does keeps the machine where it is refused or ends the session, and so do its excuses, but for the
+-- What a command does keeps the machine if it is refused or ends the session, and so do its excuses, but for the
 -- calls of helpers.
 record IsKind (old : Machine) (effect : Effect) : Type 0 where
   refused : (text : RefuseText) → effect.refusal ≡ Some text → effect.next ≡ old

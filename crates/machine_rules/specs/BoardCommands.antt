@@ -13,7 +13,7 @@ use Rattle.machine_rules.specs.Effects.{Effect, refused, told, grown}
 use Rattle.machine_rules.specs.BoardText.{board_text}
 use Rattle.machine_rules.specs.PointLists.{legal_list, liberty_list, vertices_text}
 
--- a new size begins again from the empty board of that size, also where it is the present one
+-- a new size begins again from the empty board of that size, also if it is the present one
 abbrev pub resized : Machine → Option ℕ → Effect
 resized old None = refused old UnacceptableSize
 resized old (Some size) = told [] (record old { base = empty_board size; moves = [] })
@@ -26,7 +26,7 @@ cleared old = told [] (record old { base = empty_board old.base.size; moves = []
 abbrev pub komi_kept : Machine → List ℕ → Effect
 komi_kept old komi = told [] (record old { komi = komi })
 
--- a move is added to the list where it is legal and the list is not full
+-- a move is added to the list if it is legal and the list is not full
 abbrev pub played : Machine → Move → Effect
 played old move =
     if is_ok (moved (position_of old) move)
@@ -55,7 +55,7 @@ allowed old move = told (digit_of (is_ok (moved (position_of old) move))) old
 abbrev pub all_allowed : Machine → Colour → Effect
 all_allowed old c = grown old (vertices_text old.base.size (legal_list (position_of old) c)) old
 
--- what is told of the string of a point, where a stone stands there
+-- what is told of the string of a point, if a stone stands there
 abbrev pub of_stone : Machine → ℕ → Effect → Effect
 of_stone old p effect = if is_stone (cell_at (position_of old).cells p) then effect else refused old VertexEmpty
 

@@ -19,7 +19,7 @@ abbrev pub first_named : List (List ℕ) → Option CommandName
 first_named [] = None
 first_named (word ∷ words) = named word
 
--- the command that the words name, where the first may be an id
+-- the command that the words name, if the first may be an id
 abbrev pub named_after : Option ℕ → List ℕ → List (List ℕ) → Option CommandName
 named_after None first more = named first
 named_after (Some id) first more = first_named more

@@ -12,12 +12,12 @@ use Rattle.machine_rules.specs.Matcher.{Matcher}
 use Rattle.machine_rules.specs.Effects.{Effect, refused}
 use Rattle.machine_rules.specs.MatchingCommands.{matches_found, after_asking, advised}
 
--- the point of the chosen match for a friend, none where no pattern matches
+-- the point of the chosen match for a friend, none if no pattern matches
 abbrev pub chosen_point : Matcher → Machine → Colour → Option ℕ
 chosen_point matcher old friend =
     option_map (λ z. z.at) (choice_of matcher.patterns (matches_found matcher old friend))
 
--- a move of a board of size s as it is printed, `PASS` where there is none
+-- a move of a board of size s as it is printed, `PASS` if there is none
 abbrev pub move_or_pass : ℕ → Option ℕ → List ℕ
 move_or_pass s None = codes "PASS"
 move_or_pass s (Some p) = vertex_text s p
@@ -35,7 +35,7 @@ abbrev pub move_told : Matcher → Machine → Colour → Effect
 move_told matcher old friend = advised old (after_asking matcher old friend)
     (move_or_pass old.base.size (chosen_point matcher old friend)) (after_asking matcher old friend)
 
--- the chosen move for a friend is told and added, where the list is not full
+-- the chosen move for a friend is told and added, if the list is not full
 abbrev pub move_made : Matcher → Machine → Colour → Effect
 move_made matcher old friend =
     if is_full old then refused old HistoryFull

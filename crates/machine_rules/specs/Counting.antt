@@ -34,6 +34,6 @@ is_read_line machine (Line text) = is_parsed_read machine (parsed_of text machin
 abbrev pub readings_in : List (Turn Machine) → ℕ
 readings_in turns = count_by (λ turn. is_read_line turn.machine turn.line) turns
 
--- a count after one more, where there is one; it stands still at the greatest value of a u64
+-- a count after one more, if there is one; it stands still at the greatest value of a u64
 abbrev pub counted : ℕ → Bool → ℕ
 counted n more = if more then min (n + 1) (2 ^ 64 - 1) else n

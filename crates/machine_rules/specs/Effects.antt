@@ -40,7 +40,7 @@ ended old = record { refusal = None; result = []; excuses = []; next = old; ends
 abbrev pub out_of_memory : Machine → Excuse
 out_of_memory next = record { refusal = OutOfMemory; next = next }
 
--- the reply is a growing one: where there is no memory for it, the line counts as not sent
+-- the reply is a growing one: if there is no memory for it, the line counts as not sent
 abbrev pub growing : Machine → Effect → Effect
 growing old effect = record effect { excuses = out_of_memory old ∷ effect.excuses }
 

@@ -6,7 +6,7 @@ use Rattle.std.specs.Prelude.{◌≡◌, ℕ, List, Option, Some, None}
 abbrev pub Contents : Type 0
 Contents = List ℕ → Option (List ℕ)
 
--- the text is the contents of a file, where these are told
+-- the text is the contents of a file, if these are told
 abbrev pub IsContents : Option (List ℕ) → List ℕ → Type 0
 IsContents None text = Unit {0}
 IsContents (Some contents) text = text ≡ contents

@@ -21,7 +21,7 @@ switched_off old name = of_helper old name (told [] (with_helpers old (after_off
 abbrev pub dropped : Machine → List ℕ → Effect
 dropped old name = of_helper old name (told [] (with_helpers old (after_remove name old.helpers)))
 
--- a count in decimal, where there is one
+-- a count in decimal, if there is one
 abbrev pub count_text : Option ℕ → List ℕ
 count_text None = []
 count_text (Some n) = decimal n

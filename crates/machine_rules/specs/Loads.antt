@@ -41,7 +41,7 @@ load_in machine line = parsed_load (bytes_in line) (heard machine line)
 abbrev pub named_load : List ℕ → Option Load
 named_load name = load_by None name
 
--- the text is that of the file that is loaded; any text is, where none is loaded
+-- the text is that of the file that is loaded; any text is, if none is loaded
 abbrev pub IsFileOf : Contents → Option Load → List ℕ → Type 0
 IsFileOf contents None file = Unit {0}
 IsFileOf contents (Some load) file = IsContents (contents load.name) file

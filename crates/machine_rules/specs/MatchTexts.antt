@@ -7,7 +7,7 @@ use Rattle.match_rules.specs.declared.found.Match.{Match}
 use Rattle.gtp_cmd.specs.Words.{line_feed}
 use Rattle.gtp_cmd.specs.Vertices.{vertex_text}
 
--- the name of a pattern, where there is one
+-- the name of a pattern, if there is one
 abbrev pub name_of : Option Pattern → List ℕ
 name_of None = []
 name_of (Some p) = p.name

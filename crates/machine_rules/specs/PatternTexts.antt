@@ -17,7 +17,7 @@ mark_text Plus = codes "+"
 mark_text Ex = codes "X"
 mark_text Oh = codes "O"
 
--- class letters, and `-` where there are none
+-- class letters, and `-` if there are none
 abbrev pub classes_text : List ℕ → List ℕ
 classes_text [] = codes "-"
 classes_text (letter ∷ letters) = letter ∷ letters

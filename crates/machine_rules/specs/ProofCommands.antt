@@ -26,7 +26,7 @@ abbrev pub proof_text : Machine → Kind → ℕ → List ℕ
 proof_text machine kind p =
     decimal (reading_of machine kind p).code ++ blank ∷ proof_of machine kind p
 
--- the first proof is printed where it is not too long
+-- the first proof is printed if it is not too long
 abbrev pub proof_told : Machine → Kind → ℕ → Effect
 proof_told old kind p =
     if nat_le (length (proof_of old kind p)) longest_proof then told (proof_text old kind p) old

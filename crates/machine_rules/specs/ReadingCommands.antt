@@ -16,12 +16,12 @@ abbrev pub spot_text : ℕ → Spot → List ℕ
 spot_text s (At p) = vertex_text s p
 spot_text s Pass = codes "PASS"
 
--- a move behind a blank, and nothing where there is none
+-- a move behind a blank, and nothing if there is none
 abbrev pub move_text : ℕ → Option Spot → List ℕ
 move_text s None = []
 move_text s (Some spot) = blank ∷ spot_text s spot
 
--- an answer on a board of size s: its code, and its move behind a blank where there is one
+-- an answer on a board of size s: its code, and its move behind a blank if there is one
 abbrev pub answer_text : ℕ → Answer → List ℕ
 answer_text s answer = decimal answer.code ++ move_text s answer.at
 

@@ -50,7 +50,7 @@ module _ (code : Codes) (board : BoardState) (c : Colour) (m : ℕ) where
   safe_move is = ap (after_play false (λ next. eqb (code_at code Attack next m) 0)) is.legal
       ∙ eq-eqb (code_at code Attack is.next m) 0 is.safe
 
--- a value counts as true where it is not 0
+-- a value counts as true if it is not 0
 so_value : (meanings : Meanings) (o : Option Expr) → is_so_valued meanings o ≡ true → (e : Expr) → o ≡ Some e
     → value_of meanings e ≢ pos 0
 so_value meanings None so e at = absurd (none-some e at)

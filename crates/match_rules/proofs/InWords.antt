@@ -155,7 +155,7 @@ module _ (p : Pattern) (board : BoardState) (friend : Colour) (t m : ℕ) where
       by OffBoard e = drawn (λ none. let h : OffBoard ≡ Nothing = sym e ∙ none in cc)
       by (Shows l) e = drawn (λ none. let h : Shows l ≡ Nothing = sym e ∙ none in cc)
 
-  -- a pattern fits where each of its cells does
+  -- a pattern fits if each of its cells does
   pub all_cells : ((r c : ℤ) → cell_fits p board friend t m (r, c) ≡ true) → fits p board friend t m ≡ true
   unfolding fits
   all_cells each = passes_all (cell_fits p board friend t m) (cells_of p) (λ cell there. each cell.0 cell.1)

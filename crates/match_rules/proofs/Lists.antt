@@ -58,7 +58,7 @@ module _ {X : Type 0} (R : X → X → Type 0) where
       (AllPairs-append xs ys (AllPairs-rest x xs left) right
       (λ y z here there. before y z (Contains-rest x xs y here) there))
 
-  -- two lists in order with the same elements are the same, where nothing comes before what comes before it
+  -- two lists in order with the same elements are the same, if nothing comes before what comes before it
   pub same_in_order : ((x y : X) → R x y → R y x → ⊥) → (xs ys : List X) → AllPairs R xs → AllPairs R ys
       → ((z : X) → Contains xs z → Contains ys z) → ((z : X) → Contains ys z → Contains xs z) → xs ≡ ys
   same_in_order one [] [] left right to back = refl
@@ -281,7 +281,7 @@ module _ {X Y : Type 0} (R : Y → Y → Type 0) where
       subst (R (f x)) from.2 (AllPairs-before (λ v w. R (f v) (f w)) x xs from.0 pairs from.1))
       (AllPairs-map f xs (AllPairs-rest (λ v w. R (f v) (f w)) x xs pairs))
 
-  -- joined lists are in order where each is, and what is in an earlier one comes before what is in a later one
+  -- joined lists are in order if each is, and what is in an earlier one comes before what is in a later one
   pub AllPairs-flat_map : (Q : X → X → Type 0) (f : X → List Y) (xs : List X) → AllPairs Q xs
       → ((x : X) → AllPairs R (f x))
       → ((x w : X) (y z : Y) → Q x w → Contains (f x) y → Contains (f w) z → R y z) → AllPairs R (flat_map f xs)

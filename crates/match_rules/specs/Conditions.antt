@@ -38,11 +38,11 @@ pub record IsSafePlay (code : Codes) (board : BoardState) (c : Colour) (m : ℕ)
   pub legal : play board c m ≡ Ok next
   pub safe : code_at code Attack next m ≡ 0
 
--- whether the friend's stone is safe at m where it has to be: it need not with class s
+-- whether the friend's stone is safe at m if it has to be: it need not with class s
 abbrev pub is_safe : Codes → Pattern → BoardState → Colour → ℕ → Bool
 is_safe code p board friend m = has_class p unsafe_class || is_safe_move code board friend m
 
--- whether the enemy could play at m and be safe, where that is asked for: it is with class n
+-- whether the enemy could play at m and be safe, if that is asked for: it is with class n
 abbrev pub is_enemy_safe : Codes → Pattern → BoardState → Colour → ℕ → Bool
 is_enemy_safe code p board friend m = not (has_class p enemy_class) || is_safe_move code board (other friend) m
 

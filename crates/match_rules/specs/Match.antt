@@ -43,7 +43,7 @@ unfoldable pub matches_of : Codes → Advice → List Pattern → BoardState →
 matches_of code advice patterns board friend =
     matches_by (λ number p t m. is_match code advice p board friend t m) patterns board.size
 
--- z is a match of the patterns for a friend, where this is the code of each reading, and this what each helper says
+-- z is a match of the patterns for a friend, if this is the code of each reading, and this what each helper says
 pub record IsMatch (code : Codes) (advice : Advice) (patterns : List Pattern) (board : BoardState) (friend : Colour)
     (z : Match) : Type 0 where
   pub pattern : Pattern

@@ -42,7 +42,7 @@ fn size_with(points: usize) -> Option<Size> {
     None
 }
 
-/// The position of a drawing. None where no board has so many points, or a stone cannot be played where it is drawn.
+/// The position of a drawing. None if no board has so many points, or a stone cannot be played if it is drawn.
 fn drawn(marks: &[u8]) -> Option<Position> {
     let mut position = Position::new(size_with(marks.len())?);
     'marks: for at in 0..marks.len() {

@@ -64,7 +64,7 @@ nothing-from item none = by_number (worth_said item) refl
     by_number None here = refl
     by_number (Some n) here = absurd (none n (said-to item n here))
 
--- where no item says a number there are none
+-- if no item says a number there are none
 filter_map-nothing : (items : List Item) → All SaysNothing items → filter_map worth_said items ≡ []
 filter_map-nothing [] none = refl
 filter_map-nothing (item ∷ items) none =
@@ -72,7 +72,7 @@ filter_map-nothing (item ∷ items) none =
     (nothing-from item (All-head SaysNothing item items none))
     ∙ filter_map-nothing items (All-tail SaysNothing item items none)
 
--- the first number of these items, and 0 where there is none
+-- the first number of these items, and 0 if there is none
 abbrev first : List Item → ℕ
 first items = unwrap_or (slice_get (filter_map worth_said items) 0) 0
 
@@ -103,7 +103,7 @@ some_worth (item ∷ items) = by_number (some_worth items) (worth_said item) ref
         (rest.0, later item items rest.0 (λ n is. none-some n (sym here ∙ said-from item n is)) rest.1)
     by_number rest (Some n) here = (n, said [] item items refl (All-nil SaysNothing) (said-to item n here))
 
--- a number is the first exactly where it is in words
+-- a number is the first exactly if it is in words
 pub first-words : (items : List Item) (n : ℕ)
     → (unwrap_or (slice_get (filter_map worth_said items) 0) 0 ≡ n) ↔ IsWorth items n
 first-words items n =

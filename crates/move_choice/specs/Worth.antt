@@ -27,7 +27,7 @@ abbrev pub worth_said : Item → Option ℕ
 worth_said item = number_said item.name item.text
 
 -- the worth of the pattern: the number of its first item that is named `value` and whose text is one to six digits, and
--- 0 where there is none
+-- 0 if there is none
 unfoldable pub worth_of : Pattern → ℕ
 worth_of pattern = unwrap_or (slice_get (filter_map worth_said pattern.items) 0) 0
 
@@ -45,7 +45,7 @@ pub record SaysWorth (item : Item) (n : ℕ) : Type 0 where
 abbrev pub SaysNothing : Item → Type 0
 SaysNothing item = (n : ℕ) → ¬ SaysWorth item n
 
--- n is what the first of the items says that says a number, or 0 where none does
+-- n is what the first of the items says that says a number, or 0 if none does
 pub data IsWorth (items : List Item) (n : ℕ) : Type 0 where
   said : (before : List Item) (item : Item) (after : List Item) → items ≡ before ++ item ∷ after
       → All SaysNothing before → SaysWorth item n → IsWorth items n

@@ -7,7 +7,7 @@ ghost use Rattle.match_rules.specs.declared.found.Match.{Match};
 ghost use Rattle.move_choice.specs.Worth.{worth_of, IsWorth};
 ghost use Rattle.move_choice.specs.Choice.{worth_at, choice_of, IsChoice};
 
-/// The worth of a pattern is what the first of its items says that says a number, and 0 where none does.
+/// The worth of a pattern is what the first of its items says that says a number, and 0 if none does.
 pub fn worth_is_in_words()
     ensures { (pattern : Pattern) (n : ℕ) → (worth_of pattern ≡ n) ↔ IsWorth pattern.items n }
 {}

@@ -55,7 +55,7 @@ fn worth_said(item: &Item) -> Option<u32>
 }
 
 /// The worth of a pattern: the number that the first of its items `value(N)` says, where N is one to six digits, and 0
-/// where no item says one. It takes no memory.
+/// if no item says one. It takes no memory.
 #[tactic(auto, unfolding(crate::specs::Worth::worth_of))]
 pub fn worth_of(pattern: &Pattern) -> u32
     ensures { result ≡ worth_of pattern.now }

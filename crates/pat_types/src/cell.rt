@@ -98,7 +98,7 @@ fn first_stone(letters: &[Letter]) -> Option<usize>
     letters.iter().position(|l| is_stone(*l))
 }
 
-/// The row and the column of the first `O` or `X` in reading order, or of the star where there is none.
+/// The row and the column of the first `O` or `X` in reading order, or of the star if there is none.
 #[tactic(auto, unfolding(crate::specs::Cells::anchor_of))]
 pub fn anchor(p: &Pattern) -> (u8, u8)
     ensures value { result ≡ anchor_of p.now }

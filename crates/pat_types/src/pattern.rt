@@ -15,7 +15,7 @@ use go_base::Bytes;
 pub struct Item {
     /// The helper's name, or the name before the parentheses.
     pub name: Bytes,
-    /// What stands between the parentheses, where there are any.
+    /// What stands between the parentheses, if there are any.
     pub text: Option<Bytes>,
 }
 
@@ -62,7 +62,7 @@ pub struct Pattern {
     pub items: Items,
     /// The labels of the constraint diagram, in reading order.
     pub labels: Labels,
-    /// The constraint, where there is one.
+    /// The constraint, if there is one.
     pub constraint: Option<Expr>,
     pub ghost diagram: { IsDiagram rows cols letters top bottom left right star },
     ghost labelled: { IsTrue (are_labels rows cols labels) },

@@ -16,7 +16,7 @@ use std::alloc::Global;
 /// The exit status where a file has a fault.
 const FAULTY: u8 = 1;
 
-/// The exit status where nothing can be said.
+/// The exit status if nothing can be said.
 pub(crate) const NOT_CHECKED: u8 = 2;
 
 /// What the files so far came to.

@@ -64,7 +64,7 @@ fn files_in(alloc: Global, matches: &ArgMatches<'_>) -> Option<Vec<String>> {
     Some(files)
 }
 
-/// The limit of the states, where there is one. None where it is no number from 1 to the greatest.
+/// The limit of the states, if there is one. None if it is no number from 1 to the greatest.
 fn states_in(matches: &ArgMatches<'_>) -> Option<Option<u32>> {
     let Some(text) = matches.get_str("states") else {
         return Some(None);
@@ -75,7 +75,7 @@ fn states_in(matches: &ArgMatches<'_>) -> Option<Option<u32>> {
     }
 }
 
-/// What the matches of a command line ask for. None where it has no file.
+/// What the matches of a command line ask for. None if it has no file.
 fn options_in(alloc: Global, matches: &ArgMatches<'_>) -> Option<Options> {
     let states = states_in(matches)?;
     let files = files_in(alloc, matches)?;

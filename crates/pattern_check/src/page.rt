@@ -52,7 +52,7 @@ fn print_words<D: Display>(
     write!(page, "{file}:{line}:{column}: {kind}: {words}")
 }
 
-/// Ends the first line of a fault: its kind, and the name of its entry, where it has one.
+/// Ends the first line of a fault: its kind, and the name of its entry, if it has one.
 fn end_fault(page: &mut String, kind: u8, entry: &[u8]) -> Result<(), AllocError> {
     if entry.is_empty() {
         writeln!(page, " [kind {kind}]")
@@ -61,7 +61,7 @@ fn end_fault(page: &mut String, kind: u8, entry: &[u8]) -> Result<(), AllocError
     }
 }
 
-/// Ends the first line of a warning: the name of its entry, where it has one.
+/// Ends the first line of a warning: the name of its entry, if it has one.
 fn end_warning(page: &mut String, entry: &[u8]) -> Result<(), AllocError> {
     if entry.is_empty() {
         page.push_str("\n")
@@ -120,7 +120,7 @@ pub(crate) fn print_port_note(
     print_line(page, &note.place)
 }
 
-/// Prints how many faults of each kind there are, where there is one.
+/// Prints how many faults of each kind there are, if there is one.
 fn print_kinds(page: &mut String, kinds: &[u64]) -> Result<(), AllocError> {
     for (kind, count) in kinds.iter().enumerate() {
         if *count > 0 {

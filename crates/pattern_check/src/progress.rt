@@ -1,4 +1,4 @@
-//! How far the program is, told on a terminal where it takes longer.
+//! How far the program is, told on a terminal if it takes longer.
 
 use std::io;
 use std::time::{Clock, Duration, Instant};
@@ -29,7 +29,7 @@ impl Progress {
         })
     }
 
-    /// Says what is done now: at once where it is long, and else where the program has run for a while.
+    /// Says what is done now: at once if it is long, and else where the program has run for a while.
     pub(crate) fn tell<R: Clock + Eprint>(
         &mut self,
         rt: &R,

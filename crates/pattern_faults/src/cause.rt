@@ -75,7 +75,7 @@ pub enum Cause<'a> {
     ManyItems(usize),
     /// A line behind the last of the constraint diagram, which has so many.
     ConstraintEnds(usize),
-    /// The same, where the line seems to be an expression.
+    /// The same, if the line seems to be an expression.
     NoSemicolon,
     /// A line of the constraint diagram of another length than its line of the diagram.
     ConstraintWidth {
@@ -146,7 +146,7 @@ pub enum Cause<'a> {
         /// The greatest.
         most: usize,
     },
-    /// A pass where no move may stand.
+    /// A pass if no move may stand.
     Pass(&'a [u8]),
     /// An argument that is no label.
     Label(u8),

@@ -51,7 +51,7 @@ fn places_of(lines: &[Written<'_>], role: Role) -> Range<usize> {
     places_above(lines, role, u64::MAX)
 }
 
-/// The line of this number, where it is one of these.
+/// The line of this number, if it is one of these.
 fn line_of<'l, 'a: 'l>(lines: &'l [Written<'a>], number: u64) -> Option<&'l Written<'a>> {
     for line in lines {
         if line.number == number {

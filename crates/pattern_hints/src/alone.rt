@@ -104,7 +104,7 @@ fn tried_turns(pattern: &Pattern, other: &Pattern) -> usize {
     }
 }
 
-/// Whether a pattern matches only where another matches at the same point. Where this is not seen it may still be so.
+/// Whether a pattern matches only where another matches at the same point. If this is not seen it may still be so.
 pub(crate) fn never_alone(pattern: &Pattern, other: &Pattern) -> bool {
     if !asks_no_more(other, pattern) {
         return false;

@@ -9,7 +9,7 @@ use pat_types::{
     drawn_in, letter_fits,
 };
 
-/// The colour for which the pattern is asked, where it does not matter which.
+/// The colour for which the pattern is asked, if it does not matter which.
 const FRIEND: Colour = Colour::Black;
 
 /// More liberties than a string can have.
@@ -150,7 +150,7 @@ fn is_stone(pattern: &Pattern, arg: Arg) -> bool {
     !letter_fits(letter_at(pattern, arg), Cell::Empty, FRIEND)
 }
 
-/// The values up to this one, or 0 alone where this is so.
+/// The values up to this one, or 0 alone if this is so.
 fn unless(is_nothing: bool, greatest: i64) -> Span {
     if is_nothing {
         Span::only(0)
@@ -245,7 +245,7 @@ fn values_of(pattern: &Pattern, expr: &Expr) -> Span {
     }
 }
 
-/// Whether the constraint of a pattern is 0 wherever its diagram fits. Where this is not seen it may still be so.
+/// Whether the constraint of a pattern is 0 wherever its diagram fits. If this is not seen it may still be so.
 pub(crate) fn is_never_met(pattern: &Pattern) -> bool {
     match &pattern.constraint {
         Some(expr) => values_of(pattern, expr).is_false(),

@@ -158,7 +158,7 @@ fn of_letter<'a>(letter: u8) -> Option<Port<'a>> {
     }
 }
 
-/// What of GNU Go's own a fault comes from, where it does.
+/// What of GNU Go's own a fault comes from, if it does.
 pub fn port_of<'a>(fault: &Fault<'a>) -> Option<Port<'a>> {
     match &fault.cause {
         Cause::Letter(letter) | Cause::LabelInDiagram(letter) => of_letter(*letter),

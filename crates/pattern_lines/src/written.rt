@@ -118,7 +118,7 @@ pub fn name_in<'a>(lines: &[Written<'a>]) -> &'a [u8] {
     }
 }
 
-/// The Pattern line of a part, where it has one. Takes no memory.
+/// The Pattern line of a part, if it has one. Takes no memory.
 pub fn head_of<'a>(part: &Part<'a>) -> Option<Written<'a>> {
     let whole = part.bytes.split(is_feed).next()?;
     if !is_pattern_line(whole) {

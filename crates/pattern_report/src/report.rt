@@ -154,7 +154,7 @@ pub fn report_on<'a>(
     text: &'a [u8],
     helpers: &[Bytes],
 ) -> Result<Report<'a>, NoMemory>
-    // The first fault told is the text's first fault, its line and its kind; none is told exactly where there is none.
+    // The first fault told is the text's first fault, its line and its kind; none is told exactly if there is none.
     ensures first { IfOk result (λ r. option_map line_and_kind r.first ≡ first_fault helpers.now text.now) }
     // Nothing else is told of a text without a fault.
     ensures clean { IfOk result (λ r. first_fault helpers.now text.now ≡ None → r.others.items ≡ []) }

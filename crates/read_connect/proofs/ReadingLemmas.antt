@@ -78,7 +78,7 @@ apart_told q pos own at told e some about apart move told_is =
     ap (λ (t : Bool). record { yes = t; at = at }) told_is
     ∙ ap (λ (m : Option Spot). record { yes = is_some m; at = m }) first ∙ sym (linkage_apart q pos some about apart)
 
--- an answer has no move exactly where it is no
+-- an answer has no move exactly if it is no
 pub told_none : (at : Option Spot) (told : Bool) → told ≡ is_some at → IsNone at ↔ (told ≡ false)
 told_none at told e = (λ h. e ∙ h, λ h. sym e ∙ h)
 
@@ -100,7 +100,7 @@ about_stones q pos size at_a at_b = and_from _ _ (eq-eqb q.size pos.size size)
 
 module _ (q : LinkQuestion) (pos : BoardState) (a_on : q.a < pos.size * pos.size) (b_on : q.b < pos.size * pos.size)
     (about : is_about q pos ≡ true) where
-  -- the first node of the tree is the position, where both strings stand
+  -- the first node of the tree is the position, if both strings stand
   root : IsStandingNode (link_of q) q pos pos q.plies (is_connect q.kind) pos.size
   root = record {
     node = record { its = refl; in_tree = first };

@@ -29,12 +29,12 @@ use Rattle.read_connect.specs.Stages.{is_beside_member, reaches_among, TellsSome
 use Rattle.read_connect.specs.Walk.{AreLiberties}
 use Rattle.read_connect.proofs.WalkLemmas.{tells_last}
 
--- a number is in the intersection of two sets where it is in both
+-- a number is in the intersection of two sets if it is in both
 pub in_both : (a b found : set.FinSet nat_cmp) → found ≡ set.intersection a b → (p : ℕ)
     → set.contains found p ≡ (set.contains a p && set.contains b p)
 in_both a b found is p = ap (λ s. set.contains s p) is ∙ set.contains-intersection nat_cmp_total a b p
 
--- and in their difference where it is in the first alone
+-- and in their difference if it is in the first alone
 pub in_first_alone : (a b found : set.FinSet nat_cmp) → found ≡ set.difference a b → (p : ℕ)
     → set.contains found p ≡ (set.contains a p && not (set.contains b p))
 in_first_alone a b found is p = ap (λ s. set.contains s p) is ∙ set.contains-difference nat_cmp_total a b p
@@ -206,7 +206,7 @@ module _ {L : Type 0} {seen : L → Fact → Bool} {board : Trying L} {link : Li
     | inr x ↦ b_inside p (and_parts _ _ x).0
   ]
 
--- The first two stages, where these are the liberties of the strings after the moves of a board.
+-- The first two stages, if these are the liberties of the strings after the moves of a board.
 module _ {L : Type 0} {seen : L → Fact → Bool} {board : Trying L} {link : Link} {of_a of_b : set.FinSet nat_cmp}
     (its : AreLiberties seen board link of_a of_b) (found : set.FinSet nat_cmp) where
   -- a liberty of both is a connecting move
@@ -310,7 +310,7 @@ module _ {link : Link} {s : ℕ} {here : BoardState} {of_a of_b shared across ca
       ]
     ]
 
-    -- what these tell, where the first two stages have nothing
+    -- what these tell, if the first two stages have nothing
     pub last_stage : tried ≡ set.union shared across → (test : ℕ → Bool) (one two told : Bool)
         → TellsSome (set.contains shared) test one → one ≡ false
         → TellsSome (set.contains across) test two → two ≡ false

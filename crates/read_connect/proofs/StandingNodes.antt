@@ -1,4 +1,4 @@
--- The looks at a node of a question's tree where both strings stand: they lie in the question's active area.
+-- The looks at a node of a question's tree if both strings stand: they lie in the question's active area.
 use Rattle.std.proofs.Common.{◌≡◌, ◌⊎◌, ℕ, suc, ◌*◌, ◌<◌, Bool, true, false, not, Ok, ap, sym, subst, inl, inr}
 use Rattle.std.proofs.lemmas.Bool.{or_cases, eqb-true}
 use Rattle.go_rules.specs.Neighbourhood.{neighbourhood_of}
@@ -129,7 +129,7 @@ module _ {link : Link} {q : LinkQuestion} {root here : BoardState} {n s : ℕ} {
       (λ r h. area_play q root here n own at.node.in_tree s at.size its_a its_b its_stand p r
       (subst (λ (l : Link). is_connecting_move l here p ≡ true) (sym at.node.its) move) h)
 
--- The nodes after one where both strings stand and are apart.
+-- The nodes after one if both strings stand and are apart.
 module _ {link : Link} {q : LinkQuestion} {root here : BoardState} {n s : ℕ} (und : IsUndecided link here) where
   -- a legal connecting move leads to a child
   pub played_child : {own : Bool} {new : BoardState} (p : ℕ) → IsStandingNode link q root here (suc n) own s

@@ -31,7 +31,7 @@ told_is n link own here told tells = elim (cases_Bool told) [
       ]))
 ]
 
--- at their own turn the strings can be joined where some move serves
+-- at their own turn the strings can be joined if some move serves
 pub own_by : (n : ℕ) (link : Link) (own : Bool) (here : BoardState) (told : Bool) → own ≡ true → IsUndecided link here
     → TellsSome (is_connecting_move link here) (attains n link own here) told → told ≡ can_connect (suc n) link own here
 own_by n link true here told e und tells =
@@ -56,7 +56,7 @@ parted_by n link false here e und parts = sym (connects-other n link here und.st
     ∙ ap (λ b. b && not (any_below (here.size * here.size) (succeeds n link false here)))
     (not_false (can_connect n link true (pass here)) parts))
 
--- and else they can where no move of its serves it
+-- and else they can if no move of its serves it
 pub other_by : (n : ℕ) (link : Link) (own : Bool) (here : BoardState) (told : Bool) → own ≡ false
     → IsUndecided link here → pass_parts n link here ≡ false
     → TellsSome (is_connecting_move link here) (attains n link own here) told
@@ -71,7 +71,7 @@ other_by n link false here told e und holds tells =
 -- the first move in reading order is the first point of the set of all moves that attains it
 module _ (n : ℕ) (link : Link) (own : Bool) (here : BoardState) (moves : ℕ → Bool)
     (all : (p : ℕ) → moves p ≡ is_connecting_move link here p) where
-  -- a point that serves, where none before it does
+  -- a point that serves, if none before it does
   pub first_hit : (p : ℕ) → moves p ≡ true → attains n link own here p ≡ true
       → ((r : ℕ) → r < p → moves r ≡ true → attains n link own here r ≡ false)
       → Some p ≡ first_success n link own here

@@ -53,7 +53,7 @@ fn first_point<L: Look>(
     None
 }
 
-/// The play at the point, where there is one.
+/// The play at the point, if there is one.
 fn at_point(found: Option<Point>) -> Option<LinkSpot>
     ensures { result ≡ at_point found }
 {
@@ -249,7 +249,7 @@ pub fn connect<L: Look>(look: L, a: Point, b: Point, plies: u8) -> LinkTold<L>
 /// Reads whether the strings of `a` and `b`, of one colour, can be kept apart when the other colour plays first,
 /// `plies` plies deep.
 ///
-/// The move is the pass where no stone need be put, else the first in reading order that attains it. Takes no memory.
+/// The move is the pass if no stone need be put, else the first in reading order that attains it. Takes no memory.
 pub fn disconnect<L: Look>(look: L, a: Point, b: Point, plies: u8) -> LinkTold<L>
     requires a_on { a < (L.shows look).size * (L.shows look).size }
     requires b_on { b < (L.shows look).size * (L.shows look).size }

@@ -43,7 +43,7 @@ pub struct Sent {
     pub bytes: u64,
 }
 
-/// The line of connections, in three pieces, which are empty where there were none.
+/// The line of connections, in three pieces, which are empty if there were none.
 fn link_pieces(links: Links) -> (Short, Short, Short)
     ensures { concat (result.0 ∷ result.1 ∷ result.2 ∷ []) ≡ links_line links }
 {
@@ -115,7 +115,7 @@ fn put_some_sent<D: Sink>(notes: &mut D, sent: Option<Sent>) -> Result<(), Faile
     }
 }
 
-/// Puts all notes, or fails where the sink does.
+/// Puts all notes, or fails if the sink does.
 fn put_lines<D: Sink>(
     notes: &mut D,
     counts: Option<Counts>,

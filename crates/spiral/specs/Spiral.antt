@@ -34,7 +34,7 @@ ring_up_to (suc k) i = if nat_le (ring_start (suc k)) i then suc k else ring_up_
 unfoldable pub offset_at : ℕ → Offset
 offset_at i = ring_place (ring_up_to largest_offset i) (i - ring_start (ring_up_to largest_offset i))
 
--- the row or column a of a board of size s, where it is one
+-- the row or column a of a board of size s, if it is one
 abbrev pub strip_of : ℕ → ℤ → Option ℕ
 strip_of s (pos n) = if nat_lt n s then Some n else None
 strip_of s (negsuc n) = None

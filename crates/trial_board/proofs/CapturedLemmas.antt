@@ -39,7 +39,7 @@ points_in-has row first (suc n) i h =
       | inr ne ↦ or_right _ _ (points_in-has row first n i (omega arith))
     ]
 
--- where no number from n on passes, the set is whole
+-- if no number from n on passes, the set is whole
 pub set_below-rest : (n m : ℕ) (test : ℕ → Bool) → n ≤ m → ((k : ℕ) → n ≤ k → k < m → test k ≡ false)
     → set_below n test ≡ set_below m test
 unfolding set_below
@@ -188,7 +188,7 @@ len_counted points m small =
       | inr f ↦ f
     ]
 
--- where q passes, more pass below a bound above q than below n, where none from n on comes before q
+-- where q passes, more pass below a bound above q than below n, if none from n on comes before q
 counted_more : (n q m : ℕ) (test : ℕ → Bool) → n ≤ q → ((k : ℕ) → n ≤ k → k < q → test k ≡ false) → test q ≡ true
     → q < m → count_below n test < count_below m test
 counted_more n q m test l none hit below = omega (
@@ -198,7 +198,7 @@ counted_more n q m test l none hit below = omega (
   count_below-less (suc q) m test below,
 )
 
--- there is a place for the next member, where there are places for all, which are below m
+-- there is a place for the next member, if there are places for all, which are below m
 pub Noted-room : (points : sets.FinSet nat_cmp) {first : ℕ} {old row : List ℕ} {count n : ℕ} (q m places : ℕ)
     → Noted (sets.contains points) first old row count n → n ≤ q
     → ((k : ℕ) → n ≤ k → k < q → sets.contains points k ≡ false) → sets.contains points q ≡ true
@@ -208,7 +208,7 @@ Noted-room points {n = n} q m places noted l none hit small room =
     let more = counted_more n q m (sets.contains points) l none hit (small q hit) in
     omega (arith, noted.counted, more, len_counted points m small)
 
--- where no member is left, as many were written as there are
+-- if no member is left, as many were written as there are
 pub Noted-all : (points : sets.FinSet nat_cmp) {first : ℕ} {old row : List ℕ} {count n : ℕ}
     → Noted (sets.contains points) first old row count n → ((k : ℕ) → n ≤ k → sets.contains points k ≡ false)
     → points_in row first (sets.len points) ≡ points

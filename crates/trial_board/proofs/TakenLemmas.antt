@@ -1,4 +1,4 @@
--- What a play took is as it was before where it is taken back, and there is room for it.
+-- What a play took is as it was before if it is taken back, and there is room for it.
 use Rattle.std.proofs.Common.{◌≡◌, ℕ, ◌+◌, ◌*◌, ◌<◌, ◌≤◌, true, false, cond, eqb, List, length, Ok}
 use Rattle.std.proofs.Common.{Err, sym, ap, arith, inl, inr, ◌∙◌}
 use Rattle.std.proofs.Math.ListN.{set, length-set}

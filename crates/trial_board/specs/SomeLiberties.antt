@@ -5,7 +5,7 @@ use Rattle.std.specs.FinSet as set
 use Rattle.go_rules.specs.declared.Cell.{Cell}
 use Rattle.go_rules.specs.Strings.{liberties, liberty_points}
 
--- what was found are the liberties of the string of p, or more points than `most`, where the string has more liberties
+-- what was found are the liberties of the string of p, or more points than `most`, if the string has more liberties
 -- than `most` too
 pub record FindsLiberties (s : ℕ) (cells : List Cell) (p most : ℕ) (found : set.FinSet nat_cmp) : Type 0 where
   pub all : set.len found ≤ most → found ≡ liberty_points s cells p

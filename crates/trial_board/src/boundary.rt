@@ -36,7 +36,7 @@ fn add_least<V: View>(board: &mut V, q: Point, seen: &mut PointSet, least: &mut 
     }
 }
 
-/// The least point of each enemy string next to the string of p, none where p is empty.
+/// The least point of each enemy string next to the string of p, none if p is empty.
 pub(crate) fn boundary_of<V: View>(board: &mut V, p: Point) -> PointSet
     requires { p < V.rows board.old * V.rows board.old }
     ensures looks { Looks V.cells V.asks board.old board.new anywhere }

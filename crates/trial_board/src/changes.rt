@@ -50,7 +50,7 @@ impl Changes {
         }
     }
 
-    /// Notes the cell of p, where no other was noted of it.
+    /// Notes the cell of p, if no other was noted of it.
     fn put(&mut self, p: Point, cell: Cell)
         requires { p < largest_points }
         ensures here { (told_at self.old p ≡ None) ⊎ (told_at self.old p ≡ Some cell) → told_at self.new p ≡ Some cell }

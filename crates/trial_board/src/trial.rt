@@ -138,7 +138,7 @@ impl<L: Look> Trial<L> {
         self.board.at(p)
     }
 
-    /// The string of p, its liberties and the enemy stones next to it; all three sets are empty where p is.
+    /// The string of p, its liberties and the enemy stones next to it; all three sets are empty if p is.
     pub fn string(&mut self, p: Point) -> Found
         requires { p < (L.shows self.old.look).size * (L.shows self.old.look).size }
         ensures stays { Stays L.shows L.seen self.old self.new }
@@ -161,7 +161,7 @@ impl<L: Look> Trial<L> {
         flood(&mut self.board, p)
     }
 
-    /// The least point of each enemy string next to the string of p, none where p is empty.
+    /// The least point of each enemy string next to the string of p, none if p is empty.
     pub fn boundary(&mut self, p: Point) -> PointSet
         requires { p < (L.shows self.old.look).size * (L.shows self.old.look).size }
         ensures stays { Stays L.shows L.seen self.old self.new }
@@ -178,7 +178,7 @@ impl<L: Look> Trial<L> {
         boundary_of(&mut self.board, p)
     }
 
-    /// The liberties of the string of p, none where p is empty.
+    /// The liberties of the string of p, none if p is empty.
     pub fn liberties(&mut self, p: Point) -> PointSet
         requires { p < (L.shows self.old.look).size * (L.shows self.old.look).size }
         ensures stays { Stays L.shows L.seen self.old self.new }
@@ -195,7 +195,7 @@ impl<L: Look> Trial<L> {
         liberties_of(&mut self.board, p)
     }
 
-    /// The liberties of the string of p, none where p is empty, if they are at most `most`; else more points than
+    /// The liberties of the string of p, none if p is empty, if they are at most `most`; else more points than
     /// `most`, and the string has more liberties than `most` too. No more of it is searched once it has shown so many.
     pub fn some_liberties(&mut self, p: Point, most: u16) -> PointSet
         requires { p < (L.shows self.old.look).size * (L.shows self.old.look).size }
@@ -214,7 +214,7 @@ impl<L: Look> Trial<L> {
         found.liberties
     }
 
-    /// The liberties of the string of p and the last liberties of the enemy strings next to it, both none where p is
+    /// The liberties of the string of p and the last liberties of the enemy strings next to it, both none if p is
     /// empty.
     pub fn surroundings(&mut self, p: Point) -> Surroundings
         requires { p < (L.shows self.old.look).size * (L.shows self.old.look).size }
@@ -254,7 +254,7 @@ impl<L: Look> Trial<L> {
         is_banned(self.ban, c, p)
     }
 
-    /// What the standing moves changed of the position, None exactly where no move stands: the ban of the position is
+    /// What the standing moves changed of the position, None exactly if no move stands: the ban of the position is
     /// not told then. It looks at no point.
     pub fn changes(&self) -> Option<Changes>
         ensures none { IsNone result ↔ (self.now.moves ≡ []) }
@@ -283,7 +283,7 @@ impl<L: Look> Trial<L> {
         self.ban = None;
     }
 
-    /// Takes the last trial move back, with its captures and its ban; false exactly where no trial move is left. It
+    /// Takes the last trial move back, with its captures and its ban; false exactly if no trial move is left. It
     /// looks at no point.
     pub fn back(&mut self) -> bool
         ensures some { result ≡ is_some_move self.old.moves }
@@ -307,7 +307,7 @@ impl<L: Look> Trial<L> {
         self.trials = self.trials.saturating_add(1);
     }
 
-    /// Puts a stone with no regard to the ban, where that is no suicide.
+    /// Puts a stone with no regard to the ban, if that is no suicide.
     fn put(&mut self, c: Colour, p: Point, dropped: bool) -> bool
         requires room { length self.old.moves < most_moves }
         requires on_board { p < (L.shows self.old.look).size * (L.shows self.old.look).size }
@@ -345,9 +345,9 @@ impl<L: Look> Trial<L> {
         }
     }
 
-    /// Plays c at p, and with `allow` also where the ban alone forbids it. Refused are, in this order, a play on a
+    /// Plays c at p, and with `allow` also if the ban alone forbids it. Refused are, in this order, a play on a
     /// stone, one that the ban forbids without `allow`, and suicide; a refused play leaves the trial moves, and counts
-    /// as tried. The trial move notes that a ban was dropped for it, exactly where the ban forbade the play.
+    /// as tried. The trial move notes that a ban was dropped for it, exactly if the ban forbade the play.
     pub fn play(&mut self, c: Colour, p: Point, allow: bool) -> Tried
         requires room { length self.old.moves < most_moves }
         requires on_board { p < (L.shows self.old.look).size * (L.shows self.old.look).size }

@@ -67,7 +67,7 @@ record Front (rest : List ℕ) : Type 0 where
   parts : parts_of rest ≡ kept (take (front_len rest) rest) ∷ tail
   words : filter has_bytes tail ≡ words_of (plain (drop (front_len rest) rest))
 
--- the first part is empty where the first byte parts words
+-- the first part is empty if the first byte parts words
 front_parting : (b : ℕ) (bs : List ℕ) → is_parting b ≡ true → Front (b ∷ bs)
 front_parting b bs p = record {
   tail = parts_of bs;
@@ -164,7 +164,7 @@ pub found_first : (p : ℕ → Bool) (xs : List ℕ) (i : ℕ) → i < length xs
     → p (get_or xs i 0) ≡ true → i ≡ position_or_len p xs
 found_first p xs i within none here = sym (position_or_len_is p xs i 0 (omega arith) none (λ _. here))
 
--- where no byte passes none is found
+-- if no byte passes none is found
 pub found_none : (p : ℕ → Bool) (xs : List ℕ) (i : ℕ) → length xs ≤ i → ((k : ℕ) → k < i → p (get_or xs k 0) ≡ false)
     → length xs ≡ position_or_len p xs
 found_none p xs i past none =

@@ -20,7 +20,7 @@ cased false b = b
 abbrev pub large : ℕ
 large = 2147483648
 
--- the number, or what stands for it where it is large
+-- the number, or what stands for it if it is large
 abbrev pub capped : Option ℕ → Option ℕ
 capped None = None
 capped (Some n) = Some (min n large)

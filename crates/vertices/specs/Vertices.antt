@@ -20,7 +20,7 @@ column_named letter = position (λ l. l == to_ascii_uppercase letter) column_let
 abbrev pub row_number_of : List ℕ → Option ℕ
 row_number_of digits = if nat_le (length digits) 2 then number_of digits else None
 
--- the point in this column and in the row of this number, where both lie on a board of size s; row 1 is the bottom row
+-- the point in this column and in the row of this number, if both lie on a board of size s; row 1 is the bottom row
 abbrev pub point_of : ℕ → Option ℕ → Option ℕ → Option ℕ
 point_of s (Some column) (Some number) =
     if nat_lt column s && (nat_le 1 number && nat_le number s) then Some (point_at s (s - number, column)) else None

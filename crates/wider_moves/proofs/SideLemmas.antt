@@ -36,7 +36,7 @@ side_found s l side q e on size value is = record {
   at = ap (λ n. neighbour_at n l side) (e ∙ sym size) ∙ sym value ∙ is;
 }
 
--- where no side was found on a board of the same size this board has none
+-- if no side was found on a board of the same size this board has none
 no_side : (s l side : ℕ) {shown size : ℕ} {found : Option ℕ} → s ≡ shown → size ≡ shown
     → found ≡ neighbour_at size l side → ((q : ℕ) → found ≡ Some q → ⊥) → (q : ℕ) → neighbour_at s l side ≡ Some q → ⊥
 no_side s l side e size value none q at =

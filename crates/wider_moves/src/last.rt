@@ -18,7 +18,7 @@ use trial_board::Trial;
 /// How many liberties a string in atari has.
 const IN_ATARI: u16 = 1;
 
-/// Adds the liberty of the string of r where it has just one. No more of the string is searched once it has shown two.
+/// Adds the liberty of the string of r if it has just one. No more of the string is searched once it has shown two.
 fn add_last_liberty<L: Look>(board: &mut Trial<L>, r: Point, found: &mut PointSet)
     requires { r < (L.shows board.old.look).size * (L.shows board.old.look).size }
     ensures stays { Stays L.shows L.seen board.old board.new }

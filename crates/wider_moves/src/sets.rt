@@ -34,7 +34,7 @@ pub(crate) struct WeakEnemies {
     pub allies: PointSet,
 }
 
-/// The points of Net: the empty neighbours of the target's liberties, which the caller gives, where these are three.
+/// The points of Net: the empty neighbours of the target's liberties, which the caller gives, if these are three.
 pub(crate) fn net<L: Look>(board: &mut Trial<L>, liberties: &PointSet) -> PointSet
     requires { (l : ℕ) → IsTrue (set.contains liberties.now l)
         → l < (L.shows board.old.look).size * (L.shows board.old.look).size }

@@ -26,7 +26,7 @@ pub(crate) struct Around {
     pub enemies: PointSet,
 }
 
-/// Adds what stands around the string of q where it has at most so many liberties, and tells its stones.
+/// Adds what stands around the string of q if it has at most so many liberties, and tells its stones.
 fn add_string<L: Look>(board: &mut Trial<L>, most: u16, q: Point, found: &mut Around) -> PointSet
     requires { q < (L.shows board.old.look).size * (L.shows board.old.look).size }
     ensures stays { Stays L.shows L.seen board.old board.new }

@@ -1,4 +1,4 @@
--- Points gathered at the points of a set, one point after another, where some of these may be passed over.
+-- Points gathered at the points of a set, one point after another, if some of these may be passed over.
 use Rattle.std.proofs.Common.{◌≡◌, ◌⊎◌, ℕ, ◌+◌, ◌<◌, ◌≤◌, ◌&&◌, ◌||◌, Bool, true, false, sym, ap, subst, arith, inl}
 use Rattle.std.proofs.Common.{inr, ◌∙◌}
 use Rattle.std.proofs.lemmas.Bool.{cases_Bool, cases_eq, cases_lt, or_cases, or_left, or_right, both_ways, and_parts}

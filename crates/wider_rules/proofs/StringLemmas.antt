@@ -66,7 +66,7 @@ adds_nothing a b e = same_tests _ _ (λ h. or_left _ _ h)
 -- What a search of the string of q adds, where n of its liberties were counted.
 module _ (most s : ℕ) (cells : List Cell) (q n p : ℕ) (libs old new : sets.FinSet nat_cmp)
     (whole : libs ≡ liberty_points s cells q) (count : n ≡ sets.len libs) where
-  -- the string has few liberties exactly where few were counted
+  -- the string has few liberties exactly if few were counted
   few_by_count : leb (liberties s cells q) most ≡ leb n most
   few_by_count = ap (λ k. leb k most) (sym (count ∙ how_many s cells q libs whole))
 
@@ -187,7 +187,7 @@ module _ (s : ℕ) (cells : List Cell) (p : ℕ) (left stones rest : sets.FinSet
   Gathers-string points n up here none test shared old new i =
       Gathers-next test points n p left rest old new up i here none (string_passes test shared)
 
--- the stones of the string of q were told, and what stands around it came where it has few liberties
+-- the stones of the string of q were told, and what stands around it came if it has few liberties
 pub record AddsAround (most s : ℕ) (cells : List Cell) (q : ℕ)
     (stones libs more_libs foes more_foes : sets.FinSet nat_cmp) : Type 0 where
   pub its : stones ≡ string_at s cells q

@@ -1,4 +1,4 @@
-//! Five further sets of points, as definitions: the wider tree tries them where a wide ply is left. The laws say in
+//! Five further sets of points, as definitions: the wider tree tries them if a wide ply is left. The laws say in
 //! Go's own words what the computing definitions mean.
 //!
 //! - *Net*, for the attacker: the empty neighbours of the liberties of a target with exactly three.

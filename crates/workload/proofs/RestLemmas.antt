@@ -20,7 +20,7 @@ one_more : (n i k : ℕ) → lines_after n i (suc k) ≡ line_at n (i + 1) ∷ l
 unfolding lines_after
 one_more n i k = refl
 
--- where nothing of the last line is left, the next line is what comes first
+-- if nothing of the last line is left, the next line is what comes first
 pub next_left : (n i x at : ℕ) (line new : List ℕ) → i < n → at ≡ length line → x ≡ number_of_line n (i + 1)
     → new ≡ ended (line_with (i + 1) x) → left_from n (i + 1) new 0 ≡ left_from n i line at
 next_left n i x at line new more done is new_is =
@@ -30,7 +30,7 @@ next_left n i x at line new more done is new_is =
     ap (lines_after n i) count ∙ one_more n i (n - (i + 1)) in
     rw (none, lines, new_is, is) refl
 
--- no lines follow where none is left
+-- no lines follow if none is left
 no_lines : (n i : ℕ) → lines_after n i 0 ≡ []
 unfolding lines_after
 no_lines n i = refl

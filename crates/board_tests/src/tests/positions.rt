@@ -7,7 +7,7 @@ use go_base::{
 };
 use std::panic::Expect;
 
-/// Why the play on the position is refused, and None where it is done or its place is off the board.
+/// Why the play on the position is refused, and None if it is done or its place is off the board.
 fn refusal(position: &Position, play: Play) -> Option<Illegal> {
     let (colour, row, column) = play;
     let p = on(position, row, column)?;

@@ -100,7 +100,7 @@ fn push_inner(letters: &mut Letters, inner: &[u8]) -> Result<(), NoMemory>
     Ok(())
 }
 
-/// Puts the letters of a line at the end, where it is a row.
+/// Puts the letters of a line at the end, if it is a row.
 fn push_row(letters: &mut Letters, row: bool, word: &[u8]) -> Result<(), NoMemory>
     ensures { OnOk result (letters.new ≡ letters.old ++ (if row then letters_of_row word.now else [])) }
 {

@@ -149,7 +149,7 @@ impl<'a> Draft<'a> {
         Ok(())
     }
 
-    /// Judges the expression, where there is one.
+    /// Judges the expression, if there is one.
     pub fn judge(&mut self, alloc: Global) -> Result<(), DbError>
         ensures ok { OnOk result ((b : Block) → Drafts self.old b → (expression_kind b ≡ None) × Drafts self.new b) }
         ensures judged { OnOk result (self.old.constraint ≡ None → IsJudged self.new) }

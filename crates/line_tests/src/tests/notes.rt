@@ -5,7 +5,7 @@ use run_notes::{Counts, Links, Sent, put_notes};
 use std::test::Fail;
 use vertices::Short;
 
-/// Notes on a page that takes so many bytes of a call and fails at a call, none where it is 0, and what comes of them.
+/// Notes on a page that takes so many bytes of a call and fails at a call, none if it is 0, and what comes of them.
 struct Noted {
     name: &'static str,
     connections: u64,

@@ -15,7 +15,7 @@ struct List {
     text: &'static [u8],
     /// How many rows the automaton may have.
     limit: u32,
-    /// How many rows it has, None where these are more than it may have.
+    /// How many rows it has, None if these are more than it may have.
     rows: Option<u32>,
     /// The numbers that its rows accept, one row after the other.
     numbers: &'static [u16],

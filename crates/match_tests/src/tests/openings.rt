@@ -240,7 +240,7 @@ fn openings_of_the_long_list_are_known(rt: HostRuntime) {
     assert!(rt; rows_and_openings(rt.alloc()) == Some((4923, 256_808)));
 }
 
-/// How many rows the automaton of a pattern alone has; nothing where it has a table of openings.
+/// How many rows the automaton of a pattern alone has; nothing if it has a table of openings.
 fn rows_alone(alloc: Global, text: &[u8]) -> Option<u32> {
     let (rows, shortcuts) = rows_and_shortcuts(alloc, &patterns_of(alloc, text)?)?;
     if shortcuts.openings.is_empty() {

@@ -13,7 +13,7 @@ pub(super) struct Row {
     pub name: &'static str,
     /// The text of the patterns.
     pub text: &'static [u8],
-    /// The text of the patterns whose automaton finds the diagrams, where these are others.
+    /// The text of the patterns whose automaton finds the diagrams, if these are others.
     pub others: Option<&'static [u8]>,
     /// The size of the board.
     pub side: u8,

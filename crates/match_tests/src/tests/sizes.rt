@@ -45,7 +45,7 @@ fn each_of_many_patterns_matches(rt: HostRuntime) {
     assert!(rt; match_each(rt.alloc()) == Some(true));
 }
 
-/// How many patterns are read of a text above a megabyte; nothing where the text is not so long.
+/// How many patterns are read of a text above a megabyte; nothing if the text is not so long.
 fn patterns_after_comments(alloc: Global) -> Option<usize> {
     let mut text = repeated(alloc, COMMENT, 20_000).ok()?;
     text.extend_from_slice(SMALLEST).ok()?;

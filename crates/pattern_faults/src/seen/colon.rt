@@ -17,7 +17,7 @@ const MOST_CLASSES: usize = 32;
 /// The most items.
 const MOST_ITEMS: usize = 16;
 
-/// The kind of the fault of an item, or 0 where it has none.
+/// The kind of the fault of an item, or 0 if it has none.
 fn item_kind(alloc: Global, helpers: &[Bytes], item: &[u8]) -> Result<u8, NoMemory> {
     let mut text = Vec::new(alloc);
     text.extend_from_slice(BEFORE_ITEM)?;

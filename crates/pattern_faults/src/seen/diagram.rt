@@ -38,7 +38,7 @@ fn stars(lines: &[Written<'_>]) -> usize {
     count
 }
 
-/// The index of the first byte of a word that makes it no row, where it is no edge line either, and the byte.
+/// The index of the first byte of a word that makes it no row, if it is no edge line either, and the byte.
 fn first_wrong(word: &[u8]) -> Option<(usize, u8)> {
     let last = word.len().saturating_sub(1);
     for (at, byte) in word.iter().enumerate() {

@@ -169,7 +169,7 @@ fn takes(alloc: Global, name: &[u8], arguments: &[u8]) -> Result<bool, NoMemory>
     }
 }
 
-/// The least and the greatest number of arguments that a function takes, where there is one of this name.
+/// The least and the greatest number of arguments that a function takes, if there is one of this name.
 fn arity(alloc: Global, name: &[u8]) -> Result<Option<(usize, usize)>, NoMemory> {
     let mut found: Option<(usize, usize)> = None;
     for (count, arguments) in ARGUMENTS.iter().enumerate() {

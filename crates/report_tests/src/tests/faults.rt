@@ -364,7 +364,7 @@ fn entries(alloc: Global, first: &[u8], count: usize) -> Result<Vec<u8>, AllocEr
     Ok(text)
 }
 
-/// How many entries of a text are taken, where there is memory.
+/// How many entries of a text are taken, if there is memory.
 fn taken(alloc: Global, text: &[u8]) -> Option<usize> {
     let report: Report = report_on(alloc, text, &[]).ok()?;
     Some(report.entries.len())

@@ -47,7 +47,7 @@ static LINES: [(&str, &str); 4] = [
     ),
 ];
 
-// The automaton asks for an enemy's stone where the pattern has a friend's.
+// The automaton asks for an enemy's stone if the pattern has a friend's.
 #[test]
 fn session_answers_by_the_automaton_given(rt: HostRuntime) -> Result<(), Fail> {
     let mut session = session_by_another(rt.alloc())?;

@@ -207,7 +207,7 @@ fn failing(status: u8, call: u64) -> Way {
 static OBJECTS: [(&str, u8); 3] = [("loader", 6), ("source", 4), ("sink", 5)];
 
 /// Runs the session where this call of the object fails, if it is made, and tells whether it is. What is out is a front
-/// of the replies, and all of them where no call fails.
+/// of the replies, and all of them if no call fails.
 fn is_made(
     rt: &impl Abort,
     alloc: Global,

@@ -31,7 +31,7 @@ pub(super) const TWO_FILES: &[File<'static>] = &[
 ];
 
 /// How a run is to go: how many bytes a call moves at most, how many a call of the sink takes, and which call of each
-/// object fails, counted from 1; none does where the number is 0.
+/// object fails, counted from 1; none does if the number is 0.
 #[derive(Clone, Copy)]
 pub(super) struct Way {
     pub(super) piece: usize,
@@ -68,13 +68,13 @@ pub(super) struct Case<'a> {
     pub(super) status: u8,
     pub(super) output: &'a [u8],
     pub(super) notes: &'a [u8],
-    /// Where this is not empty, the notes begin as told, go on with the number of trial plays, and end so.
+    /// If this is not empty, the notes begin as told, go on with the number of trial plays, and end so.
     pub(super) behind_trials: &'a [u8],
     /// How many bytes of the input are not taken.
     pub(super) left: usize,
 }
 
-/// A run without files and input where nothing fails, and of which nothing comes.
+/// A run without files and input if nothing fails, and of which nothing comes.
 pub(super) const CASE: Case<'static> = Case {
     name: "",
     options: &[],

@@ -294,7 +294,7 @@ returns-in-Neg-clause-asked g t c =
     (readings_of_neg old.meanings c.args.expr.now c.deref-in-Neg.result.now c.in-Neg.e c.deref-in-Neg.ensures
     c.in-Neg.is)
 
--- where the right side is needed, both sides ask for theirs
+-- if the right side is needed, both sides ask for theirs
 pub returns-then-needs_right-clause-asked : goal.returns-then-needs_right-clause-asked
 returns-then-needs_right-clause-asked g t c =
     let old = g.E.Env.view c.args.env.now in

@@ -1,4 +1,4 @@
--- The fields that are looked at have the fault of all of them, and are all where they have none.
+-- The fields that are looked at have the fault of all of them, and are all if they have none.
 use Rattle.std.proofs.Common.{◌≡◌, ◌∙◌, sym, ap, map, None, take}
 use Rattle.std.specs.Prelude.{unwrap_or}
 use Rattle.pat_types.specs.declared.mark.Mark.TheVariants.{Oh}

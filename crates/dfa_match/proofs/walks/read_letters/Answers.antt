@@ -59,7 +59,7 @@ give_all-requires c =
     (sym (c.deref-then-met-ne0.ensures.value ∙ written at_read ∙ read at_read))
     (standing at_read)
 
--- where no row accepts something nothing is given out
+-- if no row accepts something nothing is given out
 pub returns-clause-hits : goal.returns-clause-hits
 returns-clause-hits c =
     let at_read = (goal.at.returns-clause-hits c).After-read_on-met in

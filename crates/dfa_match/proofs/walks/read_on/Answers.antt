@@ -15,7 +15,7 @@ use Rattle.dfa_match.specs.declared.walks.Walk.{Walk}
 use Rattle.dfa_match.specs.Walks.{after_letters, place_of}
 use Rattle.dfa_match.proofs.walks.read_on.Goals as goal
 
--- a number that is joined of two is even only where both are
+-- a number that is joined of two is even only if both are
 or_even : (a b : ℕ) → bit_or a b % 2 ≡ 0 → (a % 2 ≡ 0) × (b % 2 ≡ 0)
 or_even a b even =
     let none : max (bit_at a 0) (bit_at b 0) ≡ 0 = sym (bit_at_or a b 0) ∙ bit_at_lowest (bit_or a b) ∙ even in (

@@ -13,7 +13,7 @@ returns-then-count-ne0-clause-over g c = λ pos a stone alive.
     sym (ne_eqb (liberties (g.V.View.rows c.args.board.now) (g.V.View.cells c.args.board.now pos) c.args.p) 0
     (alive (λ e. c.if-count-ne0.true (c.count.ensures.value ∙ ap set.len e ∙ set.len-empty nat_cmp))))
 
--- a stone's string is told exactly where it has no liberty
+-- a stone's string is told exactly if it has no liberty
 pub returns-clause-over : goal.returns-clause-over
 returns-clause-over g c = λ pos a stone alive.
     c.is_some.ensures ∙ ap is_some (c.string_without_liberty.ensures.over pos a stone)

@@ -194,7 +194,7 @@ returns-clause-over g c = λ pos a1 good.
     (λ z. both_ways _ (sym told ∙ c.if-is_suicide.false) (eq-eqb _ _ z))
     (rw (rows, c.is_suicide.ensures.looks.same pos) at (c.ban_of-ban.ensures.over pos a1)))
 
--- what was taken is what the rules take where the stone was put
+-- what was taken is what the rules take if the stone was put
 pub returns-clause-taken : goal.returns-clause-taken
 returns-clause-taken g c = λ pos a1 good.
     let at = (goal.at.returns-clause-taken g c).After-is_suicide in

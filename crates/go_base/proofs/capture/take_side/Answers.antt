@@ -6,7 +6,7 @@ use Rattle.go_base.proofs.SidesOfPoints.{neighbour_at-near}
 use Rattle.go_base.proofs.Takes.{Takes-next, Takes-nothing}
 use Rattle.go_base.proofs.capture.take_side.Goals as goal
 
--- the side's string came where it is taken
+-- the side's string came if it is taken
 pub returns-in-Some-clause-over : goal.returns-in-Some-clause-over
 returns-in-Some-clause-over g c = λ pos a before.
     let p = c.args.spot.now.point in

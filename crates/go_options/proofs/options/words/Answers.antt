@@ -11,6 +11,6 @@ returns-in-Some c = IfOk-weaker c.copied.result _ _
     (Some (map (λ name. name.now) c.in-Some.names.now)) c.in-Some.ensures)
     c.copied.ensures
 
--- where no such word stands there is none
+-- if no such word stands there is none
 pub returns-in-None : goal.returns-in-None
 returns-in-None c = c.new.ensures ∙ words_read (found_of c.args.matches.now) c.args.name.now None c.in-None.ensures

@@ -96,7 +96,7 @@ returns-clause-over g c = λ pos a.
     (one g (goal.at.returns-clause-over g c).After-has pos a1 ∙ c.if-has.false)
     (rw moves at (c.first_move-at.ensures.over pos a)) c.is_some.ensures
 
--- no move is there where the answer is no
+-- no move is there if the answer is no
 pub returns-clause-none : goal.returns-clause-none
 returns-clause-none g c = told_none c.first_move-at.result c.is_some.result c.is_some.ensures
 

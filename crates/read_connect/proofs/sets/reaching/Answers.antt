@@ -10,7 +10,7 @@ use Rattle.read_connect.proofs.sets.reaching.Goals.{then-reaches, else-reaches}
 pub loop-p-init : goal.loop-p-init
 loop-p-init c = none_apart c.new-found.result _ c.new-found.ensures
 
--- the next member comes where it reaches across, and is left out where it does not
+-- the next member comes where it reaches across, and is left out if it does not
 pub loop-p-preserved : goal.loop-p-preserved
 loop-p-preserved c =
     let first = c.in-Some.ensures.some in

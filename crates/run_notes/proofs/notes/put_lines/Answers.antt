@@ -7,7 +7,7 @@ use Rattle.run_notes.specs.Notes.{counts_line, sent_line}
 use Rattle.run_notes.proofs.PutLemmas.{fails_early, fails_later, on_err_from}
 use Rattle.run_notes.proofs.notes.put_lines.Goals as goal
 
--- where the sink fails in the line of the counts, it got a front of that line
+-- if the sink fails in the line of the counts, it got a front of that line
 pub returns-in_err-put_some_counts-clause-part : goal.returns-in_err-put_some_counts-clause-part
 returns-in_err-put_some_counts-clause-part g c =
     let a = g.D.Sink.written c.args.notes.now in
@@ -15,7 +15,7 @@ returns-in_err-put_some_counts-clause-part g c =
     on_err_from _ (fails_early a b (counts_line c.args.counts ++ sent_line c.args.sent) (concat c.args.last.now)
     (fails_early a b (counts_line c.args.counts) (sent_line c.args.sent) c.in_err-put_some_counts.ensures.part))
 
--- where it fails in the line of what was sent, it got the counts and a front of that line
+-- if it fails in the line of what was sent, it got the counts and a front of that line
 pub returns-in_err-put_some_sent-clause-part : goal.returns-in_err-put_some_sent-clause-part
 returns-in_err-put_some_sent-clause-part g c =
     let a = g.D.Sink.written c.args.notes.now in
@@ -25,7 +25,7 @@ returns-in_err-put_some_sent-clause-part g c =
     (fails_later a b d (counts_line c.args.counts)
     (sent_line c.args.sent) c.in_ok-put_some_counts.ensures.ok c.in_err-put_some_sent.ensures.part))
 
--- where it fails in the last line, it got the lines before and a front of the last
+-- if it fails in the last line, it got the lines before and a front of the last
 pub returns-clause-part : goal.returns-clause-part
 returns-clause-part g c =
     let a = g.D.Sink.written c.args.notes.now in

@@ -5,7 +5,7 @@ use Rattle.run_notes.specs.Putting.{PutsFront}
 use Rattle.run_notes.proofs.PutLemmas.{on_err_from, piece_front, piece_more}
 use Rattle.run_notes.proofs.pieces.put_pieces.Goals as goal
 
--- where the sink fails in a piece, it got those before it and a front of that piece
+-- if the sink fails in a piece, it got those before it and a front of that piece
 pub returns-in_err-put_all-clause-part : goal.returns-in_err-put_all-clause-part
 returns-in_err-put_all-clause-part g c = on_err_from _
     (piece_front (g.K.Sink.written c.args.sink.now) (g.K.Sink.written c.loop-piece.sink)

@@ -1,4 +1,4 @@
--- The empty neighbours of the liberties are Net where these are three, and else Net is empty.
+-- The empty neighbours of the liberties are Net if these are three, and else Net is empty.
 use Rattle.std.proofs.Common.{◌∙◌}
 use Rattle.trial_board.specs.Trials.{after}
 use Rattle.wider_rules.proofs.SetLemmas.{net_is, no_net}

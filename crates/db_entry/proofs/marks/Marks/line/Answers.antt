@@ -42,7 +42,7 @@ push_labels-requires-clause-short c = let short : length c.word_at-main.result.n
 same_line : (c : After-are_apart) → repeats c.word_at-main.result.now c.args.word.now ≡ true
 same_line c = sym c.repeats.ensures ∙ c.if-not-repeats.false
 
--- the letters are apart exactly where those of the kept labels with the line's own are
+-- the letters are apart exactly if those of the kept labels with the line's own are
 all_apart : (c : After-are_apart) → c.are_apart.result
     ≡ are_apart (c.args.self.now.labels
     ++ labels_of_line c.args.self.now.rows c.word_at-main.result.now c.args.word.now)

@@ -6,7 +6,7 @@ use Rattle.db_read.specs.Reading.{BlamesAt}
 use Rattle.db_read.proofs.ReaderLemmas.{labels_gathered}
 use Rattle.db_read.proofs.reader.Reader.close_labels.Goals as goal
 
--- where both diagrams have as many lines, the constraint diagram is closed without a fault
+-- if both diagrams have as many lines, the constraint diagram is closed without a fault
 pub returns-in-None-clause-ok : goal.returns-in-None-clause-ok
 returns-in-None-clause-ok c = λ s stage h.
     labels_gathered c.args.self.now c.args.number s.stage s.front s.done s.now stage h

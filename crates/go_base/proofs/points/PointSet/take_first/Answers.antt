@@ -24,7 +24,7 @@ pub returns-clause-least : goal.returns-clause-least
 returns-clause-least c = λ r l.
     ap (λ s. set.contains s r) (sym c.self.view_is) ∙ not_member c.self.inside.bits r (c.in-Some.ensures.some.2 r l)
 
--- where no point is marked, there is no member
+-- if no point is marked, there is no member
 pub returns-in_default-clause-none : goal.returns-in_default-clause-none
 returns-in_default-clause-none c = no_members c.args.self.now (λ q.
     ap (λ s. set.contains s q) (sym c.self.view_is) ∙ not_member c.self.inside.bits q (c.in_default.ensures.none q))

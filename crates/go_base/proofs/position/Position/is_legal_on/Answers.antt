@@ -7,7 +7,7 @@ pub returns-then-bans-clause-value : goal.returns-then-bans-clause-value
 returns-then-bans-clause-value c =
     banned_is_illegal c.args.self.now c.args.c c.args.p (sym c.bans.ensures ∙ c.if-bans.true)
 
--- what the ban does not forbid is legal where it can be played without the ban
+-- what the ban does not forbid is legal if it can be played without the ban
 pub returns-clause-value : goal.returns-clause-value
 returns-clause-value c =
     c.is_free.ensures.value c.args.self.now c.requires.holds

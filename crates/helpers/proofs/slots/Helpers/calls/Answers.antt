@@ -3,7 +3,7 @@ use Rattle.std.proofs.Common.{sym, ap, ◌∙◌, Some, option_map}
 use Rattle.helpers.proofs.Places.{named-at, named-none}
 use Rattle.helpers.proofs.slots.Helpers.calls.Goals as goal
 
--- where no helper has the name there is no count
+-- if no helper has the name there is no count
 pub returns-in_err-place : goal.returns-in_err-place
 returns-in_err-place g c =
     c.from_residual.ensures

@@ -12,7 +12,7 @@ returns-in-Some-clause-answer g c =
     (sym (named-at _ c.args.name.now c.args.self.now.slots.items c.in-Some.place c.index_mut.result.now
     (sym c.place.ensures.first ∙ c.in-Some.is) c.index_mut.ensures.value))
 
--- where no helper has the name the answer is no
+-- if no helper has the name the answer is no
 pub returns-in-None-clause-answer : goal.returns-in-None-clause-answer
 returns-in-None-clause-answer g c =
     sym (ap (λ s. slot_says s c.args.pos.now c.args.at c.args.friend)
@@ -24,7 +24,7 @@ returns-in-Some-clause-after g c =
     changed-at _ c.args.name.now c.args.self.now.slots.items slot_asked c.in-Some.place c.index_mut.result.now
     c.decide.new.self (sym c.place.ensures.first ∙ c.in-Some.is) c.index_mut.ensures.value c.decide.ensures.after
 
--- where no helper has the name none was asked
+-- if no helper has the name none was asked
 pub returns-in-None-clause-after : goal.returns-in-None-clause-after
 returns-in-None-clause-after g c =
     changed-none _ c.args.name.now c.args.self.now.slots.items slot_asked (sym c.place.ensures.first ∙ c.in-None.is)

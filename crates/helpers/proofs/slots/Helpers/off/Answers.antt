@@ -30,7 +30,7 @@ returns-in-Some-clause-after g c =
     c.index_mut.ensures.value
     refl
 
--- where no helper has the name the list is as before
+-- if no helper has the name the list is as before
 pub returns-in-None-clause-after : goal.returns-in-None-clause-after
 returns-in-None-clause-after g c =
     changed-none _ c.args.name.now c.args.self.now.slots.items (λ s. record s { on = false })

@@ -3,13 +3,13 @@ use Rattle.std.proofs.Common.{sym, ap, ◌∙◌, option_map}
 use Rattle.helpers.proofs.Places.{named-at, removed-at, removed-none, taken-none}
 use Rattle.helpers.proofs.slots.Helpers.remove.Goals as goal
 
--- where no helper has the name none is taken out
+-- if no helper has the name none is taken out
 pub returns-in_err-place-clause-found : goal.returns-in_err-place-clause-found
 returns-in_err-place-clause-found g c =
     taken-none _ c.args.name.now c.args.self.now.slots.items _ c.from_residual.result
     (sym c.place.ensures.first ∙ c.in_err-place.was) c.from_residual.ensures
 
--- where no helper has the name the list is as before
+-- if no helper has the name the list is as before
 pub returns-in_err-place-clause-after : goal.returns-in_err-place-clause-after
 returns-in_err-place-clause-after g c =
     removed-none _ c.args.name.now c.args.self.now.slots.items (sym c.place.ensures.first ∙ c.in_err-place.was)

@@ -4,7 +4,7 @@ use Rattle.workload.proofs.rest.Rest.ready.Goals as goal
 use Rattle.workload.proofs.rest.Rest.ready.Goals.{else-self-as_slice-via-then-self-as_slice+else-self}
 use Rattle.workload.proofs.rest.Rest.ready.Goals.{else-self-as_slice-via-else-self-as_slice}
 
--- where the last line has no byte left, and it was the last of all, nothing is left
+-- if the last line has no byte left, and it was the last of all, nothing is left
 pub returns-else-self-as_slice-clause-some : goal.returns-else-self-as_slice-clause-some
 returns-else-self-as_slice-clause-some c = λ done. elim c.else-self-as_slice.branch [
   | else-self-as_slice-via-then-self-as_slice+else-self w ↦
