@@ -1,1 +1,3 @@
 pub mod DepthNumbers
+pub mod MoveNumbers
+pub mod PrintedProofs

@@ -1,7 +1,11 @@
 //! Questions as a caller in C puts them, and the numbers that come back.
 
-use crate::replies::{answer_reply, linkage_reply, number_reply, play_reply, truth_reply};
-use crate::{BoardBytes, DepthBytes, attack, check, connect, defend, disconnect, liberties, play};
+use crate::replies::{
+    answer_reply, linkage_reply, moves_reply, number_reply, play_reply, truth_reply,
+};
+use crate::{
+    BoardBytes, DepthBytes, all, attack, check, connect, defend, disconnect, liberties, play, proof,
+};
 use read_rules::Kind;
 
 /// A white stone in the middle of a board of 9 rows, with Black on three sides; its last liberty is point 49.
@@ -94,6 +98,44 @@ fn readings_are_answered_or_have_a_status(rt: HostRuntime) {
     }
 }
 
+/// A question for all moves about the stone in atari: what is special about it, its kind, its target, its plies, the
+/// status, the code and the pass of its reply, and the points.
+type Moves = (&'static str, u8, u16, u8, (u8, u8, u8), &'static [u16]);
+
+/// Questions for all moves.
+static MOVES: [Moves; 7] = [
+    ("one move takes it", 1, 40, 10, (0, 3, 0), &[49]),
+    ("one move saves it", 2, 40, 10, (0, 3, 0), &[49]),
+    ("nothing captures", 1, 31, 1, (0, 0, 0), &[]),
+    (
+        "the pass and each liberty",
+        2,
+        31,
+        10,
+        (0, 3, 1),
+        &[22, 30, 32, 49],
+    ),
+    ("the third question", 3, 40, 10, (10, 0, 0), &[]),
+    ("an empty point", 1, 49, 10, (6, 0, 0), &[]),
+    ("no plies", 1, 40, 0, (7, 0, 0), &[]),
+];
+
+#[test]
+fn all_moves_are_told_or_a_status(rt: HostRuntime) {
+    let atari = board(&ATARI);
+    for (what, kind, target, plies, numbers, points) in &MOVES {
+        let reply = moves_reply(all(&atari, *kind, *target, depths(*plies, 0, 0)));
+        assert!(rt;
+            (reply.status, reply.code, reply.pass) == *numbers,
+            "{what}"
+        );
+        for (p, byte) in reply.points.iter().enumerate() {
+            let is_one = points.iter().any(|q| usize::from(*q) == p);
+            assert!(rt; *byte == u8::from(is_one), "{what}");
+        }
+    }
+}
+
 #[test]
 fn connections_are_answered_or_have_a_status(rt: HostRuntime) {
     let jump = board(&JUMP);
@@ -142,5 +184,41 @@ fn a_proof_is_checked_or_has_a_status(rt: HostRuntime) {
     ] {
         let reply = truth_reply(check(&atari, kind, 40, depths(10, 2, 0), code, text.as_bytes()));
         assert!(rt; (reply.status, reply.number) == want, "{what}");
+    }
+}
+
+/// A question for a proof about the stone in atari: what is special about it, its kind, its target, the room, the
+/// numbers of its reply, and the bytes in front of the buffer.
+type Proved = (&'static str, u8, u16, usize, (u8, u8, u16), &'static str);
+
+/// Questions for a proof.
+static PROVED: [Proved; 6] = [
+    ("it is written", 1, 40, 9, (0, 3, 6), "W E4 .---"),
+    ("it fits just", 1, 40, 6, (0, 3, 6), "W E4 ."),
+    ("it does not fit", 1, 40, 5, (15, 3, 6), "-----"),
+    ("there is no room", 1, 40, 0, (15, 3, 6), ""),
+    ("the third question", 3, 40, 9, (10, 0, 0), "---------"),
+    ("an empty point", 1, 49, 9, (6, 0, 0), "---------"),
+];
+
+#[test]
+fn a_proof_is_written_or_has_a_status(rt: HostRuntime) {
+    let atari = board(&ATARI);
+    for (what, kind, target, room, numbers, bytes) in &PROVED {
+        let mut buffer = [b'-'; 9];
+        if *room <= 9 {
+            let reply = proof(
+                &atari,
+                *kind,
+                *target,
+                depths(10, 0, 0),
+                &mut buffer[..*room],
+            );
+            assert!(rt;
+                (reply.status, reply.code, reply.length) == *numbers,
+                "{what}"
+            );
+            assert!(rt; &buffer[..*room] == bytes.as_bytes(), "{what}");
+        }
     }
 }
