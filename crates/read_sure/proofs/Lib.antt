@@ -1,0 +1,2 @@
+pub mod SureSteps
+pub mod SureCode

@@ -1,0 +1,5 @@
+pub mod SureLemmas
+pub mod SureMoves
+pub mod StayLemmas
+pub mod SureCodes
+pub mod DefenceLemmas

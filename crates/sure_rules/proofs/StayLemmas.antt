@@ -1,0 +1,259 @@
+-- A sure capture stays sure with more plies, with further candidates of the attacker, and with fewer allowances of the
+-- defender.
+use Rattle.std.proofs.Common.{◌≡◌, ◌⊎◌, ℕ, zero, suc, ◌-◌, ◌≤◌, Bool, true, false, not, ◌&&◌, ◌||◌, cond}
+use Rattle.std.proofs.Common.{refl, sym, ap, ◌∙◌, arith, inl, inr, subst, ltb}
+use Rattle.std.proofs.lemmas.Bool.{cases_Bool, and_parts, and_from, both_ways, or_cases, or_left, or_right}
+use Rattle.std.proofs.lemmas.Bool.{lt-ltb, ltb-true}
+use Rattle.go_rules.specs.Strings.{liberties, is_liberty}
+use Rattle.go_rules.specs.Position.{BoardState, other}
+use Rattle.go_rules.specs.Play.{play, play_free, pass}
+use Rattle.go_base.specs.Surroundings.{is_last_liberty_of_enemy}
+use Rattle.wider_rules.specs.Further.{is_further}
+use Rattle.read_rules.specs.Candidates.{is_candidate, is_candidate_at, is_empty_beside, is_backfilling}
+use Rattle.read_rules.specs.declared.node.Node.{Node}
+use Rattle.read_rules.specs.declared.tree.Tree.{Tree}
+use Rattle.read_rules.specs.declared.tree.Tree.TheVariants.{Stated, Wider}
+use Rattle.read_rules.specs.Trees.{is_wider, most_narrow}
+use Rattle.read_rules.specs.Stages.{is_wide_candidate}
+use Rattle.read_rules.proofs.StageLemmas.{candidate_stages}
+use Rattle.read_rules.specs.GameTree.{is_captured, has_many_liberties, allowance_of, next_node, mover_of}
+use Rattle.read_rules.specs.Rules.{IsChild}
+use Rattle.read_rules.proofs.RuleLemmas.{many_gives, many_from}
+use Rattle.sure_rules.specs.Nodes.{is_attackers, is_gone, has_too_many, IsNoHarder, in_wider_tree}
+use Rattle.sure_rules.specs.SureTree.{surely_wins}
+use Rattle.sure_rules.proofs.SureLemmas.{sure-captured, sure_now, sure_attacker_gives, sure_attacker_from}
+use Rattle.sure_rules.proofs.SureLemmas.{sure_defender_gives, sure_defender_from}
+
+-- one tree is the other, or the wider one
+abbrev pub IsAsWide : Tree → Tree → Type 0
+IsAsWide tree larger = (larger ≡ tree) ⊎ (larger ≡ Wider)
+
+-- the wider tree plays at targets with at least as many liberties
+most_as_wide : (tree larger : Tree) → IsAsWide tree larger → most_narrow tree ≤ most_narrow larger
+most_as_wide tree larger (inl e) = subst (λ t. most_narrow tree ≤ most_narrow t) (sym e) (omega arith)
+most_as_wide Stated larger (inr e) = subst (λ t. 2 ≤ most_narrow t) (sym e) (omega arith)
+most_as_wide Wider larger (inr e) = subst (λ t. 3 ≤ most_narrow t) (sym e) (omega arith)
+
+-- with more wide plies, or in the wider tree, no target has too many liberties that had few enough
+few_stay : (tree larger : Tree) (pos : BoardState) (t k l : ℕ) → IsAsWide tree larger → k ≤ l
+    → has_many_liberties tree pos t k ≡ false → has_many_liberties larger pos t l ≡ false
+few_stay tree larger pos t k l as_wide more few = elim (cases_Bool (has_many_liberties larger pos t l)) [
+  | inr f ↦ f
+  | inl many ↦ absurd (both_ways (has_many_liberties tree pos t k) few (many_from tree pos t k
+      (elim (many_gives larger pos t l many) [
+        | inl above ↦ inl above
+        | inr w ↦ inr (
+          omega (arith, more, w.0),
+          let most = most_as_wide tree larger as_wide in omega (arith, most, w.1),
+        )
+      ])))
+]
+
+-- the further candidates are there in the wider tree alone
+further_stay : (tree larger : Tree) (x : Bool) → IsAsWide tree larger → (is_wider tree && x) ≡ true
+    → (is_wider larger && x) ≡ true
+further_stay tree larger x (inl e) h = ap (λ t. is_wider t && x) e ∙ h
+further_stay tree larger x (inr e) h = ap (λ t. is_wider t && x) e ∙ (and_parts (is_wider tree) x h).1
+
+-- a wide candidate is one in the wider tree too
+wide_stays : (tree larger : Tree) (turn : Bool) (pos : BoardState) (t p : ℕ) → IsAsWide tree larger
+    → is_wide_candidate tree turn pos t p ≡ true → is_wide_candidate larger turn pos t p ≡ true
+unfolding is_wide_candidate
+wide_stays tree larger turn pos t p as_wide h =
+    let near = (ltb (liberties pos.size pos.cells t) 3
+    && is_empty_beside pos.size pos.cells (is_liberty pos.size pos.cells t) p)
+    || is_backfilling pos t p in
+    elim (or_cases near (is_wider tree && is_further turn pos.size pos.cells t p) h) [
+      | inl n ↦ or_left near (is_wider larger && is_further turn pos.size pos.cells t p) n
+      | inr f ↦ or_right near (is_wider larger && is_further turn pos.size pos.cells t p)
+          (further_stay tree larger (is_further turn pos.size pos.cells t p) as_wide f)
+    ]
+
+-- a candidate is one with more wide plies and in the wider tree too
+candidate_stays : (tree larger : Tree) (turn : Bool) (pos : BoardState) (t k l p : ℕ) → IsAsWide tree larger → k ≤ l
+    → is_candidate tree turn pos t k p ≡ true → is_candidate larger turn pos t l p ≡ true
+candidate_stays tree larger turn pos t k l p as_wide more h =
+    let near = is_liberty pos.size pos.cells t p || is_last_liberty_of_enemy pos.size pos.cells t p in
+    let small = ltb 0 k && is_wide_candidate tree turn pos t p in
+    let large = ltb 0 l && is_wide_candidate larger turn pos t p in
+    candidate_stages larger turn pos t l p
+    ∙ elim (or_cases near small (sym (candidate_stages tree turn pos t k p) ∙ h)) [
+      | inl n ↦ or_left near large n
+      | inr w ↦ let parts = and_parts (ltb 0 k) (is_wide_candidate tree turn pos t p) w in
+          or_right near large (and_from (ltb 0 l) (is_wide_candidate larger turn pos t p)
+          (lt-ltb 0 l (let some = ltb-true 0 k parts.0 in omega (arith, some, more)))
+          (wide_stays tree larger turn pos t p as_wide parts.1))
+    ]
+
+-- of two choices by the same test the one is at most the other if each of its parts is
+le_chosen : (a b : Bool) (x y v w : ℕ) → b ≡ a → (a ≡ true → x ≤ v) → (a ≡ false → y ≤ w) → cond a x y ≤ cond b v w
+le_chosen true true x y v w e first second = first refl
+le_chosen false false x y v w e first second = second refl
+le_chosen true false x y v w e first second = absurd (let wrong = e in cc)
+le_chosen false true x y v w e first second = absurd (let wrong = e in cc)
+
+-- A node that gives the attacker at least as much as another.
+module _ (node more : Node) (h : IsNoHarder node more) where
+  -- at the attacker's turn he may ignore the ban at least as often
+  own_more : is_attackers node ≡ true → allowance_of node ≤ allowance_of more
+  own_more turn =
+      le_chosen node.attacker_to_play more.attacker_to_play node.attacker_ko node.defender_ko more.attacker_ko
+      more.defender_ko h.turn (λ _. h.attacker_ko) (λ f. absurd (both_ways (is_attackers node) f turn))
+
+  -- at the defender's turn he may do so at most as often
+  own_less : is_attackers node ≡ false → allowance_of more ≤ allowance_of node
+  own_less turn =
+      le_chosen more.attacker_to_play node.attacker_to_play more.attacker_ko more.defender_ko node.attacker_ko
+      node.defender_ko (sym h.turn) (λ t. absurd (both_ways (is_attackers node) turn (sym h.turn ∙ t)))
+      (λ _. h.defender_ko)
+
+  -- after a move that leaves the attacker at least as much, or the defender at most as much, it still does
+  next_stays : (left new_left : ℕ) → (is_attackers node ≡ true → left ≤ new_left)
+      → (is_attackers node ≡ false → new_left ≤ left) → IsNoHarder (next_node node left) (next_node more new_left)
+  next_stays left new_left attacks defends = record {
+    target = h.target;
+    defender = h.defender;
+    turn = ap not h.turn;
+    tree = h.tree;
+    wide = let wide = h.wide in omega (arith, wide);
+    attacker_ko = le_chosen node.attacker_to_play more.attacker_to_play left node.attacker_ko new_left more.attacker_ko
+        h.turn attacks (λ _. h.attacker_ko);
+    defender_ko = le_chosen more.attacker_to_play node.attacker_to_play more.defender_ko new_left node.defender_ko left
+        (sym h.turn) (λ _. h.defender_ko) (λ f. defends (sym h.turn ∙ f));
+  }
+
+  -- the same side is to play
+  same_mover : mover_of more ≡ mover_of node
+  same_mover =
+      ap (λ b. cond b (other more.defender) more.defender) h.turn
+      ∙ ap (λ c. cond node.attacker_to_play (other c) c) h.defender
+
+  -- the target stands at both or at neither
+  same_target : (pos : BoardState) → is_gone more pos ≡ is_gone node pos
+  same_target pos = ap (is_captured pos) h.target
+
+  -- the target has few enough liberties at the other node too
+  still_few : (pos : BoardState) → has_too_many node pos ≡ false → has_too_many more pos ≡ false
+  still_few pos few =
+      ap (λ t. has_many_liberties more.tree pos t more.wide) h.target
+      ∙ few_stay node.tree more.tree pos node.target node.wide more.wide h.tree h.wide few
+
+  -- a candidate of the attacker is one at the other node too
+  still_candidate : (pos : BoardState) (p : ℕ) → is_candidate_at node pos p ≡ true → is_candidate_at more pos p ≡ true
+  still_candidate pos p candidate =
+      ap (λ b. is_candidate more.tree b pos more.target more.wide p) h.turn
+      ∙ ap (λ t. is_candidate more.tree node.attacker_to_play pos t more.wide p) h.target
+      ∙ candidate_stays node.tree more.tree node.attacker_to_play pos node.target node.wide more.wide p h.tree h.wide
+      candidate
+
+  -- the passes lead to such nodes
+  passes_stay : is_attackers node ≡ false
+      → IsNoHarder (next_node node (allowance_of node)) (next_node more (allowance_of more))
+  passes_stay turn =
+      next_stays (allowance_of node) (allowance_of more) (λ t. absurd (both_ways (is_attackers node) turn t)) own_less
+
+  -- a play that the attacker can make at the node he can make at the other, and it leads to such a node
+  plays_stay : (pos : BoardState) (p : ℕ) (next : Node) (new : BoardState) → is_attackers node ≡ true
+      → IsChild node pos p next new → (other_next : Node) × IsChild more pos p other_next new × IsNoHarder next other_next
+  plays_stay pos p next new turn (inl w) = (
+    next_node more (allowance_of more),
+    inl (record { legal = ap (λ c. play pos c p) same_mover ∙ w.legal; next_is = refl }),
+    subst (λ (m : Node). IsNoHarder m (next_node more (allowance_of more))) (sym w.next_is)
+        (next_stays (allowance_of node) (allowance_of more) own_more
+        (λ f. absurd (both_ways (is_attackers node) f turn))),
+  )
+  plays_stay pos p next new turn (inr w) =
+      let least = own_more turn in (
+        next_node more (allowance_of more - 1),
+        inr (record {
+          banned = ap (λ c. play pos c p) same_mover ∙ w.banned;
+          free = ap (λ c. play_free pos c p) same_mover ∙ w.free;
+          some_left = let some = w.some_left in omega (arith, least, some);
+          next_is = refl;
+        }),
+        subst (λ (m : Node). IsNoHarder m (next_node more (allowance_of more - 1))) (sym w.next_is)
+            (next_stays (allowance_of node - 1) (allowance_of more - 1) (λ _. omega (arith, least))
+            (λ f. absurd (both_ways (is_attackers node) f turn))),
+      )
+
+  -- a reply that the defender can make at the other node he can make at the node
+  replies_stay : (pos : BoardState) (p : ℕ) (other_next : Node) (new : BoardState) → is_attackers node ≡ false
+      → IsChild more pos p other_next new → (next : Node) × IsChild node pos p next new × IsNoHarder next other_next
+  replies_stay pos p other_next new turn (inl w) = (
+    next_node node (allowance_of node),
+    inl (record { legal = ap (λ c. play pos c p) (sym same_mover) ∙ w.legal; next_is = refl }),
+    subst (IsNoHarder (next_node node (allowance_of node))) (sym w.next_is) (passes_stay turn),
+  )
+  replies_stay pos p other_next new turn (inr w) =
+      let most = own_less turn in (
+        next_node node (allowance_of node - 1),
+        inr (record {
+          banned = ap (λ c. play pos c p) (sym same_mover) ∙ w.banned;
+          free = ap (λ c. play_free pos c p) (sym same_mover) ∙ w.free;
+          some_left = let some = w.some_left in omega (arith, most, some);
+          next_is = refl;
+        }),
+        subst (IsNoHarder (next_node node (allowance_of node - 1))) (sym w.next_is)
+            (next_stays (allowance_of node - 1) (allowance_of more - 1)
+            (λ t. absurd (both_ways (is_attackers node) turn t)) (λ _. omega (arith, most))),
+      )
+
+-- What is surely captured is surely captured with more plies, from a node that gives the attacker at least as much.
+pub stays_sure : (n m : ℕ) (node more : Node) (pos : BoardState) → n ≤ m → IsNoHarder node more
+    → surely_wins n node pos ≡ true → surely_wins m more pos ≡ true
+stays_sure zero m node more pos plies h sure =
+    sure-captured m more pos (same_target node more h pos ∙ sure_now node pos sure)
+stays_sure (suc n) zero node more pos plies h sure = absurd (omega (arith, plies))
+stays_sure (suc n) (suc m) node more pos plies h sure = elim (cases_Bool (is_gone node pos)) [
+  | inl t ↦ sure-captured (suc m) more pos (same_target node more h pos ∙ t)
+  | inr stands ↦ elim (cases_Bool (is_attackers node)) [
+    | inl turn ↦
+        let w = sure_attacker_gives n node pos stands turn sure in
+        let play = plays_stay node more h pos w.1.point w.1.next w.1.new turn w.1.child in
+        sure_attacker_from m more pos (same_target node more h pos ∙ stands) (h.turn ∙ turn) (
+          still_few node more h pos w.0,
+          record {
+            point = w.1.point;
+            next = play.0;
+            new = w.1.new;
+            candidate = still_candidate node more h pos w.1.point w.1.candidate;
+            child = play.1;
+            wins = stays_sure n m w.1.next play.0 w.1.new (omega (arith, plies)) play.2 w.1.wins;
+          },
+        )
+    | inr turn ↦
+        let w = sure_defender_gives n node pos stands turn sure in
+        sure_defender_from m more pos (same_target node more h pos ∙ stands) (h.turn ∙ turn) (record {
+          passed = stays_sure n m (next_node node (allowance_of node)) (next_node more (allowance_of more)) (pass pos)
+              (omega (arith, plies)) (passes_stay node more h turn) w.passed;
+          played = λ p other_next new on child.
+              let reply = replies_stay node more h pos p other_next new turn child in
+              stays_sure n m reply.0 other_next new (omega (arith, plies)) reply.2
+              (w.played p reply.0 new on reply.1);
+        })
+  ]
+]
+
+-- a node gives the attacker at least as much as itself
+pub no_harder-refl : (node : Node) → IsNoHarder node node
+no_harder-refl node = record {
+  target = refl;
+  defender = refl;
+  turn = refl;
+  tree = inl refl;
+  wide = omega arith;
+  attacker_ko = omega arith;
+  defender_ko = omega arith;
+}
+
+-- the node of the wider tree gives him at least as much
+pub wider_no_harder : (node : Node) → IsNoHarder node (in_wider_tree node)
+wider_no_harder node = record {
+  target = refl;
+  defender = refl;
+  turn = refl;
+  tree = inr refl;
+  wide = omega arith;
+  attacker_ko = omega arith;
+  defender_ko = omega arith;
+}

@@ -1,0 +1,219 @@
+-- The first move that succeeds, and that a side has one exactly if it has its way.
+use Rattle.std.proofs.Common.{◌≡◌, ◌≢◌, ℕ, zero, suc, ◌-◌, ◌*◌, ◌<◌, ◌≤◌, Bool, true, false, not, ◌&&◌, cond}
+use Rattle.std.proofs.Common.{List, [], ◌∷◌, Option, Some, None, refl, ap, sym, subst, ◌∙◌, arith, is_some, is_none}
+use Rattle.std.proofs.Common.{inl, inr}
+use Rattle.std.specs.List.{find, list_any, list_all}
+use mathlib.Core.Bool.{beq}
+use Rattle.std.proofs.lemmas.Bool.{cases_Bool, both_ways, not-true, not_from_false, and_from}
+use Rattle.go_rules.specs.Position.{BoardState}
+use Rattle.go_rules.specs.Play.{pass}
+use Rattle.read_rules.specs.declared.node.Node.{Node}
+use Rattle.read_rules.specs.declared.question.Spot.{Spot}
+use Rattle.read_rules.specs.declared.question.Spot.TheVariants.{At, Pass}
+use Rattle.read_rules.specs.GameTree.{child_of, next_node, allowance_of, some_child, each_child, at_point}
+use Rattle.read_rules.proofs.RuleLemmas.{child_gives, child_from}
+use Rattle.read_rules.proofs.WinLemmas.{any-first, first-found, first-none, none_before}
+use Rattle.read_rules.proofs.WalkLemmas.{find_gives}
+use Rattle.sure_rules.specs.Nodes.{is_attackers, is_gone, has_too_many}
+use Rattle.sure_rules.specs.SureTree.{is_tried, tried_points, surely_wins}
+use Rattle.sure_rules.specs.SureAnswer.{surely_suits, surely_succeeds, pass_holds, first_sure, first_sure_move, sure_move}
+use Rattle.sure_rules.specs.SureInWords.{SurelySucceeds, IsFirstSurePoint, IsFirstSureMove}
+use Rattle.sure_rules.proofs.SureLemmas.{tried_on, sure-attacker, sure-defender}
+
+-- none passes a test exactly if each passes the opposite test
+none-first : {X : Type 0} (f g : X → Bool) (xs : List X) → ((x : X) → f x ≡ not (g x))
+    → is_none (find f xs) ≡ list_all g xs
+none-first f g [] h = refl
+none-first f g (x ∷ xs) h =
+    ap (λ b. is_none (cond b (Some x) (find f xs))) (h x) ∙ by (g x) (none-first f g xs h)
+  where
+    by : (b : Bool) → is_none (find f xs) ≡ list_all g xs
+        → is_none (cond (not b) (Some x) (find f xs)) ≡ (b && list_all g xs)
+    by true h = h
+    by false h = refl
+
+-- a reply to a child that is not surely captured is there exactly if not each child is surely captured
+lost_child : (n : ℕ) (child : Option (Node × BoardState))
+    → some_child (λ s pos. not (surely_wins n s pos)) child ≡ not (each_child (surely_wins n) child)
+lost_child n None = refl
+lost_child n (Some child) = refl
+
+-- no reply holds exactly if each child is surely captured
+all-first : (n : ℕ) (f : ℕ → Option (Node × BoardState)) (ps : List ℕ)
+    → is_none (find (λ p. some_child (λ s pos. not (surely_wins n s pos)) (f p)) ps)
+    ≡ list_all (λ p. each_child (surely_wins n) (f p)) ps
+all-first n f ps = none-first (λ p. some_child (λ s pos. not (surely_wins n s pos)) (f p))
+    (λ p. each_child (surely_wins n) (f p)) ps (λ p. lost_child n (f p))
+
+-- a move at a point is there exactly if the point is
+some-at_point : (o : Option ℕ) → is_some (at_point o) ≡ is_some o
+some-at_point None = refl
+some-at_point (Some p) = refl
+
+-- the move that succeeds, by whose turn it is
+by_turn : (turn many held : Bool) (first : Option ℕ) → Option Spot
+by_turn turn many held first = cond (turn && many) None (cond (not turn && held) (Some Pass) (at_point first))
+
+-- the move of a node that succeeds is that of the side whose turn it is
+sure_move-by_turn : (n : ℕ) (node : Node) (pos : BoardState)
+    → sure_move n node pos ≡ by_turn (is_attackers node) (has_too_many node pos)
+    (not (surely_wins n (next_node node (allowance_of node)) (pass pos))) (first_sure n node pos)
+unfolding by_turn
+sure_move-by_turn n node pos = refl
+
+-- the attacker has one exactly if the target has few liberties and some child is surely captured
+attacker_some : (many held : Bool) (first : Option ℕ) (any : Bool) → is_some first ≡ any
+    → is_some (by_turn true many held first) ≡ (not many && any)
+unfolding by_turn
+attacker_some true held first any e = refl
+attacker_some false held first any e = some-at_point first ∙ e
+
+-- the defender has none exactly if after the pass and at every child the target is surely captured
+defender_none : (many lost : Bool) (first : Option ℕ) (all : Bool) → is_none first ≡ all
+    → is_none (by_turn false many (not lost) first) ≡ (lost && all)
+unfolding by_turn
+defender_none many true first all e = ap not (some-at_point first) ∙ e
+defender_none many false first all e = refl
+
+-- at the attacker's turn some point succeeds exactly if some child is surely captured
+attacker_first : (n : ℕ) (node : Node) (pos : BoardState) → is_attackers node ≡ true
+    → is_some (first_sure n node pos)
+    ≡ list_any (λ p. some_child (surely_wins n) (child_of node pos p)) (tried_points node pos)
+attacker_first n node pos e =
+    ap (λ turn. is_some (find (λ p. surely_suits n turn (child_of node pos p)) (tried_points node pos))) e
+    ∙ any-first (λ p. some_child (surely_wins n) (child_of node pos p)) (tried_points node pos)
+
+-- at the defender's turn none succeeds exactly if each child is surely captured
+defender_first : (n : ℕ) (node : Node) (pos : BoardState) → is_attackers node ≡ false
+    → is_none (first_sure n node pos)
+    ≡ list_all (λ p. each_child (surely_wins n) (child_of node pos p)) (tried_points node pos)
+defender_first n node pos e =
+    ap (λ turn. is_none (find (λ p. surely_suits n turn (child_of node pos p)) (tried_points node pos))) e
+    ∙ all-first n (child_of node pos) (tried_points node pos)
+
+-- at the attacker's turn the target is surely captured exactly if he has a move that succeeds
+pub sure-attacker_move : (n : ℕ) (node : Node) (pos : BoardState) → is_gone node pos ≡ false → n ≢ 0
+    → is_attackers node ≡ true → surely_wins n node pos ≡ is_some (sure_move (n - 1) node pos)
+sure-attacker_move zero node pos h ne e = absurd (ne refl)
+sure-attacker_move (suc n) node pos h ne e =
+    let less : n ≡ suc n - 1 = omega arith in
+    let many = has_too_many node pos in
+    let held = not (surely_wins n (next_node node (allowance_of node)) (pass pos)) in
+    sure-attacker n node pos h e
+    ∙ sym (ap (λ m. is_some (sure_move m node pos)) (sym less) ∙ ap is_some (sure_move-by_turn n node pos)
+    ∙ ap (λ turn. is_some (by_turn turn many held (first_sure n node pos))) e
+    ∙ attacker_some many held (first_sure n node pos) _ (attacker_first n node pos e))
+
+-- and at the defender's turn exactly if he has none
+pub sure-defender_move : (n : ℕ) (node : Node) (pos : BoardState) → is_gone node pos ≡ false → n ≢ 0
+    → is_attackers node ≡ false → surely_wins n node pos ≡ is_none (sure_move (n - 1) node pos)
+sure-defender_move zero node pos h ne e = absurd (ne refl)
+sure-defender_move (suc n) node pos h ne e =
+    let less : n ≡ suc n - 1 = omega arith in
+    let many = has_too_many node pos in
+    let lost = surely_wins n (next_node node (allowance_of node)) (pass pos) in
+    sure-defender n node pos h e
+    ∙ sym (ap (λ m. is_none (sure_move m node pos)) (sym less) ∙ ap is_none (sure_move-by_turn n node pos)
+    ∙ ap (λ turn. is_none (by_turn turn many (not lost) (first_sure n node pos))) e
+    ∙ defender_none many lost (first_sure n node pos) _ (defender_first n node pos e))
+
+-- the first point that succeeds, found by a walk over the points that are tried
+pub first_sure-found : (n : ℕ) (node : Node) (pos : BoardState) (next p : ℕ) (tried : ℕ → Bool)
+    → ((q : ℕ) → tried q ≡ is_tried node pos q)
+    → ((q : ℕ) → q < next → (tried q && surely_succeeds n node pos q) ≡ false)
+    → ((q : ℕ) → next ≤ q → q < p → tried q ≡ false)
+    → tried p ≡ true → true ≡ surely_succeeds n node pos p → Some p ≡ first_sure n node pos
+first_sure-found n node pos next p tried same before between c t =
+    let on = tried_on node pos p (sym (same p) ∙ c) in
+    sym (first-found (is_tried node pos) (surely_succeeds n node pos) (pos.size * pos.size) 0 p
+    (omega arith) (omega (arith, on))
+    (λ q l h. rw (← same q) (none_before tried (surely_succeeds n node pos) next p before between q h))
+    (and_from _ _ (sym (same p) ∙ c) (sym t)))
+
+-- none succeeds if no point is left
+pub first_sure-none : (n : ℕ) (node : Node) (pos : BoardState) (next : ℕ) (tried : ℕ → Bool)
+    → ((q : ℕ) → tried q ≡ is_tried node pos q)
+    → ((q : ℕ) → q < next → (tried q && surely_succeeds n node pos q) ≡ false)
+    → ((q : ℕ) → next ≤ q → tried q ≡ false) → None ≡ first_sure n node pos
+first_sure-none n node pos next tried same before left =
+    sym (first-none (is_tried node pos) (surely_succeeds n node pos) (pos.size * pos.size) 0
+    (λ q l h. rw (← same q) (none_before tried (surely_succeeds n node pos) next (pos.size * pos.size) before
+    (λ k g m. left k g) q (omega arith))))
+
+-- whether the target is surely captured at a node that no earlier rule decides, by whether its mover has a move that
+-- succeeds
+pub sure-by_move : (n : ℕ) (node : Node) (pos : BoardState) (some : Bool) → is_gone node pos ≡ false → n ≢ 0
+    → some ≡ is_some (sure_move (n - 1) node pos) → beq some (is_attackers node) ≡ surely_wins n node pos
+sure-by_move n node pos some h ne e = elim (cases_Bool (is_attackers node)) [
+  | inl t ↦ ap (λ turn. beq some turn) t ∙ same_as_true some ∙ e ∙ sym (sure-attacker_move n node pos h ne t)
+  | inr f ↦ ap (λ turn. beq some turn) f ∙ same_as_false some ∙ ap not e ∙ sym (sure-defender_move n node pos h ne f)
+]
+  where
+    same_as_true : (b : Bool) → beq b true ≡ b
+    same_as_true true = refl
+    same_as_true false = refl
+
+    same_as_false : (b : Bool) → beq b false ≡ not b
+    same_as_false true = refl
+    same_as_false false = refl
+
+-- what a child that suits the mover is
+suits_gives : (n : ℕ) (turn : Bool) (o : Option (Node × BoardState)) → surely_suits n turn o ≡ true
+    → (child : Node × BoardState) × (o ≡ Some child) × (surely_wins n child.0 child.1 ≡ turn)
+suits_gives n true None h = cc
+suits_gives n false None h = cc
+suits_gives n true (Some child) h = (child, refl, h)
+suits_gives n false (Some child) h = (child, refl, not-true _ h)
+
+-- a child whose outcome is the one that the side to play wants suits it
+suits_from : (n : ℕ) (turn : Bool) (next : Node) (new : BoardState) → surely_wins n next new ≡ turn
+    → surely_suits n turn (Some (next, new)) ≡ true
+suits_from n true next new e = e
+suits_from n false next new e = not_from_false _ e
+
+-- a point that succeeds by the test succeeds in words
+succeeds_gives : (n : ℕ) (node : Node) (pos : BoardState) (p : ℕ) → is_tried node pos p ≡ true
+    → surely_succeeds n node pos p ≡ true → SurelySucceeds n node pos p
+succeeds_gives n node pos p tried h =
+    let w = suits_gives n (is_attackers node) (child_of node pos p) h in
+    record {
+      next = w.0.0;
+      new = w.0.1;
+      tried = tried;
+      child = child_gives node pos p w.0.0 w.0.1 w.1;
+      outcome = w.2;
+    }
+
+-- a point that succeeds in words succeeds by the test
+succeeds_from : (n : ℕ) (node : Node) (pos : BoardState) (p : ℕ) → SurelySucceeds n node pos p
+    → surely_succeeds n node pos p ≡ true
+succeeds_from n node pos p w =
+    ap (surely_suits n (is_attackers node)) (child_from node pos p w.next w.new w.child)
+    ∙ suits_from n (is_attackers node) w.next w.new w.outcome
+
+-- the first point
+first_point : (n : ℕ) (node : Node) (pos : BoardState) (p : ℕ) → pass_holds n node pos ≡ false
+    → first_sure n node pos ≡ Some p → IsFirstSurePoint n node pos p
+first_point n node pos p none e =
+    let w = find_gives (is_tried node pos) (surely_succeeds n node pos) (pos.size * pos.size) 0 p e in
+    record {
+      no_pass = none;
+      succeeds = succeeds_gives n node pos p w.chosen w.passes;
+      first = λ q lt s. both_ways (surely_succeeds n node pos q) (w.first q (omega arith) lt s.tried)
+          (succeeds_from n node pos q s);
+    }
+
+-- the pass if it holds, and else the first point that succeeds, is the first move that does
+first_by : (n : ℕ) (node : Node) (pos : BoardState) (holds : Bool) (found : Option ℕ) (spot : Spot)
+    → pass_holds n node pos ≡ holds → first_sure n node pos ≡ found
+    → cond holds (Some Pass) (at_point found) ≡ Some spot → IsFirstSureMove n node pos spot
+first_by n node pos true found spot ps fs e = let same : Pass ≡ spot = cc in subst (IsFirstSureMove n node pos) same ps
+first_by n node pos false None spot ps fs e = absurd (let w = e in cc)
+first_by n node pos false (Some p) spot ps fs e = let same : At p ≡ spot = cc in
+    subst (IsFirstSureMove n node pos) same (first_point n node pos p ps fs)
+
+-- the first move that is computed is the first that succeeds
+pub first_sure_move_gives : (n : ℕ) (node : Node) (pos : BoardState) (spot : Spot)
+    → first_sure_move n node pos ≡ Some spot → IsFirstSureMove n node pos spot
+first_sure_move_gives n node pos spot e =
+    first_by n node pos (pass_holds n node pos) (first_sure n node pos) spot refl refl e

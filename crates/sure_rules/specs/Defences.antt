@@ -1,0 +1,91 @@
+-- Play against every defence, told by moves alone. Nothing here speaks of game trees or of candidates: two sides move in
+-- turn, and the one that defends a stone may answer as it likes.
+use Rattle.std.specs.Prelude.{◌≡◌, ℕ, ◌-◌, ◌*◌, ◌<◌, ◌≤◌, List, [], ◌∷◌, length, Ok, Err, if◌then◌else◌}
+use Rattle.go_rules.specs.declared.Cell.TheVariants.{Empty}
+use Rattle.go_rules.specs.declared.Colour.{Colour}
+use Rattle.go_rules.specs.declared.Illegal.TheVariants.{Ko}
+use Rattle.go_rules.specs.Strings.{cell_at}
+use Rattle.go_rules.specs.Position.{BoardState, other}
+use Rattle.go_rules.specs.Play.{play, play_free, pass}
+use Rattle.read_rules.specs.declared.node.Node.{Node}
+use Rattle.read_rules.specs.declared.question.Spot.{Spot}
+use Rattle.read_rules.specs.declared.question.Spot.TheVariants.{At, Pass}
+use Rattle.read_rules.specs.declared.question.ReadingQuestion.{ReadingQuestion}
+use Rattle.read_rules.specs.GameTree.{mover_of, allowance_of}
+use Rattle.read_rules.specs.Answer.{is_attack, own_allowance, other_allowance}
+use Rattle.sure_rules.specs.Nodes.{other_allowance_of}
+
+-- where two sides stand in their game: the position, whose turn it is, and how often the side to play, and the other
+-- side, may still play where the ko ban alone forbids it
+pub record Standing : Type 0 where
+  pub board : BoardState
+  pub to_play : Colour
+  pub allowance : ℕ
+  pub other_allowance : ℕ
+
+-- after a move to this board that leaves its mover this allowance, the other side is to play
+abbrev pub turned : Standing → BoardState → ℕ → Standing
+turned here board left = record {
+  board = board;
+  to_play = other here.to_play;
+  allowance = here.other_allowance;
+  other_allowance = left;
+}
+
+-- the side to play may make the move, and it leads to there: it passes; it makes a legal play; or it plays where the ko
+-- ban alone forbids it, which takes one of its allowance
+pub data IsMove (here : Standing) : Spot → Standing → Type 0 where
+  passes : IsMove here Pass (turned here (pass here.board) here.allowance)
+  plays : (p : ℕ) (new : BoardState) → p < here.board.size * here.board.size
+      → play here.board here.to_play p ≡ Ok new → IsMove here (At p) (turned here new here.allowance)
+  ignores_the_ban : (p : ℕ) (new : BoardState) → p < here.board.size * here.board.size
+      → play here.board here.to_play p ≡ Err Ko → play_free here.board here.to_play p ≡ Ok new
+      → 0 < here.allowance → IsMove here (At p) (turned here new (here.allowance - 1))
+
+-- these moves, the newest first, lead from the start to here: each may be made, the other side than the defender plays
+-- stones, and the defender answers the moves so far by his reply to them
+pub data IsGame (defender : Colour) (reply : List Spot → Spot) (start : Standing) : List Spot → Standing → Type 0 where
+  begins : IsGame defender reply start [] start
+  attacks : {moves : List Spot} {here there : Standing} → IsGame defender reply start moves here
+      → here.to_play ≡ other defender → (p : ℕ) → IsMove here (At p) there
+      → IsGame defender reply start (At p ∷ moves) there
+  replies : {moves : List Spot} {here there : Standing} → IsGame defender reply start moves here
+      → here.to_play ≡ defender → IsMove here (reply moves) there
+      → IsGame defender reply start (reply moves ∷ moves) there
+
+-- wherever it is the defender's turn, his reply to the moves so far is a move that he may make
+abbrev pub IsDefence : Colour → (List Spot → Spot) → Standing → Type 0
+IsDefence defender reply start = (moves : List Spot) (here : Standing) → IsGame defender reply start moves here
+    → here.to_play ≡ defender → (there : Standing) × IsMove here (reply moves) there
+
+-- against this reply some game of at most n moves leaves the target's point empty
+pub record IsTakenAgainst (n target : ℕ) (defender : Colour) (start : Standing) (reply : List Spot → Spot) : Type 0 where
+  pub moves : List Spot
+  pub end : Standing
+  pub game : IsGame defender reply start moves end
+  pub few : length moves ≤ n
+  pub taken : cell_at end.board.cells target ≡ Empty
+
+-- against every defence the stone at the target is taken within n moves
+abbrev pub IsTakenAnyway : ℕ → ℕ → Colour → Standing → Type 0
+IsTakenAnyway n target defender start = (reply : List Spot → Spot) → IsDefence defender reply start
+    → IsTakenAgainst n target defender start reply
+
+-- where the two sides stand at a node
+abbrev pub standing_at : Node → BoardState → Standing
+standing_at node pos = record {
+  board = pos;
+  to_play = mover_of node;
+  allowance = allowance_of node;
+  other_allowance = other_allowance_of node;
+}
+
+-- where a question begins under the ko allowances of a code: on the position, and with the side to play that is asked
+-- about, the attacker in an attack and the defender in a defence
+abbrev pub start_of : ReadingQuestion → BoardState → ℕ → Standing
+start_of q pos code = record {
+  board = pos;
+  to_play = if is_attack q.kind then other q.colour else q.colour;
+  allowance = own_allowance code;
+  other_allowance = other_allowance code;
+}

@@ -1,0 +1,5 @@
+pub mod Nodes
+pub mod SureTree
+pub mod SureAnswer
+pub mod SureInWords
+pub mod Defences

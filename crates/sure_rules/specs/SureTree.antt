@@ -1,0 +1,29 @@
+-- Sure captures. The attacker tries the candidates of the game tree, and the defender may play at every point of the
+-- board: a capture that holds here holds whatever the defender plays.
+use Rattle.std.specs.Prelude.{ℕ, zero, suc, ◌*◌, Bool, not, ◌&&◌, ◌||◌, nat_lt, List, if◌then◌else◌}
+use Rattle.std.specs.List.{range_with_len, filter, list_any, list_all}
+use Rattle.go_rules.specs.Position.{BoardState}
+use Rattle.go_rules.specs.Play.{pass}
+use Rattle.read_rules.specs.Candidates.{is_candidate_at}
+use Rattle.read_rules.specs.declared.node.Node.{Node}
+use Rattle.read_rules.specs.GameTree.{allowance_of, next_node, child_of, some_child, each_child}
+use Rattle.sure_rules.specs.Nodes.{is_attackers, is_gone, has_too_many}
+
+-- p is tried: at the attacker's turn it is a candidate, at the defender's a point of the board
+abbrev pub is_tried : Node → BoardState → ℕ → Bool
+is_tried node pos p = if is_attackers node then is_candidate_at node pos p else nat_lt p (pos.size * pos.size)
+
+-- the points that are tried, in reading order
+abbrev pub tried_points : Node → BoardState → List ℕ
+tried_points node pos = filter (is_tried node pos) (range_with_len 0 (pos.size * pos.size))
+
+-- with n plies left the target is surely captured: it is captured already; or it is the attacker's turn, the target has
+-- not too many liberties, and some candidate leads to a node at which it is surely captured; or it is the defender's
+-- turn, and the pass and each play on the board that can be made lead to nodes at which it is surely captured
+unfoldable pub surely_wins : ℕ → Node → BoardState → Bool
+surely_wins zero node pos = is_gone node pos
+surely_wins (suc n) node pos = is_gone node pos || (if is_attackers node
+    then not (has_too_many node pos)
+    && list_any (λ p. some_child (surely_wins n) (child_of node pos p)) (tried_points node pos)
+    else surely_wins n (next_node node (allowance_of node)) (pass pos)
+    && list_all (λ p. each_child (surely_wins n) (child_of node pos p)) (tried_points node pos))

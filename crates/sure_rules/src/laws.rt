@@ -1,0 +1,104 @@
+//! What the definitions of sure captures mean, in Go's words.
+
+ghost use Rattle.std.specs.Prelude.{◌≡◌, ◌≢◌, ◌↔◌, ℕ, ◌+◌, ◌-◌, ◌<◌, ◌≤◌, true, false, not, IsTrue, Some, None};
+ghost use Rattle.go_rules.specs.Position.{BoardState};
+ghost use Rattle.read_rules.specs.declared.node.Node.{Node};
+ghost use Rattle.read_rules.specs.declared.question.ReadingQuestion.{ReadingQuestion};
+ghost use Rattle.read_rules.specs.declared.question.Spot.{Spot};
+ghost use Rattle.read_rules.specs.GameTree.{attacker_wins};
+ghost use Rattle.read_rules.specs.Answer.{is_about, code_of, first_node};
+ghost use Rattle.read_rules.specs.Rules.{node_under};
+ghost use Rattle.sure_rules.specs.Nodes.{is_attackers, is_gone, has_too_many, target_of, defender_of};
+ghost use Rattle.sure_rules.specs.Nodes.{IsNoHarder, in_wider_tree};
+ghost use Rattle.sure_rules.specs.SureTree.{surely_wins};
+ghost use Rattle.sure_rules.specs.SureAnswer.{surely_attains, sure_code_of, sure_answer_of};
+ghost use Rattle.sure_rules.specs.SureInWords.{SomeCandidateCaptures, EveryReplyFails};
+ghost use Rattle.sure_rules.specs.SureInWords.{IsFirstSureMove, IsGreatestSureCode};
+ghost use Rattle.sure_rules.specs.Defences.{IsTakenAnyway, standing_at, start_of};
+
+use read_rules::Kind;
+
+/// The four rules of a sure capture, in their order. The attacker plays a candidate; the defender passes, or plays
+/// anywhere on the board.
+pub fn sure_captures_are_by_four_rules()
+    ensures captured { (n : ℕ) (node : Node) (pos : BoardState) → IsTrue (is_gone node pos)
+        → IsTrue (surely_wins n node pos) }
+    ensures out_of_plies { (node : Node) (pos : BoardState) → is_gone node pos ≡ false
+        → surely_wins 0 node pos ≡ false }
+    ensures attacker_to_play { (n : ℕ) (node : Node) (pos : BoardState) → is_gone node pos ≡ false
+        → is_attackers node ≡ true →
+        IsTrue (surely_wins (n + 1) node pos)
+        ↔ ((has_too_many node pos ≡ false) × SomeCandidateCaptures n node pos) }
+    ensures defender_to_play { (n : ℕ) (node : Node) (pos : BoardState) → is_gone node pos ≡ false
+        → is_attackers node ≡ false →
+        IsTrue (surely_wins (n + 1) node pos) ↔ EveryReplyFails n node pos }
+{}
+
+/// What is surely captured is captured in the game tree of a reading: a sure yes of an attack is a yes, with at least
+/// its code, and a string that is surely not to be saved is not saved by a reading.
+pub fn sure_captures_are_captures()
+    ensures node { (n : ℕ) (node : Node) (pos : BoardState) → IsTrue (surely_wins n node pos)
+        → IsTrue (attacker_wins n node pos) }
+    ensures attack { (q : ReadingQuestion) (pos : BoardState) → q.kind ≡ Kind.Attack
+        → sure_code_of q pos ≤ code_of q pos }
+    ensures defend { (q : ReadingQuestion) (pos : BoardState) → q.kind ≡ Kind.Defend
+        → code_of q pos ≤ sure_code_of q pos }
+{}
+
+/// A sure capture stays sure with more plies; if the attacker may ignore the ko ban more often, or the defender less
+/// often; and if the attacker tries further candidates, in the wider tree or with more wide plies.
+pub fn sure_captures_stay_sure()
+    ensures more_plies { (n : ℕ) (node : Node) (pos : BoardState) → IsTrue (surely_wins n node pos)
+        → IsTrue (surely_wins (n + 1) node pos) }
+    ensures wider_tree { (n : ℕ) (node : Node) (pos : BoardState) → IsTrue (surely_wins n node pos)
+        → IsTrue (surely_wins n (in_wider_tree node) pos) }
+    ensures no_harder { (n m : ℕ) (node more : Node) (pos : BoardState) → n ≤ m → IsNoHarder node more
+        → IsTrue (surely_wins n node pos) → IsTrue (surely_wins m more pos) }
+{}
+
+/// A sure capture stands against every defence: whatever the defender answers, by moves that he may make, some game of
+/// at most so many moves takes the stone. The sides move in turn, and each may play where the ko ban alone forbids it as
+/// often as its allowance says. A sure attack takes the stone under the allowances of its code; a string that is surely
+/// not to be saved is taken under those of every code, whatever the defender plays first.
+pub fn sure_captures_stand_against_every_defence()
+    ensures node { (n : ℕ) (node : Node) (pos : BoardState) → IsTrue (surely_wins n node pos)
+        → IsTakenAnyway n (target_of node) (defender_of node) (standing_at node pos) }
+    ensures attack { (q : ReadingQuestion) (pos : BoardState) → q.kind ≡ Kind.Attack → sure_code_of q pos ≢ 0
+        → IsTakenAnyway q.plies q.target q.colour (start_of q pos (sure_code_of q pos)) }
+    ensures defend { (q : ReadingQuestion) (pos : BoardState) → is_about q pos ≡ true → q.kind ≡ Kind.Defend
+        → sure_code_of q pos ≡ 0 → (code : ℕ) → 1 ≤ code → code ≤ 3
+        → IsTakenAnyway q.plies q.target q.colour (start_of q pos code) }
+{}
+
+/// The codes of a sure answer by their ko allowances of attacker and defender, each code within the one below it, the
+/// greatest of them, and the first move that attains it.
+pub fn sure_answers_are_by_codes()
+    ensures attack_3 { (q : ReadingQuestion) (pos : BoardState) → q.kind ≡ Kind.Attack
+        → surely_attains q pos 3 ≡ surely_wins q.plies (node_under q 0 1) pos }
+    ensures attack_2 { (q : ReadingQuestion) (pos : BoardState) → q.kind ≡ Kind.Attack
+        → surely_attains q pos 2 ≡ surely_wins q.plies (node_under q 0 0) pos }
+    ensures attack_1 { (q : ReadingQuestion) (pos : BoardState) → q.kind ≡ Kind.Attack
+        → surely_attains q pos 1 ≡ surely_wins q.plies (node_under q 1 0) pos }
+    ensures defend_3 { (q : ReadingQuestion) (pos : BoardState) → q.kind ≡ Kind.Defend
+        → surely_attains q pos 3 ≡ not (surely_wins q.plies (node_under q 1 0) pos) }
+    ensures defend_2 { (q : ReadingQuestion) (pos : BoardState) → q.kind ≡ Kind.Defend
+        → surely_attains q pos 2 ≡ not (surely_wins q.plies (node_under q 0 0) pos) }
+    ensures defend_1 { (q : ReadingQuestion) (pos : BoardState) → q.kind ≡ Kind.Defend
+        → surely_attains q pos 1 ≡ not (surely_wins q.plies (node_under q 0 1) pos) }
+
+    ensures three_in_two { (q : ReadingQuestion) (pos : BoardState) → IsTrue (surely_attains q pos 3)
+        → IsTrue (surely_attains q pos 2) }
+    ensures two_in_one { (q : ReadingQuestion) (pos : BoardState) → IsTrue (surely_attains q pos 2)
+        → IsTrue (surely_attains q pos 1) }
+
+    ensures greatest { (q : ReadingQuestion) (pos : BoardState) → is_about q pos ≡ true
+        → IsGreatestSureCode q pos (sure_code_of q pos) }
+    ensures another { (q : ReadingQuestion) (pos : BoardState) → is_about q pos ≡ false
+        → sure_answer_of q pos ≡ record { code = 0; at = None } }
+    ensures code { (q : ReadingQuestion) (pos : BoardState) → (sure_answer_of q pos).code ≡ sure_code_of q pos }
+    ensures no_move { (q : ReadingQuestion) (pos : BoardState) → sure_code_of q pos ≡ 0
+        → (sure_answer_of q pos).at ≡ None }
+    ensures first_move { (q : ReadingQuestion) (pos : BoardState) → q.plies ≢ 0 → sure_code_of q pos ≢ 0 →
+        (spot : Spot) × ((sure_answer_of q pos).at ≡ Some spot)
+        × IsFirstSureMove (q.plies - 1) (first_node q (sure_code_of q pos)) pos spot }
+{}
