@@ -54,51 +54,64 @@ module _ {X : Type 0} (f : Word → X) (same_or_not : (x y : X) → (x ≡ y) �
   unfolding with_last
   with_last-below word n v i l = ap (λ b. cond b v (word i)) (ne_eqb i n (λ e. absurd (omega (arith, l, e))))
 
+  -- One word more, over words with n values of their own.
+  module _ (P : Word → Type 0) (v : Word) (n : ℕ) (t : TakesOn f P n) where
+    -- a word with one of these values adds none
+    add_known : (i : ℕ) → i < n → f v ≡ f (t.word i) → TakesOn f (λ w. P w ⊎ (f w ≡ f v)) n
+    add_known i low same = record {
+      word = t.word;
+      apart = t.apart;
+      all = λ w either. elim either [
+        | inl before ↦ t.all w before
+        | inr as_v ↦ (i, low, as_v ∙ same)
+      ];
+    }
+
+    -- the value of a word with a number below n, among the words with v behind them
+    old_value : (i : ℕ) → i < n → f (with_last t.word n v i) ≡ f (t.word i)
+    old_value i low = ap f (with_last-below t.word n v i low)
+
+    -- the value of the word v, behind the others
+    new_value : f (with_last t.word n v n) ≡ f v
+    new_value = ap f (with_last-at t.word n v)
+
+    -- a new value is at no number below n
+    new_apart : ((i : ℕ) → i < n → f v ≡ f (t.word i) → ⊥) → (i j : ℕ) → i < n → j ≡ n
+        → f (with_last t.word n v i) ≡ f (with_last t.word n v j) → ⊥
+    new_apart new i j low at e =
+        new i low (sym new_value ∙ ap (λ k. f (with_last t.word n v k)) (sym at) ∙ sym e ∙ old_value i low)
+
+    -- values are apart, and a new one too
+    with_last-apart : ((i : ℕ) → i < n → f v ≡ f (t.word i) → ⊥) → (i j : ℕ) → i < suc n → j < suc n
+        → f (with_last t.word n v i) ≡ f (with_last t.word n v j) → i ≡ j
+    with_last-apart new i j p q e = elim (cases_lt i n) [
+      | inl low ↦ elim (cases_lt j n) [
+        | inl low' ↦ t.apart i j low low' (sym (old_value i low) ∙ e ∙ old_value j low')
+        | inr high' ↦ absurd (new_apart new i j low (omega (arith, q, high')) e)
+      ]
+      | inr high ↦ elim (cases_lt j n) [
+        | inl low' ↦ absurd (new_apart new j i low' (omega (arith, p, high)) (sym e))
+        | inr high' ↦ omega (arith, p, q, high, high')
+      ]
+    ]
+
+    -- a word with a new value adds this one
+    add_new : ((i : ℕ) → i < n → f v ≡ f (t.word i) → ⊥) → TakesOn f (λ w. P w ⊎ (f w ≡ f v)) (suc n)
+    add_new new = record {
+      word = with_last t.word n v;
+      apart = with_last-apart new;
+      all = λ w either. elim either [
+        | inl before ↦ let r = t.all w before in (r.0, omega (arith, r.1), r.2 ∙ sym (old_value r.0 r.1))
+        | inr as_v ↦ (n, omega arith, as_v ∙ sym new_value)
+      ];
+    }
+
   -- one word more
   add_one : (P : Word → Type 0) (v : Word) → HasSome f P → HasSome f (λ w. P w ⊎ (f w ≡ f v))
-  add_one P v (n, t) =
-      elim (found_or_new t.word (f v) n) [
-        | inl found ↦ (
-          n,
-          record {
-            word = t.word;
-            apart = t.apart;
-            all = λ w either. elim either [
-              | inl before ↦ t.all w before
-              | inr as_v ↦ (found.0, found.1, as_v ∙ found.2)
-            ];
-          },
-        )
-        | inr new ↦ (
-          suc n,
-          record {
-            word = with_last t.word n v;
-            apart = λ i j p q e. elim (cases_lt i n) [
-              | inl low ↦ elim (cases_lt j n) [
-                | inl low' ↦ t.apart i j low low' (sym (ap f (with_last-below t.word n v i low)) ∙ e
-                    ∙ ap f (with_last-below t.word n v j low'))
-                | inr high' ↦
-                    let at : j ≡ n = omega (arith, q, high') in
-                    absurd (new i low (sym (ap f (with_last-at t.word n v))
-                    ∙ ap (λ k. f (with_last t.word n v k)) (sym at) ∙ sym e
-                    ∙ ap f (with_last-below t.word n v i low)))
-              ]
-              | inr high ↦ elim (cases_lt j n) [
-                | inl low' ↦
-                    let at : i ≡ n = omega (arith, p, high) in
-                    absurd (new j low' (sym (ap f (with_last-at t.word n v))
-                    ∙ ap (λ k. f (with_last t.word n v k)) (sym at) ∙ e ∙ ap f (with_last-below t.word n v j low')))
-                | inr high' ↦ omega (arith, p, q, high, high')
-              ]
-            ];
-            all = λ w either. elim either [
-              | inl before ↦ let r = t.all w before in
-                  (r.0, omega (arith, r.1), r.2 ∙ sym (ap f (with_last-below t.word n v r.0 r.1)))
-              | inr as_v ↦ (n, omega arith, as_v ∙ sym (ap f (with_last-at t.word n v)))
-            ];
-          },
-        )
-      ]
+  add_one P v (n, t) = elim (found_or_new t.word (f v) n) [
+    | inl found ↦ (n, add_known P v n t found.0 found.1 found.2)
+    | inr new ↦ (suc n, add_new P v n t new)
+  ]
 
   -- fewer words
   HasSome-fewer : (P Q : Word → Type 0) → ((w : Word) → Q w → P w) → HasSome f P → HasSome f Q

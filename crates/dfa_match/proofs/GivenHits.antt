@@ -229,6 +229,41 @@ module _ (automaton : List Row) (pos : BoardState) (friend : Colour) (t : ℕ) (
     | inr none ↦ inr (none.1, read_none pos.size after_giving walks m none.0)
   ]
 
+  -- a hit that was given out before is one afterwards
+  still_before : (hit : Hit) → IsHitBefore automaton pos friend t (read_below pos.size before_giving walks) hit
+      → IsHitBefore automaton pos friend t (read_below pos.size after_giving walks) hit
+  still_before hit was = record {
+    is = was.is;
+    before = elim was.before [
+      | inl earlier ↦ inl earlier
+      | inr now ↦ inr (
+        now.0,
+        elim (given_cases hit.anchor) [
+          | inl one ↦ omega (arith, now.1, one)
+          | inr none ↦ omega (arith, now.1, none.0, none.1)
+        ],
+      )
+    ];
+  }
+
+  -- a hit that is given out afterwards was so before, or is one of the rows where the walks stand
+  before_or_now : (old : List Hit) → AreHitsBefore automaton pos friend t (read_below pos.size before_giving walks) old
+      → (hit : Hit) → IsHitBefore automaton pos friend t (read_below pos.size after_giving walks) hit
+      → Contains (old ++ flat_map now_at walks) hit
+  before_or_now old before hit is = elim is.before [
+    | inl earlier ↦ Contains-append_left old (flat_map now_at walks) hit
+        (before.complete hit (record { is = is.is; before = inl earlier }))
+    | inr now ↦ elim (cases_lt is.is.letters (read_below pos.size before_giving walks hit.anchor)) [
+      | inl less ↦ Contains-append_left old (flat_map now_at walks) hit
+          (before.complete hit (record { is = is.is; before = inr (now.0, less) }))
+      | inr here ↦ Contains-append_right old (flat_map now_at walks) hit
+          (now_complete hit is.is now.0 (elim (given_cases hit.anchor) [
+            | inl one ↦ omega (arith, here, now.1, one)
+            | inr none ↦ absurd (omega (arith, here, is.is.spiral, none.0))
+          ]))
+    ]
+  ]
+
   -- the hits of the rows where the walks stand join those before
   pub hits_more : (old new : List Hit) → t < transformations
       → AreHitsBefore automaton pos friend t (read_below pos.size before_giving walks) old
@@ -238,38 +273,12 @@ module _ (automaton : List Row) (pos : BoardState) (friend : Colour) (t : ℕ) (
       subst (AreHitsBefore automaton pos friend t (read_below pos.size after_giving walks))
       (sym (add ∙ ap (λ hs. old ++ hs) hits_now)) (record {
         sound = λ hit there. elim (Contains-append_cases old (flat_map now_at walks) hit there) [
-          | inl in_old ↦
-              let was = before.sound hit in_old in
-              record {
-                is = was.is;
-                before = elim was.before [
-                  | inl earlier ↦ inl earlier
-                  | inr now ↦ inr (
-                    now.0,
-                    elim (given_cases hit.anchor) [
-                      | inl one ↦ omega (arith, now.1, one)
-                      | inr none ↦ omega (arith, now.1, none.0, none.1)
-                    ],
-                  )
-                ];
-              }
+          | inl in_old ↦ still_before hit (before.sound hit in_old)
           | inr in_new ↦
               let is = now_sound low hit in_new in
               record { is = is.0; before = inr (is.1, is.3) }
         ];
-        complete = λ hit is. elim is.before [
-          | inl earlier ↦ Contains-append_left old (flat_map now_at walks) hit
-              (before.complete hit (record { is = is.is; before = inl earlier }))
-          | inr now ↦ elim (cases_lt is.is.letters (read_below pos.size before_giving walks hit.anchor)) [
-            | inl less ↦ Contains-append_left old (flat_map now_at walks) hit
-                (before.complete hit (record { is = is.is; before = inr (now.0, less) }))
-            | inr here ↦ Contains-append_right old (flat_map now_at walks) hit
-                (now_complete hit is.is now.0 (elim (given_cases hit.anchor) [
-                  | inl one ↦ omega (arith, here, now.1, one)
-                  | inr none ↦ absurd (omega (arith, here, is.is.spiral, none.0))
-                ]))
-          ]
-        ];
+        complete = before_or_now old before;
         once = AreDistinct-append old (flat_map now_at walks) before.once now_once
             (λ hit in_old in_new. apart hit (before.sound hit in_old) (now_sound low hit in_new));
       })

@@ -180,80 +180,110 @@ module _ (pos : BoardState) (good : IsPosition pos) (c : Colour) (p : ℕ) (p_on
       → is_stone (cell_at pos.cells q) ≡ true
   own_old q ne e = ap is_stone (sym (at_put_other pos.cells p q (stone_of c) ne) ∙ e) ∙ stone_is c
 
-  -- Where the played stone's string has a liberty, every string has one.
-  pub after_alive : (after : List Cell) → after ≡ cells_after pos.size (set pos.cells p (stone_of c)) c
-      → 0 < liberties pos.size after p
-      → (q : ℕ) → q < pos.size * pos.size → is_stone (cell_at after q) ≡ true → 0 < liberties pos.size after q
-  after_alive after is p_alive q q_on stone =
-      let put : List Cell = set pos.cells p (stone_of c) in
-      let at : (x : ℕ) → x < pos.size * pos.size
-      → cell_at after x ≡ cond (is_taken pos.size put c x) Empty (cell_at put x)
-      = λ x h. ap (λ t. cell_at t x) is ∙ at_after pos.size put c x h in
-      let stays : (x : ℕ) → x < pos.size * pos.size → is_taken pos.size put c x ≡ false
-      → cell_at after x ≡ cell_at put x
-      = λ x h f. at x h ∙ ap (λ b. cond b Empty (cell_at put x)) f in
-      let clear : (x : ℕ) → x < pos.size * pos.size → cell_at put x ≡ Empty → cell_at after x ≡ Empty
-      = λ x h e. stays x h (empty_not_taken pos.size put c x e) ∙ e in
-      let p_put : cell_at put p ≡ stone_of c = at_put_same pos.cells p (stone_of c) p_in in
-      let p_after : cell_at after p ≡ stone_of c = stays p p_on (own_not_taken pos.size put c p p_put) ∙ p_put in
-      elim (cases_Bool (is_taken pos.size put c q)) [
-        | inl t ↦ absurd (both_ways (is_stone Empty) refl
-            (ap is_stone (sym (at q q_on ∙ ap (λ b. cond b Empty (cell_at put q)) t)) ∙ stone))
-        | inr f ↦
-            let q_after : cell_at after q ≡ cell_at put q = stays q q_on f in
-            elim (stone_cases c (cell_at put q) (ap is_stone (sym q_after) ∙ stone)) [
-              | inl own ↦ elim (cases_eq q p) [
-                | inl e ↦ subst (λ x. 0 < liberties pos.size after x) (sym e) p_alive
-                | inr ne ↦
-                    let old : is_stone (cell_at pos.cells q) ≡ true = own_old q ne own in
-                    let l = liberties_some pos.size pos.cells q (good.alive q q_on old) in
-                    let q_cells : cell_at pos.cells q ≡ stone_of c =
-                    sym (at_put_other pos.cells p q (stone_of c) ne) ∙ own in
-                    let kept : (y : ℕ) → Path pos.size pos.cells q y → cell_at after y ≡ cell_at pos.cells y
-                    = λ y w.
-                    let y_cells : cell_at pos.cells y ≡ stone_of c = path_same pos.size pos.cells q w ∙ q_cells in
-                    let y_not : y ≢ p = not_p y (ap is_stone y_cells ∙ stone_is c) in
-                    let y_put : cell_at put y ≡ cell_at pos.cells y = at_put_other pos.cells p y (stone_of c) y_not in
-                    stays y (path_on_board pos.size pos.cells q q_on w)
-                    (own_not_taken pos.size put c y (y_put ∙ y_cells)) ∙ y_put in
-                    let there : Path pos.size after q l.1.beside.0 =
-                    path_keeps pos.size pos.cells after q kept l.1.beside.1.path in
-                    elim (cases_eq l.0 p) [
-                      | inl e ↦
-                          let x_near : are_neighbours pos.size l.1.beside.0 p ≡ true =
-                          subst (λ z. are_neighbours pos.size l.1.beside.0 z ≡ true) e l.1.beside.2 in
-                          let to_p : Path pos.size after q p = step there p_on x_near (p_after ∙ sym (q_after ∙ own)) in
-                          let pl = liberties_some pos.size after p p_alive in
-                          liberties_from pos.size after q pl.0 q_on
-                          (liberty_moves pos.size after q p pl.0 q_on (record { stone = stone; path = to_p }) pl.1)
-                      | inr l_not ↦
-                          liberties_from pos.size after q l.0 q_on (record {
-                            on_board = l.1.on_board;
-                            is_empty = clear l.0 l.1.on_board (at_put_other pos.cells p l.0 (stone_of c) l_not
-                                ∙ l.1.is_empty);
-                            beside = (l.1.beside.0, record { stone = stone; path = there }, l.1.beside.2);
-                          })
-                    ]
-              ]
-              | inr enemy ↦
-                  elim (cases_eq (liberties pos.size put q) 0) [
-                    | inl z ↦ absurd (both_ways (is_taken pos.size put c q) f (taken_from pos.size put c q enemy z))
-                    | inr nz ↦
-                        let l = liberties_some pos.size put q (omega arith) in
-                        let kept : (y : ℕ) → Path pos.size put q y → cell_at after y ≡ cell_at put y
-                        = λ y w. elim (cases_Bool (is_taken pos.size put c y)) [
-                          | inl ty ↦ absurd (both_ways (is_taken pos.size put c q) f
-                              (taken_whole pos.size put c y q (path_on_board pos.size put q q_on w) ty
-                              (path_back pos.size put q q_on w)))
-                          | inr fy ↦ stays y (path_on_board pos.size put q q_on w) fy
-                        ] in
-                        let there : Path pos.size after q l.1.beside.0 =
-                        path_keeps pos.size put after q kept l.1.beside.1.path in
-                        liberties_from pos.size after q l.0 q_on (record {
-                          on_board = l.1.on_board;
-                          is_empty = clear l.0 l.1.on_board l.1.is_empty;
-                          beside = (l.1.beside.0, record { stone = stone; path = there }, l.1.beside.2);
-                        })
-                  ]
-            ]
-      ]
+  -- The cells after the play: what was taken from those with the stone put.
+  module _ (after : List Cell) (is : after ≡ cells_after pos.size (set pos.cells p (stone_of c)) c) where
+    -- the cells with the stone put, before anything is taken
+    abbrev put : List Cell
+    put = set pos.cells p (stone_of c)
+
+    -- a point that is not taken keeps its cell
+    stays : (x : ℕ) → x < pos.size * pos.size → is_taken pos.size put c x ≡ false → cell_at after x ≡ cell_at put x
+    stays x on f = ap (λ t. cell_at t x) is ∙ at_after pos.size put c x on ∙ ap (λ b. cond b Empty (cell_at put x)) f
+
+    -- a point where a stone is left was not taken
+    was_left : (x : ℕ) → x < pos.size * pos.size → is_stone (cell_at after x) ≡ true → is_taken pos.size put c x ≡ false
+    was_left x on stone = elim (cases_Bool (is_taken pos.size put c x)) [
+      | inl t ↦ absurd (both_ways (is_stone Empty) refl (ap is_stone (sym (ap (λ t. cell_at t x) is
+          ∙ at_after pos.size put c x on ∙ ap (λ b. cond b Empty (cell_at put x)) t)) ∙ stone))
+      | inr f ↦ f
+    ]
+
+    -- an empty point stays empty
+    clear : (x : ℕ) → x < pos.size * pos.size → cell_at put x ≡ Empty → cell_at after x ≡ Empty
+    clear x on e = stays x on (empty_not_taken pos.size put c x e) ∙ e
+
+    -- the played stone stands
+    played : cell_at after p ≡ stone_of c
+    played =
+        let there : cell_at put p ≡ stone_of c = at_put_same pos.cells p (stone_of c) p_in in
+        stays p p_on (own_not_taken pos.size put c p there) ∙ there
+
+    -- a string that a path joins to a string with a liberty has one
+    joined_alive : (q r : ℕ) → q < pos.size * pos.size → is_stone (cell_at after q) ≡ true → Path pos.size after q r
+        → 0 < liberties pos.size after r → 0 < liberties pos.size after q
+    joined_alive q r q_on stone there alive =
+        let l = liberties_some pos.size after r alive in
+        liberties_from pos.size after q l.0 q_on
+        (liberty_moves pos.size after q r l.0 q_on (record { stone = stone; path = there }) l.1)
+
+    -- the stones of an older string of the player are left as they were
+    own_kept : (q : ℕ) → q < pos.size * pos.size → cell_at pos.cells q ≡ stone_of c
+        → (y : ℕ) → Path pos.size pos.cells q y → cell_at after y ≡ cell_at pos.cells y
+    own_kept q q_on own y w =
+        let y_cells : cell_at pos.cells y ≡ stone_of c = path_same pos.size pos.cells q w ∙ own in
+        let y_not : y ≢ p = not_p y (ap is_stone y_cells ∙ stone_is c) in
+        let y_put : cell_at put y ≡ cell_at pos.cells y = at_put_other pos.cells p y (stone_of c) y_not in
+        stays y (path_on_board pos.size pos.cells q q_on w) (own_not_taken pos.size put c y (y_put ∙ y_cells)) ∙ y_put
+
+    -- an older string of the player has a liberty, or is joined to the played stone
+    own_alive : 0 < liberties pos.size after p → (q : ℕ) → q < pos.size * pos.size → q ≢ p
+        → cell_at put q ≡ stone_of c → is_stone (cell_at after q) ≡ true → 0 < liberties pos.size after q
+    own_alive p_alive q q_on ne own stone =
+        let own_before : cell_at pos.cells q ≡ stone_of c = sym (at_put_other pos.cells p q (stone_of c) ne) ∙ own in
+        let l = liberties_some pos.size pos.cells q (good.alive q q_on (own_old q ne own)) in
+        let there : Path pos.size after q l.1.beside.0 =
+        path_keeps pos.size pos.cells after q (own_kept q q_on own_before) l.1.beside.1.path in
+        elim (cases_eq l.0 p) [
+          | inl e ↦
+              let near : are_neighbours pos.size l.1.beside.0 p ≡ true =
+              subst (λ z. are_neighbours pos.size l.1.beside.0 z ≡ true) e l.1.beside.2 in
+              let q_after : cell_at after q ≡ stone_of c = stays q q_on (was_left q q_on stone) ∙ own in
+              joined_alive q p q_on stone (step there p_on near (played ∙ sym q_after)) p_alive
+          | inr l_not ↦
+              liberties_from pos.size after q l.0 q_on (record {
+                on_board = l.1.on_board;
+                is_empty = clear l.0 l.1.on_board (at_put_other pos.cells p l.0 (stone_of c) l_not ∙ l.1.is_empty);
+                beside = (l.1.beside.0, record { stone = stone; path = there }, l.1.beside.2);
+              })
+        ]
+
+    -- the stones of a string of which one is left are all left
+    enemy_kept : (q : ℕ) → q < pos.size * pos.size → is_stone (cell_at after q) ≡ true
+        → (y : ℕ) → Path pos.size put q y → cell_at after y ≡ cell_at put y
+    enemy_kept q q_on stone y w =
+        let y_on = path_on_board pos.size put q q_on w in
+        elim (cases_Bool (is_taken pos.size put c y)) [
+          | inl t ↦ absurd (both_ways (is_taken pos.size put c q) (was_left q q_on stone)
+              (taken_whole pos.size put c y q y_on t (path_back pos.size put q q_on w)))
+          | inr f ↦ stays y y_on f
+        ]
+
+    -- an enemy's string that was not taken has a liberty
+    enemy_alive : (q : ℕ) → q < pos.size * pos.size → cell_at put q ≡ stone_of (other c)
+        → is_stone (cell_at after q) ≡ true → 0 < liberties pos.size after q
+    enemy_alive q q_on enemy stone = elim (cases_eq (liberties pos.size put q) 0) [
+      | inl z ↦ absurd (both_ways (is_taken pos.size put c q) (was_left q q_on stone)
+          (taken_from pos.size put c q enemy z))
+      | inr nz ↦
+          let l = liberties_some pos.size put q (omega arith) in
+          let there : Path pos.size after q l.1.beside.0 =
+          path_keeps pos.size put after q (enemy_kept q q_on stone) l.1.beside.1.path in
+          liberties_from pos.size after q l.0 q_on (record {
+            on_board = l.1.on_board;
+            is_empty = clear l.0 l.1.on_board l.1.is_empty;
+            beside = (l.1.beside.0, record { stone = stone; path = there }, l.1.beside.2);
+          })
+    ]
+
+    -- if the played stone's string has a liberty, every string has one
+    pub after_alive : 0 < liberties pos.size after p
+        → (q : ℕ) → q < pos.size * pos.size → is_stone (cell_at after q) ≡ true → 0 < liberties pos.size after q
+    after_alive p_alive q q_on stone =
+        let q_after : cell_at after q ≡ cell_at put q = stays q q_on (was_left q q_on stone) in
+        elim (stone_cases c (cell_at put q) (ap is_stone (sym q_after) ∙ stone)) [
+          | inl own ↦ elim (cases_eq q p) [
+            | inl e ↦ subst (λ x. 0 < liberties pos.size after x) (sym e) p_alive
+            | inr ne ↦ own_alive p_alive q q_on ne own stone
+          ]
+          | inr enemy ↦ enemy_alive q q_on enemy stone
+        ]
