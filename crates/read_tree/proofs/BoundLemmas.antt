@@ -8,7 +8,7 @@ use Rattle.go_rules.specs.Strings.{liberties, liberty_points}
 use Rattle.go_base.proofs.Liberties.{len-liberty_points}
 use Rattle.trial_board.specs.SomeLiberties.{FindsLiberties}
 use Rattle.read_rules.specs.Bound.{outlasts}
-use Rattle.read_tree.specs.declared.turn.Turn.{Turn}
+use Rattle.read_rules.specs.declared.turn.Turn.{Turn}
 use Rattle.read_tree.specs.Steps.{TellsLiberties}
 
 -- all liberties tell whether they are too many

@@ -7,7 +7,7 @@ use Rattle.read_rules.specs.ActiveArea.{IsUndecided}
 use Rattle.read_rules.specs.Bound.{outlasts}
 use Rattle.read_rules.specs.GameTree.{is_captured, attacker_wins}
 use Rattle.read_rules.proofs.LibertyLemmas.{bounded, many_outlasts}
-use Rattle.read_tree.specs.declared.turn.Turn.{Turn}
+use Rattle.read_rules.specs.declared.turn.Turn.{Turn}
 use Rattle.read_tree.specs.Allowances.{Ko, under}
 
 -- The same at a turn, on a board of size s.
@@ -30,7 +30,7 @@ module _ (n : ℕ) (turn : Turn) (here : BoardState) (s : ℕ) (size : here.size
       → IsUndecided (under turn ko) here
   undecided_at stands h ko = record {
     stands = stands;
-    few = λ t. many_outlasts turn.tree n here turn.target turn.wide
+    few = λ t. many_outlasts turn n here
         (ap (λ b. outlasts turn.tree b n turn.wide (liberties here.size here.cells turn.target)) (sym t)
         ∙ counted false h);
   }

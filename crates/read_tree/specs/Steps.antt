@@ -16,15 +16,15 @@ use Rattle.read_rules.specs.declared.question.ReadingQuestion.{ReadingQuestion}
 use Rattle.read_rules.specs.declared.question.Spot.{Spot}
 use Rattle.read_rules.specs.declared.question.Spot.TheVariants.{Pass}
 use Rattle.read_rules.specs.declared.question.Answer.{Answer}
-use Rattle.read_tree.specs.declared.turn.Turn.{Turn}
+use Rattle.read_rules.specs.declared.turn.Turn.{Turn}
 use Rattle.read_tree.specs.declared.allowances.Allowances.{Allowances}
 use Rattle.read_tree.specs.declared.making.Made.{Made}
 use Rattle.read_tree.specs.declared.making.Made.TheVariants.{Not, Legal, Allowed}
 use Rattle.read_rules.specs.GameTree.{child_of, first_move, pass_saves, succeeds}
-use Rattle.read_tree.specs.Stages.{is_candidate_on}
-use Rattle.read_tree.specs.Allowances.{Ko, neither_may, has, has_some, own_ko, under, next_turn, ko_of, best_code}
+use Rattle.read_rules.specs.Candidates.{is_candidate}
+use Rattle.read_rules.specs.Turns.{next_turn}
+use Rattle.read_tree.specs.Allowances.{Ko, neither_may, has, has_some, own_ko, under, ko_of, best_code}
 use Rattle.read_rules.specs.ActiveArea.{IsNodeOf}
-use Rattle.read_rules.specs.Answer.{is_attack}
 pub use Rattle.read_rules.specs.GoodMoves.{IsOnBoard}
 
 -- the moves without the newest, where a play was made
@@ -60,16 +60,6 @@ has_way attacker won = if attacker then won else not won
 pub record AreNodesOf (q : ReadingQuestion) (root : BoardState) (n : ℕ) (turn : Turn) (asked : Allowances)
     (here : BoardState) : Type 0 where
   pub each : (ko : Ko) → has asked ko ≡ true → IsNodeOf q root n (under turn ko) here
-
--- the first turn of a question
-abbrev pub first_turn : ReadingQuestion → Turn
-first_turn q = record {
-  tree = q.tree;
-  target = q.target;
-  defender = q.colour;
-  attacker_to_play = is_attack q.kind;
-  wide = q.wide;
-}
 
 -- the answer where the target has too many liberties
 abbrev pub unread : Bool → Answer
@@ -140,7 +130,7 @@ pub record TellsBy (n : ℕ) (turn : Turn) (here : BoardState) (points : ℕ
 -- p is a candidate at the turn's node, but no liberty of the target
 abbrev pub is_off_liberties : Turn → BoardState → ℕ → Bool
 is_off_liberties turn here p =
-    is_candidate_on turn here p && not (is_liberty here.size here.cells turn.target p)
+    is_candidate turn here p && not (is_liberty here.size here.cells turn.target p)
 
 -- the attacker is to play, the target holds a defender's stone after the play at p, and next is what was known but for
 -- p

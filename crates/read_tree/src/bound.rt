@@ -5,9 +5,8 @@ ghost use Rattle.std.specs.FinSet as set;
 ghost use Rattle.read_rules.specs.Bound.{most_by_wide, outlasts};
 ghost use Rattle.read_rules.specs.Trees.{most_narrow};
 
-use crate::turn::Turn;
 use go_base::points::PointSet;
-use read_rules::Tree;
+use read_rules::{Tree, Turn};
 
 /// How many liberties a target may have, where no wide ply is left, that the attacker still plays at.
 pub fn most_narrow(tree: Tree) -> u16

@@ -12,9 +12,9 @@ ghost use Rattle.read_rules.specs.Bound.{outlasts};
 ghost use Rattle.read_tree.specs.Steps.{IsTaken, IsInAtari, TellsLiberties, is_safe};
 
 use crate::bound::{has_too_many, most_liberties};
-use crate::turn::Turn;
 use go_base::points::PointSet;
 use go_base::{Cell, Colour, Look};
+use read_rules::Turn;
 use trial_board::Trial;
 
 /// How many liberties a string in atari has.

@@ -57,7 +57,7 @@ first_success-succeeds-requires g t c κs within =
     let on = point_after i.stays c.in-Some.p (candidate_inside c.args.node (g.L.Look.shows c.args.board.now.look)
     c.args.board.now.moves c.in-Some.p
     (sym (c.candidates-candidates.ensures.answer c.in-Some.p) ∙ c.in-Some.ensures.some.2)) in
-    let target = point_after i.stays c.args.node.target c.requires.target in
+    let target = point_after i.stays c.args.node.turn.target c.requires.target in
     search rules
 
 -- it does not succeed, and none before it did

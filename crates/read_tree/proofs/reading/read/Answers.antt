@@ -11,14 +11,15 @@ use Rattle.go_base.specs.Views.{alone}
 use Rattle.go_base.proofs.AddedFacts.{cell_near}
 use Rattle.go_base.proofs.PointNeighbourhoods.{close_alone}
 use Rattle.go_rules.specs.Neighbourhood.{neighbourhood_of}
+use Rattle.read_rules.specs.Answer.{first_turn}
 use Rattle.read_rules.specs.declared.question.ReadingQuestion.{ReadingQuestion}
 use Rattle.read_rules.specs.ActiveArea.{InActiveArea, AddsNear}
 use Rattle.read_rules.specs.Answer.{is_about, is_attack, answer_of}
 use Rattle.read_rules.specs.Bound.{outlasts}
 use Rattle.read_rules.proofs.AnswerLemmas.{about_from, about_stands}
 use Rattle.read_rules.proofs.AreaLemmas.{AddsNear-trans, target_on}
-use Rattle.read_tree.specs.declared.turn.Turn.{Turn}
-use Rattle.read_tree.specs.Steps.{TellsLiberties, first_turn, unread}
+use Rattle.read_rules.specs.declared.turn.Turn.{Turn}
+use Rattle.read_tree.specs.Steps.{TellsLiberties, unread}
 use Rattle.read_tree.proofs.BestLemmas.{unread_answer, first_nodes}
 use Rattle.read_tree.proofs.StandingNodes.{near_asked, near_beside, standing_node}
 use Rattle.read_tree.proofs.reading.read.Given.{Over}

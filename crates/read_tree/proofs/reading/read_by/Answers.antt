@@ -5,17 +5,17 @@ use Rattle.std.specs.Ordering.{nat_cmp}
 use Rattle.go_rules.specs.declared.Cell.{Cell}
 use Rattle.go_rules.specs.Strings.{liberties, liberty_points}
 use Rattle.go_base.proofs.Liberties.{len-liberty_points}
+use Rattle.read_rules.specs.Answer.{first_turn}
+use Rattle.read_rules.specs.Candidates.{is_candidate}
 use Rattle.read_rules.specs.declared.question.ReadingQuestion.{ReadingQuestion}
 use Rattle.read_rules.specs.Bound.{outlasts}
 use Rattle.go_base.specs.Facts.{agrees_before}
 use Rattle.go_base.specs.Views.{nowhere}
 use Rattle.trial_board.specs.Trials.{after}
 use Rattle.trial_board.proofs.AfterLemmas.{size-after}
-use Rattle.read_tree.specs.declared.turn.Turn.{Turn}
+use Rattle.read_rules.specs.declared.turn.Turn.{Turn}
 use Rattle.read_rules.specs.Answer.{is_attack}
 use Rattle.read_tree.specs.Allowances.{Ko, neither_may, under}
-use Rattle.read_tree.specs.Stages.{is_candidate_on}
-use Rattle.read_tree.specs.Steps.{first_turn}
 use Rattle.read_rules.proofs.AnswerLemmas.{about_stands}
 use Rattle.read_rules.proofs.AreaLemmas.{AddsNear-trans, undecided_defender}
 use Rattle.read_tree.proofs.BestLemmas.{best_pass, best_three, attack_answer, defence_answer, first_nodes}
@@ -114,7 +114,7 @@ returns-then-best-eq3 g c =
           let here = after pos c.args.board.now.moves in
           defence_answer q here c.better-best.result (omega (arith, c.requires.ready.plies)) about (defends g d)
           (best_three (q.plies - 1) (first_turn q) here nowhere c.better-best.result (pass_best g d pos a)
-          c.if-best-eq3.true (is_candidate_on (first_turn q) here));
+          c.if-best-eq3.true (is_candidate (first_turn q) here));
       near = pass_near g d;
     }
 
