@@ -20,7 +20,7 @@ use Rattle.read_rules.specs.Rules.{IsChild, EachChildWins}
 use Rattle.read_rules.proofs.RuleLemmas.{attacker_gives, attacker_from, defender_gives, defender_from, child_gives}
 use Rattle.read_rules.proofs.RuleLemmas.{child_from, many_gives}
 use Rattle.read_rules.proofs.WinLemmas.{wins-captured, wins-no_plies}
-use Rattle.read_rules.specs.Bound.{outlasts}
+use Rattle.read_rules.specs.Bound.{outlasts, outlasts_at}
 use Rattle.read_rules.proofs.LibertyLemmas.{bounded, to_attacker, to_defender, many_outlast, child_free, play_size}
 use Rattle.read_proof.specs.declared.token.Token.{Token}
 use Rattle.read_proof.specs.declared.token.Token.TheVariants.{Settled, Move, Each}
@@ -31,7 +31,7 @@ use Rattle.read_proof.specs.Proves.{pass_children, play_children, children_of, a
 
 -- a target with too many liberties for the plies outlasts them
 too_many_outlast : (n : ℕ) (node : Node) (pos : BoardState) → has_too_many n node pos ≡ true
-    → outlasts node.turn.tree node.turn.attacker_to_play n node.turn.wide (liberties pos.size pos.cells node.turn.target) ≡ true
+    → outlasts_at node.turn n (liberties pos.size pos.cells node.turn.target) ≡ true
 unfolding has_too_many
 too_many_outlast n node pos h =
     let l = liberties pos.size pos.cells node.turn.target in

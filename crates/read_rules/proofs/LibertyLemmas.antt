@@ -26,7 +26,7 @@ use Rattle.read_rules.specs.Rules.{IsChild, HasManyLiberties}
 use Rattle.read_rules.specs.declared.tree.Tree.{Tree}
 use Rattle.read_rules.specs.declared.tree.Tree.TheVariants.{Stated, Wider}
 use Rattle.read_rules.specs.Trees.{most_narrow}
-use Rattle.read_rules.specs.Bound.{most_by_wide, outlasts, IsTooWide, over_four, few_left, none_left, IsTooMany}
+use Rattle.read_rules.specs.Bound.{most_by_wide, outlasts, IsTooWide, over_four, few_left, none_left, IsTooMany, outlasts_at}
 use Rattle.read_rules.proofs.WinLemmas.{wins-no_plies}
 use Rattle.read_rules.proofs.RuleLemmas.{many_from, many_gives, attacker_gives, defender_gives}
 
@@ -214,7 +214,7 @@ module _ (tree : Tree) where
 -- The target outlasts at a node where it does at each child that an attacker's play, or the defender's pass, leads to.
 abbrev Hypothesis : ℕ → Type 0
 Hypothesis n = (next : Node) (new : BoardState) → next.turn.target < new.size * new.size
-    → outlasts next.turn.tree next.turn.attacker_to_play n next.turn.wide (liberties new.size new.cells next.turn.target) ≡ true
+    → outlasts_at next.turn n (liberties new.size new.cells next.turn.target) ≡ true
     → attacker_wins n next new ≡ false
 
 -- a target that outlasts at the attacker's turn, where he may play at it, outlasts at each child of a play of his
@@ -223,7 +223,7 @@ child_outlasts : (n : ℕ) (node : Node) (pos : BoardState) (p : ℕ) (next : No
     → (HasManyLiberties node.turn pos → ⊥) → IsChild node pos p next new
     → outlasts node.turn.tree true (suc n) node.turn.wide (liberties pos.size pos.cells node.turn.target) ≡ true
     → (next.turn.target < new.size * new.size)
-    × (outlasts next.turn.tree next.turn.attacker_to_play n next.turn.wide (liberties new.size new.cells next.turn.target) ≡ true)
+    × (outlasts_at next.turn n (liberties new.size new.cells next.turn.target) ≡ true)
 child_outlasts n node pos p next new on turn few is h =
     let child = child_free node pos p next new is in
     let l = liberties new.size new.cells node.turn.target in
@@ -231,7 +231,7 @@ child_outlasts n node pos p next new on turn few is h =
     (λ x. few (inl x)) (λ e x. few (inr (e, x))) (play_takes_one pos (mover_of node.turn) p new node.turn.target on child.1) in
     let stays = subst (λ m. node.turn.target < m * m) (sym (play_size pos (mover_of node.turn) p new child.1)) on in
     subst (λ (m : Node). (m.turn.target < new.size * new.size)
-    × (outlasts m.turn.tree m.turn.attacker_to_play n m.turn.wide (liberties new.size new.cells m.turn.target) ≡ true))
+    × (outlasts_at m.turn n (liberties new.size new.cells m.turn.target) ≡ true))
     (sym child.2)
     (stays, ap (λ b. outlasts node.turn.tree (not b) n (node.turn.wide - 1) l) turn ∙ bound)
 
@@ -268,7 +268,7 @@ bounded_defender n node pos ih on stands turn h = elim (cases_Bool (attacker_win
 
 -- with n plies left, a target with too many liberties is not captured
 pub bounded : (n : ℕ) (node : Node) (pos : BoardState) → node.turn.target < pos.size * pos.size
-    → outlasts node.turn.tree node.turn.attacker_to_play n node.turn.wide (liberties pos.size pos.cells node.turn.target) ≡ true
+    → outlasts_at node.turn n (liberties pos.size pos.cells node.turn.target) ≡ true
     → attacker_wins n node pos ≡ false
 bounded zero node pos on h =
     wins-no_plies zero node pos (stands_by_liberties pos node.turn.target

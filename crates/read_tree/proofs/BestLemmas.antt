@@ -21,7 +21,7 @@ use Rattle.read_rules.specs.GameTree.{is_captured, has_many_liberties, next_node
 use Rattle.read_rules.specs.GameTree.{pass_saves, first_success, first_move, at_point}
 use Rattle.read_rules.specs.Answer.{is_attack, first_node, attains_code, is_about, answer_of}
 use Rattle.read_rules.specs.ActiveArea.{IsNodeOf, IsUndecided, first}
-use Rattle.read_rules.specs.Bound.{outlasts}
+use Rattle.read_rules.specs.Bound.{outlasts, outlasts_at}
 use Rattle.read_tree.specs.Allowances.{all_three}
 use Rattle.read_tree.specs.Allowances.{Ko, defender_may, neither_may, attacker_may, has, has_some, own_ko, under, ko_of}
 use Rattle.read_tree.specs.Allowances.{codes_above, best_code, Tells}
@@ -412,7 +412,7 @@ better_on best attack good p s h on = by (has_some good)
 -- with too many liberties an attack fails, and no defence is needed
 pub unread_answer : (q : ReadingQuestion) (pos : BoardState) → q.plies ≢ 0 → is_about q pos ≡ true
     → q.target < pos.size * pos.size
-    → outlasts q.tree (is_attack q.kind) q.plies q.wide (liberties pos.size pos.cells q.target) ≡ true
+    → outlasts_at (first_turn q) q.plies (liberties pos.size pos.cells q.target) ≡ true
     → unread (is_attack q.kind) ≡ answer_of q pos
 unread_answer q pos ne about on h = elim (cases_Bool (is_attack q.kind)) [
   | inl t ↦ ap unread t ∙ answer_best q pos 0 None about (omega arith) (λ some. absurd (some refl))
@@ -439,7 +439,7 @@ unread_answer q pos ne about on h = elim (cases_Bool (is_attack q.kind)) [
         let more : q.plies ≡ suc (q.plies - 1) = omega arith in
         let next = next_node (first_node q 3) (allowance_of (first_node q 3)) in
         let h1 = ap (λ b. outlasts q.tree b (suc (q.plies - 1)) q.wide (liberties pos.size pos.cells q.target)) (sym f)
-        ∙ ap (λ m. outlasts q.tree (is_attack q.kind) m q.wide (liberties pos.size pos.cells q.target)) (sym more)
+        ∙ ap (λ m. outlasts_at (first_turn q) m (liberties pos.size pos.cells q.target)) (sym more)
         ∙ h in
         let h2 = ap (λ b. outlasts q.tree (not b) (q.plies - 1) (q.wide - 1) (liberties pos.size pos.cells q.target)) f
         ∙ pass_outlasts q.tree (q.plies - 1) q.wide (liberties pos.size pos.cells q.target) h1 in

@@ -11,7 +11,7 @@ use Rattle.read_tree.specs.declared.outlook.Outlook.TheVariants.{Safe, Taken, Op
 use Rattle.trial_board.specs.declared.moves.TrialMove.{TrialMove}
 use Rattle.trial_board.specs.Trials.{tail}
 use Rattle.read_rules.specs.declared.node.Node.{Node}
-use Rattle.read_rules.specs.Bound.{outlasts}
+use Rattle.read_rules.specs.Bound.{outlasts_at}
 use Rattle.read_rules.specs.declared.question.ReadingQuestion.{ReadingQuestion}
 use Rattle.read_rules.specs.declared.question.Spot.{Spot}
 use Rattle.read_rules.specs.declared.question.Spot.TheVariants.{Pass}
@@ -36,9 +36,9 @@ tail_if Allowed moves = tail moves
 -- what was found of the target's liberties, with n plies left: more than are taken in time exactly where the target has
 -- more, and else all of them
 pub record TellsLiberties (turn : Turn) (n s : ℕ) (cells : List Cell) (found : set.FinSet nat_cmp) : Type 0 where
-  pub many : outlasts turn.tree turn.attacker_to_play n turn.wide (set.len found)
-      ≡ outlasts turn.tree turn.attacker_to_play n turn.wide (liberties s cells turn.target)
-  pub all : outlasts turn.tree turn.attacker_to_play n turn.wide (set.len found) ≡ false
+  pub many : outlasts_at turn n (set.len found)
+      ≡ outlasts_at turn n (liberties s cells turn.target)
+  pub all : outlasts_at turn n (set.len found) ≡ false
       → found ≡ liberty_points s cells turn.target
 
 -- where the play at p leads from here, under each allowance: nowhere; to new, and the allowance is kept; or the mover's

@@ -28,6 +28,6 @@ pub mod tree;
 
 pub use allowances::Allowances;
 pub use nodes::{NodeAt, wins};
-pub use read_rules::{Answer, Depths, Kind, Node, ReadingQuestion, Spot, Tree};
+pub use read_rules::{Answer, Depths, Kind, Node, ReadingQuestion, Spot, Tree, Turn};
 pub use reading::{attack, defend, read};
 pub use report::Report;

@@ -137,7 +137,7 @@ write_plays-plays-init g t c =
 pub write_plays-write_play-requires : goal.write_plays-write_play-requires
 write_plays-write_play-requires g t c κs within =
     let i = c.plays.invariant in
-    let on = point_after i.stays c.in-Some.p (candidate_inside (under c.args.turn neither_may)
+    let on = point_after i.stays c.in-Some.p (candidate_inside c.args.turn
     (g.L.Look.shows c.args.board.now.look) c.args.board.now.moves c.in-Some.p
     (sym (c.candidates-candidates.ensures.answer c.in-Some.p) ∙ c.in-Some.ensures.some.2)) in
     let target = point_after i.stays c.args.turn.target c.requires.target in
