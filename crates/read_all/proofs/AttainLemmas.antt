@@ -5,17 +5,18 @@ use Rattle.std.proofs.lemmas.Bool.{ne_eqb, lt-ltb, ltb-true, and_parts}
 use Rattle.std.specs.Ordering.{nat_cmp}
 use Rattle.std.specs.FinSet as sets
 use Rattle.go_rules.specs.Position.{BoardState}
+use Rattle.read_rules.proofs.CandidateLaws.{candidate_on}
+use Rattle.read_rules.specs.Answer.{first_turn}
 use Rattle.read_rules.specs.declared.node.Node.{Node}
 use Rattle.read_rules.specs.declared.question.ReadingQuestion.{ReadingQuestion}
 use Rattle.read_rules.specs.declared.question.Answer.{Answer}
 use Rattle.read_rules.specs.declared.question.Spot.{Spot}
 use Rattle.read_rules.specs.declared.question.Spot.TheVariants.{At, Pass}
 use Rattle.read_rules.specs.GameTree.{child_of, succeeds, pass_saves, first_success, at_point}
-use Rattle.read_rules.specs.Answer.{is_attack, first_node, answer_of, code_of, move_of, first_move_of}
+use Rattle.read_rules.specs.Answer.{first_node, answer_of, code_of, move_of, first_move_of}
 use Rattle.read_rules.specs.Rules.{Succeeds, IsFirstMove}
 use Rattle.read_rules.specs.Candidates.{is_candidate}
 use Rattle.read_rules.proofs.RuleLemmas.{child_from, answer_first, at-answer_of, code-answer_of}
-use Rattle.read_rules.proofs.CandidateLaws.{candidate_at_on}
 use Rattle.read_tree.proofs.AllowanceLemmas.{suits_child}
 use Rattle.read_tree.specs.Steps.{has_way}
 use Rattle.read_all.specs.declared.moves.Among.{Among}
@@ -70,18 +71,18 @@ play_attains q pos code p some =
 
 -- a candidate is among the points that are looked at, whichever these are
 candidate_among : (among : Among) (q : ReadingQuestion) (pos : BoardState) (code p : ℕ)
-    → is_candidate q.tree (is_attack q.kind) pos q.target q.wide p ≡ true → is_among among q pos p ≡ true
+    → is_candidate (first_turn q) pos p ≡ true → is_among among q pos p ≡ true
 candidate_among Candidates q pos code p candidate = candidate
 candidate_among EveryPoint q pos code p candidate =
-    lt-ltb p (pos.size * pos.size) (candidate_at_on (first_node q code) pos p candidate)
+    lt-ltb p (pos.size * pos.size) (candidate_on (first_turn q) pos p candidate)
 
 -- a play that succeeds by the rules succeeds by the test
 succeeds_by_rules : (n : ℕ) (node : Node) (pos : BoardState) (p : ℕ) → Succeeds n node pos p
     → succeeds n node pos p ≡ true
 succeeds_by_rules n node pos p w =
-    sym (suits_child n node.attacker_to_play (child_of node pos p) w.next w.new
-    (child_from node pos p w.next w.new w.child)) ∙ ap (has_way node.attacker_to_play) w.outcome
-    ∙ own_way node.attacker_to_play
+    sym (suits_child n node.turn.attacker_to_play (child_of node pos p) w.next w.new
+    (child_from node pos p w.next w.new w.child)) ∙ ap (has_way node.turn.attacker_to_play) w.outcome
+    ∙ own_way node.turn.attacker_to_play
   where
     own_way : (b : Bool) → has_way b b ≡ true
     own_way true = refl
@@ -118,7 +119,7 @@ some_move {among} {q} {pos} {code} {pass} {points} moves plies some =
 -- a point that is looked at is on the board
 among_inside : (among : Among) (q : ReadingQuestion) (pos : BoardState) (code p : ℕ) → is_among among q pos p ≡ true
     → p < pos.size * pos.size
-among_inside Candidates q pos code p among = candidate_at_on (first_node q code) pos p among
+among_inside Candidates q pos code p among = candidate_on (first_turn q) pos p among
 among_inside EveryPoint q pos code p among = ltb-true p (pos.size * pos.size) among
 
 -- each of the points is on the board

@@ -44,11 +44,11 @@ module _ (n : ℕ) (node : Node) (here : BoardState) (p : ℕ) (new : BoardState
     (leads : LeadsTo node here p child new) where
   -- it is made, and the reply to it is that at the child
   pub reply_made : (next : Node) (reply : Option Spot) → child ≡ Some next
-      → reply ≡ reply_unless node.attacker_to_play n next new → reply ≡ reply_to n node here p
+      → reply ≡ reply_unless node.turn.attacker_to_play n next new → reply ≡ reply_to n node here p
   reply_made next reply is e = e
-      ∙ sym (ap (reply_at node.attacker_to_play n) (leads ∙ ap (option_map (λ (m : Node). (m, new))) is))
+      ∙ sym (ap (reply_at node.turn.attacker_to_play n) (leads ∙ ap (option_map (λ (m : Node). (m, new))) is))
 
   -- it cannot be made
   pub reply_refused : child ≡ None → None ≡ reply_to n node here p
   reply_refused is =
-      sym (ap (reply_at node.attacker_to_play n) (leads ∙ ap (option_map (λ (m : Node). (m, new))) is))
+      sym (ap (reply_at node.turn.attacker_to_play n) (leads ∙ ap (option_map (λ (m : Node). (m, new))) is))

@@ -3,10 +3,11 @@ use Rattle.std.specs.Prelude.{◌≡◌, ℕ, ◌-◌, ◌*◌, ◌⊎◌, Bool,
 use Rattle.std.specs.Ordering.{nat_cmp}
 use Rattle.std.specs.FinSet as set
 use Rattle.go_rules.specs.Position.{BoardState}
+use Rattle.read_rules.specs.Answer.{first_turn}
 use Rattle.read_rules.specs.declared.question.ReadingQuestion.{ReadingQuestion}
 use Rattle.read_rules.specs.Candidates.{is_candidate}
 use Rattle.read_rules.specs.GameTree.{succeeds, pass_saves}
-use Rattle.read_rules.specs.Answer.{is_attack, first_node, answer_of}
+use Rattle.read_rules.specs.Answer.{first_node, answer_of}
 use Rattle.read_all.specs.declared.moves.Among.{Among}
 use Rattle.read_all.specs.declared.moves.Among.TheVariants.{Candidates, EveryPoint}
 
@@ -22,7 +23,7 @@ attains_by_pass q pos code = nat_lt 0 code && pass_saves (q.plies - 1) (first_no
 
 -- p is one of the points that are looked at: of the candidates of the question, or of all points of the board
 abbrev pub is_among : Among → ReadingQuestion → BoardState → ℕ → Bool
-is_among Candidates q pos p = is_candidate q.tree (is_attack q.kind) pos q.target q.wide p
+is_among Candidates q pos p = is_candidate (first_turn q) pos p
 is_among EveryPoint q pos p = nat_lt p (pos.size * pos.size)
 
 -- the code is the question's on the position, the pass is told as it attains the code or not, and the points are those

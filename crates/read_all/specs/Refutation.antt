@@ -26,7 +26,7 @@ reply_at attacker n (Some child) = reply_unless attacker n child.0 child.1
 -- the refutation of the mover's play at p, with n plies left after it: the first reply with which the other side has
 -- its way, if the play can be made and does not give the mover his
 abbrev pub reply_to : ℕ → Node → BoardState → ℕ → Option Spot
-reply_to n node pos p = reply_at node.attacker_to_play n (child_of node pos p)
+reply_to n node pos p = reply_at node.turn.attacker_to_play n (child_of node pos p)
 
 -- the refutation of the play at p that does not attain the code, under the code's ko allowances
 abbrev pub refutation_of : ReadingQuestion → BoardState → ℕ → ℕ → Option Spot

@@ -10,7 +10,7 @@ ghost use Rattle.trial_board.specs.Trials.{Stays, most_moves};
 ghost use Rattle.read_rules.specs.Ranges.{most_plies};
 ghost use Rattle.read_rules.specs.Answer.{asked_in};
 ghost use Rattle.read_rules.specs.GameTree.{succeeds};
-ghost use Rattle.read_tree.specs.Table.{IsTrueTable};
+ghost use Rattle.read_tree.specs.Table.{IsTrueTableAt};
 ghost use Rattle.read_tree.specs.Walk.{IsPointOf, OnEachAgreeing};
 ghost use Rattle.read_all.specs.AllMoves.{is_among, AreMovesAmong, AreAllMoves, AreMovesAnywhere, HasMove};
 
@@ -22,7 +22,7 @@ use read_rules::{Depths, Kind, Node, ReadingQuestion, Spot};
 use read_tree::memory::Memory;
 use read_tree::nodes::{make_at, wins_at};
 use read_tree::table::{Entry, empty_table};
-use read_tree::{Report, first_turn, read};
+use read_tree::{Report, read};
 use trial_board::Trial;
 
 /// From how many plies on a table remembers the nodes of a call.
@@ -59,18 +59,18 @@ fn is_success<L: Look>(
     memory: &mut Memory,
 ) -> bool
     requires room { length board.old.moves + plies < most_moves }
-    requires target { IsPointOf L.shows board.old node.target }
+    requires target { IsPointOf L.shows board.old node.turn.target }
     requires on_board { IsPointOf L.shows board.old p }
-    requires table { IsTrueTable (L.seen board.old.look) node.tree node.target node.defender memory.old.table.now }
+    requires table { IsTrueTableAt (L.seen board.old.look) node.turn memory.old.table.now }
     ensures stays { Stays L.shows L.seen board.old board.new }
-    ensures table { IsTrueTable (L.seen board.new.look) node.tree node.target node.defender memory.new.table.now }
+    ensures table { IsTrueTableAt (L.seen board.new.look) node.turn memory.new.table.now }
     ensures over { OnEachAgreeing L.seen board.old board.new (λ here. result ≡ succeeds plies node here p) }
 {
     match make_at(board, node, p) {
         Some(next) => {
             let won = wins_at(board, next, plies, memory);
             board.back();
-            won == node.attacker_to_play
+            won == node.turn.attacker_to_play
         }
         None => false,
     }
@@ -85,9 +85,9 @@ fn successes<L: Look>(
     memory: &mut Memory,
 ) -> PointSet
     requires room { length board.old.moves + plies < most_moves }
-    requires target { IsPointOf L.shows board.old node.target }
+    requires target { IsPointOf L.shows board.old node.turn.target }
     requires on_board { (p : ℕ) → set.contains tried.now p ≡ true → IsPointOf L.shows board.old p }
-    requires table { IsTrueTable (L.seen board.old.look) node.tree node.target node.defender memory.old.table.now }
+    requires table { IsTrueTableAt (L.seen board.old.look) node.turn memory.old.table.now }
     ensures stays { Stays L.shows L.seen board.old board.new }
     ensures over { OnEachAgreeing L.seen board.old board.new (λ here. (p : ℕ)
         → set.contains result p ≡ (set.contains tried.now p && succeeds plies node here p)) }
@@ -112,15 +112,15 @@ fn successes_by<L: Look>(
     table: &mut [Entry],
 ) -> PointSet
     requires room { length board.old.moves + plies < most_moves }
-    requires target { IsPointOf L.shows board.old node.target }
+    requires target { IsPointOf L.shows board.old node.turn.target }
     requires on_board { (p : ℕ) → set.contains tried.now p ≡ true → IsPointOf L.shows board.old p }
-    requires table { IsTrueTable (L.seen board.old.look) node.tree node.target node.defender table.old }
+    requires table { IsTrueTableAt (L.seen board.old.look) node.turn table.old }
     ensures stays { Stays L.shows L.seen board.old board.new }
     ensures over { OnEachAgreeing L.seen board.old board.new (λ here. (p : ℕ)
         → set.contains result p ≡ (set.contains tried.now p && succeeds plies node here p)) }
 {
     let mut memory = Memory {
-        reply: node.target,
+        reply: node.turn.target,
         table,
     };
     successes(board, node, plies, tried, &mut memory)
@@ -135,7 +135,7 @@ fn successes_with_table<L: Look>(
     tried: &PointSet,
 ) -> PointSet
     requires room { length board.old.moves + plies < most_moves }
-    requires target { IsPointOf L.shows board.old node.target }
+    requires target { IsPointOf L.shows board.old node.turn.target }
     requires on_board { (p : ℕ) → set.contains tried.now p ≡ true → IsPointOf L.shows board.old p }
     ensures stays { Stays L.shows L.seen board.old board.new }
     ensures over { OnEachAgreeing L.seen board.old board.new (λ here. (p : ℕ)
@@ -148,7 +148,7 @@ fn successes_with_table<L: Look>(
 /// The same, with a table if there are plies enough for one to pay.
 fn successes_of<L: Look>(board: &mut Trial<L>, node: Node, plies: u8, tried: &PointSet) -> PointSet
     requires room { length board.old.moves + plies < most_moves }
-    requires target { IsPointOf L.shows board.old node.target }
+    requires target { IsPointOf L.shows board.old node.turn.target }
     requires on_board { (p : ℕ) → set.contains tried.now p ≡ true → IsPointOf L.shows board.old p }
     ensures stays { Stays L.shows L.seen board.old board.new }
     ensures over { OnEachAgreeing L.seen board.old board.new (λ here. (p : ℕ)
@@ -181,14 +181,8 @@ fn points_among<L: Look>(board: &mut Trial<L>, question: &ReadingQuestion, among
 {
     match among {
         Among::Candidates => {
-            let turn = first_turn(question);
-            candidates(
-                board,
-                turn.tree,
-                turn.attacker_to_play,
-                turn.target,
-                turn.wide,
-            )
+            let turn = question.first_turn();
+            candidates(board, turn)
         }
         Among::EveryPoint => every_point(board.size()),
     }

@@ -6,7 +6,7 @@ ghost use Rattle.go_rules.specs.Strings.{cell_at};
 ghost use Rattle.go_base.specs.Facts.{Agrees, Grows};
 ghost use Rattle.trial_board.specs.Trials.{Stays, most_moves};
 ghost use Rattle.read_rules.specs.Answer.{asked_in};
-ghost use Rattle.read_tree.specs.Table.{IsTrueTable};
+ghost use Rattle.read_tree.specs.Table.{IsTrueTableAt};
 ghost use Rattle.read_tree.specs.Walk.{IsPointOf, OnEachAgreeing};
 ghost use Rattle.read_all.specs.Refutation.{first_reply, reply_unless, reply_to, refutation_of};
 
@@ -40,8 +40,8 @@ fn first_reply<L: Look>(
     memory: &mut Memory,
 ) -> Option<Spot>
     requires room { length board.old.moves + plies ≤ most_moves }
-    requires target { IsPointOf L.shows board.old node.target }
-    requires table { IsTrueTable (L.seen board.old.look) node.tree node.target node.defender memory.old.table.now }
+    requires target { IsPointOf L.shows board.old node.turn.target }
+    requires table { IsTrueTableAt (L.seen board.old.look) node.turn memory.old.table.now }
     ensures stays { Stays L.shows L.seen board.old board.new }
     ensures over { OnEachAgreeing L.seen board.old board.new (λ here. result ≡ first_reply plies node here) }
 {
@@ -60,8 +60,8 @@ fn reply_unless<L: Look>(
     memory: &mut Memory,
 ) -> Option<Spot>
     requires room { length board.old.moves + plies ≤ most_moves }
-    requires target { IsPointOf L.shows board.old node.target }
-    requires table { IsTrueTable (L.seen board.old.look) node.tree node.target node.defender memory.old.table.now }
+    requires target { IsPointOf L.shows board.old node.turn.target }
+    requires table { IsTrueTableAt (L.seen board.old.look) node.turn memory.old.table.now }
     ensures stays { Stays L.shows L.seen board.old board.new }
     ensures over { OnEachAgreeing L.seen board.old board.new (λ here. result ≡ reply_unless attacker plies node here) }
 {
@@ -80,15 +80,15 @@ fn reply_to<L: Look>(
     memory: &mut Memory,
 ) -> Option<Spot>
     requires room { length board.old.moves + plies < most_moves }
-    requires target { IsPointOf L.shows board.old node.target }
+    requires target { IsPointOf L.shows board.old node.turn.target }
     requires on_board { IsPointOf L.shows board.old p }
-    requires table { IsTrueTable (L.seen board.old.look) node.tree node.target node.defender memory.old.table.now }
+    requires table { IsTrueTableAt (L.seen board.old.look) node.turn memory.old.table.now }
     ensures stays { Stays L.shows L.seen board.old board.new }
     ensures over { OnEachAgreeing L.seen board.old board.new (λ here. result ≡ reply_to plies node here p) }
 {
     match make_at(board, node, p) {
         Some(next) => {
-            let reply = reply_unless(board, node.attacker_to_play, next, plies, memory);
+            let reply = reply_unless(board, node.turn.attacker_to_play, next, plies, memory);
             board.back();
             reply
         }
@@ -105,14 +105,14 @@ fn reply_by<L: Look>(
     table: &mut [Entry],
 ) -> Option<Spot>
     requires room { length board.old.moves + plies < most_moves }
-    requires target { IsPointOf L.shows board.old node.target }
+    requires target { IsPointOf L.shows board.old node.turn.target }
     requires on_board { IsPointOf L.shows board.old p }
-    requires table { IsTrueTable (L.seen board.old.look) node.tree node.target node.defender table.old }
+    requires table { IsTrueTableAt (L.seen board.old.look) node.turn table.old }
     ensures stays { Stays L.shows L.seen board.old board.new }
     ensures over { OnEachAgreeing L.seen board.old board.new (λ here. result ≡ reply_to plies node here p) }
 {
     let mut memory = Memory {
-        reply: node.target,
+        reply: node.turn.target,
         table,
     };
     reply_to(board, node, p, plies, &mut memory)
@@ -122,7 +122,7 @@ fn reply_by<L: Look>(
 #[inline(never)]
 fn reply_with_table<L: Look>(board: &mut Trial<L>, node: Node, p: Point, plies: u8) -> Option<Spot>
     requires room { length board.old.moves + plies < most_moves }
-    requires target { IsPointOf L.shows board.old node.target }
+    requires target { IsPointOf L.shows board.old node.turn.target }
     requires on_board { IsPointOf L.shows board.old p }
     ensures stays { Stays L.shows L.seen board.old board.new }
     ensures over { OnEachAgreeing L.seen board.old board.new (λ here. result ≡ reply_to plies node here p) }
@@ -134,7 +134,7 @@ fn reply_with_table<L: Look>(board: &mut Trial<L>, node: Node, p: Point, plies: 
 /// The same, with a table if there are plies enough for one to pay.
 fn reply_of<L: Look>(board: &mut Trial<L>, node: Node, p: Point, plies: u8) -> Option<Spot>
     requires room { length board.old.moves + plies < most_moves }
-    requires target { IsPointOf L.shows board.old node.target }
+    requires target { IsPointOf L.shows board.old node.turn.target }
     requires on_board { IsPointOf L.shows board.old p }
     ensures stays { Stays L.shows L.seen board.old board.new }
     ensures over { OnEachAgreeing L.seen board.old board.new (λ here. result ≡ reply_to plies node here p) }

@@ -15,9 +15,8 @@ use Rattle.go_base.specs.Views.{alone, neighbours_of}
 use Rattle.go_base.proofs.PointNeighbourhoods.{whole_self, whole_string, close_next, close_again, close_alone}
 use Rattle.go_base.proofs.PointNeighbourhoods.{close_mono, alone_self}
 use Rattle.trial_board.specs.Overlays.{neighbourhood_twice}
-use Rattle.read_rules.specs.declared.tree.Tree.TheVariants.{Stated}
 use Rattle.read_rules.specs.Candidates.{near_candidates, attacker_of, is_empty_beside, is_left}
-use Rattle.read_rules.specs.Stages.{is_wide_candidate}
+use Rattle.read_rules.specs.Stages.{is_wide_by_liberties}
 use Rattle.read_rules.proofs.StageLemmas.{has_liberty, wide_is}
 
 -- the liberties of t, on a position of the size of the trial position
@@ -27,16 +26,16 @@ its_liberties here s t libs size e = e ∙ ap (λ n. liberty_points n here.cells
 
 -- on a board of s rows, the empty neighbours of at most two liberties and what the attacker's plays leave, added to
 -- none, are the wide candidates of the stated tree
-pub stated_found : (here : BoardState) (s t p : ℕ) (libs none mid new : sets.FinSet nat_cmp) (attacker : Bool)
-    (c : Colour) → here.size ≡ s → libs ≡ liberty_points s here.cells t → none ≡ sets.empty
+pub stated_found : (here : BoardState) (s t p : ℕ) (libs none mid new : sets.FinSet nat_cmp) (c : Colour)
+    → here.size ≡ s → libs ≡ liberty_points s here.cells t → none ≡ sets.empty
     → c ≡ attacker_of (cell_at here.cells t)
     → sets.contains mid p
     ≡ (sets.contains none p || (ltb (sets.len libs) 3 && is_empty_beside s here.cells (sets.contains libs) p))
     → sets.contains new p
     ≡ (sets.contains mid p || any_below (s * s) (λ l. sets.contains libs l && is_left here c l p))
-    → sets.contains new p ≡ is_wide_candidate Stated attacker here t p
-stated_found here s t p libs none mid new attacker c size its empty colour beside left =
-    wide_is here t p libs (its_liberties here s t libs size its) attacker none c (sets.contains new p) empty colour
+    → sets.contains new p ≡ is_wide_by_liberties here t p
+stated_found here s t p libs none mid new c size its empty colour beside left =
+    wide_is here t p libs (its_liberties here s t libs size its) none c (sets.contains new p) empty colour
     (subst (λ n. sets.contains new p ≡ ((sets.contains none p
     || (ltb (sets.len libs) 3 && is_empty_beside n here.cells (sets.contains libs) p))
     || any_below (n * n) (λ l. sets.contains libs l && is_left here c l p))) (sym size)

@@ -1,6 +1,6 @@
 //! The candidates of a target by stages: those that every reading tries, and those of a wide ply.
 
-ghost use Rattle.std.specs.Prelude.{◌≡◌, ℕ, ◌*◌, ◌<◌, ◌&&◌, ◌||◌, Bool, IsTrue, nat_lt};
+ghost use Rattle.std.specs.Prelude.{◌≡◌, ℕ, ◌*◌, ◌<◌, ◌&&◌, ◌||◌, IsTrue, nat_lt};
 ghost use Rattle.std.specs.FinSet as set;
 ghost use Rattle.go_rules.specs.Below.{any_below};
 ghost use Rattle.go_rules.specs.Strings.{liberty_points};
@@ -9,14 +9,14 @@ ghost use Rattle.go_base.specs.Facts.{Agrees, AddsIn};
 ghost use Rattle.go_base.specs.Views.{neighbours_of};
 ghost use Rattle.trial_board.specs.Trials.{Stays, after};
 ghost use Rattle.read_rules.specs.Candidates.{attacker_of, is_empty_beside, is_candidate, near_candidates};
-ghost use Rattle.read_rules.specs.Stages.{is_wide_candidate};
+ghost use Rattle.read_rules.specs.Stages.{is_wide_by_liberties, is_wide_candidate};
 
 use crate::moves::add_backfilling;
 use go_base::points::PointSet;
 use go_base::size::Point;
 use go_base::surroundings::Surroundings;
 use go_base::{Cell, Colour, Look};
-use read_rules::Tree;
+use read_rules::{Tree, Turn};
 use trial_board::Trial;
 use wider_moves::further_candidates;
 use wider_moves::sides::add_sides_of;
@@ -60,9 +60,8 @@ fn stated_wide_candidates<L: Look>(
     requires liberties { (pos : BoardState) → Agrees (L.seen board.old.look) pos
         → liberties.now ≡ liberty_points pos.size (after pos board.old.moves).cells target }
     ensures stays { Stays L.shows L.seen board.old board.new }
-    ensures over { (pos : BoardState) → Agrees (L.seen board.new.look) pos → (attacker_to_play : Bool) (p : ℕ)
-        → set.contains result p
-        ≡ is_wide_candidate Tree.Stated attacker_to_play (after pos board.old.moves) target p }
+    ensures over { (pos : BoardState) → Agrees (L.seen board.new.look) pos → (p : ℕ)
+        → set.contains result p ≡ is_wide_by_liberties (after pos board.old.moves) target p }
     ensures near { (pos : BoardState) → Agrees (L.seen board.new.look) pos
         → AddsIn (L.seen board.old.look) (L.seen board.new.look)
         (near_candidates pos.size (after pos board.old.moves).cells target) }
@@ -74,26 +73,25 @@ fn stated_wide_candidates<L: Look>(
     found
 }
 
-/// The wide candidates of the wider tree: those of the stated one, and the further candidates.
+/// The wide candidates of the wider tree at the turn: those of the stated one, and the further candidates.
 fn wider_wide_candidates<L: Look>(
     board: &mut Trial<L>,
-    attacker_to_play: bool,
-    target: Point,
+    turn: Turn,
     liberties: &PointSet,
 ) -> PointSet
-    requires on_board { target < (L.shows board.old.look).size * (L.shows board.old.look).size }
+    requires on_board { turn.target < (L.shows board.old.look).size * (L.shows board.old.look).size }
+    requires tree { turn.tree ≡ Tree.Wider }
     requires liberties { (pos : BoardState) → Agrees (L.seen board.old.look) pos
-        → liberties.now ≡ liberty_points pos.size (after pos board.old.moves).cells target }
+        → liberties.now ≡ liberty_points pos.size (after pos board.old.moves).cells turn.target }
     ensures stays { Stays L.shows L.seen board.old board.new }
     ensures over { (pos : BoardState) → Agrees (L.seen board.new.look) pos → (p : ℕ)
-        → set.contains result p
-        ≡ is_wide_candidate Tree.Wider attacker_to_play (after pos board.old.moves) target p }
+        → set.contains result p ≡ is_wide_candidate turn (after pos board.old.moves) p }
     ensures near { (pos : BoardState) → Agrees (L.seen board.new.look) pos
         → AddsIn (L.seen board.old.look) (L.seen board.new.look)
-        (near_candidates pos.size (after pos board.old.moves).cells target) }
+        (near_candidates pos.size (after pos board.old.moves).cells turn.target) }
 {
-    let mut found = stated_wide_candidates(board, target, liberties);
-    let further = further_candidates(board, target, attacker_to_play, liberties);
+    let mut found = stated_wide_candidates(board, turn.target, liberties);
+    let further = further_candidates(board, turn.target, turn.attacker_to_play, liberties);
     found.join(&further);
     found
 }
@@ -104,60 +102,47 @@ fn wider_wide_candidates<L: Look>(
 ///
 /// The caller gives the target's liberties. The trial moves stay as they were, and no play is tried. After GNU Go
 /// Manual, "Tactical reading"; the choice of these points is this project's own.
-pub fn wide_candidates<L: Look>(
-    board: &mut Trial<L>,
-    tree: Tree,
-    attacker_to_play: bool,
-    target: Point,
-    liberties: &PointSet,
-) -> PointSet
-    requires on_board { target < (L.shows board.old.look).size * (L.shows board.old.look).size }
+pub fn wide_candidates<L: Look>(board: &mut Trial<L>, turn: Turn, liberties: &PointSet) -> PointSet
+    requires on_board { turn.target < (L.shows board.old.look).size * (L.shows board.old.look).size }
     requires liberties { (pos : BoardState) → Agrees (L.seen board.old.look) pos
-        → liberties.now ≡ liberty_points pos.size (after pos board.old.moves).cells target }
+        → liberties.now ≡ liberty_points pos.size (after pos board.old.moves).cells turn.target }
     ensures stays { Stays L.shows L.seen board.old board.new }
     ensures over { (pos : BoardState) → Agrees (L.seen board.new.look) pos → (p : ℕ)
-        → set.contains result p ≡ is_wide_candidate tree attacker_to_play (after pos board.old.moves) target p }
+        → set.contains result p ≡ is_wide_candidate turn (after pos board.old.moves) p }
     ensures near { (pos : BoardState) → Agrees (L.seen board.new.look) pos
         → AddsIn (L.seen board.old.look) (L.seen board.new.look)
-        (near_candidates pos.size (after pos board.old.moves).cells target) }
+        (near_candidates pos.size (after pos board.old.moves).cells turn.target) }
 {
-    match tree {
-        Tree::Stated => stated_wide_candidates(board, target, liberties),
-        Tree::Wider => wider_wide_candidates(board, attacker_to_play, target, liberties),
+    match turn.tree {
+        Tree::Stated => stated_wide_candidates(board, turn.target, liberties),
+        Tree::Wider => wider_wide_candidates(board, turn, liberties),
     }
 }
 
-/// The points that a reading tries for the string of the target, with `wide` wide plies left: its liberties, and the
-/// last liberty of each enemy string next to it; where a wide ply is left, also the `wide_candidates` of whose turn it
-/// is.
+/// The points that a reading tries at a turn: the liberties of the target, and the last liberty of each enemy string next
+/// to it; where a wide ply is left, also the `wide_candidates` of whose turn it is.
 ///
 /// The trial moves stay as they were. After GNU Go Manual, "Tactical reading"; the choice of these points is this
 /// project's own.
-pub fn candidates<L: Look>(
-    board: &mut Trial<L>,
-    tree: Tree,
-    attacker_to_play: bool,
-    target: Point,
-    wide: u8,
-) -> PointSet
-    requires on_board { target < (L.shows board.old.look).size * (L.shows board.old.look).size }
+pub fn candidates<L: Look>(board: &mut Trial<L>, turn: Turn) -> PointSet
+    requires on_board { turn.target < (L.shows board.old.look).size * (L.shows board.old.look).size }
     ensures stays { Stays L.shows L.seen board.old board.new }
     ensures over { (pos : BoardState) → Agrees (L.seen board.new.look) pos → (p : ℕ)
-        → set.contains result p ≡ is_candidate tree attacker_to_play (after pos board.old.moves) target wide p }
+        → set.contains result p ≡ is_candidate turn (after pos board.old.moves) p }
     ensures answer { (p : ℕ) → set.contains result p
-        ≡ is_candidate tree attacker_to_play (after (L.shows board.old.look) board.old.moves) target wide p }
+        ≡ is_candidate turn (after (L.shows board.old.look) board.old.moves) p }
     ensures near { (pos : BoardState) → Agrees (L.seen board.new.look) pos
         → AddsIn (L.seen board.old.look) (L.seen board.new.look)
-        (near_candidates pos.size (after pos board.old.moves).cells target) }
+        (near_candidates pos.size (after pos board.old.moves).cells turn.target) }
 {
     let Surroundings {
         liberties,
         last_liberties,
-    } = board.surroundings(target);
+    } = board.surroundings(turn.target);
     let mut found = last_liberties;
     found.join(&liberties);
-    if wide > 0 {
-        found.join(&wide_candidates(board, tree, attacker_to_play, target, &liberties));
+    if turn.wide > 0 {
+        found.join(&wide_candidates(board, turn, &liberties));
     }
     found
 }

@@ -9,15 +9,16 @@ use Rattle.std.proofs.lemmas.Bool.{cases_Bool, and_parts, and_from, or_parts, bo
 use Rattle.go_rules.specs.Board.{IsSize}
 use Rattle.go_rules.specs.Position.{BoardState}
 use Rattle.go_rules.specs.Strings.{liberties}
+use Rattle.read_rules.proofs.CandidateLaws.{candidate_on}
+use Rattle.read_rules.specs.Turns.{mover_of}
+use Rattle.read_rules.specs.Candidates.{is_candidate}
 use Rattle.read_rules.specs.declared.node.Node.{Node}
 use Rattle.read_rules.specs.declared.question.Spot.{Spot}
 use Rattle.read_rules.specs.declared.question.Spot.TheVariants.{At, Pass}
-use Rattle.read_rules.specs.Candidates.{is_candidate_at}
-use Rattle.read_rules.specs.GameTree.{is_captured, has_many_liberties, attacker_wins, child_of, mover_of}
+use Rattle.read_rules.specs.GameTree.{is_captured, has_many_liberties, attacker_wins, child_of}
 use Rattle.read_rules.specs.GameTree.{first_move}
 use Rattle.read_rules.specs.GoodMoves.{is_barred, good_move, IsOnBoard}
 use Rattle.read_rules.specs.Rules.{IsFirstMove}
-use Rattle.read_rules.proofs.CandidateLaws.{candidate_at_on}
 use Rattle.read_rules.proofs.RuleLemmas.{attacker_from, defender_gives, child_gives, child_from, first_move_gives}
 use Rattle.read_rules.proofs.WinLemmas.{wins-captured, wins-attacker_move, wins-defender_move}
 use Rattle.read_rules.proofs.LibertyLemmas.{child_free, play_size}
@@ -59,14 +60,14 @@ both_lists (x ∷ xs) ys first second = (first.0, both_lists xs ys first.1 secon
 
 -- what is so of the child after the pass and of each after a candidate is so of each child
 each_child_is : (P : Node × BoardState → Type 0) (node : Node) (pos : BoardState)
-    → (node.attacker_to_play ≡ false → P (passed node pos))
-    → ((p : ℕ) (child : Node × BoardState) → is_candidate_at node pos p ≡ true
+    → (node.turn.attacker_to_play ≡ false → P (passed node pos))
+    → ((p : ℕ) (child : Node × BoardState) → is_candidate node.turn pos p ≡ true
     → child_of node pos p ≡ Some child → P child)
     → AllByRecursion P (children_of node pos)
 unfolding children_of
 each_child_is P node pos by_pass by_play =
-    both_rows P (pass_children node pos) (play_children node pos) (by node.attacker_to_play by_pass)
-    (chosen_from (child_of node pos) (is_candidate_at node pos) P by_play (pos.size * pos.size) 0)
+    both_rows P (pass_children node pos) (play_children node pos) (by node.turn.attacker_to_play by_pass)
+    (chosen_from (child_of node pos) (is_candidate node.turn pos) P by_play (pos.size * pos.size) 0)
   where
     by : (turn : Bool) → (turn ≡ false → P (passed node pos)) → AllByRecursion P (cond turn [] (passed node pos ∷ []))
     by true h = tt
@@ -76,7 +77,7 @@ each_child_is P node pos by_pass by_play =
 module _ (s : ℕ) where
   -- the node's position is on this board, and its target too
   abbrev pub IsAt : Node × BoardState → Type 0
-  IsAt child = (child.1.size ≡ s) × (child.0.target < s * s)
+  IsAt child = (child.1.size ≡ s) × (child.0.turn.target < s * s)
 
   -- a play stays on the board
   play_at : (node : Node) (pos : BoardState) (p : ℕ) (child : Node × BoardState) → IsAt (node, pos)
@@ -84,17 +85,17 @@ module _ (s : ℕ) where
       → IsAt child
   play_at node pos p child here e =
       let w = child_free node pos p child.0 child.1 (child_gives node pos p child.0 child.1 e) in
-      let target : node.target ≡ child.0.target = sym (ap (λ (m : Node). m.target) w.2) in
-      (play_size pos (mover_of node) p child.1 w.1 ∙ here.0, subst (λ t. t < s * s) target here.1)
+      let target : node.turn.target ≡ child.0.turn.target = sym (ap (λ (m : Node). m.turn.target) w.2) in
+      (play_size pos (mover_of node.turn) p child.1 w.1 ∙ here.0, subst (λ t. t < s * s) target here.1)
 
   -- a move too
   move_at : (node : Node) (pos : BoardState) (spot : Spot) (child : Node × BoardState) → IsAt (node, pos)
       → child_after node pos spot ≡ Some child → IsAt child
   unfolding child_after
   move_at node pos (At p) child here e =
-      play_at node pos p child here (made_by (is_candidate_at node pos p) (child_of node pos p) child e).1
+      play_at node pos p child here (made_by (is_candidate node.turn pos p) (child_of node pos p) child e).1
   move_at node pos Pass child here e =
-      subst IsAt (passed_by node.attacker_to_play (passed node pos) child e).1 here
+      subst IsAt (passed_by node.turn.attacker_to_play (passed node pos) child e).1 here
 
   -- and each move
   each_at : (node : Node) (pos : BoardState) → IsAt (node, pos) → AllByRecursion IsAt (children_of node pos)
@@ -118,34 +119,34 @@ wanted_turn false false e = refl
 module _ (n : ℕ) (won : Bool) (node : Node) (pos : BoardState) (so : attacker_wins (suc n) node pos ≡ won)
     (hidden : is_settled (suc n) won node pos ≡ false) where
   -- the target stands
-  target_stands : is_captured pos node.target ≡ false
+  target_stands : is_captured pos node.turn.target ≡ false
   unfolding is_settled
   target_stands = by won so hidden
     where
       by : (won : Bool) → attacker_wins (suc n) node pos ≡ won → is_settled (suc n) won node pos ≡ false
-          → is_captured pos node.target ≡ false
+          → is_captured pos node.turn.target ≡ false
       by true so hidden = hidden
-      by false so hidden = elim (cases_Bool (is_captured pos node.target)) [
+      by false so hidden = elim (cases_Bool (is_captured pos node.turn.target)) [
         | inr stands ↦ stands
         | inl captured ↦ absurd (both_ways (attacker_wins (suc n) node pos) so
             (wins-captured (suc n) node pos captured))
       ]
 
   -- at the attacker's turn it has not too many liberties
-  few_liberties : won ≡ false → node.attacker_to_play ≡ true → has_many_liberties node.tree pos node.target node.wide
+  few_liberties : won ≡ false → node.turn.attacker_to_play ≡ true → has_many_liberties node.turn pos
       ≡ false
   unfolding is_settled has_too_many
   few_liberties lost turn =
-      let l = liberties pos.size pos.cells node.target in
+      let l = liberties pos.size pos.cells node.turn.target in
       let stands = target_stands in
       let over = eqb (suc n) 0 || has_too_many (suc n) node pos in
       let not_over : over ≡ false =
       sym (ap (λ b. not b && over) stands)
-      ∙ sym (ap (λ w. cond w (is_captured pos node.target) (not (is_captured pos node.target) && over)) lost)
+      ∙ sym (ap (λ w. cond w (is_captured pos node.turn.target) (not (is_captured pos node.turn.target) && over)) lost)
       ∙ hidden in
       let not_many = (or_parts (eqb (suc n) 0) (has_too_many (suc n) node pos) not_over).1 in
-      (or_parts (ltb ((suc n + 1) / 2) l) (has_many_liberties node.tree pos node.target node.wide)
-      (sym (ap (λ b. cond b (ltb ((suc n + 1) / 2) l || has_many_liberties node.tree pos node.target node.wide)
+      (or_parts (ltb ((suc n + 1) / 2) l) (has_many_liberties node.turn pos)
+      (sym (ap (λ b. cond b (ltb ((suc n + 1) / 2) l || has_many_liberties node.turn pos)
       (ltb (suc n / 2) l)) turn) ∙ not_many)).1
 
   -- where it is not what the side to play wants, it is so at each child
@@ -161,13 +162,13 @@ module _ (n : ℕ) (won : Bool) (node : Node) (pos : BoardState) (so : attacker_
       by : (w : Bool) → won ≡ w → attacker_wins (suc n) node pos ≡ w → is_wanted w node ≡ false
           → AllByRecursion (IsSo n w) (children_of node pos)
       by true is so wanted =
-          let all = defender_gives n node pos target_stands (turn_of true node.attacker_to_play wanted)
+          let all = defender_gives n node pos target_stands (turn_of true node.turn.attacker_to_play wanted)
           (ap (λ m. attacker_wins m node pos) (add-one n) ∙ so) in
           each_child_is (IsSo n true) node pos (λ turn. all.passed)
           (λ p child chosen e. all.played p child.0 child.1 chosen (child_gives node pos p child.0 child.1 e))
       by false is so wanted =
-          let turn = turn_of false node.attacker_to_play wanted in
-          each_child_is (IsSo n false) node pos (λ other. absurd (both_ways node.attacker_to_play other turn))
+          let turn = turn_of false node.turn.attacker_to_play wanted in
+          each_child_is (IsSo n false) node pos (λ other. absurd (both_ways node.turn.attacker_to_play other turn))
           (λ p child chosen e. elim (cases_Bool (attacker_wins n child.0 child.1)) [
             | inr lost ↦ lost
             | inl wins ↦ absurd (both_ways (attacker_wins (suc n) node pos) so
@@ -189,7 +190,7 @@ module _ (n : ℕ) (won : Bool) (node : Node) (pos : BoardState) (so : attacker_
     spot : Spot
     child : Node × BoardState
     is_first : first_move n node pos ≡ Some spot
-    few : (node.attacker_to_play && has_many_liberties node.tree pos node.target node.wide) ≡ false
+    few : (node.turn.attacker_to_play && has_many_liberties node.turn pos) ≡ false
     leads : child_after node pos spot ≡ Some child
     claim : IsSo n won child
 
@@ -216,10 +217,10 @@ module _ (n : ℕ) (won : Bool) (node : Node) (pos : BoardState) (so : attacker_
           → is_some (good_move n node pos) ≡ true
       by true so wanted = ap (λ m. is_some (good_move m node pos)) ply
           ∙ sym (wins-attacker_move (suc n) node pos target_stands (λ e. cc)
-          (wanted_turn true node.attacker_to_play wanted)) ∙ so
+          (wanted_turn true node.turn.attacker_to_play wanted)) ∙ so
       by false so wanted = some_not (good_move n node pos) (ap (λ m. is_none (good_move m node pos)) ply
           ∙ sym (wins-defender_move (suc n) node pos target_stands (λ e. cc)
-          (wanted_turn false node.attacker_to_play wanted)) ∙ so)
+          (wanted_turn false node.turn.attacker_to_play wanted)) ∙ so)
 
   -- the move of a side that wants the claim leads to a child with the claim
   first_leads : is_wanted won node ≡ true → First
@@ -242,14 +243,14 @@ module _ (n : ℕ) (won : Bool) (node : Node) (pos : BoardState) (so : attacker_
             (it.next, it.new),
             sym (after_candidate node pos p (Some (it.next, it.new)) it.candidate
                 (sym (child_from node pos p it.next it.new it.child))),
-            it.outcome ∙ wanted_turn won node.attacker_to_play wanted,
+            it.outcome ∙ wanted_turn won node.turn.attacker_to_play wanted,
           )
       leads_to Pass move =
           let parts = and_parts _ _ move in
-          let turn = not-true node.attacker_to_play parts.0 in (
+          let turn = not-true node.turn.attacker_to_play parts.0 in (
             passed node pos,
             sym (after_pass node pos turn),
-            not-true _ parts.1 ∙ sym turn ∙ wanted_turn won node.attacker_to_play wanted,
+            not-true _ parts.1 ∙ sym turn ∙ wanted_turn won node.turn.attacker_to_play wanted,
           )
 
 -- The words of the first proof, by what it begins with.
@@ -292,8 +293,8 @@ begins_with_first n won node pos so hidden wanted =
 
 -- a move may prove what the side to play wants where the target stands and the attacker may play at it
 move_may : (won : Bool) (node : Node) (pos : BoardState) → is_wanted won node ≡ true
-    → is_captured pos node.target ≡ false
-    → (node.attacker_to_play && has_many_liberties node.tree pos node.target node.wide) ≡ false
+    → is_captured pos node.turn.target ≡ false
+    → (node.turn.attacker_to_play && has_many_liberties node.turn pos) ≡ false
     → move_may_prove won node pos ≡ true
 unfolding move_may_prove
 move_may won node pos wanted stands few =
@@ -301,7 +302,7 @@ move_may won node pos wanted stands few =
 
 -- all moves may prove what it does not want where the target stands
 each_may : (won : Bool) (node : Node) (pos : BoardState) → is_wanted won node ≡ false
-    → is_captured pos node.target ≡ false → each_may_prove won node pos ≡ true
+    → is_captured pos node.turn.target ≡ false → each_may_prove won node pos ≡ true
 unfolding each_may_prove
 each_may won node pos wanted stands = and_from _ _ (not_from_false _ wanted) (not_from_false _ stands)
 
@@ -316,8 +317,8 @@ module _ (s : ℕ) (size : IsSize s) where
       → child_after node pos spot ≡ Some child → IsOnBoard s spot
   unfolding child_after
   spot_on node pos (At p) child here e =
-      subst (λ r. p < r * r) here.0 (candidate_at_on node pos p
-      (made_by (is_candidate_at node pos p) (child_of node pos p) child e).0)
+      subst (λ r. p < r * r) here.0 (candidate_on node.turn pos p
+      (made_by (is_candidate node.turn pos p) (child_of node pos p) child e).0)
   spot_on node pos Pass child here e = tt
 
   -- the first proofs with n plies left prove what is so, whatever stands behind them
@@ -390,7 +391,7 @@ module _ (s : ℕ) (size : IsSize s) where
   pub first_on : (n : ℕ) (node : Node) (pos : BoardState) (spot : Spot) → IsAt s (node, pos)
       → IsFirstMove n node pos spot → IsOnBoard s spot
   first_on n node pos (At p) here move =
-      subst (λ r. p < r * r) here.0 (candidate_at_on node pos p move.succeeds.candidate)
+      subst (λ r. p < r * r) here.0 (candidate_on node.turn pos p move.succeeds.candidate)
   first_on n node pos Pass here move = tt
 
   -- the word of the first move and those of the proof behind it are words

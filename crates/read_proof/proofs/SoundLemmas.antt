@@ -8,17 +8,19 @@ use Rattle.std.proofs.lemmas.Bool.{cases_Bool, cases_eq, and_parts, or_cases, bo
 use Rattle.std.proofs.lemmas.Bool.{not-true}
 use Rattle.go_rules.specs.Position.{BoardState}
 use Rattle.go_rules.specs.Strings.{liberties}
+use Rattle.read_rules.proofs.CandidateLaws.{candidate_on}
+use Rattle.read_rules.specs.Turns.{mover_of}
+use Rattle.read_rules.specs.Candidates.{is_candidate}
 use Rattle.read_rules.specs.declared.node.Node.{Node}
 use Rattle.read_rules.specs.declared.question.Spot.{Spot}
 use Rattle.read_rules.specs.declared.question.Spot.TheVariants.{At, Pass}
-use Rattle.read_rules.specs.Candidates.{is_candidate_at, candidates_of}
-use Rattle.read_rules.specs.GameTree.{is_captured, has_many_liberties, attacker_wins, child_of, mover_of}
+use Rattle.read_rules.specs.Candidates.{candidates_of}
+use Rattle.read_rules.specs.GameTree.{is_captured, has_many_liberties, attacker_wins, child_of}
 use Rattle.read_rules.specs.Rules.{IsChild, EachChildWins}
-use Rattle.read_rules.proofs.CandidateLaws.{candidate_at_on}
 use Rattle.read_rules.proofs.RuleLemmas.{attacker_gives, attacker_from, defender_gives, defender_from, child_gives}
 use Rattle.read_rules.proofs.RuleLemmas.{child_from, many_gives}
 use Rattle.read_rules.proofs.WinLemmas.{wins-captured, wins-no_plies}
-use Rattle.read_rules.specs.Bound.{outlasts}
+use Rattle.read_rules.specs.Bound.{outlasts, outlasts_at}
 use Rattle.read_rules.proofs.LibertyLemmas.{bounded, to_attacker, to_defender, many_outlast, child_free, play_size}
 use Rattle.read_proof.specs.declared.token.Token.{Token}
 use Rattle.read_proof.specs.declared.token.Token.TheVariants.{Settled, Move, Each}
@@ -29,25 +31,25 @@ use Rattle.read_proof.specs.Proves.{pass_children, play_children, children_of, a
 
 -- a target with too many liberties for the plies outlasts them
 too_many_outlast : (n : ℕ) (node : Node) (pos : BoardState) → has_too_many n node pos ≡ true
-    → outlasts node.tree node.attacker_to_play n node.wide (liberties pos.size pos.cells node.target) ≡ true
+    → outlasts_at node.turn n (liberties pos.size pos.cells node.turn.target) ≡ true
 unfolding has_too_many
 too_many_outlast n node pos h =
-    let l = liberties pos.size pos.cells node.target in
-    let many = has_many_liberties node.tree pos node.target node.wide in
-    elim (cases_Bool node.attacker_to_play) [
-      | inl t ↦ ap (λ b. outlasts node.tree b n node.wide l) t
+    let l = liberties pos.size pos.cells node.turn.target in
+    let many = has_many_liberties node.turn pos in
+    elim (cases_Bool node.turn.attacker_to_play) [
+      | inl t ↦ ap (λ b. outlasts node.turn.tree b n node.turn.wide l) t
           ∙ elim (or_cases _ _ (sym (ap (λ b. cond b (ltb ((n + 1) / 2) l || many) (ltb (n / 2) l)) t) ∙ h)) [
-            | inl more ↦ to_attacker node.tree n node.wide l (inl (ltb-true _ _ more))
-            | inr much ↦ many_outlast node.tree n node.wide pos node.target
-                (many_gives node.tree pos node.target node.wide much)
+            | inl more ↦ to_attacker node.turn.tree n node.turn.wide l (inl (ltb-true _ _ more))
+            | inr much ↦ many_outlast node.turn n pos
+                (many_gives node.turn pos much)
           ]
-      | inr f ↦ ap (λ b. outlasts node.tree b n node.wide l) f
-          ∙ to_defender node.tree n node.wide l (inl (ltb-true _ _
+      | inr f ↦ ap (λ b. outlasts node.turn.tree b n node.turn.wide l) f
+          ∙ to_defender node.turn.tree n node.turn.wide l (inl (ltb-true _ _
           (sym (ap (λ b. cond b (ltb ((n + 1) / 2) l || many) (ltb (n / 2) l)) f) ∙ h)))
     ]
 
 -- what is settled is so
-settled_sound : (n : ℕ) (won : Bool) (node : Node) (pos : BoardState) → node.target < pos.size * pos.size
+settled_sound : (n : ℕ) (won : Bool) (node : Node) (pos : BoardState) → node.turn.target < pos.size * pos.size
     → is_settled n won node pos ≡ true → attacker_wins n node pos ≡ won
 unfolding is_settled
 settled_sound n true node pos on h = wins-captured n node pos h
@@ -60,23 +62,23 @@ settled_sound n false node pos on h =
 
 -- the target of a node is on the board of its position
 abbrev pub IsOn : Node × BoardState → Type 0
-IsOn child = child.0.target < child.1.size * child.1.size
+IsOn child = child.0.turn.target < child.1.size * child.1.size
 
 -- the target stays on the board at a child after a play
 pub played_on_board : (node : Node) (pos : BoardState) (p : ℕ) (child : Node × BoardState)
-    → node.target < pos.size * pos.size
+    → node.turn.target < pos.size * pos.size
     → child_of node pos p ≡ Some child → IsOn child
 played_on_board node pos p child on e =
     let w = child_free node pos p child.0 child.1 (child_gives node pos p child.0 child.1 e) in
-    let size = play_size pos (mover_of node) p child.1 w.1 in
-    let target : node.target ≡ child.0.target = sym (ap (λ (m : Node). m.target) w.2) in
-    subst (λ t. t < child.1.size * child.1.size) target (subst (λ s. node.target < s * s) (sym size) on)
+    let size = play_size pos (mover_of node.turn) p child.1 w.1 in
+    let target : node.turn.target ≡ child.0.turn.target = sym (ap (λ (m : Node). m.turn.target) w.2) in
+    subst (λ t. t < child.1.size * child.1.size) target (subst (λ s. node.turn.target < s * s) (sym size) on)
 
 -- The claim, with n plies left.
 module _ (n : ℕ) (won : Bool) where
   -- what is proved with n plies left is so
   abbrev pub IsSound : Type 0
-  IsSound = (node : Node) (pos : BoardState) (words left : List Word) → node.target < pos.size * pos.size
+  IsSound = (node : Node) (pos : BoardState) (words left : List Word) → node.turn.target < pos.size * pos.size
       → proves n won node pos words ≡ Some left → attacker_wins n node pos ≡ won
 
   -- the claim is so at the child
@@ -154,13 +156,13 @@ each_row P [] ys all = (tt, all)
 each_row P (x ∷ xs) ys all = let rest = each_row P xs ys all.1 in ((all.0, rest.0), rest.1)
 
 -- the target of each child is on the board
-children_on_board : (node : Node) (pos : BoardState) → node.target < pos.size * pos.size
+children_on_board : (node : Node) (pos : BoardState) → node.turn.target < pos.size * pos.size
     → AllByRecursion IsOn (children_of node pos)
 unfolding children_of
 children_on_board node pos on =
-    both_rows IsOn (pass_children node pos) (play_children node pos) (by node.attacker_to_play)
+    both_rows IsOn (pass_children node pos) (play_children node pos) (by node.turn.attacker_to_play)
     (plays_from (child_of node pos) IsOn (λ p child e. played_on_board node pos p child on e)
-    (candidates_of node pos))
+    (candidates_of node.turn pos))
   where
     by : (turn : Bool) → AllByRecursion IsOn (cond turn [] (passed node pos ∷ []))
     by true = tt
@@ -169,21 +171,21 @@ children_on_board node pos on =
 module _ (P : Node × BoardState → Type 0) (node : Node) (pos : BoardState)
     (all : AllByRecursion P (children_of node pos)) where
   -- what holds of each child holds of that after the defender's pass
-  pass_holds : node.attacker_to_play ≡ false → P (passed node pos)
+  pass_holds : node.turn.attacker_to_play ≡ false → P (passed node pos)
   unfolding children_of
-  pass_holds turn = by node.attacker_to_play turn (each_row P (pass_children node pos) (play_children node pos) all).0
+  pass_holds turn = by node.turn.attacker_to_play turn (each_row P (pass_children node pos) (play_children node pos) all).0
     where
       by : (turn : Bool) → turn ≡ false → AllByRecursion P (cond turn [] (passed node pos ∷ [])) → P (passed node pos)
       by true e row = absurd (let w = e in cc)
       by false e row = row.0
 
   -- and of that after each candidate that can be played
-  play_holds : (p : ℕ) (next : Node) (new : BoardState) → is_candidate_at node pos p ≡ true
+  play_holds : (p : ℕ) (next : Node) (new : BoardState) → is_candidate node.turn pos p ≡ true
       → IsChild node pos p next new → P (next, new)
   unfolding children_of
   play_holds p next new candidate child =
-      let on = candidate_at_on node pos p candidate in
-      plays_give (child_of node pos) (is_candidate_at node pos) P (pos.size * pos.size) 0 p (next, new)
+      let on = candidate_on node.turn pos p candidate in
+      plays_give (child_of node pos) (is_candidate node.turn pos) P (pos.size * pos.size) 0 p (next, new)
       (each_row P (pass_children node pos) (play_children node pos) all).1 (omega arith) (omega arith) candidate
       (child_from node pos p next new child)
 
@@ -204,24 +206,24 @@ won_after : (n : ℕ) (node : Node) (pos : BoardState) (spot : Spot) (child : No
     → child_after node pos spot ≡ Some child → EachChildWins n node pos → attacker_wins n child.0 child.1 ≡ true
 unfolding child_after
 won_after n node pos (At p) child e all =
-    let made = made_by (is_candidate_at node pos p) (child_of node pos p) child e in
+    let made = made_by (is_candidate node.turn pos p) (child_of node pos p) child e in
     all.played p child.0 child.1 made.0 (child_gives node pos p child.0 child.1 made.1)
 won_after n node pos Pass child e all =
-    let same = passed_by node.attacker_to_play (passed node pos) child e in
+    let same = passed_by node.turn.attacker_to_play (passed node pos) child e in
     subst (λ (c : Node × BoardState). attacker_wins n c.0 c.1 ≡ true) same.1 all.passed
 
 -- the target is on the board at the child after a move
 after_on_board : (node : Node) (pos : BoardState) (spot : Spot) (child : Node × BoardState)
-    → node.target < pos.size * pos.size → child_after node pos spot ≡ Some child → IsOn child
+    → node.turn.target < pos.size * pos.size → child_after node pos spot ≡ Some child → IsOn child
 unfolding child_after
 after_on_board node pos (At p) child on e =
     played_on_board node pos p child on
-    (made_by (is_candidate_at node pos p) (child_of node pos p) child e).1
+    (made_by (is_candidate node.turn pos p) (child_of node pos p) child e).1
 after_on_board node pos Pass child on e =
-    subst IsOn (passed_by node.attacker_to_play (passed node pos) child e).1 on
+    subst IsOn (passed_by node.turn.attacker_to_play (passed node pos) child e).1 on
 
 -- The claim at a node whose target stands, with one ply more than is left at its children.
-module _ (n : ℕ) (node : Node) (pos : BoardState) (stands : is_captured pos node.target ≡ false) where
+module _ (n : ℕ) (node : Node) (pos : BoardState) (stands : is_captured pos node.turn.target ≡ false) where
   -- the sum of the definitions is the next number
   more : (b : Bool) → attacker_wins (n + 1) node pos ≡ b → attacker_wins (suc n) node pos ≡ b
   more b h = sym (ap (λ m. attacker_wins m node pos) (add-one n)) ∙ h
@@ -234,7 +236,7 @@ module _ (n : ℕ) (node : Node) (pos : BoardState) (stands : is_captured pos no
   each_decides : (won : Bool) → is_wanted won node ≡ false → AllByRecursion (IsSo n won) (children_of node pos)
       → attacker_wins (suc n) node pos ≡ won
   each_decides true movers all =
-      let turn = attackers_turn node.attacker_to_play movers in
+      let turn = attackers_turn node.turn.attacker_to_play movers in
       more true (defender_from n node pos stands turn (record {
         passed = pass_holds (IsSo n true) node pos all turn;
         played = λ p next new candidate child. play_holds (IsSo n true) node pos all p next new candidate child;
@@ -244,7 +246,7 @@ module _ (n : ℕ) (node : Node) (pos : BoardState) (stands : is_captured pos no
       attackers_turn true e = absurd (let w = e in cc)
       attackers_turn false e = refl
   each_decides false movers all =
-      let turn = defenders_turn node.attacker_to_play movers in
+      let turn = defenders_turn node.turn.attacker_to_play movers in
       elim (cases_Bool (attacker_wins (suc n) node pos)) [
         | inr lost ↦ lost
         | inl wins ↦
@@ -260,14 +262,14 @@ module _ (n : ℕ) (node : Node) (pos : BoardState) (stands : is_captured pos no
 
   -- where the child after one of its moves has the claim that the side to play wants, so has the node
   move_decides : (won : Bool) (spot : Spot) (child : Node × BoardState) → is_wanted won node ≡ true
-      → (node.attacker_to_play && has_many_liberties node.tree pos node.target node.wide) ≡ false
+      → (node.turn.attacker_to_play && has_many_liberties node.turn pos) ≡ false
       → child_after node pos spot ≡ Some child → IsSo n won child → attacker_wins (suc n) node pos ≡ won
   unfolding child_after
   move_decides true (At p) child movers few e so =
-      let turn = attackers_turn node.attacker_to_play movers in
-      let made = made_by (is_candidate_at node pos p) (child_of node pos p) child e in
+      let turn = attackers_turn node.turn.attacker_to_play movers in
+      let made = made_by (is_candidate node.turn pos p) (child_of node pos p) child e in
       more true (attacker_from n node pos stands turn (
-        sym (ap (λ b. b && has_many_liberties node.tree pos node.target node.wide) turn) ∙ few,
+        sym (ap (λ b. b && has_many_liberties node.turn pos) turn) ∙ few,
         record {
           point = p;
           next = child.0;
@@ -282,13 +284,13 @@ module _ (n : ℕ) (node : Node) (pos : BoardState) (stands : is_captured pos no
       attackers_turn true e = refl
       attackers_turn false e = absurd (let w = e in cc)
   move_decides true Pass child movers few e so =
-      absurd (no_turn node.attacker_to_play movers (passed_by node.attacker_to_play (passed node pos) child e).0)
+      absurd (no_turn node.turn.attacker_to_play movers (passed_by node.turn.attacker_to_play (passed node pos) child e).0)
     where
       no_turn : (turn : Bool) → cond turn true false ≡ true → turn ≡ false → ⊥
       no_turn true m e = let w = e in cc
       no_turn false m e = let w = m in cc
   move_decides false spot child movers few e so =
-      let turn = defenders_turn node.attacker_to_play movers in
+      let turn = defenders_turn node.turn.attacker_to_play movers in
       elim (cases_Bool (attacker_wins (suc n) node pos)) [
         | inr lost ↦ lost
         | inl wins ↦ absurd (both_ways (attacker_wins n child.0 child.1) so
@@ -325,8 +327,8 @@ child_there prove (Some child) words left e = (child, refl, e)
 
 -- a move that may prove the claim is of the side that wants it, the target stands, and the attacker may play at it
 may_move_parts : (won : Bool) (node : Node) (pos : BoardState) → move_may_prove won node pos ≡ true
-    → (is_wanted won node ≡ true) × (is_captured pos node.target ≡ false)
-    × ((node.attacker_to_play && has_many_liberties node.tree pos node.target node.wide) ≡ false)
+    → (is_wanted won node ≡ true) × (is_captured pos node.turn.target ≡ false)
+    × ((node.turn.attacker_to_play && has_many_liberties node.turn pos) ≡ false)
 unfolding move_may_prove
 may_move_parts won node pos h =
     let parts = and_parts _ _ h in
@@ -335,7 +337,7 @@ may_move_parts won node pos h =
 
 -- all moves that may prove the claim are of the side that does not want it, and the target stands
 may_each_parts : (won : Bool) (node : Node) (pos : BoardState) → each_may_prove won node pos ≡ true
-    → (is_wanted won node ≡ false) × (is_captured pos node.target ≡ false)
+    → (is_wanted won node ≡ false) × (is_captured pos node.turn.target ≡ false)
 unfolding each_may_prove
 may_each_parts won node pos h = let parts = and_parts _ _ h in (not-true _ parts.0, not-true _ parts.1)
 

@@ -7,7 +7,8 @@ use Rattle.std.specs.Option.{option_and_then}
 use Rattle.go_rules.specs.Position.{BoardState}
 use Rattle.go_rules.specs.Play.{pass}
 use Rattle.go_rules.specs.Strings.{liberties}
-use Rattle.read_rules.specs.Candidates.{is_candidate_at, candidates_of}
+use Rattle.read_rules.specs.Candidates.{is_candidate}
+use Rattle.read_rules.specs.Candidates.{candidates_of}
 use Rattle.read_rules.specs.GameTree.{is_captured, has_many_liberties, child_of, next_node, allowance_of}
 use Rattle.read_rules.specs.declared.node.Node.{Node}
 use Rattle.read_rules.specs.declared.question.Spot.{Spot}
@@ -19,30 +20,30 @@ use Rattle.read_proof.specs.Tokens.{Word, token_of}
 -- the target has more liberties than the attacker can fill with n plies left, or than he may play at
 unfoldable pub has_too_many : ℕ → Node → BoardState → Bool
 has_too_many n node pos =
-    if node.attacker_to_play then nat_lt ((n + 1) / 2) (liberties pos.size pos.cells node.target)
-    || has_many_liberties node.tree pos node.target node.wide
-    else nat_lt (n / 2) (liberties pos.size pos.cells node.target)
+    if node.turn.attacker_to_play then nat_lt ((n + 1) / 2) (liberties pos.size pos.cells node.turn.target)
+    || has_many_liberties node.turn pos
+    else nat_lt (n / 2) (liberties pos.size pos.cells node.turn.target)
 
 -- the claim is settled at the node with n plies left: the target is captured; or it stands, and no ply is left or it
 -- has too many liberties
 unfoldable pub is_settled : ℕ → Bool → Node → BoardState → Bool
 is_settled n won node pos =
-    if won then is_captured pos node.target else not (is_captured pos node.target)
+    if won then is_captured pos node.turn.target else not (is_captured pos node.turn.target)
     && ((n == 0) || has_too_many n node pos)
 
 -- the claim is what the side to play wants: that the attacker wins, at his turn, or that he does not, at the defender's
 abbrev pub is_wanted : Bool → Node → Bool
-is_wanted won node = if node.attacker_to_play then won else not won
+is_wanted won node = if node.turn.attacker_to_play then won else not won
 
 -- one move may prove the claim: it is what the side to play wants, the target stands, and the attacker may play at it
 unfoldable pub move_may_prove : Bool → Node → BoardState → Bool
 move_may_prove won node pos =
-    is_wanted won node && not (is_captured pos node.target)
-    && not (node.attacker_to_play && has_many_liberties node.tree pos node.target node.wide)
+    is_wanted won node && not (is_captured pos node.turn.target)
+    && not (node.turn.attacker_to_play && has_many_liberties node.turn pos)
 
 -- all moves together may prove the claim: it is not what the side to play wants, and the target stands
 unfoldable pub each_may_prove : Bool → Node → BoardState → Bool
-each_may_prove won node pos = not (is_wanted won node) && not (is_captured pos node.target)
+each_may_prove won node pos = not (is_wanted won node) && not (is_captured pos node.turn.target)
 
 -- the child to which the defender's pass leads
 abbrev pub passed : Node → BoardState → Node × BoardState
@@ -51,16 +52,16 @@ passed node pos = (next_node node (allowance_of node), pass pos)
 -- the child to which a move of the side to play leads, where it is one: a candidate that can be played, or the
 -- defender's pass
 unfoldable pub child_after : Node → BoardState → Spot → Option (Node × BoardState)
-child_after node pos (At p) = if is_candidate_at node pos p then child_of node pos p else None
-child_after node pos Pass = if node.attacker_to_play then None else Some (passed node pos)
+child_after node pos (At p) = if is_candidate node.turn pos p then child_of node pos p else None
+child_after node pos Pass = if node.turn.attacker_to_play then None else Some (passed node pos)
 
 -- the child after the defender's pass; none at the attacker's turn
 abbrev pub pass_children : Node → BoardState → List (Node × BoardState)
-pass_children node pos = if node.attacker_to_play then [] else passed node pos ∷ []
+pass_children node pos = if node.turn.attacker_to_play then [] else passed node pos ∷ []
 
 -- the children after the candidates that can be played, in reading order
 abbrev pub play_children : Node → BoardState → List (Node × BoardState)
-play_children node pos = filter_map (child_of node pos) (candidates_of node pos)
+play_children node pos = filter_map (child_of node pos) (candidates_of node.turn pos)
 
 -- the children of the node: that after the defender's pass first, and then those after the candidates
 unfoldable pub children_of : Node → BoardState → List (Node × BoardState)

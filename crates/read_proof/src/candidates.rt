@@ -1,4 +1,4 @@
-//! The candidates at a node, found by going over the points of the board.
+//! The candidates at a turn, found by going over the points of the board.
 
 ghost use Rattle.std.specs.Prelude.{◌≡◌, ℕ, ◌*◌, ◌<◌, ◌==◌, ◌&&◌, ◌||◌, Bool, false, IsTrue, nat_lt, MatchOption};
 ghost use Rattle.std.specs.FinSet as set;
@@ -6,15 +6,15 @@ ghost use Rattle.go_rules.specs.Below.{any_below};
 ghost use Rattle.go_rules.specs.Board.{largest_points};
 ghost use Rattle.go_rules.specs.Strings.{liberty_points};
 ghost use Rattle.go_base.specs.Surroundings.{is_only_liberty, is_last_liberty_of_enemy};
-ghost use Rattle.read_rules.specs.Candidates.{attacker_of, is_empty_beside, is_left, is_candidate_at};
-ghost use Rattle.read_rules.specs.Stages.{is_wide_candidate};
+ghost use Rattle.read_rules.specs.Candidates.{attacker_of, is_empty_beside, is_left, is_candidate};
+ghost use Rattle.read_rules.specs.Stages.{is_wide_by_liberties, is_wide_candidate};
 ghost use Rattle.read_rules.specs.Trees.{is_wider};
 
 use crate::beside::{add_where, beside};
 use crate::further::further_candidates;
 use go_base::surroundings::{Surroundings, surroundings_of};
 use go_base::{Cell, Colour, Point, PointSet, Position};
-use read_rules::{Node, Tree};
+use read_rules::{Tree, Turn};
 
 /// How many liberties a string in atari has.
 const IN_ATARI: u16 = 1;
@@ -100,8 +100,7 @@ fn attacker_of(cell: Cell) -> Colour
 fn stated_candidates(pos: &Position, target: Point, liberties: &PointSet) -> PointSet
     requires on_board { target < pos.now.size * pos.now.size }
     requires liberties { liberties.now ≡ liberty_points pos.now.size pos.now.cells target }
-    ensures { (attacker_to_play : Bool) → (p : ℕ)
-        → set.contains result p ≡ is_wide_candidate Tree.Stated attacker_to_play pos.now target p }
+    ensures { (p : ℕ) → set.contains result p ≡ is_wide_by_liberties pos.now target p }
 {
     let mut found = beside_few(pos, liberties);
     add_backfilling(pos, attacker_of(pos.cell(target)), liberties, &mut found);
@@ -118,43 +117,42 @@ fn is_wider(tree: Tree) -> bool
     }
 }
 
-/// The candidates at the node that are tried only where a wide ply is left; the target's liberties are handed in.
-fn wide_candidates(pos: &Position, node: Node, liberties: &PointSet) -> PointSet
-    requires on_board { node.target < pos.now.size * pos.now.size }
-    requires liberties { liberties.now ≡ liberty_points pos.now.size pos.now.cells node.target }
-    ensures { (p : ℕ) → set.contains result p
-        ≡ is_wide_candidate node.tree node.attacker_to_play pos.now node.target p }
+/// The candidates at the turn that are tried only where a wide ply is left; the target's liberties are handed in.
+fn wide_candidates(pos: &Position, turn: Turn, liberties: &PointSet) -> PointSet
+    requires on_board { turn.target < pos.now.size * pos.now.size }
+    requires liberties { liberties.now ≡ liberty_points pos.now.size pos.now.cells turn.target }
+    ensures { (p : ℕ) → set.contains result p ≡ is_wide_candidate turn pos.now p }
 {
-    let mut found = stated_candidates(pos, node.target, liberties);
-    if is_wider(node.tree) {
-        found.join(&further_candidates(pos, node.attacker_to_play, node.target, liberties));
+    let mut found = stated_candidates(pos, turn.target, liberties);
+    if is_wider(turn.tree) {
+        found.join(&further_candidates(pos, turn.attacker_to_play, turn.target, liberties));
     }
     found
 }
 
-/// The candidates at the node.
-pub fn candidates(pos: &Position, node: Node) -> PointSet
-    requires { node.target < pos.now.size * pos.now.size }
-    ensures value { (p : ℕ) → set.contains result p ≡ is_candidate_at node pos.now p }
+/// The candidates at the turn.
+pub fn candidates(pos: &Position, turn: Turn) -> PointSet
+    requires { turn.target < pos.now.size * pos.now.size }
+    ensures value { (p : ℕ) → set.contains result p ≡ is_candidate turn pos.now p }
     ensures on_board { (p : ℕ) → IsTrue (set.contains result p) → p < pos.now.size * pos.now.size }
 {
     let Surroundings {
         liberties,
         last_liberties: mut found,
-    } = surroundings(pos, node.target);
+    } = surroundings(pos, turn.target);
     found.join(&liberties);
-    if node.wide > 0 {
-        found.join(&wide_candidates(pos, node, &liberties));
+    if turn.wide > 0 {
+        found.join(&wide_candidates(pos, turn, &liberties));
     }
     found
 }
 
-/// Whether p is a candidate at the node. The target's liberties are looked at first, since most moves are at one of
+/// Whether p is a candidate at the turn. The target's liberties are looked at first, since most moves are at one of
 /// them.
-pub fn is_candidate(pos: &Position, node: Node, p: Point) -> bool
-    requires target { node.target < pos.now.size * pos.now.size }
+pub fn is_candidate(pos: &Position, turn: Turn, p: Point) -> bool
+    requires target { turn.target < pos.now.size * pos.now.size }
     requires small { p < largest_points }
-    ensures { result ≡ is_candidate_at node pos.now p }
+    ensures { result ≡ is_candidate turn pos.now p }
 {
-    pos.liberty_points(node.target).has(p) || candidates(pos, node).has(p)
+    pos.liberty_points(turn.target).has(p) || candidates(pos, turn).has(p)
 }

@@ -2,39 +2,39 @@
 
 ghost use Rattle.std.specs.Prelude.{◌≡◌, ◌*◌, ◌<◌, Err, IfSome};
 ghost use Rattle.go_rules.specs.Play.{play};
-ghost use Rattle.read_rules.specs.GameTree.{mover_of, child_of};
+ghost use Rattle.read_rules.specs.GameTree.{child_of};
+ghost use Rattle.read_rules.specs.Turns.{mover_of};
 ghost use Rattle.read_proof.specs.Proves.{passed, child_after};
 
 use crate::candidates::is_candidate;
-use crate::turns::{allowance, mover, next};
 use go_base::{Illegal, Point, Position};
 use read_rules::{Node, Spot};
 
 /// The child after a play that the ban alone forbids, where the mover may still ignore it.
 fn allowed_child(pos: &Position, node: Node, p: Point) -> Option<(Node, Position)>
-    requires target { node.target < pos.now.size * pos.now.size }
+    requires target { node.turn.target < pos.now.size * pos.now.size }
     requires on_board { p < pos.now.size * pos.now.size }
-    requires banned { play pos.now (mover_of node) p ≡ Err Illegal.Ko }
+    requires banned { play pos.now (mover_of node.turn) p ≡ Err Illegal.Ko }
     ensures value { result ≡ child_of node pos.now p }
-    ensures target { IfSome result (λ child. child.0.target < child.1.size * child.1.size) }
+    ensures target { IfSome result (λ child. child.0.turn.target < child.1.size * child.1.size) }
 {
-    let left = allowance(node);
+    let left = node.allowance();
     if left == 0 {
         return None;
     }
-    match pos.play_free(mover(node), p) {
-        Ok(new) => Some((next(node, left - 1), new)),
+    match pos.play_free(node.mover(), p) {
+        Ok(new) => Some((node.next(left - 1), new)),
         Err(_) => None,
     }
 }
 
 /// The child after a play that the rules forbid for this reason: there is none unless the ban is the reason.
 fn forbidden_child(pos: &Position, node: Node, p: Point, why: Illegal) -> Option<(Node, Position)>
-    requires target { node.target < pos.now.size * pos.now.size }
+    requires target { node.turn.target < pos.now.size * pos.now.size }
     requires on_board { p < pos.now.size * pos.now.size }
-    requires forbidden { play pos.now (mover_of node) p ≡ Err why }
+    requires forbidden { play pos.now (mover_of node.turn) p ≡ Err why }
     ensures value { result ≡ child_of node pos.now p }
-    ensures target { IfSome result (λ child. child.0.target < child.1.size * child.1.size) }
+    ensures target { IfSome result (λ child. child.0.turn.target < child.1.size * child.1.size) }
 {
     match why {
         Illegal::Ko => allowed_child(pos, node, p),
@@ -44,13 +44,13 @@ fn forbidden_child(pos: &Position, node: Node, p: Point, why: Illegal) -> Option
 
 /// The child to which the mover's play at p leads, where p can be played.
 pub fn child_of(pos: &Position, node: Node, p: Point) -> Option<(Node, Position)>
-    requires target { node.target < pos.now.size * pos.now.size }
+    requires target { node.turn.target < pos.now.size * pos.now.size }
     requires on_board { p < pos.now.size * pos.now.size }
     ensures value { result ≡ child_of node pos.now p }
-    ensures target { IfSome result (λ child. child.0.target < child.1.size * child.1.size) }
+    ensures target { IfSome result (λ child. child.0.turn.target < child.1.size * child.1.size) }
 {
-    match pos.play(mover(node), p) {
-        Ok(new) => Some((next(node, allowance(node)), new)),
+    match pos.play(node.mover(), p) {
+        Ok(new) => Some((node.next(node.allowance()), new)),
         Err(why) => forbidden_child(pos, node, p, why),
     }
 }
@@ -59,27 +59,27 @@ pub fn child_of(pos: &Position, node: Node, p: Point) -> Option<(Node, Position)
 pub fn passed(pos: &Position, node: Node) -> (Node, Position)
     ensures { result ≡ passed node pos.now }
 {
-    (next(node, allowance(node)), pos.pass())
+    (node.next(node.allowance()), pos.pass())
 }
 
 /// The child to which a move leads, where it is one of the node.
 pub fn child_after(pos: &Position, node: Node, spot: Spot) -> Option<(Node, Position)>
-    requires { node.target < pos.now.size * pos.now.size }
+    requires { node.turn.target < pos.now.size * pos.now.size }
     ensures value { result ≡ child_after node pos.now spot }
-    ensures target { IfSome result (λ child. child.0.target < child.1.size * child.1.size) }
+    ensures target { IfSome result (λ child. child.0.turn.target < child.1.size * child.1.size) }
 {
     match spot {
         Spot::At(p) => {
             if p >= pos.size().points() {
                 return None;
             }
-            if !is_candidate(pos, node, p) {
+            if !is_candidate(pos, node.turn, p) {
                 return None;
             }
             child_of(pos, node, p)
         }
         Spot::Pass => {
-            if node.attacker_to_play {
+            if node.turn.attacker_to_play {
                 return None;
             }
             Some(passed(pos, node))

@@ -32,22 +32,15 @@ pub fn first_node(question: &ReadingQuestion, code: u8) -> Node
 {
     let own = allowance_under(code, 1);
     let other = allowance_under(code, 3);
+    let turn = question.first_turn();
     match question.kind {
         Kind::Attack => Node {
-            tree: question.tree,
-            target: question.target,
-            defender: question.colour,
-            attacker_to_play: true,
-            wide: question.wide,
+            turn,
             attacker_ko: own,
             defender_ko: other,
         },
         Kind::Defend => Node {
-            tree: question.tree,
-            target: question.target,
-            defender: question.colour,
-            attacker_to_play: false,
-            wide: question.wide,
+            turn,
             attacker_ko: other,
             defender_ko: own,
         },

@@ -16,7 +16,7 @@ ghost use Rattle.read_proof.specs.FirstProof.{first_words, first_text, BeginsWit
 /// he does not, he does not. A text that is a proof of a code is about the code of the game tree.
 pub fn proofs_are_sound()
     ensures node { (n : ℕ) (won : Bool) (node : Node) (pos : BoardState) (words left : List Word)
-        → node.target < pos.size * pos.size → proves n won node pos words ≡ Some left
+        → node.turn.target < pos.size * pos.size → proves n won node pos words ≡ Some left
         → attacker_wins n node pos ≡ won }
     ensures code { (q : ReadingQuestion) (pos : BoardState) (code : ℕ) (text : List ℕ) → is_about q pos ≡ true
         → q.target < pos.size * pos.size → code ≤ 3 → IsProofOf q pos code text → (answer_of q pos).code ≡ code }
@@ -27,7 +27,7 @@ pub fn proofs_are_sound()
 /// question about a position has a text that is a proof of its code: the first one.
 pub fn first_proofs_prove()
     ensures node { (n : ℕ) (won : Bool) (node : Node) (pos : BoardState) (rest : List Word) → IsSize pos.size
-        → node.target < pos.size * pos.size → attacker_wins n node pos ≡ won
+        → node.turn.target < pos.size * pos.size → attacker_wins n node pos ≡ won
         → proves n won node pos (first_words n won node pos ++ rest) ≡ Some rest }
     ensures first { (n : ℕ) (won : Bool) (node : Node) (pos : BoardState) → attacker_wins (suc n) node pos ≡ won
         → is_settled (suc n) won node pos ≡ false → is_wanted won node ≡ true → BeginsWithFirstMove n won node pos }

@@ -17,7 +17,6 @@ mod further;
 pub mod laws;
 mod settled;
 mod token;
-mod turns;
 mod walk;
 
 pub use checker::check;

@@ -6,14 +6,14 @@ ghost use Rattle.read_rules.specs.Trees.{most_narrow};
 ghost use Rattle.read_proof.specs.Proves.{is_settled, has_too_many, is_wanted, move_may_prove, each_may_prove};
 
 use go_base::{Cell, Position};
-use read_rules::{Node, Tree};
+use read_rules::{Node, Tree, Turn};
 
 /// Whether the target's point is empty.
 pub fn is_captured(pos: &Position, node: Node) -> bool
-    requires { node.target < pos.now.size * pos.now.size }
-    ensures { result ≡ is_captured pos.now node.target }
+    requires { node.turn.target < pos.now.size * pos.now.size }
+    ensures { result ≡ is_captured pos.now node.turn.target }
 {
-    pos.cell(node.target) == Cell::Empty
+    pos.cell(node.turn.target) == Cell::Empty
 }
 
 /// How many liberties a target of the tree may have, where no wide ply is left, that the attacker may play at.
@@ -35,22 +35,23 @@ fn are_many(tree: Tree, liberties: u16, wide: u8) -> bool
 
 /// Whether the target has more liberties than the attacker may play at.
 #[tactic(auto, unfolding(read_rules::specs::GameTree::has_many_liberties))]
-pub fn has_many_liberties(pos: &Position, node: Node) -> bool
-    requires { node.target < pos.now.size * pos.now.size }
-    ensures { result ≡ has_many_liberties node.tree pos.now node.target node.wide }
+pub fn has_many_liberties(pos: &Position, turn: Turn) -> bool
+    requires { turn.target < pos.now.size * pos.now.size }
+    ensures { result ≡ has_many_liberties turn pos.now }
 {
-    are_many(node.tree, pos.liberties(node.target), node.wide)
+    are_many(turn.tree, pos.liberties(turn.target), turn.wide)
 }
 
 /// Whether the target has more liberties than the attacker can fill with `plies` plies left, or than he may play at.
 #[tactic(auto, unfolding(crate::specs::Proves::has_too_many, read_rules::specs::GameTree::has_many_liberties))]
 fn has_too_many(pos: &Position, node: Node, plies: u8) -> bool
-    requires { node.target < pos.now.size * pos.now.size }
+    requires { node.turn.target < pos.now.size * pos.now.size }
     ensures { result ≡ has_too_many plies node pos.now }
 {
-    let liberties = pos.liberties(node.target);
-    if node.attacker_to_play {
-        liberties > (u16::from(plies) + 1) / 2 || are_many(node.tree, liberties, node.wide)
+    let liberties = pos.liberties(node.turn.target);
+    if node.turn.attacker_to_play {
+        liberties > (u16::from(plies) + 1) / 2
+            || are_many(node.turn.tree, liberties, node.turn.wide)
     } else {
         liberties > u16::from(plies) / 2
     }
@@ -59,7 +60,7 @@ fn has_too_many(pos: &Position, node: Node, plies: u8) -> bool
 /// Whether the claim, that the attacker wins or that he does not, is settled with `plies` plies left.
 #[tactic(auto, unfolding(crate::specs::Proves::is_settled))]
 pub fn is_settled(pos: &Position, node: Node, plies: u8, won: bool) -> bool
-    requires { node.target < pos.now.size * pos.now.size }
+    requires { node.turn.target < pos.now.size * pos.now.size }
     ensures { result ≡ is_settled plies won node pos.now }
 {
     if won {
@@ -72,24 +73,28 @@ pub fn is_settled(pos: &Position, node: Node, plies: u8, won: bool) -> bool
 pub fn is_wanted(node: Node, won: bool) -> bool
     ensures { result ≡ is_wanted won node }
 {
-    if node.attacker_to_play { won } else { !won }
+    if node.turn.attacker_to_play {
+        won
+    } else {
+        !won
+    }
 }
 
 /// Whether one move may prove the claim.
 #[tactic(auto, unfolding(crate::specs::Proves::move_may_prove))]
 pub fn move_may_prove(pos: &Position, node: Node, won: bool) -> bool
-    requires { node.target < pos.now.size * pos.now.size }
+    requires { node.turn.target < pos.now.size * pos.now.size }
     ensures { result ≡ move_may_prove won node pos.now }
 {
     is_wanted(node, won)
         && !is_captured(pos, node)
-        && !(node.attacker_to_play && has_many_liberties(pos, node))
+        && !(node.turn.attacker_to_play && has_many_liberties(pos, node.turn))
 }
 
 /// Whether all moves together may prove the claim.
 #[tactic(auto, unfolding(crate::specs::Proves::each_may_prove))]
 pub fn each_may_prove(pos: &Position, node: Node, won: bool) -> bool
-    requires { node.target < pos.now.size * pos.now.size }
+    requires { node.turn.target < pos.now.size * pos.now.size }
     ensures { result ≡ each_may_prove won node pos.now }
 {
     !is_wanted(node, won) && !is_captured(pos, node)

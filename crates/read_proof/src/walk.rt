@@ -25,7 +25,7 @@ fn move_proved<'a>(
     spot: Spot,
     text: &'a [u8],
 ) -> Option<&'a [u8]>
-    requires { node.target < pos.now.size * pos.now.size }
+    requires { node.turn.target < pos.now.size * pos.now.size }
     ensures { MatchOption result
         (at_child (proves plies won) (child_after node pos.now spot) (words_in text.now) ≡ None)
         (λ left. at_child (proves plies won) (child_after node pos.now spot) (words_in text.now)
@@ -44,12 +44,12 @@ fn pass_proved<'a>(
     won: bool,
     text: &'a [u8],
 ) -> Option<&'a [u8]>
-    requires { node.target < pos.now.size * pos.now.size }
+    requires { node.turn.target < pos.now.size * pos.now.size }
     ensures { MatchOption result (at_each (proves plies won) (pass_children node pos.now) (words_in text.now) ≡ None)
         (λ left. at_each (proves plies won) (pass_children node pos.now) (words_in text.now)
         ≡ Some (words_in left.now)) }
 {
-    if node.attacker_to_play {
+    if node.turn.attacker_to_play {
         return Some(text);
     }
     let (next, new) = passed(pos, node);
@@ -66,7 +66,7 @@ fn play_proved<'a>(
     p: Point,
     text: &'a [u8],
 ) -> Option<&'a [u8]>
-    requires target { node.target < pos.now.size * pos.now.size }
+    requires target { node.turn.target < pos.now.size * pos.now.size }
     requires on_board { p < pos.now.size * pos.now.size }
     ensures { MatchOption result
         (at_each (proves plies won) (option_to_list (child_of node pos.now p)) (words_in text.now) ≡ None)
@@ -88,12 +88,12 @@ fn plays_proved<'a>(
     won: bool,
     text: &'a [u8],
 ) -> Option<&'a [u8]>
-    requires { node.target < pos.now.size * pos.now.size }
+    requires { node.turn.target < pos.now.size * pos.now.size }
     ensures { MatchOption result (at_each (proves plies won) (play_children node pos.now) (words_in text.now) ≡ None)
         (λ left. at_each (proves plies won) (play_children node pos.now) (words_in text.now)
         ≡ Some (words_in left.now)) }
 {
-    let candidates = candidates(pos, node);
+    let candidates = candidates(pos, node.turn);
     let mut left = text;
     let mut from = 0;
     'plays: while let Some(p) = candidates.first_from(from) {
@@ -113,7 +113,7 @@ pub(crate) fn proved<'a>(
     won: bool,
     text: &'a [u8],
 ) -> Option<&'a [u8]>
-    requires { node.target < pos.now.size * pos.now.size }
+    requires { node.turn.target < pos.now.size * pos.now.size }
     ensures { MatchOption result (proves plies won node pos.now (words_in text.now) ≡ None)
         (λ left. proves plies won node pos.now (words_in text.now) ≡ Some (words_in left.now)) }
 {

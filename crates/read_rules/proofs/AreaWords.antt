@@ -8,13 +8,14 @@ use Rattle.go_rules.specs.Strings.{cell_at, is_in_string}
 use Rattle.go_rules.specs.Position.{BoardState}
 use Rattle.go_rules.specs.Play.{pass}
 use Rattle.go_rules.proofs.Paths.{same_cell-true, same_cell-from}
+use Rattle.read_rules.specs.Turns.{mover_of}
 use Rattle.read_rules.specs.declared.node.Node.{Node}
 use Rattle.read_rules.specs.declared.tree.Tree.{Tree}
 use Rattle.read_rules.specs.Trees.{steps_of}
 use Rattle.read_rules.specs.declared.question.Kind.{Kind}
 use Rattle.read_rules.specs.declared.question.Kind.TheVariants.{Attack, Defend}
 use Rattle.read_rules.specs.declared.question.ReadingQuestion.{ReadingQuestion}
-use Rattle.read_rules.specs.GameTree.{is_captured, has_many_liberties, mover_of}
+use Rattle.read_rules.specs.GameTree.{is_captured, has_many_liberties}
 use Rattle.read_rules.specs.Rules.{HasManyLiberties, node_under}
 use Rattle.read_rules.specs.Answer.{first_node}
 use Rattle.read_rules.specs.ActiveArea.{reach_of, IsUndecided, IsNodeOf, first, by_play, by_pass}
@@ -44,13 +45,13 @@ stands_from pos t h = elim (cases_Bool (is_captured pos t)) [
 
 -- a node of a question has its target on its board, where the question has
 tree_on : {q : ReadingQuestion} {pos : BoardState} {n : ℕ} {node : Node} {here : BoardState}
-    → q.target < pos.size * pos.size → IsNodeOf q pos n node here → node.target < here.size * here.size
+    → q.target < pos.size * pos.size → IsNodeOf q pos n node here → node.turn.target < here.size * here.size
 tree_on on (first code lo hi) = on
 tree_on on (by_play {n} {node} {here} tree undecided p c next new child) =
     let free = child_free node here p next new (child_gives node here p next new child) in
-    let size = play_size here (mover_of node) p new free.1 in
-    subst (λ m. next.target < m * m) (sym size)
-    (subst (λ (m : Node). m.target < here.size * here.size) (sym free.2) (tree_on on tree))
+    let size = play_size here (mover_of node.turn) p new free.1 in
+    subst (λ m. next.turn.target < m * m) (sym size)
+    (subst (λ (m : Node). m.turn.target < here.size * here.size) (sym free.2) (tree_on on tree))
 tree_on on (by_pass tree undecided turn) = tree_on on tree
 
 -- a point of the active area is reached by the steps of the tree from the target's string at some node of the question
@@ -61,16 +62,16 @@ area_gives q pos p on h = record {
   node = h.node;
   here = h.here;
   in_tree = h.in_tree;
-  stands = stands_gives h.here h.node.target h.near.stands;
-  reached = (reach-is h.node.tree h.here.size h.here.cells h.node.target p (tree_on on h.in_tree)).0 h.near.near;
+  stands = stands_gives h.here h.node.turn.target h.near.stands;
+  reached = (reach-is h.node.turn.tree h.here.size h.here.cells h.node.turn.target p (tree_on on h.in_tree)).0 h.near.near;
 }
 
 -- what these steps reach is in the active area
 area_from : (q : ReadingQuestion) (pos : BoardState) (p : ℕ) → q.target < pos.size * pos.size
     → IsLookedAt q pos p → InActiveArea q pos p
 area_from q pos p on h =
-    let stands = stands_from h.here h.node.target h.stands in
-    let reach = reach-is h.node.tree h.here.size h.here.cells h.node.target p (tree_on on h.in_tree) in
+    let stands = stands_from h.here h.node.turn.target h.stands in
+    let reach = reach-is h.node.turn.tree h.here.size h.here.cells h.node.turn.target p (tree_on on h.in_tree) in
     record {
       plies = h.plies;
       node = h.node;
@@ -162,19 +163,19 @@ first_from q pos a d h = elim (cases_eq a 1) [
     neither Defend = first 2 (omega arith) (omega arith)
 
 -- an undecided node's target has not too many liberties at the attacker's turn
-few_gives : (node : Node) (here : BoardState) → IsUndecided node here → node.attacker_to_play ≡ true
-    → HasManyLiberties node.tree here node.target node.wide → ⊥
+few_gives : (node : Node) (here : BoardState) → IsUndecided node here → node.turn.attacker_to_play ≡ true
+    → HasManyLiberties node.turn here → ⊥
 few_gives node here undecided turn many =
-    both_ways (has_many_liberties node.tree here node.target node.wide) (undecided.few turn)
-    (many_from node.tree here node.target node.wide many)
+    both_ways (has_many_liberties node.turn here) (undecided.few turn)
+    (many_from node.turn here many)
 
 -- where the target stands and has not too many liberties, the node is undecided
-undecided_from : (node : Node) (here : BoardState) → cell_at here.cells node.target ≢ Empty
-    → (node.attacker_to_play ≡ true → HasManyLiberties node.tree here node.target node.wide → ⊥) → IsUndecided node here
+undecided_from : (node : Node) (here : BoardState) → cell_at here.cells node.turn.target ≢ Empty
+    → (node.turn.attacker_to_play ≡ true → HasManyLiberties node.turn here → ⊥) → IsUndecided node here
 undecided_from node here stands few = record {
-  stands = stands_from here node.target stands;
-  few = λ turn. elim (cases_Bool (has_many_liberties node.tree here node.target node.wide)) [
-    | inl m ↦ absurd (few turn (many_gives node.tree here node.target node.wide m))
+  stands = stands_from here node.turn.target stands;
+  few = λ turn. elim (cases_Bool (has_many_liberties node.turn here)) [
+    | inl m ↦ absurd (few turn (many_gives node.turn here m))
     | inr f ↦ f
   ];
 }
@@ -187,7 +188,7 @@ node_gives {q} {pos} (by_play {n} {node} {here} tree undecided p c next new chil
   before = node;
   there = here;
   in_tree = tree;
-  stands = stands_gives here node.target undecided.stands;
+  stands = stands_gives here node.turn.target undecided.stands;
   few = few_gives node here undecided;
   move = inl (record { point = p; candidate = c; child = child_gives node here p next new child });
 })
@@ -195,7 +196,7 @@ node_gives {q} {pos} (by_pass {n} {node} {here} tree undecided turn) = inr (reco
   before = node;
   there = here;
   in_tree = tree;
-  stands = stands_gives here node.target undecided.stands;
+  stands = stands_gives here node.turn.target undecided.stands;
   few = few_gives node here undecided;
   move = inr (record { defender_to_play = turn; node_is = refl; here_is = refl });
 })

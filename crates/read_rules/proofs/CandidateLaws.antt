@@ -17,12 +17,12 @@ use Rattle.go_rules.proofs.PlayLaws.{done_state}
 use Rattle.go_base.specs.Surroundings.{is_only_liberty, is_last_liberty_of_enemy}
 use Rattle.wider_rules.specs.Further.{is_further}
 use Rattle.wider_rules.proofs.FurtherLaws.{further_gives, further_from}
-use Rattle.read_rules.specs.declared.node.Node.{Node}
 use Rattle.read_rules.specs.declared.tree.Tree.{Tree}
 use Rattle.read_rules.specs.declared.tree.Tree.TheVariants.{Stated, Wider}
+use Rattle.read_rules.specs.declared.turn.Turn.{Turn}
 use Rattle.read_rules.specs.Trees.{is_wider}
 use Rattle.read_rules.specs.Candidates.{attacker_of, is_empty_beside, leaves_only, is_backfilling, is_candidate}
-use Rattle.read_rules.specs.Candidates.{is_candidate_at, IsEmptyNeighbour, IsTakenAt, IsBackfilledAt, IsCandidate}
+use Rattle.read_rules.specs.Candidates.{is_candidate, IsEmptyNeighbour, IsTakenAt, IsBackfilledAt, IsCandidate}
 use Rattle.read_rules.specs.Candidates.{fills, looks_wide, takes, backfills, goes_further}
 use Rattle.read_rules.proofs.FurtherPoints.{further_on}
 
@@ -169,104 +169,109 @@ by_four pos target k p =
     is_liberty pos.size pos.cells target p || by_wide pos target k p
     || is_last_liberty_of_enemy pos.size pos.cells target p || by_backfilling pos target k p
 
--- how p is a candidate of the tree, by the test
-data ByTest (tree : Tree) (attacker : Bool) (pos : BoardState) (target k p : ℕ) : Type 0 where
-  of_four : by_four pos target k p ≡ true → ByTest tree attacker pos target k p
-  of_further : 0 < k → tree ≡ Wider → is_further attacker pos.size pos.cells target p ≡ true
-      → ByTest tree attacker pos target k p
+-- how p is a candidate at the turn, by the test
+data ByTest (turn : Turn) (pos : BoardState) (p : ℕ) : Type 0 where
+  of_four : by_four pos turn.target turn.wide p ≡ true → ByTest turn pos p
+  of_further : 0 < turn.wide → turn.tree ≡ Wider → is_further turn.attacker_to_play pos.size pos.cells turn.target p ≡ true
+      → ByTest turn pos p
 
 -- a candidate is of one of the four sets, or a further candidate
-by_test : (tree : Tree) (attacker : Bool) (pos : BoardState) (target k p : ℕ)
-    → is_candidate tree attacker pos target k p ≡ true → ByTest tree attacker pos target k p
+by_test : (turn : Turn) (pos : BoardState) (p : ℕ)
+    → is_candidate turn pos p ≡ true → ByTest turn pos p
 unfolding is_candidate
-by_test tree attacker pos target k p h = elim (or_cases (by_four pos target k p)
-    (ltb 0 k && (is_wider tree && is_further attacker pos.size pos.cells target p)) h) [
+by_test turn pos p h = elim (or_cases (by_four pos turn.target turn.wide p)
+    (ltb 0 turn.wide && (is_wider turn.tree && is_further turn.attacker_to_play pos.size pos.cells turn.target p)) h) [
       | inl four ↦ of_four four
       | inr further ↦
           let parts = and_parts _ _ further in
           let both = and_parts _ _ parts.1 in
-          of_further (ltb-true 0 k parts.0) (wider_gives tree both.0) both.1
+          of_further (ltb-true 0 turn.wide parts.0) (wider_gives turn.tree both.0) both.1
     ]
 
 -- a wide move by the test is one by the rules
-wide_candidate : (tree : Tree) (attacker : Bool) (pos : BoardState) (target k p : ℕ)
-    → by_wide pos target k p ≡ true → IsCandidate tree attacker pos target k p
-wide_candidate tree attacker pos target k p h =
+wide_candidate : (turn : Turn) (pos : BoardState) (p : ℕ)
+    → by_wide pos turn.target turn.wide p ≡ true → IsCandidate turn pos p
+wide_candidate turn pos p h =
     let parts = and_parts _ _ h in
     let both = and_parts _ _ parts.0 in
-    let l = wide_gives pos.size pos.cells target p parts.1 in
-    let few = ltb-true (liberties pos.size pos.cells target) 3 both.1 in
-    looks_wide (ltb-true 0 k both.0) (omega arith) l.0 (IsLiberty-from_test pos.size pos.cells target l.0 l.1) l.2
+    let l = wide_gives pos.size pos.cells turn.target p parts.1 in
+    let few = ltb-true (liberties pos.size pos.cells turn.target) 3 both.1 in
+    looks_wide (ltb-true 0 turn.wide both.0) (omega arith) l.0 (IsLiberty-from_test pos.size pos.cells turn.target l.0 l.1) l.2
 
 -- so is a backfilling move
-backfilling_candidate : (tree : Tree) (attacker : Bool) (pos : BoardState) (target k p : ℕ)
-    → by_backfilling pos target k p ≡ true → IsCandidate tree attacker pos target k p
-backfilling_candidate tree attacker pos target k p h =
+backfilling_candidate : (turn : Turn) (pos : BoardState) (p : ℕ)
+    → by_backfilling pos turn.target turn.wide p ≡ true → IsCandidate turn pos p
+backfilling_candidate turn pos p h =
     let parts = and_parts _ _ h in
-    let l = backfills_gives pos target p parts.1 in
-    backfills (ltb-true 0 k parts.0) l.0 l.1
+    let l = backfills_gives pos turn.target p parts.1 in
+    backfills (ltb-true 0 turn.wide parts.0) l.0 l.1
 
 -- a point of one of the four sets by the test is one by the rules
-four_gives : (tree : Tree) (attacker : Bool) (pos : BoardState) (target k p : ℕ)
-    → by_four pos target k p ≡ true → IsCandidate tree attacker pos target k p
-four_gives tree attacker pos target k p h =
-    let lib = is_liberty pos.size pos.cells target p in
-    let last = is_last_liberty_of_enemy pos.size pos.cells target p in
-    elim (or_cases (lib || by_wide pos target k p || last) (by_backfilling pos target k p) h) [
-      | inr b ↦ backfilling_candidate tree attacker pos target k p b
-      | inl f ↦ elim (or_cases (lib || by_wide pos target k p) last f) [
-        | inr t ↦ let taken = takes_gives pos.size pos.cells target p t in takes taken.0 taken.1
-        | inl e ↦ elim (or_cases lib (by_wide pos target k p) e) [
-          | inl its ↦ fills (IsLiberty-from_test pos.size pos.cells target p its)
-          | inr w ↦ wide_candidate tree attacker pos target k p w
+four_gives : (turn : Turn) (pos : BoardState) (p : ℕ)
+    → by_four pos turn.target turn.wide p ≡ true → IsCandidate turn pos p
+four_gives turn pos p h =
+    let lib = is_liberty pos.size pos.cells turn.target p in
+    let last = is_last_liberty_of_enemy pos.size pos.cells turn.target p in
+    elim (or_cases (lib || by_wide pos turn.target turn.wide p || last) (by_backfilling pos turn.target turn.wide p) h) [
+      | inr b ↦ backfilling_candidate turn pos p b
+      | inl f ↦ elim (or_cases (lib || by_wide pos turn.target turn.wide p) last f) [
+        | inr t ↦ let taken = takes_gives pos.size pos.cells turn.target p t in takes taken.0 taken.1
+        | inl e ↦ elim (or_cases lib (by_wide pos turn.target turn.wide p) e) [
+          | inl its ↦ fills (IsLiberty-from_test pos.size pos.cells turn.target p its)
+          | inr w ↦ wide_candidate turn pos p w
         ]
       ]
     ]
 
 -- a candidate by the test is one by the rules
-pub candidate_gives : (tree : Tree) (attacker : Bool) (pos : BoardState) (target k p : ℕ)
-    → target < pos.size * pos.size → is_candidate tree attacker pos target k p ≡ true
-    → IsCandidate tree attacker pos target k p
-candidate_gives tree attacker pos target k p on h = elim (by_test tree attacker pos target k p h) [
-  | of_four four ↦ four_gives tree attacker pos target k p four
-  | of_further some is further ↦ goes_further is some (further_gives pos.size pos.cells target attacker p on further)
+pub candidate_gives : (turn : Turn) (pos : BoardState) (p : ℕ)
+    → turn.target < pos.size * pos.size → is_candidate turn pos p ≡ true
+    → IsCandidate turn pos p
+candidate_gives turn pos p on h = elim (by_test turn pos p h) [
+  | of_four four ↦ four_gives turn pos p four
+  | of_further some is further ↦ goes_further is some (further_gives pos.size pos.cells turn.target turn.attacker_to_play p on further)
 ]
 
 -- a candidate by the rules is one by the test
-pub candidate_from : (tree : Tree) (attacker : Bool) (pos : BoardState) (target k p : ℕ)
-    → target < pos.size * pos.size → IsCandidate tree attacker pos target k p
-    → is_candidate tree attacker pos target k p ≡ true
+pub candidate_from : (turn : Turn) (pos : BoardState) (p : ℕ)
+    → turn.target < pos.size * pos.size → IsCandidate turn pos p
+    → is_candidate turn pos p ≡ true
 unfolding is_candidate
-candidate_from tree attacker pos target k p on (fills lib) =
-    or_left _ _ (or_left _ _ (or_left _ _ (or_left _ _ (is_liberty-from_fact pos.size pos.cells target p on lib))))
-candidate_from tree attacker pos target k p on (looks_wide some few l lib near) =
+candidate_from turn pos p on (fills lib) =
+    or_left _ _ (or_left _ _ (or_left _ _ (or_left _ _ (is_liberty-from_fact pos.size pos.cells turn.target p on lib))))
+candidate_from turn pos p on (looks_wide some few l lib near) =
     or_left _ _ (or_left _ _ (or_left _ _ (or_right _ _ (and_from _ _
-    (and_from _ _ (lt-ltb 0 k some) (lt-ltb (liberties pos.size pos.cells target) 3 (omega arith)))
-    (wide_from pos.size pos.cells target p l lib.on_board
-    (is_liberty-from_fact pos.size pos.cells target l on lib) near)))))
-candidate_from tree attacker pos target k p on (takes q taken) =
-    or_left _ _ (or_left _ _ (or_right _ _ (takes_from pos.size pos.cells target q p on taken)))
-candidate_from tree attacker pos target k p on (backfills some l w) =
-    or_left _ _ (or_right _ _ (and_from _ _ (lt-ltb 0 k some) (backfills_from pos target l p on w)))
-candidate_from tree attacker pos target k p on (goes_further is some further) =
-    or_right _ _ (and_from _ _ (lt-ltb 0 k some)
-    (and_from _ _ (ap is_wider is) (further_from pos.size pos.cells target attacker p on further)))
+    (and_from _ _ (lt-ltb 0 turn.wide some) (lt-ltb (liberties pos.size pos.cells turn.target) 3 (omega arith)))
+    (wide_from pos.size pos.cells turn.target p l lib.on_board
+    (is_liberty-from_fact pos.size pos.cells turn.target l on lib) near)))))
+candidate_from turn pos p on (takes q taken) =
+    or_left _ _ (or_left _ _ (or_right _ _ (takes_from pos.size pos.cells turn.target q p on taken)))
+candidate_from turn pos p on (backfills some l w) =
+    or_left _ _ (or_right _ _ (and_from _ _ (lt-ltb 0 turn.wide some) (backfills_from pos turn.target l p on w)))
+candidate_from turn pos p on (goes_further is some further) =
+    or_right _ _ (and_from _ _ (lt-ltb 0 turn.wide some)
+    (and_from _ _ (ap is_wider is) (further_from pos.size pos.cells turn.target turn.attacker_to_play p on further)))
+
+-- the turn in the stated tree
+abbrev stated : Turn → Turn
+stated turn = record {
+  tree = Stated;
+  target = turn.target;
+  defender = turn.defender;
+  attacker_to_play = turn.attacker_to_play;
+  wide = turn.wide;
+}
 
 -- a candidate is a point of the board
-pub candidate_on : (tree : Tree) (attacker : Bool) (pos : BoardState) (target k p : ℕ)
-    → is_candidate tree attacker pos target k p ≡ true → p < pos.size * pos.size
-candidate_on tree attacker pos target k p h = elim (by_test tree attacker pos target k p h) [
-  | of_further some is further ↦ further_on pos.size pos.cells target p attacker further
-  | of_four four ↦ elim (four_gives Stated attacker pos target k p four) [
+pub candidate_on : (turn : Turn) (pos : BoardState) (p : ℕ)
+    → is_candidate turn pos p ≡ true → p < pos.size * pos.size
+candidate_on turn pos p h = elim (by_test turn pos p h) [
+  | of_further some is further ↦ further_on pos.size pos.cells turn.target p turn.attacker_to_play further
+  | of_four four ↦ elim (four_gives (stated turn) pos p four) [
     | fills lib ↦ lib.on_board
     | looks_wide some few l lib near ↦ near.on_board
     | takes q taken ↦ taken.last.on_board
-    | backfills some l w ↦ backfilled_on pos target l p w
+    | backfills some l w ↦ backfilled_on pos turn.target l p w
     | goes_further is some further ↦ absurd (let w = is in cc)
   ]
 ]
-
--- and so is a candidate at a node
-pub candidate_at_on : (node : Node) (pos : BoardState) (p : ℕ) → is_candidate_at node pos p ≡ true
-    → p < pos.size * pos.size
-candidate_at_on node pos p h = candidate_on node.tree node.attacker_to_play pos node.target node.wide p h

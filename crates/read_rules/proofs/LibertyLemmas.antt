@@ -16,15 +16,17 @@ use Rattle.go_rules.proofs.Links.{liberties_some}
 use Rattle.go_rules.proofs.Paths.{IsLiberty-from_test, is_liberty-from_fact}
 use Rattle.go_rules.proofs.Results.{after_on}
 use Rattle.go_rules.proofs.PlayLaws.{done_state}
+use Rattle.read_rules.specs.Turns.{mover_of}
+use Rattle.read_rules.specs.declared.turn.Turn.{Turn}
 use Rattle.read_rules.specs.declared.node.Node.{Node}
 use Rattle.go_rules.proofs.PlayLaws.{play_done}
 use Rattle.read_rules.proofs.AfterPlays.{after_liberty}
-use Rattle.read_rules.specs.GameTree.{is_captured, has_many_liberties, mover_of, allowance_of, next_node, attacker_wins}
+use Rattle.read_rules.specs.GameTree.{is_captured, has_many_liberties, allowance_of, next_node, attacker_wins}
 use Rattle.read_rules.specs.Rules.{IsChild, HasManyLiberties}
 use Rattle.read_rules.specs.declared.tree.Tree.{Tree}
 use Rattle.read_rules.specs.declared.tree.Tree.TheVariants.{Stated, Wider}
 use Rattle.read_rules.specs.Trees.{most_narrow}
-use Rattle.read_rules.specs.Bound.{most_by_wide, outlasts, IsTooWide, over_four, few_left, none_left, IsTooMany}
+use Rattle.read_rules.specs.Bound.{most_by_wide, outlasts, IsTooWide, over_four, few_left, none_left, IsTooMany, outlasts_at}
 use Rattle.read_rules.proofs.WinLemmas.{wins-no_plies}
 use Rattle.read_rules.proofs.RuleLemmas.{many_from, many_gives, attacker_gives, defender_gives}
 
@@ -102,8 +104,8 @@ play_size pos c p new e = ap (λ (n : BoardState). n.size) (done_state pos c p n
 
 -- a child comes of a play by the side whose turn it is
 pub child_free : (node : Node) (pos : BoardState) (p : ℕ) (next : Node) (new : BoardState) → IsChild node pos p next new
-    → (left : ℕ) × (play_free pos (mover_of node) p ≡ Ok new) × (next ≡ next_node node left)
-child_free node pos p next new (inl w) = (allowance_of node, play_done pos (mover_of node) p new w.legal, w.next_is)
+    → (left : ℕ) × (play_free pos (mover_of node.turn) p ≡ Ok new) × (next ≡ next_node node left)
+child_free node pos p next new (inl w) = (allowance_of node, play_done pos (mover_of node.turn) p new w.legal, w.next_is)
 child_free node pos p next new (inr w) = (allowance_of node - 1, w.free, w.next_is)
 
 -- a target with a liberty stands
@@ -211,73 +213,74 @@ module _ (tree : Tree) where
 
 -- The target outlasts at a node where it does at each child that an attacker's play, or the defender's pass, leads to.
 abbrev Hypothesis : ℕ → Type 0
-Hypothesis n = (next : Node) (new : BoardState) → next.target < new.size * new.size
-    → outlasts next.tree next.attacker_to_play n next.wide (liberties new.size new.cells next.target) ≡ true
+Hypothesis n = (next : Node) (new : BoardState) → next.turn.target < new.size * new.size
+    → outlasts_at next.turn n (liberties new.size new.cells next.turn.target) ≡ true
     → attacker_wins n next new ≡ false
 
 -- a target that outlasts at the attacker's turn, where he may play at it, outlasts at each child of a play of his
 child_outlasts : (n : ℕ) (node : Node) (pos : BoardState) (p : ℕ) (next : Node) (new : BoardState)
-    → node.target < pos.size * pos.size → node.attacker_to_play ≡ true
-    → (HasManyLiberties node.tree pos node.target node.wide → ⊥) → IsChild node pos p next new
-    → outlasts node.tree true (suc n) node.wide (liberties pos.size pos.cells node.target) ≡ true
-    → (next.target < new.size * new.size)
-    × (outlasts next.tree next.attacker_to_play n next.wide (liberties new.size new.cells next.target) ≡ true)
+    → node.turn.target < pos.size * pos.size → node.turn.attacker_to_play ≡ true
+    → (HasManyLiberties node.turn pos → ⊥) → IsChild node pos p next new
+    → outlasts node.turn.tree true (suc n) node.turn.wide (liberties pos.size pos.cells node.turn.target) ≡ true
+    → (next.turn.target < new.size * new.size)
+    × (outlasts_at next.turn n (liberties new.size new.cells next.turn.target) ≡ true)
 child_outlasts n node pos p next new on turn few is h =
     let child = child_free node pos p next new is in
-    let l = liberties new.size new.cells node.target in
-    let bound = play_outlasts node.tree n node.wide (liberties pos.size pos.cells node.target) l h
-    (λ x. few (inl x)) (λ e x. few (inr (e, x))) (play_takes_one pos (mover_of node) p new node.target on child.1) in
-    let stays = subst (λ m. node.target < m * m) (sym (play_size pos (mover_of node) p new child.1)) on in
-    subst (λ (m : Node). (m.target < new.size * new.size)
-    × (outlasts m.tree m.attacker_to_play n m.wide (liberties new.size new.cells m.target) ≡ true)) (sym child.2)
-    (stays, ap (λ b. outlasts node.tree (not b) n (node.wide - 1) l) turn ∙ bound)
+    let l = liberties new.size new.cells node.turn.target in
+    let bound = play_outlasts node.turn.tree n node.turn.wide (liberties pos.size pos.cells node.turn.target) l h
+    (λ x. few (inl x)) (λ e x. few (inr (e, x))) (play_takes_one pos (mover_of node.turn) p new node.turn.target on child.1) in
+    let stays = subst (λ m. node.turn.target < m * m) (sym (play_size pos (mover_of node.turn) p new child.1)) on in
+    subst (λ (m : Node). (m.turn.target < new.size * new.size)
+    × (outlasts_at m.turn n (liberties new.size new.cells m.turn.target) ≡ true))
+    (sym child.2)
+    (stays, ap (λ b. outlasts node.turn.tree (not b) n (node.turn.wide - 1) l) turn ∙ bound)
 
 -- if too many liberties save a target with n plies left, they do at the attacker's turn with one more ply
-bounded_attacker : (n : ℕ) (node : Node) (pos : BoardState) → Hypothesis n → node.target < pos.size * pos.size
-    → is_captured pos node.target ≡ false → node.attacker_to_play ≡ true
-    → outlasts node.tree true (suc n) node.wide (liberties pos.size pos.cells node.target) ≡ true
+bounded_attacker : (n : ℕ) (node : Node) (pos : BoardState) → Hypothesis n → node.turn.target < pos.size * pos.size
+    → is_captured pos node.turn.target ≡ false → node.turn.attacker_to_play ≡ true
+    → outlasts node.turn.tree true (suc n) node.turn.wide (liberties pos.size pos.cells node.turn.target) ≡ true
     → attacker_wins (suc n) node pos ≡ false
 bounded_attacker n node pos ih on stands turn h = elim (cases_Bool (attacker_wins (suc n) node pos)) [
   | inr f ↦ f
   | inl t ↦
       let w = attacker_gives n node pos stands turn (ap (λ m. attacker_wins m node pos) (add-one n) ∙ t) in
-      let few : HasManyLiberties node.tree pos node.target node.wide → ⊥ =
-      λ many. both_ways (has_many_liberties node.tree pos node.target node.wide) w.0
-      (many_from node.tree pos node.target node.wide many) in
+      let few : HasManyLiberties node.turn pos → ⊥ =
+      λ many. both_ways (has_many_liberties node.turn pos) w.0
+      (many_from node.turn pos many) in
       let child = child_outlasts n node pos w.1.point w.1.next w.1.new on turn few w.1.child h in
       absurd (both_ways (attacker_wins n w.1.next w.1.new) (ih w.1.next w.1.new child.0 child.1) w.1.wins)
 ]
 
 -- if too many liberties save a target with n plies left, they do at the defender's turn with one more ply
-bounded_defender : (n : ℕ) (node : Node) (pos : BoardState) → Hypothesis n → node.target < pos.size * pos.size
-    → is_captured pos node.target ≡ false → node.attacker_to_play ≡ false
-    → outlasts node.tree false (suc n) node.wide (liberties pos.size pos.cells node.target) ≡ true
+bounded_defender : (n : ℕ) (node : Node) (pos : BoardState) → Hypothesis n → node.turn.target < pos.size * pos.size
+    → is_captured pos node.turn.target ≡ false → node.turn.attacker_to_play ≡ false
+    → outlasts node.turn.tree false (suc n) node.turn.wide (liberties pos.size pos.cells node.turn.target) ≡ true
     → attacker_wins (suc n) node pos ≡ false
 bounded_defender n node pos ih on stands turn h = elim (cases_Bool (attacker_wins (suc n) node pos)) [
   | inr f ↦ f
   | inl t ↦
       let w = defender_gives n node pos stands turn (ap (λ m. attacker_wins m node pos) (add-one n) ∙ t) in
-      let bound = pass_outlasts node.tree n node.wide (liberties pos.size pos.cells node.target) h in
-      let lost = ih (next_node node (allowance_of node)) (pass pos) on (ap (λ b. outlasts node.tree (not b) n
-      (node.wide - 1) (liberties pos.size pos.cells node.target)) turn ∙ bound) in
+      let bound = pass_outlasts node.turn.tree n node.turn.wide (liberties pos.size pos.cells node.turn.target) h in
+      let lost = ih (next_node node (allowance_of node)) (pass pos) on (ap (λ b. outlasts node.turn.tree (not b) n
+      (node.turn.wide - 1) (liberties pos.size pos.cells node.turn.target)) turn ∙ bound) in
       absurd (both_ways (attacker_wins n (next_node node (allowance_of node)) (pass pos)) lost w.passed)
 ]
 
 -- with n plies left, a target with too many liberties is not captured
-pub bounded : (n : ℕ) (node : Node) (pos : BoardState) → node.target < pos.size * pos.size
-    → outlasts node.tree node.attacker_to_play n node.wide (liberties pos.size pos.cells node.target) ≡ true
+pub bounded : (n : ℕ) (node : Node) (pos : BoardState) → node.turn.target < pos.size * pos.size
+    → outlasts_at node.turn n (liberties pos.size pos.cells node.turn.target) ≡ true
     → attacker_wins n node pos ≡ false
 bounded zero node pos on h =
-    wins-no_plies zero node pos (stands_by_liberties pos node.target
-    (some_liberty node.tree node.attacker_to_play zero node.wide (liberties pos.size pos.cells node.target) h)) refl
+    wins-no_plies zero node pos (stands_by_liberties pos node.turn.target
+    (some_liberty node.turn.tree node.turn.attacker_to_play zero node.turn.wide (liberties pos.size pos.cells node.turn.target) h)) refl
 bounded (suc n) node pos on h =
-    let stands = stands_by_liberties pos node.target
-    (some_liberty node.tree node.attacker_to_play (suc n) node.wide (liberties pos.size pos.cells node.target) h) in
-    elim (cases_Bool node.attacker_to_play) [
+    let stands = stands_by_liberties pos node.turn.target
+    (some_liberty node.turn.tree node.turn.attacker_to_play (suc n) node.turn.wide (liberties pos.size pos.cells node.turn.target) h) in
+    elim (cases_Bool node.turn.attacker_to_play) [
       | inl t ↦ bounded_attacker n node pos (bounded n) on stands t
-          (ap (λ b. outlasts node.tree b (suc n) node.wide (liberties pos.size pos.cells node.target)) (sym t) ∙ h)
+          (ap (λ b. outlasts node.turn.tree b (suc n) node.turn.wide (liberties pos.size pos.cells node.turn.target)) (sym t) ∙ h)
       | inr f ↦ bounded_defender n node pos (bounded n) on stands f
-          (ap (λ b. outlasts node.tree b (suc n) node.wide (liberties pos.size pos.cells node.target)) (sym f) ∙ h)
+          (ap (λ b. outlasts node.turn.tree b (suc n) node.turn.wide (liberties pos.size pos.cells node.turn.target)) (sym f) ∙ h)
     ]
 
 -- a target that is still played at without wide plies has fewer than five liberties
@@ -321,22 +324,6 @@ module _ (tree : Tree) where
       by false true e = x
       by false false e = cc
 
-  -- where the attacker may not play at the target, it has too many liberties
-  pub many_outlast : (n k : ℕ) (pos : BoardState) (t : ℕ) → HasManyLiberties tree pos t k
-      → outlasts tree true n k (liberties pos.size pos.cells t) ≡ true
-  many_outlast n k pos t (inl x) = to_attacker tree n k _ (inr (over_all k _ x))
-  many_outlast n k pos t (inr x) = to_attacker tree n k _ (inr (over_narrow k _ x.0 x.1))
-
-  -- a target that has not too many liberties is one that the attacker may play at
-  pub many_outlasts : (n : ℕ) (pos : BoardState) (t k : ℕ)
-      → outlasts tree true n k (liberties pos.size pos.cells t) ≡ false
-      → has_many_liberties tree pos t k ≡ false
-  many_outlasts n pos t k h = elim (cases_Bool (has_many_liberties tree pos t k)) [
-    | inr f ↦ f
-    | inl m ↦ absurd (both_ways (outlasts tree true n k (liberties pos.size pos.cells t)) h
-        (many_outlast n k pos t (many_gives tree pos t k m)))
-  ]
-
   -- more than the greatest number that the wide plies allow is too wide
   wide_gives : (k l : ℕ) → most_by_wide tree k < l → IsTooWide tree k l
   wide_gives k l h = by (eqb k 0) (ltb k 3) refl refl h
@@ -369,7 +356,24 @@ module _ (tree : Tree) where
   too_many-from false n k l (inl x) = to_defender tree n k l (inl x)
   too_many-from false n k l (inr x) = to_defender tree n k l (inr (wide_from (k - 1) l x))
 
-  -- where the attacker may not play at the target, it has too many liberties in words
-  pub many_too_many : (n k : ℕ) (pos : BoardState) (t : ℕ) → HasManyLiberties tree pos t k
-      → IsTooMany tree true n k (liberties pos.size pos.cells t)
-  many_too_many n k pos t many = too_many-gives true n k _ (many_outlast n k pos t many)
+-- where the attacker may not play at the target, it has too many liberties
+pub many_outlast : (turn : Turn) (n : ℕ) (pos : BoardState) → HasManyLiberties turn pos
+    → outlasts turn.tree true n turn.wide (liberties pos.size pos.cells turn.target) ≡ true
+many_outlast turn n pos (inl x) = to_attacker turn.tree n turn.wide _ (inr (over_all turn.tree turn.wide _ x))
+many_outlast turn n pos (inr x) =
+    to_attacker turn.tree n turn.wide _ (inr (over_narrow turn.tree turn.wide _ x.0 x.1))
+
+-- a target that has not too many liberties is one that the attacker may play at
+pub many_outlasts : (turn : Turn) (n : ℕ) (pos : BoardState)
+    → outlasts turn.tree true n turn.wide (liberties pos.size pos.cells turn.target) ≡ false
+    → has_many_liberties turn pos ≡ false
+many_outlasts turn n pos h = elim (cases_Bool (has_many_liberties turn pos)) [
+  | inr f ↦ f
+  | inl m ↦ absurd (both_ways (outlasts turn.tree true n turn.wide (liberties pos.size pos.cells turn.target)) h
+      (many_outlast turn n pos (many_gives turn pos m)))
+]
+
+-- where the attacker may not play at the target, it has too many liberties in words
+pub many_too_many : (turn : Turn) (n : ℕ) (pos : BoardState) → HasManyLiberties turn pos
+    → IsTooMany turn.tree true n turn.wide (liberties pos.size pos.cells turn.target)
+many_too_many turn n pos many = too_many-gives turn.tree true n turn.wide _ (many_outlast turn n pos many)

@@ -4,9 +4,10 @@ use Rattle.std.proofs.lemmas.Bool.{cases_Bool, both_ways}
 use Rattle.go_rules.proofs.Tests.{same_tests}
 use Rattle.go_rules.specs.Position.{BoardState}
 use Rattle.go_rules.specs.Play.{play, pass}
-use Rattle.read_rules.specs.Candidates.{is_candidate_at}
+use Rattle.read_rules.specs.Turns.{mover_of}
+use Rattle.read_rules.specs.Candidates.{is_candidate}
 use Rattle.read_rules.specs.declared.node.Node.{Node}
-use Rattle.read_rules.specs.GameTree.{is_captured, mover_of, allowance_of, next_node, attacker_wins}
+use Rattle.read_rules.specs.GameTree.{is_captured, allowance_of, next_node, attacker_wins}
 use Rattle.read_rules.specs.Rules.{IsChild}
 use Rattle.read_rules.specs.BanFree.{with_allowances, IsFreeHere, IsBanFree}
 use Rattle.read_rules.proofs.WinLemmas.{wins-captured, wins-no_plies}
@@ -25,13 +26,13 @@ as_next n node pos h = ap (λ m. attacker_wins m node pos) (sym (add-one n)) ∙
 -- one more ply takes no win away
 pub one_more : (n : ℕ) (node : Node) (pos : BoardState) → attacker_wins n node pos ≡ true
     → attacker_wins (suc n) node pos ≡ true
-one_more zero node pos h = elim (cases_Bool (is_captured pos node.target)) [
+one_more zero node pos h = elim (cases_Bool (is_captured pos node.turn.target)) [
   | inl t ↦ wins-captured 1 node pos t
   | inr f ↦ absurd (both_ways (attacker_wins 0 node pos) (wins-no_plies 0 node pos f refl) h)
 ]
-one_more (suc n) node pos h = elim (cases_Bool (is_captured pos node.target)) [
+one_more (suc n) node pos h = elim (cases_Bool (is_captured pos node.turn.target)) [
   | inl t ↦ wins-captured (suc (suc n)) node pos t
-  | inr stands ↦ elim (cases_Bool node.attacker_to_play) [
+  | inr stands ↦ elim (cases_Bool node.turn.attacker_to_play) [
     | inl turn ↦
         let w = attacker_gives n node pos stands turn (as_sum n node pos h) in
         as_next (suc n) node pos (attacker_from (suc n) node pos stands turn (
@@ -61,25 +62,25 @@ other_child node a d = next_node (with_allowances node a d) (allowance_of (with_
 -- where the ban forbids no candidate, a child is one by a legal play
 legal_child : {below : Node → BoardState → Type 0} {node : Node} {pos : BoardState} → IsFreeHere below node pos
     → (p : ℕ) (next : Node) (new : BoardState)
-    → is_candidate_at node pos p ≡ true → (a d : ℕ) → IsChild (with_allowances node a d) pos p next new
-    → (play pos (mover_of node) p ≡ Ok new) × (next ≡ other_child node a d)
+    → is_candidate node.turn pos p ≡ true → (a d : ℕ) → IsChild (with_allowances node a d) pos p next new
+    → (play pos (mover_of node.turn) p ≡ Ok new) × (next ≡ other_child node a d)
 legal_child free p next new candidate a d (inl w) = (w.legal, w.next_is)
 legal_child free p next new candidate a d (inr w) = absurd (free.none p candidate w.banned)
 
 -- The attacker wins under these allowances exactly where he wins under others.
 pub same_winner : (n : ℕ) (node : Node) (pos : BoardState) → IsBanFree n node pos → (a d x y : ℕ)
     → attacker_wins n (with_allowances node a d) pos ≡ true → attacker_wins n (with_allowances node x y) pos ≡ true
-same_winner zero node pos free a d x y h = elim (cases_Bool (is_captured pos node.target)) [
+same_winner zero node pos free a d x y h = elim (cases_Bool (is_captured pos node.turn.target)) [
   | inl t ↦ wins-captured 0 (with_allowances node x y) pos t
   | inr f ↦ absurd (both_ways (attacker_wins 0 (with_allowances node a d) pos)
       (wins-no_plies 0 (with_allowances node a d) pos f refl) h)
 ]
-same_winner (suc n) node pos free a d x y h = elim (cases_Bool (is_captured pos node.target)) [
+same_winner (suc n) node pos free a d x y h = elim (cases_Bool (is_captured pos node.turn.target)) [
   | inl t ↦ wins-captured (suc n) (with_allowances node x y) pos t
   | inr stands ↦
       let here = free stands in
       let below = next_node node (allowance_of node) in
-      elim (cases_Bool node.attacker_to_play) [
+      elim (cases_Bool node.turn.attacker_to_play) [
         | inl turn ↦
             let w = attacker_gives n (with_allowances node a d) pos stands turn
             (as_sum n (with_allowances node a d) pos h) in

@@ -17,12 +17,12 @@ use Rattle.go_base.specs.Surroundings.{is_last_liberty_of_enemy}
 use Rattle.go_base.proofs.LastLiberties.{contains-liberty_points}
 use Rattle.go_base.proofs.Liberties.{len-liberty_points}
 use Rattle.wider_rules.specs.Further.{is_further}
-use Rattle.read_rules.specs.declared.tree.Tree.{Tree}
+use Rattle.read_rules.specs.declared.turn.Turn.{Turn}
 use Rattle.read_rules.specs.declared.tree.Tree.TheVariants.{Stated}
 use Rattle.read_rules.specs.Trees.{is_wider}
 use Rattle.read_rules.specs.Candidates.{attacker_of, is_empty_beside, leaves_only, is_backfilling, is_candidate}
 use Rattle.read_rules.specs.Candidates.{is_left}
-use Rattle.read_rules.specs.Stages.{is_wide_candidate}
+use Rattle.read_rules.specs.Stages.{is_wide_by_liberties, is_wide_candidate}
 
 -- nothing more is the same
 or_false : (a : Bool) → a ≡ (a || false)
@@ -45,30 +45,31 @@ wide_last false true true false false b x = refl
 
 -- the candidates are the liberties, the last liberties of enemy strings, and where a wide ply is left the wide
 -- candidates
-pub candidate_stages : (tree : Tree) (attacker : Bool) (here : BoardState) (target k p : ℕ)
-    → is_candidate tree attacker here target k p
-    ≡ ((is_liberty here.size here.cells target p || is_last_liberty_of_enemy here.size here.cells target p)
-    || (ltb 0 k && is_wide_candidate tree attacker here target p))
-unfolding is_candidate is_wide_candidate
-candidate_stages tree attacker here target k p = wide_last (is_liberty here.size here.cells target p) (ltb 0 k)
-    (ltb (liberties here.size here.cells target) 3)
-    (is_empty_beside here.size here.cells (is_liberty here.size here.cells target) p)
-    (is_last_liberty_of_enemy here.size here.cells target p) (is_backfilling here target p)
-    (is_wider tree && is_further attacker here.size here.cells target p)
+pub candidate_stages : (turn : Turn) (here : BoardState) (p : ℕ) → is_candidate turn here p
+    ≡ ((is_liberty here.size here.cells turn.target p || is_last_liberty_of_enemy here.size here.cells turn.target p)
+    || (ltb 0 turn.wide && is_wide_candidate turn here p))
+unfolding is_candidate is_wide_candidate is_wide_by_liberties
+candidate_stages turn here p = wide_last (is_liberty here.size here.cells turn.target p) (ltb 0 turn.wide)
+    (ltb (liberties here.size here.cells turn.target) 3)
+    (is_empty_beside here.size here.cells (is_liberty here.size here.cells turn.target) p)
+    (is_last_liberty_of_enemy here.size here.cells turn.target p) (is_backfilling here turn.target p)
+    (is_wider turn.tree && is_further turn.attacker_to_play here.size here.cells turn.target p)
 
--- the wide candidates of a tree are those of the stated tree and, in the wider one, the further candidates
-pub wide_further : (tree : Tree) (attacker : Bool) (here : BoardState) (target p : ℕ) (wide further : Bool)
-    → wide ≡ is_wide_candidate Stated attacker here target p
-    → further ≡ (is_wider tree && is_further attacker here.size here.cells target p)
-    → (wide || further) ≡ is_wide_candidate tree attacker here target p
+-- in the wider tree the wide candidates are those by the liberties and the further candidates
+pub wide_further : (turn : Turn) (here : BoardState) (p : ℕ) (wide further : Bool)
+    → wide ≡ is_wide_by_liberties here turn.target p
+    → further ≡ (is_wider turn.tree && is_further turn.attacker_to_play here.size here.cells turn.target p)
+    → (wide || further) ≡ is_wide_candidate turn here p
 unfolding is_wide_candidate
-wide_further tree attacker here target p wide further ew ef =
-    ap (λ y. y || further) (ew ∙ sym (or_false ((ltb (liberties here.size here.cells target) 3
-    && is_empty_beside here.size here.cells (is_liberty here.size here.cells target) p)
-    || is_backfilling here target p)))
-    ∙ ap (λ y. ((ltb (liberties here.size here.cells target) 3
-    && is_empty_beside here.size here.cells (is_liberty here.size here.cells target) p)
-    || is_backfilling here target p) || y) ef
+wide_further turn here p wide further ew ef =
+    ap (λ y. y || further) ew ∙ ap (λ y. is_wide_by_liberties here turn.target p || y) ef
+
+-- and in the stated tree they are those by the liberties
+pub wide_stated : (turn : Turn) (here : BoardState) (p : ℕ) (wide : Bool) → turn.tree ≡ Stated
+    → wide ≡ is_wide_by_liberties here turn.target p → wide ≡ is_wide_candidate turn here p
+wide_stated turn here p wide is ew =
+    or_false wide ∙ wide_further turn here p wide false ew
+    (sym (ap (λ tree. is_wider tree && is_further turn.attacker_to_play here.size here.cells turn.target p) is))
 
 -- which empty points are beside points of a set depends on the set's members alone
 empty_beside_same : (s : ℕ) (cells : List Cell) (S T : ℕ → Bool) (q : ℕ) → ((l : ℕ) → S l ≡ T l)
@@ -115,15 +116,15 @@ left_is_backfilling here c target p libs el ec = same_tests _ _
 module _ (here : BoardState) (target p : ℕ) (libs : sets.FinSet nat_cmp)
     (el : libs ≡ liberty_points here.size here.cells target) where
   -- the empty neighbours of at most two liberties and what the attacker's plays leave, added to none, are the wide
-  -- candidates of the stated tree, at either turn
-  pub wide_is : (attacker : Bool) (old : sets.FinSet nat_cmp) (c : Colour) (x : Bool) → old ≡ sets.empty
+  -- candidates by the liberties
+  pub wide_is : (old : sets.FinSet nat_cmp) (c : Colour) (x : Bool) → old ≡ sets.empty
       → c ≡ attacker_of (cell_at here.cells target)
       → x ≡ ((sets.contains old p
       || (ltb (sets.len libs) 3 && is_empty_beside here.size here.cells (sets.contains libs) p))
       || any_below (here.size * here.size) (λ l. sets.contains libs l && is_left here c l p))
-      → x ≡ is_wide_candidate Stated attacker here target p
-  unfolding is_wide_candidate
-  wide_is attacker old c x none ec ex =
+      → x ≡ is_wide_by_liberties here target p
+  unfolding is_wide_by_liberties
+  wide_is old c x none ec ex =
       let beside = λ (S : ℕ → Bool). is_empty_beside here.size here.cells S p in
       let left = any_below (here.size * here.size) (λ l. sets.contains libs l && is_left here c l p) in
       ex ∙ ap (λ y. (y || (ltb (sets.len libs) 3 && beside (sets.contains libs))) || left)
@@ -134,25 +135,23 @@ module _ (here : BoardState) (target p : ℕ) (libs : sets.FinSet nat_cmp)
       (λ q. has_liberty here.size here.cells target q libs el))
       ∙ ap (λ y. (ltb (liberties here.size here.cells target) 3 && beside (is_liberty here.size here.cells target))
       || y) (left_is_backfilling here c target p libs el ec)
-      ∙ or_false ((ltb (liberties here.size here.cells target) 3
-      && beside (is_liberty here.size here.cells target)) || is_backfilling here target p)
 
 -- What was gathered for a target on the position here: its liberties, and the last liberties of the enemy strings next
 -- to it.
-module _ (tree : Tree) (attacker : Bool) (here : BoardState) (target k p : ℕ) (libs last : sets.FinSet nat_cmp)
-    (el : libs ≡ liberty_points here.size here.cells target)
-    (et : sets.contains last p ≡ is_last_liberty_of_enemy here.size here.cells target p) where
+module _ (turn : Turn) (here : BoardState) (p : ℕ) (libs last : sets.FinSet nat_cmp)
+    (el : libs ≡ liberty_points here.size here.cells turn.target)
+    (et : sets.contains last p ≡ is_last_liberty_of_enemy here.size here.cells turn.target p) where
   -- with what is wide where a wide ply is left, these are the candidates
-  in_stages : (wide : Bool) → wide ≡ (ltb 0 k && is_wide_candidate tree attacker here target p)
-      → ((sets.contains last p || sets.contains libs p) || wide) ≡ is_candidate tree attacker here target k p
+  in_stages : (wide : Bool) → wide ≡ (ltb 0 turn.wide && is_wide_candidate turn here p)
+      → ((sets.contains last p || sets.contains libs p) || wide) ≡ is_candidate turn here p
   in_stages wide is =
       ap (λ y. (y || sets.contains libs p) || wide) et
-      ∙ ap (λ y. (is_last_liberty_of_enemy here.size here.cells target p || y) || wide)
-      (has_liberty here.size here.cells target p libs el)
-      ∙ turned (is_last_liberty_of_enemy here.size here.cells target p) (is_liberty here.size here.cells target p) wide
-      ∙ ap (λ y. (is_liberty here.size here.cells target p
-      || is_last_liberty_of_enemy here.size here.cells target p) || y) is
-      ∙ sym (candidate_stages tree attacker here target k p)
+      ∙ ap (λ y. (is_last_liberty_of_enemy here.size here.cells turn.target p || y) || wide)
+      (has_liberty here.size here.cells turn.target p libs el)
+      ∙ turned (is_last_liberty_of_enemy here.size here.cells turn.target p) (is_liberty here.size here.cells turn.target p) wide
+      ∙ ap (λ y. (is_liberty here.size here.cells turn.target p
+      || is_last_liberty_of_enemy here.size here.cells turn.target p) || y) is
+      ∙ sym (candidate_stages turn here p)
     where
       turned : (a b w : Bool) → ((a || b) || w) ≡ ((b || a) || w)
       turned true true w = refl
@@ -161,14 +160,14 @@ module _ (tree : Tree) (attacker : Bool) (here : BoardState) (target k p : ℕ) 
       turned false false w = refl
 
   -- where no wide ply is left these are the candidates
-  pub candidate_plain : (x : Bool) → ltb 0 k ≡ false → x ≡ (sets.contains last p || sets.contains libs p)
-      → x ≡ is_candidate tree attacker here target k p
+  pub candidate_plain : (x : Bool) → ltb 0 turn.wide ≡ false → x ≡ (sets.contains last p || sets.contains libs p)
+      → x ≡ is_candidate turn here p
   candidate_plain x none ex =
       ex ∙ or_false (sets.contains last p || sets.contains libs p)
-      ∙ in_stages false (sym (ap (λ b. b && is_wide_candidate tree attacker here target p) none))
+      ∙ in_stages false (sym (ap (λ b. b && is_wide_candidate turn here p) none))
 
   -- where one is left, these with the wide candidates
-  pub candidate_wide : (x wide : Bool) → ltb 0 k ≡ true → wide ≡ is_wide_candidate tree attacker here target p
-      → x ≡ ((sets.contains last p || sets.contains libs p) || wide) → x ≡ is_candidate tree attacker here target k p
+  pub candidate_wide : (x wide : Bool) → ltb 0 turn.wide ≡ true → wide ≡ is_wide_candidate turn here p
+      → x ≡ ((sets.contains last p || sets.contains libs p) || wide) → x ≡ is_candidate turn here p
   candidate_wide x wide some is ex =
-      ex ∙ in_stages wide (is ∙ sym (ap (λ b. b && is_wide_candidate tree attacker here target p) some))
+      ex ∙ in_stages wide (is ∙ sym (ap (λ b. b && is_wide_candidate turn here p) some))

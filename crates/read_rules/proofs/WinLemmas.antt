@@ -7,8 +7,8 @@ use mathlib.Core.Bool.{beq}
 use Rattle.std.proofs.lemmas.Bool.{cases_Bool, cases_eq, cases_lt, and_parts}
 use Rattle.go_rules.specs.Position.{BoardState}
 use Rattle.go_rules.specs.Play.{pass}
-use Rattle.read_rules.specs.Candidates.{is_candidate_at, candidates_of}
-use Rattle.read_rules.proofs.CandidateLaws.{candidate_at_on}
+use Rattle.read_rules.specs.Candidates.{is_candidate, candidates_of}
+use Rattle.read_rules.proofs.CandidateLaws.{candidate_on}
 use Rattle.read_rules.specs.declared.node.Node.{Node}
 use Rattle.read_rules.specs.declared.question.Spot.{Spot}
 use Rattle.read_rules.specs.declared.question.Spot.TheVariants.{Pass}
@@ -76,37 +76,37 @@ all-first n f ps = none-first (λ p. some_child (λ s pos. not (attacker_wins n 
     (λ p. each_child (attacker_wins n) (f p)) ps (λ p. lost_child n (f p))
 
 -- the target is captured
-pub wins-captured : (n : ℕ) (node : Node) (pos : BoardState) → is_captured pos node.target ≡ true
+pub wins-captured : (n : ℕ) (node : Node) (pos : BoardState) → is_captured pos node.turn.target ≡ true
     → attacker_wins n node pos ≡ true
 unfolding attacker_wins
 wins-captured zero node pos h = h
 wins-captured (suc n) node pos h = rw h refl
 
 -- it stands, and no ply is left
-pub wins-no_plies : (n : ℕ) (node : Node) (pos : BoardState) → is_captured pos node.target ≡ false → n ≡ 0
+pub wins-no_plies : (n : ℕ) (node : Node) (pos : BoardState) → is_captured pos node.turn.target ≡ false → n ≡ 0
     → attacker_wins n node pos ≡ false
 unfolding attacker_wins
 wins-no_plies zero node pos h e = h
 wins-no_plies (suc n) node pos h e = cc
 
 -- it stands, and it is the attacker's turn
-pub wins-attacker : (n : ℕ) (node : Node) (pos : BoardState) → is_captured pos node.target ≡ false
-    → node.attacker_to_play ≡ true
-    → attacker_wins (suc n) node pos ≡ (not (has_many_liberties node.tree pos node.target node.wide)
-    && list_any (λ p. some_child (attacker_wins n) (child_of node pos p)) (candidates_of node pos))
+pub wins-attacker : (n : ℕ) (node : Node) (pos : BoardState) → is_captured pos node.turn.target ≡ false
+    → node.turn.attacker_to_play ≡ true
+    → attacker_wins (suc n) node pos ≡ (not (has_many_liberties node.turn pos)
+    && list_any (λ p. some_child (attacker_wins n) (child_of node pos p)) (candidates_of node.turn pos))
 unfolding attacker_wins
-wins-attacker n node pos h e = choose (is_captured pos node.target) node.attacker_to_play true _ _ h e
+wins-attacker n node pos h e = choose (is_captured pos node.turn.target) node.turn.attacker_to_play true _ _ h e
   where
     choose : (c turn b x y : Bool) → c ≡ false → turn ≡ b → (c || cond turn x y) ≡ cond b x y
     choose c turn b x y h e = ap (λ v. v || cond turn x y) h ∙ ap (λ v. cond v x y) e
 
 -- it stands, and it is the defender's turn
-pub wins-defender : (n : ℕ) (node : Node) (pos : BoardState) → is_captured pos node.target ≡ false
-    → node.attacker_to_play ≡ false
+pub wins-defender : (n : ℕ) (node : Node) (pos : BoardState) → is_captured pos node.turn.target ≡ false
+    → node.turn.attacker_to_play ≡ false
     → attacker_wins (suc n) node pos ≡ (attacker_wins n (next_node node (allowance_of node)) (pass pos)
-    && list_all (λ p. each_child (attacker_wins n) (child_of node pos p)) (candidates_of node pos))
+    && list_all (λ p. each_child (attacker_wins n) (child_of node pos p)) (candidates_of node.turn pos))
 unfolding attacker_wins
-wins-defender n node pos h e = choose (is_captured pos node.target) node.attacker_to_play false _ _ h e
+wins-defender n node pos h e = choose (is_captured pos node.turn.target) node.turn.attacker_to_play false _ _ h e
   where
     choose : (c turn b x y : Bool) → c ≡ false → turn ≡ b → (c || cond turn x y) ≡ cond b x y
     choose c turn b x y h e = ap (λ v. v || cond turn x y) h ∙ ap (λ v. cond v x y) e
@@ -122,7 +122,7 @@ by_turn turn many saved first = cond (turn && many) None (cond (not turn && save
 
 -- the good move of a node is that of the side whose turn it is
 good_move-by_turn : (n : ℕ) (node : Node) (pos : BoardState)
-    → good_move n node pos ≡ by_turn node.attacker_to_play (has_many_liberties node.tree pos node.target node.wide)
+    → good_move n node pos ≡ by_turn node.turn.attacker_to_play (has_many_liberties node.turn pos)
     (not (attacker_wins n (next_node node (allowance_of node)) (pass pos))) (first_success n node pos)
 unfolding by_turn
 good_move-by_turn n node pos = refl
@@ -142,29 +142,29 @@ defender_none many true first all e = ap not (some-at_point first) ∙ e
 defender_none many false first all e = refl
 
 -- at the attacker's turn some point succeeds exactly where he wins some child
-attacker_first : (n : ℕ) (node : Node) (pos : BoardState) → node.attacker_to_play ≡ true
+attacker_first : (n : ℕ) (node : Node) (pos : BoardState) → node.turn.attacker_to_play ≡ true
     → is_some (first_success n node pos)
-    ≡ list_any (λ p. some_child (attacker_wins n) (child_of node pos p)) (candidates_of node pos)
+    ≡ list_any (λ p. some_child (attacker_wins n) (child_of node pos p)) (candidates_of node.turn pos)
 attacker_first n node pos e =
-    ap (λ turn. is_some (find (λ p. suits n turn (child_of node pos p)) (candidates_of node pos))) e
-    ∙ any-first (λ p. some_child (attacker_wins n) (child_of node pos p)) (candidates_of node pos)
+    ap (λ turn. is_some (find (λ p. suits n turn (child_of node pos p)) (candidates_of node.turn pos))) e
+    ∙ any-first (λ p. some_child (attacker_wins n) (child_of node pos p)) (candidates_of node.turn pos)
 
 -- at the defender's turn none succeeds exactly where the attacker wins each child
-defender_first : (n : ℕ) (node : Node) (pos : BoardState) → node.attacker_to_play ≡ false
+defender_first : (n : ℕ) (node : Node) (pos : BoardState) → node.turn.attacker_to_play ≡ false
     → is_none (first_success n node pos)
-    ≡ list_all (λ p. each_child (attacker_wins n) (child_of node pos p)) (candidates_of node pos)
+    ≡ list_all (λ p. each_child (attacker_wins n) (child_of node pos p)) (candidates_of node.turn pos)
 defender_first n node pos e =
-    ap (λ turn. is_none (find (λ p. suits n turn (child_of node pos p)) (candidates_of node pos))) e
-    ∙ all-first n (child_of node pos) (candidates_of node pos)
+    ap (λ turn. is_none (find (λ p. suits n turn (child_of node pos p)) (candidates_of node.turn pos))) e
+    ∙ all-first n (child_of node pos) (candidates_of node.turn pos)
 
 -- the attacker wins at his turn exactly where he has a good move
-pub wins-attacker_move : (n : ℕ) (node : Node) (pos : BoardState) → is_captured pos node.target ≡ false → n ≢ 0
-    → node.attacker_to_play ≡ true
+pub wins-attacker_move : (n : ℕ) (node : Node) (pos : BoardState) → is_captured pos node.turn.target ≡ false → n ≢ 0
+    → node.turn.attacker_to_play ≡ true
     → attacker_wins n node pos ≡ is_some (good_move (n - 1) node pos)
 wins-attacker_move zero node pos h ne e = absurd (ne refl)
 wins-attacker_move (suc n) node pos h ne e =
     let less : n ≡ suc n - 1 = omega arith in
-    let many = has_many_liberties node.tree pos node.target node.wide in
+    let many = has_many_liberties node.turn pos in
     let saved = not (attacker_wins n (next_node node (allowance_of node)) (pass pos)) in
     wins-attacker n node pos h e
     ∙ sym (ap (λ m. is_some (good_move m node pos)) (sym less) ∙ ap is_some (good_move-by_turn n node pos)
@@ -172,13 +172,13 @@ wins-attacker_move (suc n) node pos h ne e =
     ∙ attacker_some many saved (first_success n node pos) _ (attacker_first n node pos e))
 
 -- and at the defender's turn exactly where the defender has none
-pub wins-defender_move : (n : ℕ) (node : Node) (pos : BoardState) → is_captured pos node.target ≡ false → n ≢ 0
-    → node.attacker_to_play ≡ false
+pub wins-defender_move : (n : ℕ) (node : Node) (pos : BoardState) → is_captured pos node.turn.target ≡ false → n ≢ 0
+    → node.turn.attacker_to_play ≡ false
     → attacker_wins n node pos ≡ is_none (good_move (n - 1) node pos)
 wins-defender_move zero node pos h ne e = absurd (ne refl)
 wins-defender_move (suc n) node pos h ne e =
     let less : n ≡ suc n - 1 = omega arith in
-    let many = has_many_liberties node.tree pos node.target node.wide in
+    let many = has_many_liberties node.turn pos in
     let lost = attacker_wins n (next_node node (allowance_of node)) (pass pos) in
     wins-defender n node pos h e
     ∙ sym (ap (λ m. is_none (good_move m node pos)) (sym less) ∙ ap is_none (good_move-by_turn n node pos)
@@ -206,12 +206,12 @@ none_up_to cands wins next p before between c fails q h = elim (cases_eq q p) [
 
 -- the first that succeeds, found by a walk over the candidates
 pub first_success-found : (n : ℕ) (node : Node) (pos : BoardState) (next p : ℕ) (cands : ℕ → Bool)
-    → ((q : ℕ) → cands q ≡ is_candidate_at node pos q)
+    → ((q : ℕ) → cands q ≡ is_candidate node.turn pos q)
     → ((q : ℕ) → q < next → (cands q && succeeds n node pos q) ≡ false) → ((q : ℕ) → next ≤ q → q < p → cands q ≡ false)
     → cands p ≡ true → true ≡ succeeds n node pos p → Some p ≡ first_success n node pos
 first_success-found n node pos next p cands same before between c t =
-    let on = candidate_at_on node pos p (sym (same p) ∙ c) in
-    sym (first-found (is_candidate_at node pos) (succeeds n node pos) (pos.size * pos.size) 0 p
+    let on = candidate_on node.turn pos p (sym (same p) ∙ c) in
+    sym (first-found (is_candidate node.turn pos) (succeeds n node pos) (pos.size * pos.size) 0 p
     (omega arith) (omega (arith, on))
     (λ q l h. rw (← same q) (none_before cands (succeeds n node pos) next p before between q h))
     (both (sym (same p) ∙ c) (sym t)))
@@ -221,18 +221,18 @@ first_success-found n node pos next p cands same before between c t =
 
 -- none succeeds, where no candidate is left
 pub first_success-none : (n : ℕ) (node : Node) (pos : BoardState) (next : ℕ) (cands : ℕ → Bool)
-    → ((q : ℕ) → cands q ≡ is_candidate_at node pos q)
+    → ((q : ℕ) → cands q ≡ is_candidate node.turn pos q)
     → ((q : ℕ) → q < next → (cands q && succeeds n node pos q) ≡ false) → ((q : ℕ) → next ≤ q → cands q ≡ false)
     → None ≡ first_success n node pos
 first_success-none n node pos next cands same before left =
-    sym (first-none (is_candidate_at node pos) (succeeds n node pos) (pos.size * pos.size) 0
+    sym (first-none (is_candidate node.turn pos) (succeeds n node pos) (pos.size * pos.size) 0
     (λ q l h. rw (← same q) (none_before cands (succeeds n node pos) next (pos.size * pos.size) before
     (λ k g m. left k g) q (omega arith))))
 
 -- who wins at a node that no earlier rule decides, by whether its mover has a good move
-pub wins-by_move : (n : ℕ) (node : Node) (pos : BoardState) (some : Bool) → is_captured pos node.target ≡ false → n ≢ 0
-    → some ≡ is_some (good_move (n - 1) node pos) → beq some node.attacker_to_play ≡ attacker_wins n node pos
-wins-by_move n node pos some h ne e = elim (cases_Bool node.attacker_to_play) [
+pub wins-by_move : (n : ℕ) (node : Node) (pos : BoardState) (some : Bool) → is_captured pos node.turn.target ≡ false → n ≢ 0
+    → some ≡ is_some (good_move (n - 1) node pos) → beq some node.turn.attacker_to_play ≡ attacker_wins n node pos
+wins-by_move n node pos some h ne e = elim (cases_Bool node.turn.attacker_to_play) [
   | inl t ↦ ap (λ turn. beq some turn) t ∙ same_as_true some ∙ e ∙ sym (wins-attacker_move n node pos h ne t)
   | inr f ↦ ap (λ turn. beq some turn) f ∙ same_as_false some ∙ ap not e ∙ sym (wins-defender_move n node pos h ne f)
 ]

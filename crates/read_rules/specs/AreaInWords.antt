@@ -7,7 +7,7 @@ use Rattle.go_rules.specs.Strings.{cell_at, IsInString}
 use Rattle.go_rules.specs.Position.{BoardState}
 use Rattle.go_rules.specs.Play.{pass}
 use Rattle.read_rules.specs.Trees.{steps_of}
-use Rattle.read_rules.specs.Candidates.{is_candidate_at}
+use Rattle.read_rules.specs.Candidates.{is_candidate}
 use Rattle.read_rules.specs.declared.node.Node.{Node}
 use Rattle.read_rules.specs.declared.question.ReadingQuestion.{ReadingQuestion}
 use Rattle.read_rules.specs.GameTree.{allowance_of, next_node}
@@ -37,12 +37,12 @@ pub record IsFirstOf (q : ReadingQuestion) (pos : BoardState) (n : ℕ) (node : 
 -- a candidate that can be played leads from the one node to the other
 pub record IsByPlay (before : Node) (there : BoardState) (node : Node) (here : BoardState) : Type 0 where
   pub point : ℕ
-  pub candidate : IsTrue (is_candidate_at before there point)
+  pub candidate : IsTrue (is_candidate before.turn there point)
   pub child : IsChild before there point node here
 
 -- the defender's pass leads from the one node to the other
 pub record IsByPass (before : Node) (there : BoardState) (node : Node) (here : BoardState) : Type 0 where
-  pub defender_to_play : before.attacker_to_play ≡ false
+  pub defender_to_play : before.turn.attacker_to_play ≡ false
   pub node_is : node ≡ next_node before (allowance_of before)
   pub here_is : here ≡ pass there
 
@@ -52,8 +52,8 @@ pub record IsNextOf (q : ReadingQuestion) (pos : BoardState) (n : ℕ) (node : N
   pub before : Node
   pub there : BoardState
   pub in_tree : IsNodeOf q pos (suc n) before there
-  pub stands : cell_at there.cells before.target ≢ Empty
-  pub few : before.attacker_to_play ≡ true → HasManyLiberties before.tree there before.target before.wide → ⊥
+  pub stands : cell_at there.cells before.turn.target ≢ Empty
+  pub few : before.turn.attacker_to_play ≡ true → HasManyLiberties before.turn there → ⊥
   pub move : IsByPlay before there node here ⊎ IsByPass before there node here
 
 -- at a node of the question whose target stands, five steps, or six in the wider tree, lead from the target's string to
@@ -63,5 +63,5 @@ pub record IsLookedAt (q : ReadingQuestion) (pos : BoardState) (p : ℕ) : Type 
   pub node : Node
   pub here : BoardState
   pub in_tree : IsNodeOf q pos plies node here
-  pub stands : cell_at here.cells node.target ≢ Empty
-  pub reached : IsReachedIn here.size here.cells node.target (steps_of node.tree) p
+  pub stands : cell_at here.cells node.turn.target ≢ Empty
+  pub reached : IsReachedIn here.size here.cells node.turn.target (steps_of node.turn.tree) p

@@ -3,32 +3,25 @@ use Rattle.std.specs.Prelude.{◌≡◌, ◌≢◌, ℕ, zero, suc, false, IsTru
 use Rattle.go_rules.specs.declared.Illegal.TheVariants.{Ko}
 use Rattle.go_rules.specs.Position.{BoardState}
 use Rattle.go_rules.specs.Play.{play, pass}
-use Rattle.read_rules.specs.Candidates.{is_candidate_at}
+use Rattle.read_rules.specs.Candidates.{is_candidate}
 use Rattle.read_rules.specs.declared.node.Node.{Node}
-use Rattle.read_rules.specs.GameTree.{is_captured, mover_of, allowance_of, next_node}
+use Rattle.read_rules.specs.GameTree.{is_captured, allowance_of, next_node}
+use Rattle.read_rules.specs.Turns.{mover_of}
 
 -- the node under other ko allowances of attacker and defender
 abbrev pub with_allowances : Node → ℕ → ℕ → Node
-with_allowances node a d = record {
-  tree = node.tree;
-  target = node.target;
-  defender = node.defender;
-  attacker_to_play = node.attacker_to_play;
-  wide = node.wide;
-  attacker_ko = a;
-  defender_ko = d;
-}
+with_allowances node a d = record { turn = node.turn; attacker_ko = a; defender_ko = d }
 
 -- where the target stands, no play at a candidate is refused for the ban, and the same holds of the nodes that the
 -- legal plays at candidates and the defender's pass lead to, by the test
 pub record IsFreeHere (below : Node → BoardState → Type 0) (node : Node) (pos : BoardState) : Type 0 where
-  pub none : (p : ℕ) → IsTrue (is_candidate_at node pos p) → play pos (mover_of node) p ≢ Err Ko
-  pub played : (p : ℕ) (new : BoardState) → IsTrue (is_candidate_at node pos p)
-      → play pos (mover_of node) p ≡ Ok new
+  pub none : (p : ℕ) → IsTrue (is_candidate node.turn pos p) → play pos (mover_of node.turn) p ≢ Err Ko
+  pub played : (p : ℕ) (new : BoardState) → IsTrue (is_candidate node.turn pos p)
+      → play pos (mover_of node.turn) p ≡ Ok new
       → below (next_node node (allowance_of node)) new
-  pub passed : node.attacker_to_play ≡ false → below (next_node node (allowance_of node)) (pass pos)
+  pub passed : node.turn.attacker_to_play ≡ false → below (next_node node (allowance_of node)) (pass pos)
 
 -- with n plies left the ban forbids no candidate in the tree of the node
 abbrev pub IsBanFree : ℕ → Node → BoardState → Type 0
 IsBanFree zero node pos = Unit {0}
-IsBanFree (suc n) node pos = is_captured pos node.target ≡ false → IsFreeHere (IsBanFree n) node pos
+IsBanFree (suc n) node pos = is_captured pos node.turn.target ≡ false → IsFreeHere (IsBanFree n) node pos

@@ -2,6 +2,7 @@
 -- play takes away one liberty at most.
 use Rattle.std.specs.Prelude.{◌≡◌, ◌⊎◌, ℕ, ◌+◌, ◌-◌, ◌/◌, ◌<◌, Bool, true, false, ◌||◌, ◌==◌, nat_lt, if◌then◌else◌}
 use Rattle.read_rules.specs.declared.tree.Tree.{Tree}
+use Rattle.read_rules.specs.declared.turn.Turn.{Turn}
 use Rattle.read_rules.specs.Trees.{most_narrow}
 
 -- how many liberties a target may have that is captured with so many wide plies left: the attacker plays at one with at
@@ -17,6 +18,10 @@ unfoldable pub outlasts : Tree → Bool → ℕ → ℕ → ℕ → Bool
 outlasts tree attacker n k l =
     if attacker then nat_lt ((n + 1) / 2) l || nat_lt (most_by_wide tree k) l
     else nat_lt (n / 2) l || nat_lt (most_by_wide tree (k - 1)) l
+
+-- with n plies left at the turn, a target with so many liberties has too many
+abbrev pub outlasts_at : Turn → ℕ → ℕ → Bool
+outlasts_at turn n l = outlasts turn.tree turn.attacker_to_play n turn.wide l
 
 -- The same in words.
 

@@ -19,9 +19,8 @@ use Rattle.go_base.specs.Surroundings.{is_only_liberty, is_last_liberty_of_enemy
 use Rattle.go_base.specs.Views.{alone}
 use Rattle.wider_rules.specs.Further.{is_further}
 use Rattle.wider_rules.specs.FurtherInWords.{IsFurther}
-use Rattle.read_rules.specs.declared.node.Node.{Node}
-use Rattle.read_rules.specs.declared.tree.Tree.{Tree}
 use Rattle.read_rules.specs.declared.tree.Tree.TheVariants.{Wider}
+use Rattle.read_rules.specs.declared.turn.Turn.{Turn}
 use Rattle.read_rules.specs.Trees.{is_wider}
 
 -- p is empty and next to a point of S
@@ -55,25 +54,22 @@ is_backfilling pos target p =
     (λ l. is_liberty pos.size pos.cells target l
     && leaves_only l p (play_free pos (attacker_of (cell_at pos.cells target)) l))
 
--- p is a liberty of the target; or, where k is above 0 and the target has at most two, an empty neighbour of one; or
--- the one liberty of an enemy string next to it; or, where k is above 0, a backfilling move; or, where k is above 0 and
--- the tree is the wider one, a further candidate at this turn
-unfoldable pub is_candidate : Tree → Bool → BoardState → ℕ → ℕ → ℕ → Bool
-is_candidate tree attacker_to_play pos target k p =
-    is_liberty pos.size pos.cells target p
-    || ((nat_lt 0 k && nat_lt (liberties pos.size pos.cells target) 3)
-    && is_empty_beside pos.size pos.cells (is_liberty pos.size pos.cells target) p)
-    || is_last_liberty_of_enemy pos.size pos.cells target p
-    || (nat_lt 0 k && is_backfilling pos target p)
-    || (nat_lt 0 k && (is_wider tree && is_further attacker_to_play pos.size pos.cells target p))
+-- p is a candidate at the turn: it is a liberty of the target; or, where a wide ply is left and the target has at most
+-- two, an empty neighbour of one; or the one liberty of an enemy string next to it; or, where a wide ply is left, a
+-- backfilling move; or, where one is left and the tree is the wider one, a further candidate of whose turn it is
+unfoldable pub is_candidate : Turn → BoardState → ℕ → Bool
+is_candidate turn pos p =
+    is_liberty pos.size pos.cells turn.target p
+    || ((nat_lt 0 turn.wide && nat_lt (liberties pos.size pos.cells turn.target) 3)
+    && is_empty_beside pos.size pos.cells (is_liberty pos.size pos.cells turn.target) p)
+    || is_last_liberty_of_enemy pos.size pos.cells turn.target p
+    || (nat_lt 0 turn.wide && is_backfilling pos turn.target p)
+    || (nat_lt 0 turn.wide && (is_wider turn.tree
+    && is_further turn.attacker_to_play pos.size pos.cells turn.target p))
 
--- p is a candidate at the node
-abbrev pub is_candidate_at : Node → BoardState → ℕ → Bool
-is_candidate_at node pos = is_candidate node.tree node.attacker_to_play pos node.target node.wide
-
--- the candidates at the node in reading order
-abbrev pub candidates_of : Node → BoardState → List ℕ
-candidates_of node pos = filter (is_candidate_at node pos) (range_with_len 0 (pos.size * pos.size))
+-- the candidates at the turn in reading order
+abbrev pub candidates_of : Turn → BoardState → List ℕ
+candidates_of turn pos = filter (is_candidate turn pos) (range_with_len 0 (pos.size * pos.size))
 
 -- the points that a search for the candidates of a target may ask for, in either tree: the neighbourhood taken four
 -- times
@@ -108,12 +104,13 @@ pub record IsBackfilledAt (pos : BoardState) (target l p : ℕ) : Type 0 where
   pub last : IsLiberty new.size new.cells l p
   pub was_empty : cell_at pos.cells p ≡ Empty
 
--- p is a candidate of the tree for the target, at the attacker's turn or the defender's, with k wide plies left
-pub data IsCandidate (tree : Tree) (attacker_to_play : Bool) (pos : BoardState) (target k p : ℕ) : Type 0 where
-  fills : IsLiberty pos.size pos.cells target p → IsCandidate tree attacker_to_play pos target k p
-  looks_wide : 0 < k → liberties pos.size pos.cells target ≤ 2 → (l : ℕ) → IsLiberty pos.size pos.cells target l
-      → IsEmptyNeighbour pos.size pos.cells l p → IsCandidate tree attacker_to_play pos target k p
-  takes : (q : ℕ) → IsTakenAt pos.size pos.cells target q p → IsCandidate tree attacker_to_play pos target k p
-  backfills : 0 < k → (l : ℕ) → IsBackfilledAt pos target l p → IsCandidate tree attacker_to_play pos target k p
-  goes_further : tree ≡ Wider → 0 < k → IsFurther attacker_to_play pos.size pos.cells target p
-      → IsCandidate tree attacker_to_play pos target k p
+-- p is a candidate at the turn
+pub data IsCandidate (turn : Turn) (pos : BoardState) (p : ℕ) : Type 0 where
+  fills : IsLiberty pos.size pos.cells turn.target p → IsCandidate turn pos p
+  looks_wide : 0 < turn.wide → liberties pos.size pos.cells turn.target ≤ 2 → (l : ℕ)
+      → IsLiberty pos.size pos.cells turn.target l → IsEmptyNeighbour pos.size pos.cells l p
+      → IsCandidate turn pos p
+  takes : (q : ℕ) → IsTakenAt pos.size pos.cells turn.target q p → IsCandidate turn pos p
+  backfills : 0 < turn.wide → (l : ℕ) → IsBackfilledAt pos turn.target l p → IsCandidate turn pos p
+  goes_further : turn.tree ≡ Wider → 0 < turn.wide
+      → IsFurther turn.attacker_to_play pos.size pos.cells turn.target p → IsCandidate turn pos p

@@ -10,7 +10,7 @@ use Rattle.read_rules.specs.Answer.{attains_code, first_move_of}
 
 -- the attacker is to play, and the target has too many liberties for him
 abbrev pub is_barred : Node → BoardState → Bool
-is_barred node pos = node.attacker_to_play && has_many_liberties node.tree pos node.target node.wide
+is_barred node pos = node.turn.attacker_to_play && has_many_liberties node.turn pos
 
 -- the first move that gives the side to play its way, where it has its way
 abbrev pub good_move : ℕ → Node → BoardState → Option Spot

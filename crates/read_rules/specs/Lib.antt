@@ -1,5 +1,6 @@
 pub mod Ranges
 pub mod Trees
+pub mod Turns
 pub mod Candidates
 pub mod GameTree
 pub mod Answer

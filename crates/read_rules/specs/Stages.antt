@@ -3,15 +3,19 @@ use Rattle.std.specs.Prelude.{ℕ, ◌&&◌, ◌||◌, Bool, nat_lt}
 use Rattle.go_rules.specs.Strings.{is_liberty, liberties}
 use Rattle.go_rules.specs.Position.{BoardState}
 use Rattle.wider_rules.specs.Further.{is_further}
-use Rattle.read_rules.specs.declared.tree.Tree.{Tree}
+use Rattle.read_rules.specs.declared.turn.Turn.{Turn}
 use Rattle.read_rules.specs.Trees.{is_wider}
 use Rattle.read_rules.specs.Candidates.{is_empty_beside, is_backfilling}
 
--- p is an empty neighbour of a liberty of the target, which has at most two; or a backfilling move; or, in the wider
--- tree, a further candidate at this turn
-unfoldable pub is_wide_candidate : Tree → Bool → BoardState → ℕ → ℕ → Bool
-is_wide_candidate tree attacker_to_play pos target p =
+-- p is an empty neighbour of a liberty of the target, which has at most two; or a backfilling move
+unfoldable pub is_wide_by_liberties : BoardState → ℕ → ℕ → Bool
+is_wide_by_liberties pos target p =
     (nat_lt (liberties pos.size pos.cells target) 3
     && is_empty_beside pos.size pos.cells (is_liberty pos.size pos.cells target) p)
     || is_backfilling pos target p
-    || (is_wider tree && is_further attacker_to_play pos.size pos.cells target p)
+
+-- p is a wide candidate by the target's liberties; or, in the wider tree, a further candidate of whose turn it is
+unfoldable pub is_wide_candidate : Turn → BoardState → ℕ → Bool
+is_wide_candidate turn pos p =
+    is_wide_by_liberties pos turn.target p
+    || (is_wider turn.tree && is_further turn.attacker_to_play pos.size pos.cells turn.target p)

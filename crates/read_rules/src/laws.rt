@@ -14,6 +14,7 @@ ghost use Rattle.read_rules.specs.Candidates.{is_candidate, IsCandidate};
 ghost use Rattle.read_rules.specs.Stages.{is_wide_candidate};
 ghost use Rattle.read_rules.specs.declared.node.Node.{Node};
 ghost use Rattle.read_rules.specs.declared.tree.Tree.{Tree};
+ghost use Rattle.read_rules.specs.declared.turn.Turn.{Turn};
 ghost use Rattle.read_rules.specs.declared.question.ReadingQuestion.{ReadingQuestion};
 ghost use Rattle.read_rules.specs.declared.question.Spot.{Spot};
 ghost use Rattle.read_rules.specs.GameTree.{is_captured, has_many_liberties, child_of, can_play, attacker_wins};
@@ -30,29 +31,26 @@ use go_base::Cell;
 /// of the attacker on a liberty of the target would have; or, in the wider tree and where a wide ply is left, a further
 /// candidate at this turn.
 pub fn candidates_are_by_strings()
-    ensures candidate { (tree : Tree) (attacker_to_play : Bool) (pos : BoardState) (target k p : ℕ)
-        → target < pos.size * pos.size →
-        IsTrue (is_candidate tree attacker_to_play pos target k p)
-        ↔ IsCandidate tree attacker_to_play pos target k p }
-    ensures on_board { (tree : Tree) (attacker_to_play : Bool) (pos : BoardState) (target k p : ℕ)
-        → IsTrue (is_candidate tree attacker_to_play pos target k p) → p < pos.size * pos.size }
+    ensures candidate { (turn : Turn) (pos : BoardState) (p : ℕ) → turn.target < pos.size * pos.size →
+        IsTrue (is_candidate turn pos p) ↔ IsCandidate turn pos p }
+    ensures on_board { (turn : Turn) (pos : BoardState) (p : ℕ) → IsTrue (is_candidate turn pos p)
+        → p < pos.size * pos.size }
 {}
 
 /// A candidate is a liberty of the target, the last liberty of an enemy string next to it, or, where a wide ply is
 /// left, a wide candidate of the tree.
 pub fn candidates_come_in_stages()
-    ensures { (tree : Tree) (attacker_to_play : Bool) (pos : BoardState) (target k p : ℕ)
-        → is_candidate tree attacker_to_play pos target k p
-        ≡ (is_liberty pos.size pos.cells target p || is_last_liberty_of_enemy pos.size pos.cells target p
-        || (nat_lt 0 k && is_wide_candidate tree attacker_to_play pos target p)) }
+    ensures { (turn : Turn) (pos : BoardState) (p : ℕ) → is_candidate turn pos p
+        ≡ (is_liberty pos.size pos.cells turn.target p || is_last_liberty_of_enemy pos.size pos.cells turn.target p
+        || (nat_lt 0 turn.wide && is_wide_candidate turn pos p)) }
 {}
 
 /// Where a node is captured, where its target has too many liberties, and which children it has.
 pub fn nodes_are_by_the_rules()
     ensures captured { (pos : BoardState) (target : ℕ)
         → IsTrue (is_captured pos target) ↔ (cell_at pos.cells target ≡ Cell.Empty) }
-    ensures many { (tree : Tree) (pos : BoardState) (target k : ℕ)
-        → IsTrue (has_many_liberties tree pos target k) ↔ HasManyLiberties tree pos target k }
+    ensures many { (turn : Turn) (pos : BoardState)
+        → IsTrue (has_many_liberties turn pos) ↔ HasManyLiberties turn pos }
     ensures child { (node : Node) (pos : BoardState) (p : ℕ) (next : Node) (new : BoardState) →
         (child_of node pos p ≡ Some (next, new)) ↔ IsChild node pos p next new }
     ensures can_play { (node : Node) (pos : BoardState) (p : ℕ) →
@@ -61,16 +59,16 @@ pub fn nodes_are_by_the_rules()
 
 /// The four rules that say who wins, in their order.
 pub fn the_tree_is_by_four_rules()
-    ensures captured { (n : ℕ) (node : Node) (pos : BoardState) → IsTrue (is_captured pos node.target)
+    ensures captured { (n : ℕ) (node : Node) (pos : BoardState) → IsTrue (is_captured pos node.turn.target)
         → IsTrue (attacker_wins n node pos) }
-    ensures out_of_plies { (node : Node) (pos : BoardState) → is_captured pos node.target ≡ false
+    ensures out_of_plies { (node : Node) (pos : BoardState) → is_captured pos node.turn.target ≡ false
         → attacker_wins 0 node pos ≡ false }
-    ensures attacker_to_play { (n : ℕ) (node : Node) (pos : BoardState) → is_captured pos node.target ≡ false
-        → node.attacker_to_play ≡ true →
+    ensures attacker_to_play { (n : ℕ) (node : Node) (pos : BoardState) → is_captured pos node.turn.target ≡ false
+        → node.turn.attacker_to_play ≡ true →
         IsTrue (attacker_wins (n + 1) node pos)
-        ↔ ((has_many_liberties node.tree pos node.target node.wide ≡ false) × SomeChildWins n node pos) }
-    ensures defender_to_play { (n : ℕ) (node : Node) (pos : BoardState) → is_captured pos node.target ≡ false
-        → node.attacker_to_play ≡ false →
+        ↔ ((has_many_liberties node.turn pos ≡ false) × SomeChildWins n node pos) }
+    ensures defender_to_play { (n : ℕ) (node : Node) (pos : BoardState) → is_captured pos node.turn.target ≡ false
+        → node.turn.attacker_to_play ≡ false →
         IsTrue (attacker_wins (n + 1) node pos) ↔ EachChildWins n node pos }
 {}
 
@@ -121,11 +119,11 @@ pub fn many_liberties_stand()
         liberties pos.size pos.cells t ≤ liberties new.size new.cells t + 1 }
     ensures too_many { (tree : Tree) (attacker : Bool) (n k l : ℕ) →
         IsTrue (outlasts tree attacker n k l) ↔ IsTooMany tree attacker n k l }
-    ensures stands { (n : ℕ) (node : Node) (pos : BoardState) → node.target < pos.size * pos.size →
-        IsTooMany node.tree node.attacker_to_play n node.wide (liberties pos.size pos.cells node.target)
+    ensures stands { (n : ℕ) (node : Node) (pos : BoardState) → node.turn.target < pos.size * pos.size →
+        IsTooMany node.turn.tree node.turn.attacker_to_play n node.turn.wide (liberties pos.size pos.cells node.turn.target)
         → attacker_wins n node pos ≡ false }
-    ensures many { (tree : Tree) (n k : ℕ) (pos : BoardState) (t : ℕ) → HasManyLiberties tree pos t k
-        → IsTooMany tree true n k (liberties pos.size pos.cells t) }
+    ensures many { (turn : Turn) (n : ℕ) (pos : BoardState) → HasManyLiberties turn pos
+        → IsTooMany turn.tree true n turn.wide (liberties pos.size pos.cells turn.target) }
 {}
 
 /// How far the active area of a question reaches: its points are those that five steps, or six in the wider tree, lead

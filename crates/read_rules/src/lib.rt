@@ -11,8 +11,10 @@ pub mod laws;
 pub mod node;
 pub mod question;
 pub mod tree;
+pub mod turn;
 
 pub use depths::{Depths, MAX_PLIES, MAX_WIDE, MIN_PLIES};
 pub use node::Node;
 pub use question::{Answer, Kind, ReadingQuestion, Spot};
 pub use tree::Tree;
+pub use turn::Turn;

@@ -1,24 +1,17 @@
-//! A node of the game tree: what is read, whose turn it is, and what is left to spend.
+//! A node of the game tree: whose turn it is, and how often each side may still ignore the ban.
 
 ghost use Rattle.std.specs.Prelude.{◌≡◌};
-ghost use Rattle.read_rules.specs.GameTree.{mover_of, allowance_of, next_node};
+ghost use Rattle.read_rules.specs.GameTree.{allowance_of, next_node};
+ghost use Rattle.read_rules.specs.Turns.{mover_of};
 
-use crate::tree::Tree;
-use go_base::{Colour, Point};
+use crate::turn::Turn;
+use go_base::Colour;
 
 /// A node of the game tree, but for its position and the plies that are left.
 #[derive(Clone, Copy, Debug, PartialEq, Eq)]
 pub struct Node {
-    /// Which tree is read.
-    pub tree: Tree,
-    /// The point whose string is read.
-    pub target: Point,
-    /// The colour of the target's stone.
-    pub defender: Colour,
-    /// Whether it is the attacker's turn; else it is the defender's.
-    pub attacker_to_play: bool,
-    /// How many wide plies are left.
-    pub wide: u8,
+    /// Whose turn it is, and in the reading of which string.
+    pub turn: Turn,
     /// How often the attacker may still play where the ban alone forbids it.
     pub attacker_ko: u8,
     /// How often the defender may.
@@ -28,20 +21,16 @@ pub struct Node {
 impl Node {
     /// The colour whose turn it is.
     pub fn mover(self) -> Colour
-        ensures { result ≡ mover_of self }
+        ensures { result ≡ mover_of self.turn }
     {
-        if self.attacker_to_play {
-            self.defender.other()
-        } else {
-            self.defender
-        }
+        self.turn.mover()
     }
 
     /// How often the side to play may still play where the ban alone forbids it.
     pub fn allowance(self) -> u8
         ensures { result ≡ allowance_of self }
     {
-        if self.attacker_to_play {
+        if self.turn.attacker_to_play {
             self.attacker_ko
         } else {
             self.defender_ko
@@ -53,17 +42,13 @@ impl Node {
         ensures { result ≡ next_node self left }
     {
         Node {
-            tree: self.tree,
-            target: self.target,
-            defender: self.defender,
-            attacker_to_play: !self.attacker_to_play,
-            wide: self.wide.saturating_sub(1),
-            attacker_ko: if self.attacker_to_play {
+            turn: self.turn.next(),
+            attacker_ko: if self.turn.attacker_to_play {
                 left
             } else {
                 self.attacker_ko
             },
-            defender_ko: if self.attacker_to_play {
+            defender_ko: if self.turn.attacker_to_play {
                 self.defender_ko
             } else {
                 left

@@ -3,24 +3,23 @@ use Rattle.std.proofs.Common.{◌≡◌, ◌≢◌, ℕ, suc, ◌-◌, ◌*◌, 
 use Rattle.std.proofs.Common.{None, is_some, refl, sym, ap, subst, ◌∙◌, arith, inl, inr}
 use mathlib.Core.Bool.{beq}
 use Rattle.std.proofs.lemmas.Bool.{cases_Bool, both_ways, or_right}
-use Rattle.go_rules.specs.declared.Colour.{Colour}
 use Rattle.go_rules.specs.Position.{BoardState}
+use Rattle.read_rules.proofs.CandidateLaws.{candidate_on}
+use Rattle.read_rules.specs.Turns.{next_turn}
+use Rattle.read_rules.specs.Candidates.{is_candidate}
 use Rattle.read_rules.specs.declared.node.Node.{Node}
-use Rattle.read_rules.specs.declared.tree.Tree.{Tree}
-use Rattle.read_tree.specs.declared.turn.Turn.{Turn}
+use Rattle.read_rules.specs.declared.turn.Turn.{Turn}
 use Rattle.read_tree.specs.declared.allowances.Allowances.{Allowances}
 use Rattle.go_rules.specs.Play.{pass}
-use Rattle.read_rules.specs.Candidates.{is_candidate_at, candidates_of}
-use Rattle.read_rules.proofs.CandidateLaws.{candidate_at_on}
+use Rattle.read_rules.specs.Candidates.{candidates_of}
 use Rattle.read_rules.specs.declared.question.Spot.TheVariants.{Pass}
 use Rattle.read_rules.specs.GameTree.{is_captured, has_many_liberties, allowance_of, next_node, attacker_wins, suits}
 use Rattle.read_rules.specs.GameTree.{child_of, succeeds, pass_saves, first_success, at_point}
 use Rattle.read_tree.specs.Allowances.{all_three}
 use Rattle.read_tree.specs.Allowances.{Ko, defender_may, neither_may, attacker_may, attacker_ko_of, defender_ko_of, has}
-use Rattle.read_tree.specs.Allowances.{has_some, own_ko, own_where, under, next_turn, without, Tells}
+use Rattle.read_tree.specs.Allowances.{has_some, own_ko, own_where, under, without, Tells}
 use Rattle.read_rules.specs.declared.question.ReadingQuestion.{ReadingQuestion}
 use Rattle.read_rules.specs.ActiveArea.{IsUndecided, IsNodeOf, by_play, by_pass}
-use Rattle.read_tree.specs.Stages.{is_candidate_on}
 use Rattle.read_rules.specs.GoodMoves.{good_move}
 use Rattle.read_tree.specs.Steps.{has_way, IsLeft, AreNodesOf}
 use Rattle.read_rules.proofs.WinLemmas.{any-first}
@@ -85,24 +84,29 @@ pub one_left : (attacker : Bool)
 one_left true = refl
 one_left false = refl
 
+-- the node at a turn, where a move of the attacker or of the defender leaves its mover this allowance
+abbrev node_after : Turn → Bool → ℕ → Ko → Node
+node_after turn attacker left ko = record {
+  turn = turn;
+  attacker_ko = cond attacker left (attacker_ko_of ko);
+  defender_ko = cond attacker (defender_ko_of ko) left;
+}
+
 -- a legal play keeps the allowance
-next_by : (tree : Tree) (target : ℕ) (defender : Colour) (attacker : Bool) (wide : ℕ) (ko : Ko) → let turn : Turn =
-    record { tree = tree; target = target; defender = defender; attacker_to_play = attacker; wide = wide } in
-    next_node (under turn ko) (allowance_of (under turn ko)) ≡ under (next_turn turn) ko
-next_by tree target defender true wide ko = refl
-next_by tree target defender false wide ko = refl
+kept : (turn : Turn) (attacker : Bool) (ko : Ko)
+    → node_after turn attacker (cond attacker (attacker_ko_of ko) (defender_ko_of ko)) ko ≡ under turn ko
+kept turn true ko = refl
+kept turn false ko = refl
 
 -- a move that spends no allowance leads to the next turn, under the allowance of the turn before
 pub next_keeps : (turn : Turn) (ko : Ko)
     → next_node (under turn ko) (allowance_of (under turn ko)) ≡ under (next_turn turn) ko
-next_keeps turn ko = next_by turn.tree turn.target turn.defender turn.attacker_to_play turn.wide ko
+next_keeps turn ko = kept (next_turn turn) turn.attacker_to_play ko
 
 -- a play that the ban alone forbids spends the own one
-spent_by : (tree : Tree) (target : ℕ) (defender : Colour) (attacker : Bool) (wide : ℕ) → let turn : Turn =
-    record { tree = tree; target = target; defender = defender; attacker_to_play = attacker; wide = wide } in
-    next_node (under turn (own_ko attacker)) 0 ≡ under (next_turn turn) neither_may
-spent_by tree target defender true wide = refl
-spent_by tree target defender false wide = refl
+spent : (turn : Turn) (attacker : Bool) → node_after turn attacker 0 (own_ko attacker) ≡ under turn neither_may
+spent turn true = refl
+spent turn false = refl
 
 -- a play that spends the mover's own allowance leads to the next turn, where neither side may
 pub next_spends : (turn : Turn)
@@ -112,7 +116,7 @@ next_spends turn =
     let e : allowance_of (under turn (own_ko turn.attacker_to_play)) - 1 ≡ 0 =
     (let one = one_left turn.attacker_to_play in omega arith) in
     ap (next_node (under turn (own_ko turn.attacker_to_play))) e
-    ∙ spent_by turn.tree turn.target turn.defender turn.attacker_to_play turn.wide
+    ∙ spent (next_turn turn) turn.attacker_to_play
 
 -- the mover's way at a child
 pub suits_child : (n : ℕ) (attacker : Bool) (o : Option (Node × BoardState)) (next : Node) (new : BoardState)
@@ -253,7 +257,7 @@ neither_nodes {q} {root} {here} {n} {turn} node = record { each = by }
 -- after a legal play at a candidate of undecided nodes, the node under each allowance is one of the trees
 pub legal_nodes : {q : ReadingQuestion} {root here new : BoardState} {n : ℕ} {turn : Turn} {asked : Allowances} (p : ℕ)
     → AreNodesOf q root (suc n) turn asked here → ((ko : Ko) → IsUndecided (under turn ko) here)
-    → is_candidate_on turn here p ≡ true
+    → is_candidate turn here p ≡ true
     → ((ko : Ko) → child_of (under turn ko) here p ≡ Some (under (next_turn turn) ko, new))
     → AreNodesOf q root n (next_turn turn) asked new
 legal_nodes {new} {turn} p tree und candidate made = record {
@@ -263,7 +267,7 @@ legal_nodes {new} {turn} p tree und candidate made = record {
 -- after one that spends the own allowance, the node under no allowance is
 pub allowed_nodes : {q : ReadingQuestion} {root here new : BoardState} {n : ℕ} {turn : Turn} {asked : Allowances}
     (p : ℕ) → AreNodesOf q root (suc n) turn asked here → ((ko : Ko) → IsUndecided (under turn ko) here)
-    → is_candidate_on turn here p ≡ true → has asked (own_ko turn.attacker_to_play) ≡ true
+    → is_candidate turn here p ≡ true → has asked (own_ko turn.attacker_to_play) ≡ true
     → child_of (under turn (own_ko turn.attacker_to_play)) here p ≡ Some (under (next_turn turn) neither_may, new)
     → AreNodesOf q root n (next_turn turn) (record { defender = false; neither = true; attacker = false }) new
 allowed_nodes {new} {turn} p tree und candidate own made =
@@ -306,12 +310,12 @@ and_true true b h = sym (h refl)
 and_true false b h = refl
 
 -- a candidate that succeeds makes the first
-pub success_some : (n : ℕ) (node : Node) (here : BoardState) (p : ℕ) → is_candidate_at node here p ≡ true
+pub success_some : (n : ℕ) (node : Node) (here : BoardState) (p : ℕ) → is_candidate node.turn here p ≡ true
     → succeeds n node here p ≡ true → is_some (first_success n node here) ≡ true
 success_some n node here p c t =
-    let on = candidate_at_on node here p c in
-    any-first (succeeds n node here) (candidates_of node here)
-    ∙ any_from (is_candidate_at node here) (succeeds n node here) (here.size * here.size) 0 p
+    let on = candidate_on node.turn here p c in
+    any-first (succeeds n node here) (candidates_of node.turn here)
+    ∙ any_from (is_candidate node.turn here) (succeeds n node here) (here.size * here.size) 0 p
     (omega arith) (omega (arith, on)) c t
 
 -- the defender's way is by the pass or by a candidate
@@ -326,7 +330,7 @@ good_by false many false (Some p) e = refl
 pub good_by_success : (n : ℕ) (turn : Turn) (here : BoardState) (ko : Ko) → turn.attacker_to_play ≡ false
     → is_some (first_success n (under turn ko) here) ≡ true → is_some (good_move n (under turn ko) here) ≡ true
 good_by_success n turn here ko defends some =
-    good_by turn.attacker_to_play (has_many_liberties turn.tree here turn.target turn.wide)
+    good_by turn.attacker_to_play (has_many_liberties turn here)
     (pass_saves n (under turn ko) here)
     (first_success n (under turn ko) here) defends
     ∙ or_right (pass_saves n (under turn ko) here) _ some
@@ -344,7 +348,7 @@ Tells-good n turn here asked saved some defends s m = record {
       (has saved ko) (has some ko) (s.each ko)
       (m.each ko ∙ ap (λ x. x && is_some (first_success n (under turn ko) here)) (has-without asked saved ko))
       ∙ ap (λ x. has asked ko && x)
-      (sym (good_by turn.attacker_to_play (has_many_liberties turn.tree here turn.target turn.wide)
+      (sym (good_by turn.attacker_to_play (has_many_liberties turn here)
       (pass_saves n (under turn ko) here) (first_success n (under turn ko) here) defends));
 }
   where

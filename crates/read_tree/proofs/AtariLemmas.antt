@@ -22,6 +22,9 @@ use Rattle.go_rules.proofs.Plays.{at_put_other, at_after, own_not_taken, stone_i
 use Rattle.go_rules.proofs.PlayLaws.{done_state, free_keeps, others_stay}
 use Rattle.go_rules.proofs.BanLaws.{ban_parts}
 use Rattle.go_base.specs.Surroundings.{is_only_liberty, is_last_liberty_of_enemy}
+use Rattle.read_rules.proofs.CandidateLaws.{candidate_on}
+use Rattle.read_rules.specs.Turns.{next_turn}
+use Rattle.read_rules.specs.Candidates.{is_candidate}
 use Rattle.read_rules.specs.declared.node.Node.{Node}
 use Rattle.read_rules.specs.declared.tree.Tree.{Tree}
 use Rattle.read_rules.specs.declared.tree.Tree.TheVariants.{Stated, Wider}
@@ -34,14 +37,13 @@ use Rattle.read_rules.proofs.AfterPlays.{put_liberty, after_liberty}
 use Rattle.read_rules.proofs.OneMember.{one_member}
 use Rattle.go_base.proofs.LastLiberties.{contains-liberty_points}
 use Rattle.go_base.proofs.Liberties.{len-liberty_points}
-use Rattle.read_tree.specs.declared.turn.Turn.{Turn}
+use Rattle.read_rules.specs.declared.turn.Turn.{Turn}
 use Rattle.read_tree.specs.Allowances.{Ko, under}
-use Rattle.read_tree.specs.Stages.{is_candidate_on, is_capture}
+use Rattle.read_tree.specs.Stages.{is_capture}
 use Rattle.read_tree.specs.Steps.{IsTaken, IsInAtari, is_off_liberties}
-use Rattle.read_rules.proofs.CandidateLaws.{candidate_at_on}
 use Rattle.read_tree.proofs.AllowanceLemmas.{and_parts_not, and_false_right}
 use Rattle.read_rules.proofs.LibertyLemmas.{child_free, counts_but_one, play_size}
-use Rattle.read_tree.proofs.TakeLemmas.{turn_at, taking_wins}
+use Rattle.read_tree.proofs.TakeLemmas.{taking_wins}
 
 -- stones of the two colours are enemies
 are_enemies : (a b : Cell) (c : Colour) → a ≡ stone_of c → b ≡ stone_of (other c) → is_enemy a b ≡ true
@@ -194,20 +196,20 @@ module _ (here : BoardState) (c : Colour) (p : ℕ) (new : BoardState) (t : ℕ)
       (λ x below h. is_liberty-from_fact s here.cells t x on (was_liberty x (IsLiberty-from_test s new.cells t x h)))
 
 -- a target with at most one liberty has not too many
-few_liberties : (tree : Tree) (pos : BoardState) (t k : ℕ) → liberties pos.size pos.cells t ≤ 1
-    → has_many_liberties tree pos t k ≡ false
-few_liberties tree pos t k few = elim (cases_Bool (has_many_liberties tree pos t k)) [
+few_liberties : (turn : Turn) (pos : BoardState) → liberties pos.size pos.cells turn.target ≤ 1
+    → has_many_liberties turn pos ≡ false
+few_liberties turn pos few = elim (cases_Bool (has_many_liberties turn pos)) [
   | inr f ↦ f
-  | inl m ↦ absurd (by (many_gives tree pos t k m))
+  | inl m ↦ absurd (by (many_gives turn pos m))
 ]
   where
-    above_one : (tree : Tree) → most_narrow tree < liberties pos.size pos.cells t → ⊥
+    above_one : (tree : Tree) → most_narrow tree < liberties pos.size pos.cells turn.target → ⊥
     above_one Stated x = omega (arith, few, x)
     above_one Wider x = omega (arith, few, x)
 
-    by : HasManyLiberties tree pos t k → ⊥
+    by : HasManyLiberties turn pos → ⊥
     by (inl x) = omega arith
-    by (inr x) = above_one tree x.1
+    by (inr x) = above_one turn.tree x.1
 
 -- a string with one liberty has no other
 only_liberty : (s : ℕ) (cells : List Cell) (t : ℕ) → t < s * s → liberties s cells t ≡ 1
@@ -257,7 +259,7 @@ module _ (n : ℕ) (turn : Turn) (here : BoardState) (on : turn.target < here.si
         (ap (λ m. is_liberty m new.cells turn.target x) (sym kept_size) ∙ h)))
 
     -- so the attacker takes the target
-    is_taken : (left : ℕ) → IsTaken (turn_at (next_node (under turn ko) left)) new
+    is_taken : (left : ℕ) → IsTaken (next_turn turn) new
     is_taken left = record {
       attacks = ap not atari.defends;
       enemy = stands here turn.defender p new turn.target atari.sound p_on on legal atari.own off last;
@@ -274,7 +276,7 @@ module _ (n : ℕ) (turn : Turn) (here : BoardState) (on : turn.target < here.si
         ∙ taking_wins (n - 1) (next_node (under turn ko) left) new
         (free_keeps here turn.defender p new atari.sound p_on legal).cells
         (subst (λ m. turn.target < m * m) (sym kept_size) on)
-        (few_liberties turn.tree new turn.target (turn.wide - 1) at_most_one) (is_taken left)
+        (few_liberties (next_turn turn) new at_most_one) (is_taken left)
 
   -- so no such play saves the target
   pub off_fails : (p : ℕ) → p < here.size * here.size → is_liberty here.size here.cells turn.target p ≡ false
@@ -296,7 +298,7 @@ module _ (n : ℕ) (turn : Turn) (here : BoardState) (on : turn.target < here.si
       by (Some child) is = ap not (lost child.0 child.1 is)
 
   -- after the pass the attacker takes the target
-  taken_past : (left : ℕ) → IsTaken (turn_at (next_node (under turn ko) left)) (pass here)
+  taken_past : (left : ℕ) → IsTaken (next_turn turn) (pass here)
   taken_past left = record {
     attacks = ap not atari.defends;
     enemy = atari.own;
@@ -315,15 +317,15 @@ module _ (n : ℕ) (turn : Turn) (here : BoardState) (on : turn.target < here.si
       and_false_right (not turn.attacker_to_play) _ (ap not
       (ap (λ m. attacker_wins m node (pass here)) one_more
       ∙ taking_wins (n - 1) node (pass here) atari.sound.cells on
-      (few_liberties turn.tree (pass here) turn.target (turn.wide - 1) few)
+      (few_liberties (next_turn turn) (pass here) few)
       (taken_past (allowance_of (under turn ko)))))
 
   -- the candidates but for the liberties and the captures fail
   pub atari_fails : (q : ℕ) → is_off_liberties turn here q ≡ true → is_capture here turn.target q ≡ false
       → succeeds n (under turn ko) here q ≡ false
   atari_fails q off_liberties no_capture =
-      let parts = and_parts_not (is_candidate_on turn here q) _ off_liberties in
-      off_fails q (candidate_at_on (under turn ko) here q parts.0) parts.1
+      let parts = and_parts_not (is_candidate turn here q) _ off_liberties in
+      off_fails q (candidate_on turn here q parts.0) parts.1
       (no_last (is_last_liberty_of_enemy here.size here.cells turn.target q) _ parts.1 no_capture)
     where
       no_last : (t l : Bool) → l ≡ false → (t && not l) ≡ false → t ≡ false

@@ -6,10 +6,11 @@ use Rattle.go_rules.specs.Position.{BoardState}
 use Rattle.go_rules.specs.Strings.{liberties}
 use Rattle.go_rules.specs.Play.{pass}
 use Rattle.go_base.specs.Views.{nowhere}
-use Rattle.read_rules.specs.Candidates.{is_candidate_at}
-use Rattle.read_rules.proofs.CandidateLaws.{candidate_at_on}
+use Rattle.read_rules.proofs.CandidateLaws.{candidate_on}
+use Rattle.read_rules.specs.Answer.{first_turn}
+use Rattle.read_rules.specs.Candidates.{is_candidate}
 use Rattle.read_rules.specs.declared.node.Node.{Node}
-use Rattle.read_tree.specs.declared.turn.Turn.{Turn}
+use Rattle.read_rules.specs.declared.turn.Turn.{Turn}
 use Rattle.read_rules.specs.declared.question.ReadingQuestion.{ReadingQuestion}
 use Rattle.read_rules.specs.declared.question.Answer.{Answer}
 use Rattle.read_rules.specs.declared.question.Kind.{Kind}
@@ -20,13 +21,12 @@ use Rattle.read_rules.specs.GameTree.{is_captured, has_many_liberties, next_node
 use Rattle.read_rules.specs.GameTree.{pass_saves, first_success, first_move, at_point}
 use Rattle.read_rules.specs.Answer.{is_attack, first_node, attains_code, is_about, answer_of}
 use Rattle.read_rules.specs.ActiveArea.{IsNodeOf, IsUndecided, first}
-use Rattle.read_rules.specs.Bound.{outlasts}
+use Rattle.read_rules.specs.Bound.{outlasts, outlasts_at}
 use Rattle.read_tree.specs.Allowances.{all_three}
 use Rattle.read_tree.specs.Allowances.{Ko, defender_may, neither_may, attacker_may, has, has_some, own_ko, under, ko_of}
 use Rattle.read_tree.specs.Allowances.{codes_above, best_code, Tells}
 use Rattle.read_rules.specs.GoodMoves.{IsOnBoard, good_move}
-use Rattle.read_tree.specs.Stages.{is_candidate_on}
-use Rattle.read_tree.specs.Steps.{first_turn, unread, better, node_of, IsBest, AreNodesOf}
+use Rattle.read_tree.specs.Steps.{unread, better, node_of, IsBest, AreNodesOf}
 use Rattle.read_tree.proofs.AllowanceLemmas.{none_of, has_all, and_false_right}
 use Rattle.read_rules.proofs.LibertyLemmas.{bounded, pass_outlasts}
 use Rattle.read_rules.proofs.WinLemmas.{none_up_to, first_success-found, first_success-none}
@@ -226,7 +226,7 @@ module _ (n : ℕ) (turn : Turn) (here : BoardState) where
 
   -- one more candidate
   pub best_point : (cands : ℕ → Bool) (next p : ℕ) (best : Answer) (good : Allowances)
-      → ((q : ℕ) → cands q ≡ is_candidate_on turn here q)
+      → ((q : ℕ) → cands q ≡ is_candidate turn here q)
       → IsBest n turn here (λ q. ltb q next && cands q) best → cands p ≡ true
       → ((q : ℕ) → next ≤ q → q < p → cands q ≡ false)
       → Tells (codes_above best.code turn.attacker_to_play) good (λ ko. succeeds n (under turn ko) here p)
@@ -279,10 +279,10 @@ module _ (n : ℕ) (turn : Turn) (here : BoardState) where
 
   -- no candidate is left
   pub best_all : (cands : ℕ → Bool) (next : ℕ) (best : Answer)
-      → ((q : ℕ) → cands q ≡ is_candidate_on turn here q)
+      → ((q : ℕ) → cands q ≡ is_candidate turn here q)
       → IsBest n turn here (λ q. ltb q next && cands q) best
-      → ((q : ℕ) → next ≤ q → cands q ≡ false) → IsBest n turn here (is_candidate_on turn here) best
-  best_all cands next best same i rest = best_of (is_candidate_on turn here) i (λ more lo hi q.
+      → ((q : ℕ) → next ≤ q → cands q ≡ false) → IsBest n turn here (is_candidate turn here) best
+  best_all cands next best same i rest = best_of (is_candidate turn here) i (λ more lo hi q.
       ap (λ b. b && succeeds n (node_of turn more) here q) (sym (same q))
       ∙ elim (cases_lt q next) [
         | inl l ↦ off_alone (ltb q next) (cands q) _ (lt-ltb q next l) (i.no_point more lo hi q)
@@ -315,42 +315,42 @@ node_is q code c = by q.kind code c
 
 -- a first move that is not barred is a good one
 not_barred : (n : ℕ) (node : Node) (pos : BoardState)
-    → (node.attacker_to_play && has_many_liberties node.tree pos node.target node.wide) ≡ false
+    → (node.turn.attacker_to_play && has_many_liberties node.turn pos) ≡ false
     → good_move n node pos ≡ first_move n node pos
 not_barred n node pos h = ap (λ b. cond b None (first_move n node pos)) h
 
 -- where the pass does not save and no candidate succeeds, no move has its way
 no_first : (n : ℕ) (node : Node) (pos : BoardState) → pass_saves n node pos ≡ false
-    → ((q : ℕ) → (is_candidate_at node pos q && succeeds n node pos q) ≡ false)
+    → ((q : ℕ) → (is_candidate node.turn pos q && succeeds n node pos q) ≡ false)
     → is_some (first_move n node pos) ≡ false
 no_first n node pos ps none =
     let nothing : first_success n node pos ≡ None =
-    sym (first_success-none n node pos (pos.size * pos.size) (is_candidate_at node pos) (λ q. refl)
+    sym (first_success-none n node pos (pos.size * pos.size) (is_candidate node.turn pos) (λ q. refl)
     (λ q l. none q)
-    (λ q g. elim (cases_Bool (is_candidate_at node pos q))
-    [ inl t ↦ absurd (let on = candidate_at_on node pos q t in omega arith) | inr f ↦ f ])) in
+    (λ q g. elim (cases_Bool (is_candidate node.turn pos q))
+    [ inl t ↦ absurd (let on = candidate_on node.turn pos q t in omega arith) | inr f ↦ f ])) in
     ap (λ b. is_some (cond b (Some Pass) (at_point (first_success n node pos)))) ps
     ∙ ap (λ o. is_some (at_point o)) nothing
 
 -- a question does not attain a code under which neither the pass nor a candidate has its way at the first turn
 not_attained : (q : ReadingQuestion) (pos : BoardState) (code : ℕ) → IsCode code → q.plies ≢ 0
     → is_captured pos q.target ≡ false
-    → (is_attack q.kind && has_many_liberties q.tree pos q.target q.wide) ≡ false
+    → (is_attack q.kind && has_many_liberties (first_turn q) pos) ≡ false
     → pass_saves (q.plies - 1) (node_of (first_turn q) code) pos ≡ false
-    → ((p : ℕ) → (is_candidate_on (first_turn q) pos p
+    → ((p : ℕ) → (is_candidate (first_turn q) pos p
     && succeeds (q.plies - 1) (node_of (first_turn q) code) pos p) ≡ false) → attains_code q pos code ≡ false
 not_attained q pos code is ne stands few pass points =
     let e = node_is q code is in
     attained_by q pos code ne stands ∙ ap is_some (not_barred (q.plies - 1) (first_node q code) pos few)
     ∙ no_first (q.plies - 1) (first_node q code) pos
     (subst (λ node. pass_saves (q.plies - 1) node pos ≡ false) e pass)
-    (λ p. subst (λ node. (is_candidate_on (first_turn q) pos p && succeeds (q.plies - 1) node pos p) ≡ false) e
+    (λ p. subst (λ node. (is_candidate (first_turn q) pos p && succeeds (q.plies - 1) node pos p) ≡ false) e
     (points p))
 
 -- the best of all moves at the first turn is the answer, unless an attack's target has many liberties
 best_answer : (q : ReadingQuestion) (pos : BoardState) (best : Answer) → q.plies ≢ 0 → is_about q pos ≡ true
-    → (is_attack q.kind && has_many_liberties q.tree pos q.target q.wide) ≡ false
-    → IsBest (q.plies - 1) (first_turn q) pos (is_candidate_on (first_turn q) pos) best → best ≡ answer_of q pos
+    → (is_attack q.kind && has_many_liberties (first_turn q) pos) ≡ false
+    → IsBest (q.plies - 1) (first_turn q) pos (is_candidate (first_turn q) pos) best → best ≡ answer_of q pos
 best_answer q pos best ne about few i =
     let stands = about_stands q pos about in
     let moved : (some : best.code ≢ 0)
@@ -368,7 +368,7 @@ best_answer q pos best ne about few i =
 pub attack_answer : (q : ReadingQuestion) (pos : BoardState) (best : Answer) → q.plies ≢ 0 → is_about q pos ≡ true
     → is_attack q.kind ≡ true → IsUndecided (under (first_turn q) neither_may) pos
     → (IsBest (q.plies - 1) (first_turn q) pos nowhere (record { code = 0; at = None })
-    → IsBest (q.plies - 1) (first_turn q) pos (is_candidate_on (first_turn q) pos) best) → best ≡ answer_of q pos
+    → IsBest (q.plies - 1) (first_turn q) pos (is_candidate (first_turn q) pos) best) → best ≡ answer_of q pos
 attack_answer q pos best ne about attacks und moves =
     best_answer q pos best ne about (and_false_right (is_attack q.kind) _ (und.few attacks))
     (moves (best_nothing (q.plies - 1) (first_turn q) pos attacks))
@@ -376,9 +376,9 @@ attack_answer q pos best ne about attacks und moves =
 -- the best move of a defence is the answer
 pub defence_answer : (q : ReadingQuestion) (pos : BoardState) (best : Answer) → q.plies ≢ 0 → is_about q pos ≡ true
     → is_attack q.kind ≡ false
-    → IsBest (q.plies - 1) (first_turn q) pos (is_candidate_on (first_turn q) pos) best → best ≡ answer_of q pos
+    → IsBest (q.plies - 1) (first_turn q) pos (is_candidate (first_turn q) pos) best → best ≡ answer_of q pos
 defence_answer q pos best ne about defends i =
-    best_answer q pos best ne about (ap (λ b. b && has_many_liberties q.tree pos q.target q.wide) defends) i
+    best_answer q pos best ne about (ap (λ b. b && has_many_liberties (first_turn q) pos) defends) i
 
 -- the first turn is one of the trees under each allowance
 pub first_nodes : (q : ReadingQuestion) (pos : BoardState) → q.plies ≢ 0
@@ -412,7 +412,7 @@ better_on best attack good p s h on = by (has_some good)
 -- with too many liberties an attack fails, and no defence is needed
 pub unread_answer : (q : ReadingQuestion) (pos : BoardState) → q.plies ≢ 0 → is_about q pos ≡ true
     → q.target < pos.size * pos.size
-    → outlasts q.tree (is_attack q.kind) q.plies q.wide (liberties pos.size pos.cells q.target) ≡ true
+    → outlasts_at (first_turn q) q.plies (liberties pos.size pos.cells q.target) ≡ true
     → unread (is_attack q.kind) ≡ answer_of q pos
 unread_answer q pos ne about on h = elim (cases_Bool (is_attack q.kind)) [
   | inl t ↦ ap unread t ∙ answer_best q pos 0 None about (omega arith) (λ some. absurd (some refl))
@@ -439,7 +439,7 @@ unread_answer q pos ne about on h = elim (cases_Bool (is_attack q.kind)) [
         let more : q.plies ≡ suc (q.plies - 1) = omega arith in
         let next = next_node (first_node q 3) (allowance_of (first_node q 3)) in
         let h1 = ap (λ b. outlasts q.tree b (suc (q.plies - 1)) q.wide (liberties pos.size pos.cells q.target)) (sym f)
-        ∙ ap (λ m. outlasts q.tree (is_attack q.kind) m q.wide (liberties pos.size pos.cells q.target)) (sym more)
+        ∙ ap (λ m. outlasts_at (first_turn q) m (liberties pos.size pos.cells q.target)) (sym more)
         ∙ h in
         let h2 = ap (λ b. outlasts q.tree (not b) (q.plies - 1) (q.wide - 1) (liberties pos.size pos.cells q.target)) f
         ∙ pass_outlasts q.tree (q.plies - 1) q.wide (liberties pos.size pos.cells q.target) h1 in

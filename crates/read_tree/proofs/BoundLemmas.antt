@@ -7,22 +7,22 @@ use Rattle.go_rules.specs.declared.Cell.{Cell}
 use Rattle.go_rules.specs.Strings.{liberties, liberty_points}
 use Rattle.go_base.proofs.Liberties.{len-liberty_points}
 use Rattle.trial_board.specs.SomeLiberties.{FindsLiberties}
-use Rattle.read_rules.specs.Bound.{outlasts}
-use Rattle.read_tree.specs.declared.turn.Turn.{Turn}
+use Rattle.read_rules.specs.Bound.{outlasts_at}
+use Rattle.read_rules.specs.declared.turn.Turn.{Turn}
 use Rattle.read_tree.specs.Steps.{TellsLiberties}
 
 -- all liberties tell whether they are too many
 pub TellsLiberties-all : (turn : Turn) (n s : ℕ) (cells : List Cell) (found : set.FinSet nat_cmp)
     → found ≡ liberty_points s cells turn.target → TellsLiberties turn n s cells found
 TellsLiberties-all turn n s cells found is = record {
-  many = ap (outlasts turn.tree turn.attacker_to_play n turn.wide)
+  many = ap (outlasts_at turn n)
       (ap set.len is ∙ len-liberty_points s cells turn.target);
   all = λ few. is;
 }
 
 -- and so do those that a search finds which ends where it has seen more than the most that are not too many
 pub TellsLiberties-most : (turn : Turn) (n most s : ℕ) (cells : List Cell) (found : set.FinSet nat_cmp)
-    → ((l : ℕ) → outlasts turn.tree turn.attacker_to_play n turn.wide l ≡ ltb most l)
+    → ((l : ℕ) → outlasts_at turn n l ≡ ltb most l)
     → FindsLiberties s cells turn.target most found → TellsLiberties turn n s cells found
 TellsLiberties-most turn n most s cells found bound finds = elim (cases_lt most (set.len found)) [
   | inl more ↦ record {

@@ -22,7 +22,7 @@ use Rattle.go_base.proofs.LastLiberties.{contains-liberty_points}
 use Rattle.read_rules.specs.declared.node.Node.{Node}
 use Rattle.read_rules.specs.GameTree.{child_of}
 use Rattle.read_rules.proofs.RuleLemmas.{child_gives}
-use Rattle.read_tree.specs.declared.turn.Turn.{Turn}
+use Rattle.read_rules.specs.declared.turn.Turn.{Turn}
 use Rattle.read_tree.specs.Allowances.{Ko, under}
 use Rattle.read_tree.specs.Steps.{IsCarried}
 use Rattle.read_rules.proofs.AfterPlays.{after_liberty}

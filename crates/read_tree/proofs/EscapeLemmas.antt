@@ -27,7 +27,7 @@ use Rattle.read_moves.proofs.ReachLemmas.{gained}
 use Rattle.read_rules.specs.Candidates.{IsEmptyNeighbour}
 use Rattle.read_rules.specs.GameTree.{allowance_of, next_node, child_of, suits, succeeds}
 use Rattle.read_rules.proofs.RuleLemmas.{child_from}
-use Rattle.read_tree.specs.declared.turn.Turn.{Turn}
+use Rattle.read_rules.specs.declared.turn.Turn.{Turn}
 use Rattle.read_tree.specs.Allowances.{Ko, under}
 use Rattle.read_rules.specs.Bound.{outlasts}
 use Rattle.read_tree.specs.Escapes.{Escapes}

@@ -16,8 +16,7 @@ use Rattle.read_rules.specs.GameTree.{pass_saves, first_success, first_move, at_
 use Rattle.read_rules.specs.GoodMoves.{is_barred, good_move}
 use Rattle.read_tree.specs.Steps.{has_way}
 use Rattle.read_tree.proofs.AllowanceLemmas.{suits_child, suits_none}
-use Rattle.read_tree.proofs.TakeLemmas.{turn_at}
-use Rattle.read_tree.specs.declared.turn.Turn.{Turn}
+use Rattle.read_rules.specs.declared.turn.Turn.{Turn}
 use Rattle.read_tree.specs.declared.allowances.Allowances.{Allowances}
 use Rattle.read_tree.specs.Allowances.{Ko, defender_may, neither_may, attacker_may, attacker_ko_of, defender_ko_of}
 use Rattle.read_tree.specs.Allowances.{under, has_some, Tells}
@@ -69,28 +68,20 @@ told_by (suc (suc a)) d found test won few told is = absurd (omega (arith, few))
 
 -- the node of a turn under an allowance has the allowance's numbers
 pub under_by : (turn : Turn) (ko : Ko) (a d : ℕ) → attacker_ko_of ko ≡ a → defender_ko_of ko ≡ d
-    → under turn ko ≡ record {
-      tree = turn.tree;
-      target = turn.target;
-      defender = turn.defender;
-      attacker_to_play = turn.attacker_to_play;
-      wide = turn.wide;
-      attacker_ko = a;
-      defender_ko = d;
-    }
+    → under turn ko ≡ record { turn = turn; attacker_ko = a; defender_ko = d }
 under_by turn ko a d ea ed = rw (ea, ed) refl
 
 -- what the reader tells of the only allowance of a node is who wins there
 pub told_alone : (n : ℕ) (node : Node) (here : BoardState) (asked found : Allowances) → has_one_at_most node ≡ true
     → asked ≡ the_allowance node
-    → Tells asked found (λ ko. attacker_wins n (under (turn_at node) ko) here)
+    → Tells asked found (λ ko. attacker_wins n (under node.turn ko) here)
     → has_some found ≡ attacker_wins n node here
 told_alone n node here asked found one is told =
-    told_by node.attacker_ko node.defender_ko found (λ ko. attacker_wins n (under (turn_at node) ko) here)
+    told_by node.attacker_ko node.defender_ko found (λ ko. attacker_wins n (under node.turn ko) here)
     (attacker_wins n node here) (ltb-true (node.attacker_ko + node.defender_ko) 2 one)
-    (subst (λ (set : Allowances). Tells set found (λ ko. attacker_wins n (under (turn_at node) ko) here)) is told)
+    (subst (λ (set : Allowances). Tells set found (λ ko. attacker_wins n (under node.turn ko) here)) is told)
     (λ ko ea ed. ap (λ (m : Node). attacker_wins n m here)
-    (under_by (turn_at node) ko node.attacker_ko node.defender_ko ea ed))
+    (under_by node.turn ko node.attacker_ko node.defender_ko ea ed))
 
 -- the only allowance is one
 pub some_allowance : (node : Node) (asked : Allowances) → has_one_at_most node ≡ true → asked ≡ the_allowance node
@@ -105,17 +96,17 @@ some_allowance node asked one is = ap has_some is ∙ by node.attacker_ko node.d
         or_right (nat_lt 0 d || (eqb (suc a) 0 && eqb d 0)) (nat_lt 0 (suc a)) (lt-ltb 0 (suc a) (omega arith))
 
 -- at the defender's turn the attacker is not barred
-pub not_barred : (node : Node) (here : BoardState) → node.attacker_to_play ≡ false → false ≡ is_barred node here
-not_barred node here e = sym (ap (λ b. b && has_many_liberties node.tree here node.target node.wide) e)
+pub not_barred : (node : Node) (here : BoardState) → node.turn.attacker_to_play ≡ false → false ≡ is_barred node here
+not_barred node here e = sym (ap (λ b. b && has_many_liberties node.turn here) e)
 
 -- at his own he is where the liberties are too many
-pub barred_by : (node : Node) (here : BoardState) (n : ℕ) → node.attacker_to_play ≡ true
-    → n ≡ liberties here.size here.cells node.target
-    → (nat_lt 4 n || (eqb node.wide 0 && nat_lt (most_narrow node.tree) n)) ≡ is_barred node here
+pub barred_by : (node : Node) (here : BoardState) (n : ℕ) → node.turn.attacker_to_play ≡ true
+    → n ≡ liberties here.size here.cells node.turn.target
+    → (nat_lt 4 n || (eqb node.turn.wide 0 && nat_lt (most_narrow node.turn.tree) n)) ≡ is_barred node here
 unfolding has_many_liberties
 barred_by node here n e is =
-    ap (λ m. nat_lt 4 m || (eqb node.wide 0 && nat_lt (most_narrow node.tree) m)) is
-    ∙ sym (ap (λ b. b && has_many_liberties node.tree here node.target node.wide) e)
+    ap (λ m. nat_lt 4 m || (eqb node.turn.wide 0 && nat_lt (most_narrow node.turn.tree) m)) is
+    ∙ sym (ap (λ b. b && has_many_liberties node.turn here) e)
 
 -- who has his way at a child, by who won there
 pub way_by : (attacker won : Bool) → beq won attacker ≡ has_way attacker won
@@ -129,25 +120,25 @@ module _ (n : ℕ) (node : Node) (here : BoardState) where
   -- a play that is made gives the mover his way where he has it at the child
   pub play_made : (p : ℕ) (next : Node) (new : BoardState) (child : Option Node) (won : Bool)
       → LeadsTo node here p child new → child ≡ Some next → won ≡ attacker_wins n next new
-      → beq won node.attacker_to_play ≡ succeeds n node here p
+      → beq won node.turn.attacker_to_play ≡ succeeds n node here p
   play_made p next new child won leads is e =
-      way_by node.attacker_to_play won ∙ ap (has_way node.attacker_to_play) e
-      ∙ suits_child n node.attacker_to_play (child_of node here p) next new
+      way_by node.turn.attacker_to_play won ∙ ap (has_way node.turn.attacker_to_play) e
+      ∙ suits_child n node.turn.attacker_to_play (child_of node here p) next new
       (leads ∙ ap (option_map (λ (m : Node). (m, new))) is)
 
   -- one that cannot be made does not
   pub play_refused : (p : ℕ) (new : BoardState) (child : Option Node) → LeadsTo node here p child new → child ≡ None
       → false ≡ succeeds n node here p
   play_refused p new child leads is =
-      sym (suits_none n node.attacker_to_play (child_of node here p)
+      sym (suits_none n node.turn.attacker_to_play (child_of node here p)
       (leads ∙ ap (option_map (λ (m : Node). (m, new))) is))
 
   -- the attacker does not pass
-  pub no_pass : node.attacker_to_play ≡ true → false ≡ pass_saves n node here
+  pub no_pass : node.turn.attacker_to_play ≡ true → false ≡ pass_saves n node here
   no_pass e = sym (ap (λ b. not b && not (attacker_wins n (next_node node (allowance_of node)) (pass here))) e)
 
   -- the defender's pass saves the target where the attacker does not win after it
-  pub pass_made : (won : Bool) → node.attacker_to_play ≡ false
+  pub pass_made : (won : Bool) → node.turn.attacker_to_play ≡ false
       → won ≡ attacker_wins n (next_node node (allowance_of node)) (pass here) → not won ≡ pass_saves n node here
   pass_made won e is =
       ap not is ∙ sym (ap (λ b. not b && not (attacker_wins n (next_node node (allowance_of node)) (pass here))) e)

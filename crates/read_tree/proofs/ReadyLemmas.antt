@@ -7,23 +7,21 @@ use Rattle.go_base.specs.Facts.{Fact, SizeIs, Agrees, agrees_before, same_size}
 use Rattle.trial_board.specs.declared.moves.TrialMove.{TrialMove}
 use Rattle.trial_board.specs.Trials.{Trying, Stays, after}
 use Rattle.trial_board.proofs.AfterLemmas.{size-after}
-use Rattle.read_rules.specs.declared.node.Node.{Node}
-use Rattle.read_rules.specs.Candidates.{is_candidate_at}
+use Rattle.read_rules.proofs.CandidateLaws.{candidate_on}
+use Rattle.read_rules.specs.Candidates.{is_candidate}
 use Rattle.read_rules.proofs.AreaLemmas.{target_on}
-use Rattle.read_rules.proofs.CandidateLaws.{candidate_at_on}
 use Rattle.read_tree.specs.declared.table.Entry.{Entry}
-use Rattle.read_tree.specs.declared.turn.Turn.{Turn}
+use Rattle.read_rules.specs.declared.turn.Turn.{Turn}
 use Rattle.read_tree.specs.declared.allowances.Allowances.{Allowances}
-use Rattle.read_tree.specs.Allowances.{neither_may, has_some, under}
-use Rattle.read_tree.specs.Stages.{is_candidate_on}
-use Rattle.read_tree.specs.Table.{IsTrueTable}
+use Rattle.read_tree.specs.Allowances.{has_some}
+use Rattle.read_tree.specs.Table.{IsTrueTableAt}
 use Rattle.read_tree.specs.Walk.{IsReady, IsPointOf, AreLibertiesOf, OnEachAgreeing}
 
 -- a candidate is on the board
-pub candidate_inside : (node : Node) (shown : BoardState) (moves : List TrialMove) (p : ℕ)
-    → is_candidate_at node (after shown moves) p ≡ true → p < shown.size * shown.size
-candidate_inside node shown moves p h =
-    subst (λ n. p < n * n) (size-after shown moves) (candidate_at_on node (after shown moves) p h)
+pub candidate_inside : (turn : Turn) (shown : BoardState) (moves : List TrialMove) (p : ℕ)
+    → is_candidate turn (after shown moves) p ≡ true → p < shown.size * shown.size
+candidate_inside turn shown moves p h =
+    subst (λ n. p < n * n) (size-after shown moves) (candidate_on turn (after shown moves) p h)
 
 -- a point that lies on the board lies on it after the moves, on a position that agrees with what was seen
 pub on_after : {seen : Fact → Bool} {pos : BoardState} {t : ℕ} (s : ℕ) → seen (SizeIs s) ≡ true → Agrees seen pos
@@ -42,10 +40,10 @@ module _ {L : Type 0} {shows : L → BoardState} {seen : L → Fact → Bool} {o
   -- points that are candidates at a turn, on each position that agrees with what is seen now, are on it
   pub candidates_inside : (turn : Turn) (points : sets.FinSet nat_cmp) → Agrees (seen new.look) (shows new.look)
       → OnEachAgreeing seen old new (λ here. (p : ℕ) → sets.contains points p ≡ true
-      → is_candidate_on turn here p ≡ true)
+      → is_candidate turn here p ≡ true)
       → (p : ℕ) → sets.contains points p ≡ true → IsPointOf shows new p
   candidates_inside turn points holds each p h =
-      point_after p (candidate_inside (under turn neither_may) (shows old.look) old.moves p
+      point_after p (candidate_inside turn (shows old.look) old.moves p
       (each (shows old.look) (subst (Agrees (seen new.look)) stays.shown holds) p h))
 
   -- the liberties that are known are still the target's
@@ -56,7 +54,7 @@ module _ {L : Type 0} {shows : L → BoardState} {seen : L → Fact → Bool} {o
   -- the walk may go on, where some allowance is left, by a table that is true of what is seen
   pub ready_after : {turn : Turn} {n : ℕ} {asked : Allowances} {points : sets.FinSet nat_cmp}
       {entries later : List Entry} (left : Allowances) → IsReady shows seen old turn n asked points entries
-      → has_some left ≡ true → IsTrueTable (seen new.look) turn.tree turn.target turn.defender later
+      → has_some left ≡ true → IsTrueTableAt (seen new.look) turn later
       → IsReady shows seen new turn n left points later
   ready_after {turn} {points} left ready some table = record {
     room = rw stays.moves ready.room;

@@ -10,23 +10,24 @@ use Rattle.go_rules.proofs.Paths.{IsLiberty-from_test}
 use Rattle.go_base.proofs.LastLiberties.{contains-liberty_points}
 use Rattle.go_base.proofs.Liberties.{len-liberty_points}
 use Rattle.go_rules.specs.Position.{BoardState}
+use Rattle.read_rules.proofs.CandidateLaws.{candidate_on}
+use Rattle.read_rules.specs.Turns.{mover_of}
 use Rattle.read_rules.specs.declared.node.Node.{Node}
 use Rattle.read_rules.specs.Candidates.{is_candidate}
-use Rattle.read_rules.specs.GameTree.{attacker_wins, child_of, mover_of, next_node, some_child, suits}
+use Rattle.read_rules.specs.GameTree.{attacker_wins, child_of, next_node, some_child, suits}
 use Rattle.read_rules.specs.GameTree.{succeeds, first_success}
 use Rattle.go_base.specs.Facts.{Fact}
 use Rattle.read_rules.specs.ActiveArea.{AddsNear}
-use Rattle.read_rules.proofs.CandidateLaws.{candidate_at_on}
 use Rattle.read_rules.proofs.RuleLemmas.{child_gives}
 use Rattle.read_rules.proofs.WinLemmas.{first_success-none}
-use Rattle.read_tree.specs.declared.turn.Turn.{Turn}
+use Rattle.read_rules.specs.declared.turn.Turn.{Turn}
 use Rattle.read_tree.specs.declared.allowances.Allowances.{Allowances}
-use Rattle.read_tree.specs.Allowances.{Ko, neither_may, has, has_some, under, without, Tells}
+use Rattle.read_tree.specs.Allowances.{Ko, has, has_some, under, without, Tells}
 use Rattle.read_rules.specs.Bound.{outlasts}
 use Rattle.read_rules.specs.Stages.{is_wide_candidate}
 use Rattle.go_base.specs.Surroundings.{is_last_liberty_of_enemy}
 use Rattle.read_rules.proofs.StageLemmas.{candidate_stages}
-use Rattle.read_tree.specs.Stages.{is_candidate_on, is_capture, is_other}
+use Rattle.read_tree.specs.Stages.{is_capture, is_other}
 use Rattle.read_tree.specs.Steps.{IsLeft, TellsBy, is_off_liberties}
 use Rattle.read_tree.proofs.AllowanceLemmas.{none_of, has-without, success_some, and_parts_not, and_false_right}
 use Rattle.read_tree.proofs.AllowanceLemmas.{and_true, has_none, has-two, in_other}
@@ -34,7 +35,7 @@ use Rattle.read_rules.proofs.LibertyLemmas.{bounded, child_free, play_size, play
 
 -- a liberty of the target is a candidate
 pub liberty_is_candidate : (turn : Turn) (here : BoardState) (p : ℕ)
-    → is_liberty here.size here.cells turn.target p ≡ true → is_candidate_on turn here p ≡ true
+    → is_liberty here.size here.cells turn.target p ≡ true → is_candidate turn here p ≡ true
 unfolding is_candidate
 liberty_is_candidate turn here p h = or_left _ _ (or_left _ _ (or_left _ _ (or_left _ _ h)))
 
@@ -196,9 +197,9 @@ module _ (n : ℕ) (turn : Turn) (here : BoardState) (asked good : Allowances)
       fails false true s a b = b
       fails false false s a b = refl
 
-      off_board : (q : ℕ) → here.size * here.size ≤ q → is_candidate_on turn here q ≡ false
-      off_board q past = elim (cases_Bool (is_candidate_on turn here q)) [
-        | inl t ↦ let on = candidate_at_on (under turn neither_may) here q t in absurd (omega (arith, on, past))
+      off_board : (q : ℕ) → here.size * here.size ≤ q → is_candidate turn here q ≡ false
+      off_board q past = elim (cases_Bool (is_candidate turn here q)) [
+        | inl t ↦ let on = candidate_on turn here q t in absurd (omega (arith, on, past))
         | inr f ↦ f
       ]
 
@@ -206,8 +207,8 @@ module _ (n : ℕ) (turn : Turn) (here : BoardState) (asked good : Allowances)
           → has (without asked good) ko ≡ true → is_some (first_success n (under turn ko) here) ≡ false
       none_at ko a g r left = sym
           (ap is_some (first_success-none n (under turn ko) here (here.size * here.size)
-          (is_candidate_on turn here) (λ q. refl)
-          (λ q below. fails (is_liberty here.size here.cells turn.target q) (is_candidate_on turn here q)
+          (is_candidate turn here) (λ q. refl)
+          (λ q below. fails (is_liberty here.size here.cells turn.target q) (is_candidate turn here q)
           (succeeds n (under turn ko) here q)
           (first.none ko a g q) (second.none ko left r q))
           (λ q past. off_board q past)))
@@ -229,8 +230,8 @@ module _ (n : ℕ) (turn : Turn) (here : BoardState) (ko : Ko) (on : turn.target
       → child_of (under turn ko) here p ≡ Some (next, new) → attacker_wins n next new ≡ false
   lost_at p next new off is =
       let child = child_free (under turn ko) here p next new (child_gives (under turn ko) here p next new is) in
-      let size = play_size here (mover_of (under turn ko)) p new child.1 in
-      let more = play_takes_none here (mover_of (under turn ko)) p new turn.target on child.1 off in
+      let size = play_size here (mover_of turn) p new child.1 in
+      let more = play_takes_none here (mover_of turn) p new turn.target on child.1 off in
       let node = next_node (under turn ko) child.0 in
       let bound =
       ap (λ b. outlasts turn.tree (not b) n (turn.wide - 1) (liberties new.size new.cells turn.target)) attacks
@@ -256,7 +257,7 @@ pub none_other : (n : ℕ) (turn : Turn) (here : BoardState) → turn.target < h
     → (ko : Ko) (q : ℕ) → (is_off_liberties turn here q && succeeds n (under turn ko) here q) ≡ false
 none_other n turn here on attacks many ko q = elim (cases_Bool (is_liberty here.size here.cells turn.target q)) [
   | inl t ↦ ap (λ b. b && succeeds n (under turn ko) here q)
-      (and_false_right (is_candidate_on turn here q) _ (ap not t))
+      (and_false_right (is_candidate turn here q) _ (ap not t))
   | inr f ↦ and_false_right (is_off_liberties turn here q) _ (off_fails n turn here ko on attacks many q f)
 ]
 
@@ -285,13 +286,13 @@ known_inside s cells t p known is has =
 -- The stages of the candidates off the liberties of the target.
 module _ (turn : Turn) (here : BoardState) (q : ℕ) where
   -- a candidate is a liberty of the target, a last liberty of an enemy string, or one of the rest
-  stages : is_candidate_on turn here q ≡ ((is_liberty here.size here.cells turn.target q
+  stages : is_candidate turn here q ≡ ((is_liberty here.size here.cells turn.target q
       || is_last_liberty_of_enemy here.size here.cells turn.target q)
-      || (ltb 0 turn.wide && is_wide_candidate turn.tree turn.attacker_to_play here turn.target q))
-  stages = candidate_stages turn.tree turn.attacker_to_play here turn.target turn.wide q
+      || (ltb 0 turn.wide && is_wide_candidate turn here q))
+  stages = candidate_stages turn here q
 
   -- a capture is a candidate
-  pub capture_is_candidate : is_capture here turn.target q ≡ true → is_candidate_on turn here q ≡ true
+  pub capture_is_candidate : is_capture here turn.target q ≡ true → is_candidate turn here q ≡ true
   capture_is_candidate h = stages ∙ or_left _ _ (or_right (is_liberty here.size here.cells turn.target q) _
       (and_parts _ _ h).0)
 
@@ -301,7 +302,7 @@ module _ (turn : Turn) (here : BoardState) (q : ℕ) where
 
   -- and so is another, where a wide ply is left
   pub other_is_candidate : ltb 0 turn.wide ≡ true → is_other turn here q ≡ true
-      → is_candidate_on turn here q ≡ true
+      → is_candidate turn here q ≡ true
   other_is_candidate some h = stages ∙ or_right (is_liberty here.size here.cells turn.target q
       || is_last_liberty_of_enemy here.size here.cells turn.target q) _
       (and_from _ _ some (and_parts _ _ (and_parts _ _ h).0).0)
@@ -313,10 +314,10 @@ module _ (turn : Turn) (here : BoardState) (q : ℕ) where
       ap (λ b. b && not (is_liberty here.size here.cells turn.target q)) (stages
       ∙ ap (λ b. (is_liberty here.size here.cells turn.target q
       || is_last_liberty_of_enemy here.size here.cells turn.target q)
-      || (b && is_wide_candidate turn.tree turn.attacker_to_play here turn.target q)) some)
+      || (b && is_wide_candidate turn here q)) some)
       ∙ split (is_liberty here.size here.cells turn.target q)
       (is_last_liberty_of_enemy here.size here.cells turn.target q)
-      (is_wide_candidate turn.tree turn.attacker_to_play here turn.target q)
+      (is_wide_candidate turn here q)
     where
       split : (l t w : Bool) → (((l || t) || w) && not l) ≡ ((t && not l) || ((w && not l) && not (t && not l)))
       split true true true = refl
@@ -333,7 +334,7 @@ module _ (turn : Turn) (here : BoardState) (q : ℕ) where
       ap (λ b. b && not (is_liberty here.size here.cells turn.target q)) (stages
       ∙ ap (λ b. (is_liberty here.size here.cells turn.target q
       || is_last_liberty_of_enemy here.size here.cells turn.target q)
-      || (b && is_wide_candidate turn.tree turn.attacker_to_play here turn.target q)) none)
+      || (b && is_wide_candidate turn here q)) none)
       ∙ split (is_liberty here.size here.cells turn.target q)
       (is_last_liberty_of_enemy here.size here.cells turn.target q)
     where

@@ -15,6 +15,7 @@ use Rattle.trial_board.specs.declared.moves.TrialMove.{TrialMove}
 use Rattle.trial_board.specs.Overlays.{neighbourhood_twice}
 use Rattle.trial_board.specs.Trials.{Trying, after}
 use Rattle.trial_board.proofs.AfterLemmas.{size-after}
+use Rattle.read_rules.specs.Candidates.{is_candidate}
 use Rattle.read_rules.specs.declared.question.ReadingQuestion.{ReadingQuestion}
 use Rattle.read_rules.specs.ActiveArea.{IsNodeOf, IsUndecided, first as by_code, InActiveArea, AddsNear}
 use Rattle.read_rules.specs.Answer.{is_about, first_node}
@@ -25,10 +26,9 @@ use Rattle.read_rules.proofs.AreaLemmas.{AddsNear-in, AddsNear-trans, AddsNear-m
 use Rattle.read_rules.proofs.AreaLemmas.{area_candidates, area_play, target_on}
 use Rattle.read_moves.proofs.CandidateLemmas.{near_twice, near_liberties}
 use Rattle.read_tree.specs.declared.table.Entry.{Entry}
-use Rattle.read_tree.specs.declared.turn.Turn.{Turn}
+use Rattle.read_rules.specs.declared.turn.Turn.{Turn}
 use Rattle.read_tree.specs.declared.allowances.Allowances.{Allowances}
 use Rattle.read_tree.specs.Allowances.{Ko, neither_may, under, has_some}
-use Rattle.read_tree.specs.Stages.{is_candidate_on}
 use Rattle.read_tree.specs.Steps.{AreNodesOf}
 use Rattle.read_tree.specs.Walk.{IsReady}
 use Rattle.read_tree.proofs.AllowanceLemmas.{some_of}
@@ -122,7 +122,7 @@ module _ {q : ReadingQuestion} {root here : BoardState} {n s : ℕ} {turn : Turn
       candidates_in p (near_twice s here.cells turn.target node.inside p h))
 
   -- the looks of a play at a candidate do
-  pub near_play : {a b : Fact → Bool} (p : ℕ) → is_candidate_on turn here p ≡ true
+  pub near_play : {a b : Fact → Bool} (p : ℕ) → is_candidate turn here p ≡ true
       → AddsIn a b (neighbourhood_twice s here.cells p) → AddsNear a b (InActiveArea q root)
   near_play p candidate looks = AddsNear-in (InActiveArea q root) looks (λ r h.
       area_play q root here n (under turn node.ko) node.tree s node.size node.inside node.stands p r candidate h)

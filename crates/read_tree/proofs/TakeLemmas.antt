@@ -27,7 +27,7 @@ use Rattle.go_rules.proofs.OnlyLiberties.{stone_not_empty, only_liberty_captures
 use Rattle.read_rules.specs.Candidates.{fills}
 use Rattle.read_rules.proofs.CandidateLaws.{candidate_from}
 use Rattle.read_rules.specs.declared.node.Node.{Node}
-use Rattle.read_tree.specs.declared.turn.Turn.{Turn}
+use Rattle.read_rules.specs.declared.turn.Turn.{Turn}
 use Rattle.read_moves.proofs.WholeBoards.{IsWhole}
 use Rattle.read_rules.specs.GameTree.{is_captured, has_many_liberties, attacker_wins, next_node, allowance_of}
 use Rattle.read_rules.specs.Rules.{SomeChildWins}
@@ -99,16 +99,6 @@ pub other_twice : (c : Colour) → other (other c) ≡ c
 other_twice black = refl
 other_twice white = refl
 
--- the turn at a node
-abbrev pub turn_at : Node → Turn
-turn_at node = record {
-  tree = node.tree;
-  target = node.target;
-  defender = node.defender;
-  attacker_to_play = node.attacker_to_play;
-  wide = node.wide;
-}
-
 -- the attacker's play at the only liberty of the target is legal, and captures it
 take_legal : (turn : Turn) (here : BoardState) → IsWhole here → turn.target < here.size * here.size
     → (t : IsTaken turn here) → let new = result_of here (other turn.defender) t.l in
@@ -127,35 +117,35 @@ take_legal turn here whole on t =
     )
 
 -- so at the attacker's turn some child is won, however many plies are left
-take_child : (n : ℕ) (node : Node) (here : BoardState) → IsWhole here → node.target < here.size * here.size
-    → IsTaken (turn_at node) here → SomeChildWins n node here
+take_child : (n : ℕ) (node : Node) (here : BoardState) → IsWhole here → node.turn.target < here.size * here.size
+    → IsTaken node.turn here → SomeChildWins n node here
 take_child n node here whole on t =
-    let new = result_of here (other node.defender) t.l in
-    let taken = take_legal (turn_at node) here whole on t in
+    let new = result_of here (other node.turn.defender) t.l in
+    let taken = take_legal node.turn here whole on t in
     let next = next_node node (allowance_of node) in
-    let mover = ap (λ b. cond b (other node.defender) node.defender) t.attacks in
-    let lib = IsLiberty-from_test here.size here.cells node.target t.l t.liberty in
+    let mover = ap (λ b. cond b (other node.turn.defender) node.turn.defender) t.attacks in
+    let lib = IsLiberty-from_test here.size here.cells node.turn.target t.l t.liberty in
     record {
       point = t.l;
       next = next;
       new = new;
-      candidate = candidate_from node.tree node.attacker_to_play here node.target node.wide t.l on (fills lib);
+      candidate = candidate_from node.turn here t.l on (fills lib);
       child = inl (record { legal = ap (λ k. play here k t.l) mover ∙ taken.0; next_is = refl });
       wins = wins-captured n next new taken.1;
     }
 
 -- with a ply left, an attacker who may play at the only liberty of the target captures it
-pub taking_wins : (n : ℕ) (node : Node) (here : BoardState) → IsWhole here → node.target < here.size * here.size
-    → has_many_liberties node.tree here node.target node.wide ≡ false → IsTaken (turn_at node) here
+pub taking_wins : (n : ℕ) (node : Node) (here : BoardState) → IsWhole here → node.turn.target < here.size * here.size
+    → has_many_liberties node.turn here ≡ false → IsTaken node.turn here
     → attacker_wins (suc n) node here ≡ true
 taking_wins n node here whole on few t =
-    let stands = stone_stands (cell_at here.cells node.target) node.defender t.enemy in
+    let stands = stone_stands (cell_at here.cells node.turn.target) node.turn.defender t.enemy in
     sym (ap (λ m. attacker_wins m node here) (add-one n))
     ∙ attacker_from n node here stands t.attacks (few, take_child n node here whole on t)
 
 -- the same at a turn, under any allowance
 pub take_wins : (n : ℕ) (turn : Turn) (here : BoardState) → IsWhole here → turn.target < here.size * here.size
-    → has_many_liberties turn.tree here turn.target turn.wide ≡ false → IsTaken turn here → (ko : Ko)
+    → has_many_liberties turn here ≡ false → IsTaken turn here → (ko : Ko)
     → attacker_wins (suc n) (under turn ko) here ≡ true
 take_wins n turn here whole on few t ko = taking_wins n (under turn ko) here whole on few t
 

@@ -4,33 +4,33 @@ use Rattle.std.proofs.Common.{◌≡◌, ℕ, ◌*◌, ◌<◌, Bool, true, fals
 use Rattle.go_rules.specs.Strings.{liberties}
 use Rattle.go_rules.specs.Position.{BoardState}
 use Rattle.read_rules.specs.ActiveArea.{IsUndecided}
-use Rattle.read_rules.specs.Bound.{outlasts}
+use Rattle.read_rules.specs.Bound.{outlasts, outlasts_at}
 use Rattle.read_rules.specs.GameTree.{is_captured, attacker_wins}
 use Rattle.read_rules.proofs.LibertyLemmas.{bounded, many_outlasts}
-use Rattle.read_tree.specs.declared.turn.Turn.{Turn}
+use Rattle.read_rules.specs.declared.turn.Turn.{Turn}
 use Rattle.read_tree.specs.Allowances.{Ko, under}
 
 -- The same at a turn, on a board of size s.
 module _ (n : ℕ) (turn : Turn) (here : BoardState) (s : ℕ) (size : here.size ≡ s) where
   -- the liberties may be counted on a board of size s, which is the position's size
-  counted : (b : Bool) → outlasts turn.tree turn.attacker_to_play n turn.wide (liberties s here.cells turn.target) ≡ b
-      → outlasts turn.tree turn.attacker_to_play n turn.wide (liberties here.size here.cells turn.target) ≡ b
+  counted : (b : Bool) → outlasts_at turn n (liberties s here.cells turn.target) ≡ b
+      → outlasts_at turn n (liberties here.size here.cells turn.target) ≡ b
   counted b h =
-      ap (λ m. outlasts turn.tree turn.attacker_to_play n turn.wide (liberties m here.cells turn.target)) size ∙ h
+      ap (λ m. outlasts_at turn n (liberties m here.cells turn.target)) size ∙ h
 
   -- with too many liberties the attacker does not win under any allowance
   pub bounded_at : turn.target < s * s
-      → outlasts turn.tree turn.attacker_to_play n turn.wide (liberties s here.cells turn.target) ≡ true → (ko : Ko)
+      → outlasts_at turn n (liberties s here.cells turn.target) ≡ true → (ko : Ko)
       → attacker_wins n (under turn ko) here ≡ false
   bounded_at on h ko = bounded n (under turn ko) here (subst (λ m. turn.target < m * m) (sym size) on) (counted true h)
 
   -- with fewer the node is undecided
   pub undecided_at : is_captured here turn.target ≡ false
-      → outlasts turn.tree turn.attacker_to_play n turn.wide (liberties s here.cells turn.target) ≡ false → (ko : Ko)
+      → outlasts_at turn n (liberties s here.cells turn.target) ≡ false → (ko : Ko)
       → IsUndecided (under turn ko) here
   undecided_at stands h ko = record {
     stands = stands;
-    few = λ t. many_outlasts turn.tree n here turn.target turn.wide
+    few = λ t. many_outlasts turn n here
         (ap (λ b. outlasts turn.tree b n turn.wide (liberties here.size here.cells turn.target)) (sym t)
         ∙ counted false h);
   }

@@ -1,9 +1,7 @@
 -- Ko allowances: who may play once where the ban alone forbids it, sets of these, and a node under one of them.
-use Rattle.std.specs.Prelude.{◌≡◌, ℕ, ◌-◌, Bool, true, false, not, ◌&&◌, ◌||◌, nat_lt, if◌then◌else◌}
-use Rattle.go_rules.specs.declared.Colour.{Colour}
-use Rattle.go_rules.specs.Position.{other}
+use Rattle.std.specs.Prelude.{◌≡◌, ℕ, Bool, true, false, not, ◌&&◌, ◌||◌, nat_lt, if◌then◌else◌}
 use Rattle.read_rules.specs.declared.node.Node.{Node}
-use Rattle.read_tree.specs.declared.turn.Turn.{Turn}
+use Rattle.read_rules.specs.declared.turn.Turn.{Turn}
 use Rattle.read_tree.specs.declared.allowances.Allowances.{Allowances}
 
 -- a ko allowance: which side may play once where the ban alone forbids it
@@ -37,29 +35,7 @@ own_ko false = defender_may
 
 -- the node whose turn this is, under an allowance
 abbrev pub under : Turn → Ko → Node
-under turn ko = record {
-  tree = turn.tree;
-  target = turn.target;
-  defender = turn.defender;
-  attacker_to_play = turn.attacker_to_play;
-  wide = turn.wide;
-  attacker_ko = attacker_ko_of ko;
-  defender_ko = defender_ko_of ko;
-}
-
--- the colour whose turn it is
-abbrev pub mover_on : Turn → Colour
-mover_on turn = if turn.attacker_to_play then other turn.defender else turn.defender
-
--- the turn after a move
-abbrev pub next_turn : Turn → Turn
-next_turn turn = record {
-  tree = turn.tree;
-  target = turn.target;
-  defender = turn.defender;
-  attacker_to_play = not turn.attacker_to_play;
-  wide = turn.wide - 1;
-}
+under turn ko = record { turn = turn; attacker_ko = attacker_ko_of ko; defender_ko = defender_ko_of ko }
 
 -- there are some
 abbrev pub has_some : Allowances → Bool

@@ -6,7 +6,7 @@ use Rattle.go_rules.specs.declared.Cell.{Cell}
 use Rattle.go_rules.specs.Strings.{cell_at}
 use Rattle.go_rules.specs.Position.{BoardState, stone_of, is_banned}
 use Rattle.read_rules.specs.Candidates.{IsEmptyNeighbour}
-use Rattle.read_tree.specs.declared.turn.Turn.{Turn}
+use Rattle.read_rules.specs.declared.turn.Turn.{Turn}
 use Rattle.read_rules.specs.Bound.{outlasts}
 
 -- x is known and not l, or an empty neighbour of l

@@ -3,6 +3,7 @@ use Rattle.std.specs.Prelude.{◌≡◌, ℕ, ◌+◌, Bool, ◌&&◌, ◌==◌,
 use Rattle.std.specs.Option.{option_map}
 use Rattle.go_rules.specs.Position.{BoardState}
 use Rattle.read_rules.specs.declared.node.Node.{Node}
+use Rattle.read_rules.specs.declared.turn.Turn.{Turn}
 use Rattle.read_rules.specs.GameTree.{child_of}
 use Rattle.read_tree.specs.declared.allowances.Allowances.{Allowances}
 use Rattle.read_tree.specs.declared.nodes.NodeAt.{NodeAt}
@@ -22,22 +23,28 @@ the_allowance node = record {
 
 -- both nodes are about the same string, in one tree
 pub record SameReading (node next : Node) : Type 0 where
-  pub tree : next.tree ≡ node.tree
-  pub target : next.target ≡ node.target
-  pub defender : next.defender ≡ node.defender
+  pub tree : next.turn.tree ≡ node.turn.tree
+  pub target : next.turn.target ≡ node.turn.target
+  pub defender : next.turn.defender ≡ node.turn.defender
 
 -- the mover's play at p leads from here to this node over new; or, with no node, it cannot be played
 abbrev pub LeadsTo : Node → BoardState → ℕ → Option Node → BoardState → Type 0
 LeadsTo node here p next new = child_of node here p ≡ option_map (λ n. (n, new)) next
 
--- the node of the game tree
-abbrev pub game_node : NodeAt → Node
-game_node node = record {
+-- the turn at a node
+abbrev pub turn_of : NodeAt → Turn
+turn_of node = record {
   tree = node.tree;
   target = node.target;
   defender = node.defender;
   attacker_to_play = node.attacker_turn;
   wide = node.k;
+}
+
+-- the node of the game tree
+abbrev pub game_node : NodeAt → Node
+game_node node = record {
+  turn = turn_of node;
   attacker_ko = node.a;
   defender_ko = node.d;
 }

@@ -5,12 +5,13 @@ use Rattle.std.specs.FinSet as set
 use Rattle.go_rules.specs.Position.{BoardState}
 use Rattle.go_base.specs.Facts.{Fact}
 use Rattle.trial_board.specs.Trials.{Trying, Stays, most_moves}
+use Rattle.read_rules.specs.Answer.{first_turn}
 use Rattle.read_rules.specs.declared.question.ReadingQuestion.{ReadingQuestion}
 use Rattle.read_rules.specs.declared.question.Answer.{Answer}
 use Rattle.read_rules.specs.ActiveArea.{InActiveArea, AddsNear}
-use Rattle.read_rules.specs.Answer.{is_attack, is_about, answer_of}
+use Rattle.read_rules.specs.Answer.{is_about, answer_of}
 use Rattle.read_rules.specs.GoodMoves.{IsOnBoard}
-use Rattle.read_rules.specs.Bound.{outlasts}
+use Rattle.read_rules.specs.Bound.{outlasts_at}
 use Rattle.read_tree.specs.Walk.{IsPointOf, AreLibertiesOf, OnEachAgreeing}
 
 -- the look with no trial moves, and no play tried
@@ -25,7 +26,7 @@ pub record IsToRead {L : Type 0} (shows : L → BoardState) (seen : L → Fact �
   pub room : length board.moves + q.plies ≤ most_moves
   pub target : IsPointOf shows board q.target
   pub liberties : AreLibertiesOf seen board q.target known
-  pub few : outlasts q.tree (is_attack q.kind) q.plies q.wide (set.len known) ≡ false
+  pub few : outlasts_at (first_turn q) q.plies (set.len known) ≡ false
 
 -- the answer has a code, and a move on the board exactly where the code is not 0; and on each position that agrees with
 -- what is seen now, where the question is about it, it is the question's answer there, and what was looked at since

@@ -1,15 +1,10 @@
--- The candidates at a turn, and those off the liberties of the target by stages.
+-- The candidates off the liberties of the target, by stages.
 use Rattle.std.specs.Prelude.{ℕ, ◌&&◌, Bool, not}
 use Rattle.go_rules.specs.Strings.{is_liberty}
 use Rattle.go_rules.specs.Position.{BoardState}
 use Rattle.go_base.specs.Surroundings.{is_last_liberty_of_enemy}
-use Rattle.read_rules.specs.Candidates.{is_candidate}
 use Rattle.read_rules.specs.Stages.{is_wide_candidate}
-use Rattle.read_tree.specs.declared.turn.Turn.{Turn}
-
--- p is a candidate at the turn
-abbrev pub is_candidate_on : Turn → BoardState → ℕ → Bool
-is_candidate_on turn here p = is_candidate turn.tree turn.attacker_to_play here turn.target turn.wide p
+use Rattle.read_rules.specs.declared.turn.Turn.{Turn}
 
 -- p is the last liberty of an enemy string next to the target, and no liberty of the target
 abbrev pub is_capture : BoardState → ℕ → ℕ → Bool
@@ -19,5 +14,5 @@ is_capture here target p =
 -- p is a wide candidate at the turn that is neither a liberty of the target nor a capture
 abbrev pub is_other : Turn → BoardState → ℕ → Bool
 is_other turn here p =
-    is_wide_candidate turn.tree turn.attacker_to_play here turn.target p
+    is_wide_candidate turn here p
     && not (is_liberty here.size here.cells turn.target p) && not (is_capture here turn.target p)

@@ -11,20 +11,20 @@ use Rattle.read_tree.specs.declared.outlook.Outlook.TheVariants.{Safe, Taken, Op
 use Rattle.trial_board.specs.declared.moves.TrialMove.{TrialMove}
 use Rattle.trial_board.specs.Trials.{tail}
 use Rattle.read_rules.specs.declared.node.Node.{Node}
-use Rattle.read_rules.specs.Bound.{outlasts}
+use Rattle.read_rules.specs.Bound.{outlasts_at}
 use Rattle.read_rules.specs.declared.question.ReadingQuestion.{ReadingQuestion}
 use Rattle.read_rules.specs.declared.question.Spot.{Spot}
 use Rattle.read_rules.specs.declared.question.Spot.TheVariants.{Pass}
 use Rattle.read_rules.specs.declared.question.Answer.{Answer}
-use Rattle.read_tree.specs.declared.turn.Turn.{Turn}
+use Rattle.read_rules.specs.declared.turn.Turn.{Turn}
 use Rattle.read_tree.specs.declared.allowances.Allowances.{Allowances}
 use Rattle.read_tree.specs.declared.making.Made.{Made}
 use Rattle.read_tree.specs.declared.making.Made.TheVariants.{Not, Legal, Allowed}
 use Rattle.read_rules.specs.GameTree.{child_of, first_move, pass_saves, succeeds}
-use Rattle.read_tree.specs.Stages.{is_candidate_on}
-use Rattle.read_tree.specs.Allowances.{Ko, neither_may, has, has_some, own_ko, under, next_turn, ko_of, best_code}
+use Rattle.read_rules.specs.Candidates.{is_candidate}
+use Rattle.read_rules.specs.Turns.{next_turn}
+use Rattle.read_tree.specs.Allowances.{Ko, neither_may, has, has_some, own_ko, under, ko_of, best_code}
 use Rattle.read_rules.specs.ActiveArea.{IsNodeOf}
-use Rattle.read_rules.specs.Answer.{is_attack}
 pub use Rattle.read_rules.specs.GoodMoves.{IsOnBoard}
 
 -- the moves without the newest, where a play was made
@@ -36,9 +36,9 @@ tail_if Allowed moves = tail moves
 -- what was found of the target's liberties, with n plies left: more than are taken in time exactly where the target has
 -- more, and else all of them
 pub record TellsLiberties (turn : Turn) (n s : ℕ) (cells : List Cell) (found : set.FinSet nat_cmp) : Type 0 where
-  pub many : outlasts turn.tree turn.attacker_to_play n turn.wide (set.len found)
-      ≡ outlasts turn.tree turn.attacker_to_play n turn.wide (liberties s cells turn.target)
-  pub all : outlasts turn.tree turn.attacker_to_play n turn.wide (set.len found) ≡ false
+  pub many : outlasts_at turn n (set.len found)
+      ≡ outlasts_at turn n (liberties s cells turn.target)
+  pub all : outlasts_at turn n (set.len found) ≡ false
       → found ≡ liberty_points s cells turn.target
 
 -- where the play at p leads from here, under each allowance: nowhere; to new, and the allowance is kept; or the mover's
@@ -60,16 +60,6 @@ has_way attacker won = if attacker then won else not won
 pub record AreNodesOf (q : ReadingQuestion) (root : BoardState) (n : ℕ) (turn : Turn) (asked : Allowances)
     (here : BoardState) : Type 0 where
   pub each : (ko : Ko) → has asked ko ≡ true → IsNodeOf q root n (under turn ko) here
-
--- the first turn of a question
-abbrev pub first_turn : ReadingQuestion → Turn
-first_turn q = record {
-  tree = q.tree;
-  target = q.target;
-  defender = q.colour;
-  attacker_to_play = is_attack q.kind;
-  wide = q.wide;
-}
 
 -- the answer where the target has too many liberties
 abbrev pub unread : Bool → Answer
@@ -140,7 +130,7 @@ pub record TellsBy (n : ℕ) (turn : Turn) (here : BoardState) (points : ℕ
 -- p is a candidate at the turn's node, but no liberty of the target
 abbrev pub is_off_liberties : Turn → BoardState → ℕ → Bool
 is_off_liberties turn here p =
-    is_candidate_on turn here p && not (is_liberty here.size here.cells turn.target p)
+    is_candidate turn here p && not (is_liberty here.size here.cells turn.target p)
 
 -- the attacker is to play, the target holds a defender's stone after the play at p, and next is what was known but for
 -- p

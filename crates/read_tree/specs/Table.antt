@@ -7,7 +7,7 @@ use Rattle.go_base.specs.Facts.{Fact, Agrees}
 use Rattle.trial_board.specs.Changed.{changed}
 use Rattle.read_rules.specs.declared.tree.Tree.{Tree}
 use Rattle.read_rules.specs.GameTree.{first_success}
-use Rattle.read_tree.specs.declared.turn.Turn.{Turn}
+use Rattle.read_rules.specs.declared.turn.Turn.{Turn}
 use Rattle.read_tree.specs.declared.table.AttackerNode.{AttackerNode}
 use Rattle.read_tree.specs.declared.table.Verdict.{Verdict}
 use Rattle.read_tree.specs.declared.table.Entry.{Entry}
@@ -34,3 +34,7 @@ pub record IsTrueOf (seen : Fact → Bool) (tree : Tree) (target : ℕ) (defende
 pub record IsTrueTable (seen : Fact → Bool) (tree : Tree) (target : ℕ) (defender : Colour) (table : List Entry)
     : Type 0 where
   pub all : All (λ (e : Entry). IsTrueOf seen tree target defender e.node e.verdict) table
+
+-- the same in the reading that the turn is of
+abbrev pub IsTrueTableAt : (Fact → Bool) → Turn → List Entry → Type 0
+IsTrueTableAt seen turn table = IsTrueTable seen turn.tree turn.target turn.defender table

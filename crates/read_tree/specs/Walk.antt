@@ -9,12 +9,12 @@ use Rattle.go_base.specs.Facts.{Fact, Agrees}
 use Rattle.trial_board.specs.Trials.{Trying, after, most_moves}
 use Rattle.read_rules.specs.declared.question.ReadingQuestion.{ReadingQuestion}
 use Rattle.read_rules.specs.ActiveArea.{IsUndecided, InActiveArea, AddsNear}
-use Rattle.read_tree.specs.declared.turn.Turn.{Turn}
+use Rattle.read_rules.specs.declared.turn.Turn.{Turn}
 use Rattle.read_tree.specs.declared.allowances.Allowances.{Allowances}
 use Rattle.read_tree.specs.Allowances.{Ko, under, has_some}
 use Rattle.read_tree.specs.declared.table.Entry.{Entry}
 use Rattle.read_tree.specs.Steps.{AreNodesOf}
-use Rattle.read_tree.specs.Table.{IsTrueTable}
+use Rattle.read_tree.specs.Table.{IsTrueTableAt}
 
 -- p is a point of the board
 abbrev pub IsPointOf : {L : Type 0} → (L → BoardState) → Trying L → ℕ → Type 0
@@ -59,4 +59,4 @@ pub record IsReady {L : Type 0} (shows : L → BoardState) (seen : L → Fact �
   pub target : IsPointOf shows board turn.target
   pub some : has_some asked ≡ true
   pub liberties : AreLibertiesOf seen board turn.target points
-  pub table : IsTrueTable (seen board.look) turn.tree turn.target turn.defender entries
+  pub table : IsTrueTableAt (seen board.look) turn entries

@@ -2,12 +2,11 @@
 
 ghost use Rattle.std.specs.Prelude.{◌≡◌, ℕ, ◌-◌, ◌&&◌, ◌||◌, false, nat_lt};
 ghost use Rattle.std.specs.FinSet as set;
-ghost use Rattle.read_rules.specs.Bound.{most_by_wide, outlasts};
+ghost use Rattle.read_rules.specs.Bound.{most_by_wide, outlasts, outlasts_at};
 ghost use Rattle.read_rules.specs.Trees.{most_narrow};
 
-use crate::turn::Turn;
 use go_base::points::PointSet;
-use read_rules::Tree;
+use read_rules::{Tree, Turn};
 
 /// How many liberties a target may have, where no wide ply is left, that the attacker still plays at.
 pub fn most_narrow(tree: Tree) -> u16
@@ -68,14 +67,14 @@ fn most_within(tree: Tree, attacker: bool, plies: u8, wide: u8) -> u16
 
 /// The most liberties with which the target is not too strong to be captured, with `plies` plies left.
 pub fn most_liberties(turn: Turn, plies: u8) -> u16
-    ensures { (l : ℕ) → outlasts turn.tree turn.attacker_to_play plies turn.wide l ≡ nat_lt result l }
+    ensures { (l : ℕ) → outlasts_at turn plies l ≡ nat_lt result l }
 {
     most_within(turn.tree, turn.attacker_to_play, plies, turn.wide)
 }
 
 /// Whether the target has too many liberties to be captured, with `plies` plies left; its liberties are handed in.
 pub fn has_too_many(turn: Turn, plies: u8, known: &PointSet) -> bool
-    ensures { result ≡ outlasts turn.tree turn.attacker_to_play plies turn.wide (set.len known.now) }
+    ensures { result ≡ outlasts_at turn plies (set.len known.now) }
 {
     outlasts(
         turn.tree,

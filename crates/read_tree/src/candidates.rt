@@ -12,10 +12,10 @@ ghost use Rattle.read_rules.specs.Candidates.{near_candidates};
 ghost use Rattle.read_rules.specs.Stages.{is_wide_candidate};
 ghost use Rattle.read_tree.specs.Stages.{is_capture, is_other};
 
-use crate::turn::Turn;
 use go_base::points::PointSet;
 use go_base::{Look, Point};
 use read_moves::wide_candidates;
+use read_rules::Turn;
 use trial_board::Trial;
 
 /// The last liberties of the enemy strings next to the target, but for its own liberties, which are known.
@@ -41,12 +41,12 @@ fn wide_of<L: Look>(board: &mut Trial<L>, turn: Turn, known: &PointSet) -> Point
     ensures stays { Stays L.shows L.seen board.old board.new }
     ensures over { (pos : BoardState) → Agrees (L.seen board.new.look) pos → (p : ℕ)
         → set.contains result p
-        ≡ is_wide_candidate turn.tree turn.attacker_to_play (after pos board.old.moves) turn.target p }
+        ≡ is_wide_candidate turn (after pos board.old.moves) p }
     ensures near { (pos : BoardState) → Agrees (L.seen board.new.look) pos
         → AddsIn (L.seen board.old.look) (L.seen board.new.look)
         (near_candidates pos.size (after pos board.old.moves).cells turn.target) }
 {
-    wide_candidates(board, turn.tree, turn.attacker_to_play, turn.target, known)
+    wide_candidates(board, turn, known)
 }
 
 /// The wide candidates at the turn that are neither liberties of the target nor captures, which both are known.

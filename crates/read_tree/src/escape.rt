@@ -12,10 +12,10 @@ ghost use Rattle.read_tree.specs.Escapes.{IsLibertyAfter, RunsFree, Escapes};
 use crate::apart::all_but;
 use crate::bound::outlasts;
 use crate::outlook::stone_of;
-use crate::turn::Turn;
 use go_base::points::PointSet;
 use go_base::{Look, Point};
 use read_moves::add_sides;
+use read_rules::Turn;
 use trial_board::Trial;
 
 /// Liberties that the target has after the defender's play at its liberty l: the others that are known, and the empty

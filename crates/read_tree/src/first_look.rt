@@ -8,10 +8,10 @@ ghost use Rattle.go_base.specs.Views.{alone};
 ghost use Rattle.read_tree.specs.Steps.{TellsLiberties};
 
 use crate::bound::most_liberties;
-use crate::turn::Turn;
 use go_base::Look;
 use go_base::flood::search;
 use go_base::points::PointSet;
+use read_rules::Turn;
 use trial_board::overlay::Overlay;
 
 /// What the first look at a target found, and the view that it looked through.

@@ -25,11 +25,9 @@ pub mod reading;
 pub mod report;
 pub mod table;
 pub mod tree;
-pub mod turn;
 
 pub use allowances::Allowances;
 pub use nodes::{NodeAt, wins};
-pub use read_rules::{Answer, Depths, Kind, Node, ReadingQuestion, Spot, Tree};
-pub use reading::{attack, defend, first_turn, read};
+pub use read_rules::{Answer, Depths, Kind, Node, ReadingQuestion, Spot, Tree, Turn};
+pub use reading::{attack, defend, read};
 pub use report::Report;
-pub use turn::Turn;

@@ -7,8 +7,8 @@ ghost use Rattle.trial_board.specs.Overlays.{neighbourhood_twice};
 ghost use Rattle.trial_board.specs.Trials.{most_moves, after};
 ghost use Rattle.read_tree.specs.Steps.{tail_if, Makes};
 
-use crate::turn::Turn;
 use go_base::{Look, Point};
+use read_rules::Turn;
 use trial_board::{Trial, Tried};
 
 /// What comes of a play at a node.

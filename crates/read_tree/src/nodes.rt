@@ -9,7 +9,7 @@ ghost use Rattle.read_rules.specs.GameTree.{child_of, attacker_wins, pass_saves,
 ghost use Rattle.read_rules.specs.GoodMoves.{good_move, is_barred, IsOnBoard};
 ghost use Rattle.read_rules.specs.Trees.{most_narrow};
 ghost use Rattle.read_tree.specs.Nodes.{has_one_at_most, the_allowance, LeadsTo, SameReading, game_node};
-ghost use Rattle.read_tree.specs.Table.{IsTrueTable};
+ghost use Rattle.read_tree.specs.Table.{IsTrueTable, IsTrueTableAt};
 ghost use Rattle.read_tree.specs.Walk.{IsPointOf, OnEachAgreeing};
 
 use crate::allowances::Allowances;
@@ -17,10 +17,9 @@ use crate::bound::most_narrow;
 use crate::memory::Memory;
 use crate::table::{Entry, empty_table};
 use crate::tree;
-use crate::turn::Turn;
 use go_base::{Cell, Colour, Look, Point};
 use read_moves::candidates;
-use read_rules::{Node, Spot, Tree};
+use read_rules::{Node, Spot, Tree, Turn};
 use trial_board::{Trial, Tried};
 
 /// From how many plies on a node is read with a table.
@@ -68,21 +67,14 @@ fn the_allowance(node: Node) -> Allowances
 /// Whether the attacker wins at such a node, by the reader, with `plies` plies left.
 fn wins_by_reader<L: Look>(board: &mut Trial<L>, node: Node, plies: u8, memory: &mut Memory) -> bool
     requires room { length board.old.moves + plies ≤ most_moves }
-    requires target { IsPointOf L.shows board.old node.target }
+    requires target { IsPointOf L.shows board.old node.turn.target }
     requires one { has_one_at_most node ≡ true }
-    requires table { IsTrueTable (L.seen board.old.look) node.tree node.target node.defender memory.old.table.now }
+    requires table { IsTrueTableAt (L.seen board.old.look) node.turn memory.old.table.now }
     ensures stays { Stays L.shows L.seen board.old board.new }
-    ensures table { IsTrueTable (L.seen board.new.look) node.tree node.target node.defender memory.new.table.now }
+    ensures table { IsTrueTableAt (L.seen board.new.look) node.turn memory.new.table.now }
     ensures over { OnEachAgreeing L.seen board.old board.new (λ here. result ≡ attacker_wins plies node here) }
 {
-    let turn = Turn {
-        tree: node.tree,
-        target: node.target,
-        defender: node.defender,
-        attacker_to_play: node.attacker_to_play,
-        wide: node.wide,
-    };
-    tree::attacker_wins(board, turn, plies, the_allowance(node), None, memory).has_some()
+    tree::attacker_wins(board, node.turn, plies, the_allowance(node), None, memory).has_some()
 }
 
 /// Makes the mover's play at p where it can be played, and answers the node to which it leads.
@@ -123,14 +115,18 @@ fn has_many(tree: Tree, liberties: u16, wide: u8) -> bool
 
 /// Whether it is the attacker's turn, and the target has more liberties than he may play at.
 fn is_barred<L: Look>(board: &mut Trial<L>, node: Node) -> bool
-    requires target { IsPointOf L.shows board.old node.target }
+    requires target { IsPointOf L.shows board.old node.turn.target }
     ensures stays { Stays L.shows L.seen board.old board.new }
     ensures over { OnEachAgreeing L.seen board.old board.new (λ here. result ≡ is_barred node here) }
 {
-    if !node.attacker_to_play {
+    if !node.turn.attacker_to_play {
         return false;
     }
-    has_many(node.tree, board.liberties(node.target).count(), node.wide)
+    has_many(
+        node.turn.tree,
+        board.liberties(node.turn.target).count(),
+        node.turn.wide,
+    )
 }
 
 /// Whether the attacker's play at p, or the defender's, can be made and gives him his way, with `plies` plies left.
@@ -143,18 +139,18 @@ fn succeeds<L: Look>(
     memory: &mut Memory,
 ) -> bool
     requires room { length board.old.moves + plies < most_moves }
-    requires target { IsPointOf L.shows board.old node.target }
+    requires target { IsPointOf L.shows board.old node.turn.target }
     requires on_board { IsPointOf L.shows board.old p }
-    requires table { IsTrueTable (L.seen board.old.look) node.tree node.target node.defender memory.old.table.now }
+    requires table { IsTrueTableAt (L.seen board.old.look) node.turn memory.old.table.now }
     ensures stays { Stays L.shows L.seen board.old board.new }
-    ensures table { IsTrueTable (L.seen board.new.look) node.tree node.target node.defender memory.new.table.now }
+    ensures table { IsTrueTableAt (L.seen board.new.look) node.turn memory.new.table.now }
     ensures over { OnEachAgreeing L.seen board.old board.new (λ here. result ≡ succeeds plies node here p) }
 {
     match make_at(board, node, p) {
         Some(next) => {
             let won = wins_at(board, next, plies, memory);
             board.back();
-            won == node.attacker_to_play
+            won == node.turn.attacker_to_play
         }
         None => false,
     }
@@ -164,13 +160,13 @@ fn succeeds<L: Look>(
 #[cycle(wins)]
 fn pass_saves<L: Look>(board: &mut Trial<L>, node: Node, plies: u8, memory: &mut Memory) -> bool
     requires room { length board.old.moves + plies < most_moves }
-    requires target { IsPointOf L.shows board.old node.target }
-    requires table { IsTrueTable (L.seen board.old.look) node.tree node.target node.defender memory.old.table.now }
+    requires target { IsPointOf L.shows board.old node.turn.target }
+    requires table { IsTrueTableAt (L.seen board.old.look) node.turn memory.old.table.now }
     ensures stays { Stays L.shows L.seen board.old board.new }
-    ensures table { IsTrueTable (L.seen board.new.look) node.tree node.target node.defender memory.new.table.now }
+    ensures table { IsTrueTableAt (L.seen board.new.look) node.turn memory.new.table.now }
     ensures over { OnEachAgreeing L.seen board.old board.new (λ here. result ≡ pass_saves plies node here) }
 {
-    if node.attacker_to_play {
+    if node.turn.attacker_to_play {
         return false;
     }
     board.pass();
@@ -188,20 +184,14 @@ fn first_success<L: Look>(
     memory: &mut Memory,
 ) -> Option<Point>
     requires room { length board.old.moves + plies < most_moves }
-    requires target { IsPointOf L.shows board.old node.target }
-    requires table { IsTrueTable (L.seen board.old.look) node.tree node.target node.defender memory.old.table.now }
+    requires target { IsPointOf L.shows board.old node.turn.target }
+    requires table { IsTrueTableAt (L.seen board.old.look) node.turn memory.old.table.now }
     ensures stays { Stays L.shows L.seen board.old board.new }
-    ensures table { IsTrueTable (L.seen board.new.look) node.tree node.target node.defender memory.new.table.now }
+    ensures table { IsTrueTableAt (L.seen board.new.look) node.turn memory.new.table.now }
     ensures over { OnEachAgreeing L.seen board.old board.new (λ here. result ≡ first_success plies node here) }
     ensures on_board { IfSome result (IsPointOf L.shows board.old) }
 {
-    let candidates = candidates(
-        board,
-        node.tree,
-        node.attacker_to_play,
-        node.target,
-        node.wide,
-    );
+    let candidates = candidates(board, node.turn);
     let mut from = 0;
     'plays: while let Some(p) = candidates.first_from(from) {
         if succeeds(board, node, p, plies, memory) {
@@ -223,10 +213,10 @@ pub fn first_move<L: Look>(
     memory: &mut Memory,
 ) -> Option<Spot>
     requires room { length board.old.moves + plies < most_moves }
-    requires target { IsPointOf L.shows board.old node.target }
-    requires table { IsTrueTable (L.seen board.old.look) node.tree node.target node.defender memory.old.table.now }
+    requires target { IsPointOf L.shows board.old node.turn.target }
+    requires table { IsTrueTableAt (L.seen board.old.look) node.turn memory.old.table.now }
     ensures stays { Stays L.shows L.seen board.old board.new }
-    ensures table { IsTrueTable (L.seen board.new.look) node.tree node.target node.defender memory.new.table.now }
+    ensures table { IsTrueTableAt (L.seen board.new.look) node.turn memory.new.table.now }
     ensures over { OnEachAgreeing L.seen board.old board.new (λ here. result ≡ first_move plies node here) }
     ensures on_board { IfSome result (IsOnBoard (L.shows board.old.look).size) }
 {
@@ -243,10 +233,10 @@ pub fn first_move<L: Look>(
 #[cycle(wins)]
 fn has_good_move<L: Look>(board: &mut Trial<L>, node: Node, plies: u8, memory: &mut Memory) -> bool
     requires room { length board.old.moves + plies < most_moves }
-    requires target { IsPointOf L.shows board.old node.target }
-    requires table { IsTrueTable (L.seen board.old.look) node.tree node.target node.defender memory.old.table.now }
+    requires target { IsPointOf L.shows board.old node.turn.target }
+    requires table { IsTrueTableAt (L.seen board.old.look) node.turn memory.old.table.now }
     ensures stays { Stays L.shows L.seen board.old board.new }
-    ensures table { IsTrueTable (L.seen board.new.look) node.tree node.target node.defender memory.new.table.now }
+    ensures table { IsTrueTableAt (L.seen board.new.look) node.turn memory.new.table.now }
     ensures over { OnEachAgreeing L.seen board.old board.new (λ here. result ≡ is_some (good_move plies node here)) }
 {
     if is_barred(board, node) {
@@ -260,34 +250,37 @@ fn has_good_move<L: Look>(board: &mut Trial<L>, node: Node, plies: u8, memory: &
 #[cycle(wins)]
 pub fn wins_at<L: Look>(board: &mut Trial<L>, node: Node, plies: u8, memory: &mut Memory) -> bool
     requires room { length board.old.moves + plies ≤ most_moves }
-    requires target { IsPointOf L.shows board.old node.target }
-    requires table { IsTrueTable (L.seen board.old.look) node.tree node.target node.defender memory.old.table.now }
+    requires target { IsPointOf L.shows board.old node.turn.target }
+    requires table { IsTrueTableAt (L.seen board.old.look) node.turn memory.old.table.now }
     ensures stays { Stays L.shows L.seen board.old board.new }
-    ensures table { IsTrueTable (L.seen board.new.look) node.tree node.target node.defender memory.new.table.now }
+    ensures table { IsTrueTableAt (L.seen board.new.look) node.turn memory.new.table.now }
     ensures over { OnEachAgreeing L.seen board.old board.new (λ here. result ≡ attacker_wins plies node here) }
 {
     if has_one_at_most(node) {
         return wins_by_reader(board, node, plies, memory);
     }
-    if board.cell(node.target) == Cell::Empty {
+    if board.cell(node.turn.target) == Cell::Empty {
         return true;
     }
     if plies == 0 {
         return false;
     }
-    has_good_move(board, node, plies - 1, memory) == node.attacker_to_play
+    has_good_move(board, node, plies - 1, memory) == node.turn.attacker_to_play
 }
 
 /// The node of the game tree.
 fn game_node(node: NodeAt) -> Node
     ensures { result ≡ game_node node }
 {
-    Node {
+    let turn = Turn {
         tree: node.tree,
         target: node.target,
         defender: node.defender,
         attacker_to_play: node.attacker_turn,
         wide: node.k,
+    };
+    Node {
+        turn,
         attacker_ko: node.a,
         defender_ko: node.d,
     }

@@ -8,13 +8,13 @@ ghost use Rattle.go_rules.specs.Position.{BoardState, stone_of};
 ghost use Rattle.go_base.specs.Facts.{Agrees, AddsIn};
 ghost use Rattle.go_base.specs.Views.{alone};
 ghost use Rattle.trial_board.specs.Trials.{Stays, after};
-ghost use Rattle.read_rules.specs.Bound.{outlasts};
+ghost use Rattle.read_rules.specs.Bound.{outlasts_at};
 ghost use Rattle.read_tree.specs.Steps.{IsTaken, IsInAtari, TellsLiberties, is_safe};
 
 use crate::bound::{has_too_many, most_liberties};
-use crate::turn::Turn;
 use go_base::points::PointSet;
 use go_base::{Cell, Colour, Look};
+use read_rules::Turn;
 use trial_board::Trial;
 
 /// How many liberties a string in atari has.
@@ -102,7 +102,7 @@ pub fn outlook_of<L: Look>(board: &mut Trial<L>, turn: Turn, plies: u8, known: &
         → TellsLiberties turn plies pos.size (after pos board.old.moves).cells known.now }
     ensures stays { Stays L.shows L.seen board.old board.new }
     ensures over { (pos : BoardState) → Agrees (L.seen board.new.look) pos
-        → outlasts turn.tree turn.attacker_to_play plies turn.wide
+        → outlasts_at turn plies
         (liberties pos.size (after pos board.old.moves).cells turn.target) ≡ is_safe result }
     ensures all { (pos : BoardState) → Agrees (L.seen board.new.look) pos → is_safe result ≡ false
         → known.now ≡ liberty_points pos.size (after pos board.old.moves).cells turn.target }

@@ -14,10 +14,10 @@ ghost use Rattle.read_rules.specs.Answer.{is_attack, answer_of, asked_in};
 ghost use Rattle.read_tree.specs.Allowances.{all_three};
 ghost use Rattle.read_rules.specs.Bound.{outlasts};
 ghost use Rattle.read_rules.specs.GoodMoves.{IsOnBoard};
-ghost use Rattle.read_tree.specs.Stages.{is_candidate_on};
-ghost use Rattle.read_tree.specs.Steps.{first_turn, unread, better, IsBest};
+ghost use Rattle.read_rules.specs.Candidates.{is_candidate};
+ghost use Rattle.read_tree.specs.Steps.{unread, better, IsBest};
 ghost use Rattle.read_tree.specs.Readings.{IsToRead, Answers, untried};
-ghost use Rattle.read_tree.specs.Table.{IsTrueTable};
+ghost use Rattle.read_tree.specs.Table.{IsTrueTable, IsTrueTableAt};
 ghost use Rattle.read_tree.specs.Walk.{IsPointOf, AreLibertiesOf, OnEachAgreeing, LooksNear};
 
 use crate::allowances::Allowances;
@@ -27,31 +27,14 @@ use crate::memory::Memory;
 use crate::report::Report;
 use crate::table::{Entry, empty_table};
 use crate::tree::{pass_saves, succeeds};
-use crate::turn::Turn;
 use go_base::points::PointSet;
 use go_base::{Cell, Look, Point};
 use read_moves::candidates;
-use read_rules::{Answer, Depths, Kind, ReadingQuestion, Spot};
+use read_rules::{Answer, Depths, Kind, ReadingQuestion, Spot, Turn};
 use trial_board::Trial;
 
 /// From how many plies on a reading remembers nodes.
 const PLIES_WITH_TABLE: u8 = 12;
-
-/// The first turn of a question: the side that is asked about is to play.
-pub fn first_turn(question: &ReadingQuestion) -> Turn
-    ensures { result ≡ first_turn question.now }
-{
-    Turn {
-        tree: question.tree,
-        target: question.target,
-        defender: question.colour,
-        attacker_to_play: match question.kind {
-            Kind::Attack => true,
-            Kind::Defend => false,
-        },
-        wide: question.wide,
-    }
-}
 
 /// The best answer so far, or the move, where it has its way under some of the allowances of greater codes.
 fn better(best: Answer, attack: bool, good: Allowances, spot: Spot) -> Answer
@@ -84,22 +67,16 @@ fn best_point<L: Look>(
     requires code { first.code < 3 }
     requires none { IsNone first.at ↔ (first.code ≡ 0) }
     requires on_board { IfSome first.at (IsOnBoard (L.shows board.old.look).size) }
-    requires table { IsTrueTable (L.seen board.old.look) turn.tree turn.target turn.defender memory.old.table.now }
+    requires table { IsTrueTableAt (L.seen board.old.look) turn memory.old.table.now }
     ensures stays { Stays L.shows L.seen board.old board.new }
     ensures code { result.code ≤ 3 }
     ensures none { IsNone result.at ↔ (result.code ≡ 0) }
     ensures on_board { IfSome result.at (IsOnBoard (L.shows board.old.look).size) }
     ensures over { OnEachAgreeing L.seen board.old board.new (λ here. IsBest plies turn here nowhere first
-        → IsBest plies turn here (is_candidate_on turn here) result) }
+        → IsBest plies turn here (is_candidate turn here) result) }
     ensures near { LooksNear L.seen board.old board.new (suc plies) turn all_three }
 {
-    let candidates = candidates(
-        board,
-        turn.tree,
-        turn.attacker_to_play,
-        turn.target,
-        turn.wide,
-    );
+    let candidates = candidates(board, turn);
     let mut best = first;
     let mut next = 0;
     while let Some(p) = candidates.first_from(next) {
@@ -141,7 +118,7 @@ fn read_by<L: Look>(
         table.old }
     ensures { Answers L.shows L.seen board.old board.new question.now result }
 {
-    let turn = first_turn(question);
+    let turn = question.first_turn();
     let plies = question.plies - 1;
     let nothing = Answer { code: 0, at: None };
     let mut memory = Memory {
@@ -237,7 +214,7 @@ pub fn read<L: Look>(look: L, question: ReadingQuestion) -> Report<L>
     let mut view = look;
     // The answer rests on the target's stone first of all.
     let _stone = view.cell(question.target);
-    let turn = first_turn(&question);
+    let turn = question.first_turn();
     let FirstLook { liberties, look } = first_look(view, turn, question.plies);
     if has_too_many(turn, question.plies, &liberties) {
         return Report {

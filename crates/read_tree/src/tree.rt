@@ -11,12 +11,13 @@ ghost use Rattle.trial_board.specs.Trials.{Stays, most_moves, after};
 ghost use Rattle.read_rules.specs.declared.question.ReadingQuestion.{ReadingQuestion};
 ghost use Rattle.read_rules.specs.ActiveArea.{IsUndecided, InActiveArea, AddsNear};
 ghost use Rattle.read_rules.specs.GameTree.{is_captured, attacker_wins, succeeds, first_success, pass_saves};
-ghost use Rattle.read_tree.specs.Allowances.{Ko, under, next_turn, has_some, without, Tells};
+ghost use Rattle.read_tree.specs.Allowances.{Ko, under, has_some, without, Tells};
 ghost use Rattle.read_rules.specs.GoodMoves.{good_move};
-ghost use Rattle.read_tree.specs.Stages.{is_candidate_on};
+ghost use Rattle.read_rules.specs.Turns.{next_turn};
+ghost use Rattle.read_rules.specs.Candidates.{is_candidate};
 ghost use Rattle.read_tree.specs.Steps.{has_way, AreNodesOf, TellsBy};
 ghost use Rattle.read_tree.specs.Steps.{is_off_liberties, IsCarried, TellsLiberties};
-ghost use Rattle.read_tree.specs.Table.{IsTrueTable};
+ghost use Rattle.read_tree.specs.Table.{IsTrueTableAt};
 ghost use Rattle.read_tree.specs.Walk.{IsReady, IsPointOf, AreLibertiesOf, OnEachAgreeing};
 ghost use Rattle.read_tree.specs.Walk.{LooksNear, LooksNearWhere, LooksNearOrAt};
 
@@ -30,9 +31,9 @@ use crate::memory::Memory;
 use crate::order::{TryOrder, last_reply, next_to_try};
 use crate::outlook::{Outlook, is_in_atari, liberties_within, outlook_of, stone_of};
 use crate::table::AttackerNode;
-use crate::turn::Turn;
 use go_base::points::PointSet;
 use go_base::{Cell, Look, Point};
+use read_rules::Turn;
 use trial_board::Trial;
 
 /// With fewer plies left after the attacker's play his nodes are not remembered.
@@ -105,9 +106,9 @@ fn has_way<L: Look>(
     requires target { IsPointOf L.shows board.old turn.target }
     requires some { has_some asked ≡ true }
     requires liberties { IfSome known (AreLibertiesOf L.seen board.old turn.target) }
-    requires table { IsTrueTable (L.seen board.old.look) turn.tree turn.target turn.defender memory.old.table.now }
+    requires table { IsTrueTableAt (L.seen board.old.look) turn memory.old.table.now }
     ensures stays { Stays L.shows L.seen board.old board.new }
-    ensures table { IsTrueTable (L.seen board.new.look) turn.tree turn.target turn.defender memory.new.table.now }
+    ensures table { IsTrueTableAt (L.seen board.new.look) turn memory.new.table.now }
     ensures over { OnEachAgreeing L.seen board.old board.new (λ here.
         Tells asked result (λ ko. has_way turn.attacker_to_play (attacker_wins plies (under (next_turn turn) ko)
         here))) }
@@ -131,11 +132,11 @@ pub fn succeeds<L: Look>(
     requires ready { IsReady L.shows L.seen board.old turn plies asked known.now memory.old.table.now }
     requires on_board { IsPointOf L.shows board.old p }
     ensures stays { Stays L.shows L.seen board.old board.new }
-    ensures table { IsTrueTable (L.seen board.new.look) turn.tree turn.target turn.defender memory.new.table.now }
+    ensures table { IsTrueTableAt (L.seen board.new.look) turn memory.new.table.now }
     ensures over { OnEachAgreeing L.seen board.old board.new (λ here.
         Tells asked result (λ ko. succeeds plies (under turn ko) here p)) }
     ensures near { LooksNearWhere L.seen board.old board.new (suc plies) turn asked (λ here.
-        IsTrue (is_candidate_on turn here p)) }
+        IsTrue (is_candidate turn here p)) }
 {
     let own = asked.has_own(turn.attacker_to_play);
     match make(board, turn, p, own) {
@@ -178,11 +179,11 @@ fn some_of<L: Look>(
     requires ready { IsReady L.shows L.seen board.old turn plies asked known.now memory.old.table.now }
     requires on_board { (p : ℕ) → IsTrue (set.contains points.now p) → IsPointOf L.shows board.old p }
     ensures stays { Stays L.shows L.seen board.old board.new }
-    ensures table { IsTrueTable (L.seen board.new.look) turn.tree turn.target turn.defender memory.new.table.now }
+    ensures table { IsTrueTableAt (L.seen board.new.look) turn memory.new.table.now }
     ensures over { OnEachAgreeing L.seen board.old board.new (λ here.
         TellsBy plies turn here (set.contains points.now) asked result) }
     ensures near { LooksNearWhere L.seen board.old board.new (suc plies) turn asked (λ here.
-        (p : ℕ) → IsTrue (set.contains points.now p) → IsTrue (is_candidate_on turn here p)) }
+        (p : ℕ) → IsTrue (set.contains points.now p) → IsTrue (is_candidate turn here p)) }
 {
     let mut order = TryOrder::beginning_with(memory.reply);
     let mut missing = asked;
@@ -213,7 +214,7 @@ fn some_other<L: Look>(
 ) -> Allowances
     requires { IsReady L.shows L.seen board.old turn plies asked known.now memory.old.table.now }
     ensures stays { Stays L.shows L.seen board.old board.new }
-    ensures table { IsTrueTable (L.seen board.new.look) turn.tree turn.target turn.defender memory.new.table.now }
+    ensures table { IsTrueTableAt (L.seen board.new.look) turn memory.new.table.now }
     ensures over { OnEachAgreeing L.seen board.old board.new (λ here.
         TellsBy plies turn here (is_off_liberties turn here) asked result) }
     ensures near { LooksNear L.seen board.old board.new (suc plies) turn asked }
@@ -251,7 +252,7 @@ fn some_success<L: Look>(
 ) -> Allowances
     requires { IsReady L.shows L.seen board.old turn plies asked known.now memory.old.table.now }
     ensures stays { Stays L.shows L.seen board.old board.new }
-    ensures table { IsTrueTable (L.seen board.new.look) turn.tree turn.target turn.defender memory.new.table.now }
+    ensures table { IsTrueTableAt (L.seen board.new.look) turn memory.new.table.now }
     ensures over { OnEachAgreeing L.seen board.old board.new (λ here.
         Tells asked result (λ ko. is_some (first_success plies (under turn ko) here))) }
     ensures near { LooksNear L.seen board.old board.new (suc plies) turn asked }
@@ -279,7 +280,7 @@ fn some_by_table<L: Look>(
     requires ready { IsReady L.shows L.seen board.old turn plies asked known.now memory.old.table.now }
     requires attacker { turn.attacker_to_play ≡ true }
     ensures stays { Stays L.shows L.seen board.old board.new }
-    ensures table { IsTrueTable (L.seen board.new.look) turn.tree turn.target turn.defender memory.new.table.now }
+    ensures table { IsTrueTableAt (L.seen board.new.look) turn memory.new.table.now }
     ensures over { OnEachAgreeing L.seen board.old board.new (λ here.
         Tells asked result (λ ko. is_some (first_success plies (under turn ko) here))) }
     ensures near { LooksNear L.seen board.old board.new (suc plies) turn asked }
@@ -321,7 +322,7 @@ pub fn pass_saves<L: Look>(
     requires ready { IsReady L.shows L.seen board.old turn plies asked known.now memory.old.table.now }
     requires defender { turn.attacker_to_play ≡ false }
     ensures stays { Stays L.shows L.seen board.old board.new }
-    ensures table { IsTrueTable (L.seen board.new.look) turn.tree turn.target turn.defender memory.new.table.now }
+    ensures table { IsTrueTableAt (L.seen board.new.look) turn memory.new.table.now }
     ensures over { OnEachAgreeing L.seen board.old board.new (λ here.
         Tells asked result (λ ko. pass_saves plies (under turn ko) here)) }
     ensures near { (pos : BoardState) → Agrees (L.seen board.new.look) pos → (q : ReadingQuestion) (root : BoardState)
@@ -350,7 +351,7 @@ fn has_good_move<L: Look>(
 ) -> Allowances
     requires { IsReady L.shows L.seen board.old turn plies asked known.now memory.old.table.now }
     ensures stays { Stays L.shows L.seen board.old board.new }
-    ensures table { IsTrueTable (L.seen board.new.look) turn.tree turn.target turn.defender memory.new.table.now }
+    ensures table { IsTrueTableAt (L.seen board.new.look) turn memory.new.table.now }
     ensures over { OnEachAgreeing L.seen board.old board.new (λ here.
         ((ko : Ko) → IsUndecided (under turn ko) here)
         → Tells asked result (λ ko. is_some (good_move plies (under turn ko) here))) }
@@ -383,9 +384,9 @@ pub fn attacker_wins<L: Look>(
     requires target { IsPointOf L.shows board.old turn.target }
     requires some { has_some asked ≡ true }
     requires liberties { IfSome known (AreLibertiesOf L.seen board.old turn.target) }
-    requires table { IsTrueTable (L.seen board.old.look) turn.tree turn.target turn.defender memory.old.table.now }
+    requires table { IsTrueTableAt (L.seen board.old.look) turn memory.old.table.now }
     ensures stays { Stays L.shows L.seen board.old board.new }
-    ensures table { IsTrueTable (L.seen board.new.look) turn.tree turn.target turn.defender memory.new.table.now }
+    ensures table { IsTrueTableAt (L.seen board.new.look) turn memory.new.table.now }
     ensures over { OnEachAgreeing L.seen board.old board.new (λ here.
         Tells asked result (λ ko. attacker_wins plies (under turn ko) here)) }
     ensures near { LooksNearOrAt L.seen board.old board.new plies turn asked }

@@ -4,15 +4,15 @@ use Rattle.std.proofs.Common.{Some, Result, Ok, Err, refl, sym, ap, subst, arith
 use Rattle.std.proofs.lemmas.Bool.{cases_Bool, both_ways, and_parts, eqb-true, ne_eqb}
 use Rattle.std.specs.Result.{IsErrAnd}
 use Rattle.go_rules.specs.Position.{BoardState}
+use Rattle.read_rules.specs.Answer.{first_turn}
 use Rattle.read_rules.specs.declared.node.Node.{Node}
-use Rattle.read_tree.specs.declared.turn.Turn.{Turn}
+use Rattle.read_rules.specs.declared.turn.Turn.{Turn}
 use Rattle.read_tree.specs.declared.allowances.Allowances.{Allowances}
 use Rattle.read_rules.specs.declared.question.ReadingQuestion.{ReadingQuestion}
 use Rattle.read_rules.specs.Answer.{is_attack, first_node}
 use Rattle.read_rules.specs.GameTree.{pass_saves, first_success, first_move, at_point}
 use Rattle.read_tree.specs.Allowances.{Ko, defender_may, neither_may, attacker_may, all_three, has, has_some}
 use Rattle.read_tree.specs.Allowances.{under, Tells, own_ko, own_where, without, both, attacker_ko_of, defender_ko_of}
-use Rattle.read_tree.specs.Steps.{first_turn}
 use Rattle.read_tree.proofs.AllowanceLemmas.{some_of, none_of, has-without, in_other, and_parts_not, has_all}
 use Rattle.read_tree.proofs.TableLemmas.{has_both}
 use Rattle.read_tree.proofs.NodeLemmas.{under_by, first_point}

@@ -12,6 +12,8 @@ use Rattle.go_rules.specs.Play.{pass}
 use Rattle.go_rules.specs.Strings.{liberties}
 use Rattle.go_base.specs.Facts.{Fact}
 use Rattle.trial_board.specs.Trials.{Trying, Stays, after}
+use Rattle.read_rules.proofs.CandidateLaws.{candidate_on}
+use Rattle.read_rules.specs.Candidates.{is_candidate}
 use Rattle.read_rules.specs.declared.node.Node.{Node}
 use Rattle.read_rules.specs.declared.question.Spot.{Spot}
 use Rattle.read_rules.specs.declared.question.Spot.TheVariants.{At, Pass}
@@ -19,8 +21,6 @@ use Rattle.read_rules.specs.Trees.{most_narrow}
 use Rattle.read_rules.specs.GameTree.{child_of, next_node, allowance_of, first_move, is_captured, has_many_liberties}
 use Rattle.read_rules.proofs.RuleLemmas.{first_move_gives}
 use Rattle.read_tree.specs.Nodes.{LeadsTo}
-use Rattle.read_rules.specs.Candidates.{is_candidate_at}
-use Rattle.read_rules.proofs.CandidateLaws.{candidate_at_on}
 use Rattle.read_proof.specs.Proves.{child_after, passed, pass_children, play_children, is_settled, has_too_many}
 use Rattle.read_proof.specs.FirstProof.{Writer, move_word, write_child, write_each, write_move, first_words}
 use Rattle.write_proof.specs.declared.text.ProofError.{ProofError}
@@ -61,7 +61,7 @@ module _ (n : ℕ) (won : Bool) (node : Node) (here : BoardState) where
   -- what is written after the plays at the candidates from a point on
   abbrev pub words_from : ℕ → List ℕ
   words_from from = behind_blanks (write_each (first_words n won) (filter_map (child_of node here)
-      (filter (is_candidate_at node here) (range_with_len from (here.size * here.size - from)))))
+      (filter (is_candidate node.turn here) (range_with_len from (here.size * here.size - from)))))
 
   -- what is written after the pass
   abbrev pub pass_words : List ℕ
@@ -72,12 +72,12 @@ module _ (n : ℕ) (won : Bool) (node : Node) (here : BoardState) where
   plays_words = behind_blanks (write_each (first_words n won) (play_children node here))
 
   -- from a point on it is what the play at the next candidate gives, and what is written from behind that on
-  pub next_words : (from p : ℕ) → from ≤ p → is_candidate_at node here p ≡ true
-      → ((k : ℕ) → from ≤ k → k < p → is_candidate_at node here k ≡ false)
+  pub next_words : (from p : ℕ) → from ≤ p → is_candidate node.turn here p ≡ true
+      → ((k : ℕ) → from ≤ k → k < p → is_candidate node.turn here k ≡ false)
       → words_from from ≡ play_words p ++ words_from (p + 1)
   next_words from p low is none =
-      walk_words (first_words n won) (child_of node here) (is_candidate_at node here) (here.size * here.size) from p low
-      (candidate_at_on node here p is) is none
+      walk_words (first_words n won) (child_of node here) (is_candidate node.turn here) (here.size * here.size) from p low
+      (candidate_on node.turn here p is) is none
 
   -- what is written after a play that was made
   pub play_written : {T : Type 0} (p : ℕ) (child : Option Node) (next : Node) (new : BoardState) (old out : List ℕ)
@@ -98,13 +98,13 @@ module _ (n : ℕ) (won : Bool) (node : Node) (here : BoardState) where
       (leads ∙ ap (option_map (λ (m : Node). (m, new))) is))
 
   -- the attacker does not pass
-  pub no_pass_written : node.attacker_to_play ≡ true
+  pub no_pass_written : node.turn.attacker_to_play ≡ true
       → [] ≡ behind_blanks (write_each (first_words n won) (pass_children node here))
   no_pass_written e =
       sym (ap (λ b. behind_blanks (write_each (first_words n won) (cond b [] (passed node here ∷ [])))) e)
 
   -- what is written after the defender's pass
-  pub pass_written : {T : Type 0} (old out : List ℕ) (r : Result T NoRoom) → node.attacker_to_play ≡ false
+  pub pass_written : {T : Type 0} (old out : List ℕ) (r : Result T NoRoom) → node.turn.attacker_to_play ≡ false
       → Puts old (behind_blanks (first_words n won (next_node node (allowance_of node)) (pass here))) out r
       → Puts old (behind_blanks (write_each (first_words n won) (pass_children node here))) out r
   pass_written old out r e h =
@@ -163,7 +163,7 @@ module _ (n : ℕ) (won : Bool) (node : Node) (here : BoardState) where
   pub pass_child : behind_blanks (write_each (first_words n won) (pass_children node here))
       ≡ behind_blanks (write_child (first_words n won) (child_after node here Pass))
   unfolding child_after
-  pass_child = ap behind_blanks (sym (pass_each (first_words n won) node.attacker_to_play (passed node here)))
+  pass_child = ap behind_blanks (sym (pass_each (first_words n won) node.turn.attacker_to_play (passed node here)))
 
 -- before the first candidate everything is left to write
 pub all_left : (write : Writer) (f : ℕ → Option (Node × BoardState)) (g : ℕ → Bool) (n : ℕ) (out : List ℕ)
@@ -174,20 +174,20 @@ all_left write f g n out =
     ap (λ m. out ++ behind_blanks (write_each write (filter_map f (filter g (range_with_len 0 m))))) less
 
 -- The claim at a node with n plies left, by what was found of the target.
-module _ (n : ℕ) (node : Node) (here : BoardState) (captured : Bool) (found : captured ≡ is_captured here node.target)
+module _ (n : ℕ) (node : Node) (here : BoardState) (captured : Bool) (found : captured ≡ is_captured here node.turn.target)
   where
     -- that the attacker wins is settled where the target is captured
     pub settled_won : (won : Bool) → won ≡ true → captured ≡ is_settled n won node here
     unfolding is_settled
     settled_won won e =
-        found ∙ sym (ap (λ b. cond b (is_captured here node.target) (not (is_captured here node.target)
+        found ∙ sym (ap (λ b. cond b (is_captured here node.turn.target) (not (is_captured here node.turn.target)
         && (eqb n 0 || has_too_many n node here))) e)
 
     -- that he does not is not, where it is
     pub settled_captured : (won : Bool) → won ≡ false → captured ≡ true → false ≡ is_settled n won node here
     unfolding is_settled
     settled_captured won e taken =
-        sym (ap (λ b. cond b (is_captured here node.target) (not (is_captured here node.target)
+        sym (ap (λ b. cond b (is_captured here node.turn.target) (not (is_captured here node.turn.target)
         && (eqb n 0 || has_too_many n node here))) e
         ∙ ap (λ b. not b && (eqb n 0 || has_too_many n node here)) (sym found ∙ taken))
 
@@ -195,23 +195,23 @@ module _ (n : ℕ) (node : Node) (here : BoardState) (captured : Bool) (found : 
     pub settled_end : (won : Bool) → won ≡ false → captured ≡ false → n ≡ 0 → true ≡ is_settled n won node here
     unfolding is_settled
     settled_end won e stands none =
-        sym (ap (λ b. cond b (is_captured here node.target) (not (is_captured here node.target)
+        sym (ap (λ b. cond b (is_captured here node.turn.target) (not (is_captured here node.turn.target)
         && (eqb n 0 || has_too_many n node here))) e
         ∙ ap (λ b. not b && (eqb n 0 || has_too_many n node here)) (sym found ∙ stands)
         ∙ ap (λ m. eqb m 0 || has_too_many n node here) none)
 
     -- or the target has too many liberties
     pub settled_many : (won : Bool) (many : ℕ) → won ≡ false → captured ≡ false → n ≢ 0
-        → many ≡ liberties here.size here.cells node.target
-        → cond node.attacker_to_play (ltb ((n + 1) / 2) many
-        || (ltb 4 many || (eqb node.wide 0 && ltb (most_narrow node.tree) many)))
+        → many ≡ liberties here.size here.cells node.turn.target
+        → cond node.turn.attacker_to_play (ltb ((n + 1) / 2) many
+        || (ltb 4 many || (eqb node.turn.wide 0 && ltb (most_narrow node.turn.tree) many)))
         (ltb (n / 2) many) ≡ is_settled n won node here
     unfolding is_settled has_too_many has_many_liberties
     settled_many won many e stands some is =
-        ap (λ m. cond node.attacker_to_play (ltb ((n + 1) / 2) m
-        || (ltb 4 m || (eqb node.wide 0 && ltb (most_narrow node.tree) m)))
+        ap (λ m. cond node.turn.attacker_to_play (ltb ((n + 1) / 2) m
+        || (ltb 4 m || (eqb node.turn.wide 0 && ltb (most_narrow node.turn.tree) m)))
         (ltb (n / 2) m)) is
-        ∙ sym (ap (λ b. cond b (is_captured here node.target) (not (is_captured here node.target)
+        ∙ sym (ap (λ b. cond b (is_captured here node.turn.target) (not (is_captured here node.turn.target)
         && (eqb n 0 || has_too_many n node here))) e
         ∙ ap (λ b. not b && (eqb n 0 || has_too_many n node here)) (sym found ∙ stands)
         ∙ ap (λ b. b || has_too_many n node here) (ne_eqb n 0 some))

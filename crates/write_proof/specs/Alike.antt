@@ -2,12 +2,12 @@
 use Rattle.std.specs.Prelude.{◌≡◌, ◌≢◌, ℕ, ◌≤◌, Bool, true, false, List, ◌∷◌, Option, Some, None}
 use Rattle.std.specs.Prelude.{Result, Ok, Err, length, if◌then◌else◌, not, ◌==◌}
 use Rattle.go_rules.specs.Position.{BoardState}
+use Rattle.read_rules.specs.Answer.{first_turn}
 use Rattle.read_rules.specs.declared.question.ReadingQuestion.{ReadingQuestion}
 use Rattle.read_rules.specs.declared.question.Spot.{Spot}
 use Rattle.read_rules.specs.GoodMoves.{IsOnBoard}
 use Rattle.read_tree.specs.declared.allowances.Allowances.{Allowances}
 use Rattle.read_tree.specs.Allowances.{Ko, defender_may, neither_may, attacker_may, has, own_ko, under}
-use Rattle.read_tree.specs.Steps.{first_turn}
 use Rattle.read_proof.specs.Tokens.{Word}
 use Rattle.read_proof.specs.ProofOf.{letter_of}
 use Rattle.read_proof.specs.FirstProof.{first_words}

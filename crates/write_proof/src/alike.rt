@@ -4,7 +4,7 @@ ghost use Rattle.std.specs.Prelude.{◌≡◌, ◌≢◌, ◌+◌, ◌<◌, true
 ghost use Rattle.trial_board.specs.Trials.{Stays, most_moves};
 ghost use Rattle.read_rules.specs.GameTree.{pass_saves, succeeds, first_success, first_move, at_point};
 ghost use Rattle.read_tree.specs.Allowances.{under, has, has_some, without, own_where};
-ghost use Rattle.read_tree.specs.Table.{IsTrueTable};
+ghost use Rattle.read_tree.specs.Table.{IsTrueTableAt};
 ghost use Rattle.read_tree.specs.Walk.{IsReady, IsPointOf};
 ghost use Rattle.write_proof.specs.Printed.{position_on};
 ghost use Rattle.write_proof.specs.Alike.{IsTold, IsCommon, IsOne, IsMoveOn};
@@ -12,10 +12,10 @@ ghost use Rattle.write_proof.specs.Alike.{IsTold, IsCommon, IsOne, IsMoveOn};
 use go_base::points::PointSet;
 use go_base::{Look, Point};
 use read_moves::candidates;
-use read_rules::Spot;
+use read_rules::{Spot, Turn};
+use read_tree::Allowances;
 use read_tree::memory::Memory;
 use read_tree::tree::{pass_saves, succeeds};
-use read_tree::{Allowances, Turn};
 use trial_board::Trial;
 
 /// What the asked allowances tell of a move together.
@@ -74,7 +74,7 @@ fn pass_told<L: Look>(
 ) -> Told
     requires { IsReady L.shows L.seen board.old turn plies asked known.now memory.old.table.now }
     ensures stays { Stays L.shows L.seen board.old board.new }
-    ensures table { IsTrueTable (L.seen board.new.look) turn.tree turn.target turn.defender memory.new.table.now }
+    ensures table { IsTrueTableAt (L.seen board.new.look) turn memory.new.table.now }
     ensures told { IsTold asked result (λ ko. pass_saves plies (under turn ko) (position_on L.shows board.old)) }
     ensures one { IsOne asked → result ≢ Told.Differs }
 {
@@ -98,7 +98,7 @@ fn play_told<L: Look>(
     requires ready { IsReady L.shows L.seen board.old turn plies asked known.now memory.old.table.now }
     requires on_board { IsPointOf L.shows board.old p }
     ensures stays { Stays L.shows L.seen board.old board.new }
-    ensures table { IsTrueTable (L.seen board.new.look) turn.tree turn.target turn.defender memory.new.table.now }
+    ensures table { IsTrueTableAt (L.seen board.new.look) turn memory.new.table.now }
     ensures told { IsTold asked result (λ ko. succeeds plies (under turn ko) (position_on L.shows board.old) p) }
     ensures one { IsOne asked → result ≢ Told.Differs }
 {
@@ -118,19 +118,13 @@ fn first_point<L: Look>(
 ) -> Common
     requires { IsReady L.shows L.seen board.old turn plies asked known.now memory.old.table.now }
     ensures stays { Stays L.shows L.seen board.old board.new }
-    ensures table { IsTrueTable (L.seen board.new.look) turn.tree turn.target turn.defender memory.new.table.now }
+    ensures table { IsTrueTableAt (L.seen board.new.look) turn memory.new.table.now }
     ensures first { IsCommon asked result (λ ko.
         at_point (first_success plies (under turn ko) (position_on L.shows board.old))) }
     ensures one { IsOne asked → result ≢ Common.Differs }
     ensures on_board { IsMoveOn (L.shows board.old.look).size result }
 {
-    let candidates = candidates(
-        board,
-        turn.tree,
-        turn.attacker_to_play,
-        turn.target,
-        turn.wide,
-    );
+    let candidates = candidates(board, turn);
     let mut next = 0;
     'plays: while let Some(p) = candidates.first_from(next) {
         match play_told(board, turn, asked, p, plies, known, memory) {
@@ -154,9 +148,9 @@ pub fn first_alike<L: Look>(
     requires room { length board.old.moves + plies < most_moves }
     requires target { IsPointOf L.shows board.old turn.target }
     requires some { has_some asked ≡ true }
-    requires table { IsTrueTable (L.seen board.old.look) turn.tree turn.target turn.defender memory.old.table.now }
+    requires table { IsTrueTableAt (L.seen board.old.look) turn memory.old.table.now }
     ensures stays { Stays L.shows L.seen board.old board.new }
-    ensures table { IsTrueTable (L.seen board.new.look) turn.tree turn.target turn.defender memory.new.table.now }
+    ensures table { IsTrueTableAt (L.seen board.new.look) turn memory.new.table.now }
     ensures first { IsCommon asked result (λ ko.
         first_move plies (under turn ko) (position_on L.shows board.old)) }
     ensures one { IsOne asked → result ≢ Common.Differs }

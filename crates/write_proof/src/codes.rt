@@ -17,8 +17,8 @@ use crate::walk::write;
 use go_base::Look;
 use read_proof::codes::claim_under;
 use read_rules::ReadingQuestion;
+use read_tree::Allowances;
 use read_tree::memory::Memory;
-use read_tree::{Allowances, first_turn};
 use trial_board::Trial;
 
 /// The letter of a claim.
@@ -65,7 +65,7 @@ pub fn write_claim<L: Look>(
     put_word(out, letter(won))?;
     write(
         board,
-        first_turn(question),
+        question.first_turn(),
         asked,
         question.plies,
         won,
@@ -94,7 +94,7 @@ fn write_under<L: Look>(
     ensures puts { Puts out.old
         (behind_blanks (first_words_of question.now (position_on L.shows board.old) code (more ∷ []))) out.new result }
 {
-    let asked = allowance_under(first_turn(question).attacker_to_play, more);
+    let asked = allowance_under(question.first_turn().attacker_to_play, more);
     let won = claim_under(question, code, more);
     match write_claim(board, question, asked, won, memory, out) {
         Ok(_) => Ok(()),

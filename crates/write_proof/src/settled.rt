@@ -23,14 +23,14 @@ fn most_narrow(tree: Tree) -> u16
 /// Whether so many liberties of the target are more than the attacker can fill with `plies` plies left, or than he may
 /// play at.
 fn are_too_many(node: Node, plies: u8, liberties: u16) -> bool
-    ensures { result ≡ (if node.attacker_to_play then nat_lt ((plies + 1) / 2) liberties
-        || (nat_lt 4 liberties || ((node.wide == 0) && nat_lt (most_narrow node.tree) liberties))
+    ensures { result ≡ (if node.turn.attacker_to_play then nat_lt ((plies + 1) / 2) liberties
+        || (nat_lt 4 liberties || ((node.turn.wide == 0) && nat_lt (most_narrow node.turn.tree) liberties))
         else nat_lt (plies / 2) liberties) }
 {
-    if node.attacker_to_play {
+    if node.turn.attacker_to_play {
         liberties > (u16::from(plies) + 1) / 2
             || liberties > 4
-            || (node.wide == 0 && liberties > most_narrow(node.tree))
+            || (node.turn.wide == 0 && liberties > most_narrow(node.turn.tree))
     } else {
         liberties > u16::from(plies) / 2
     }
@@ -38,11 +38,11 @@ fn are_too_many(node: Node, plies: u8, liberties: u16) -> bool
 
 /// Whether the claim, that the attacker wins or that he does not, is settled with `plies` plies left.
 pub fn is_settled<L: Look>(board: &mut Trial<L>, node: Node, plies: u8, won: bool) -> bool
-    requires target { node.target < (L.shows board.old.look).size * (L.shows board.old.look).size }
+    requires target { node.turn.target < (L.shows board.old.look).size * (L.shows board.old.look).size }
     ensures stays { Stays L.shows L.seen board.old board.new }
     ensures answer { result ≡ is_settled plies won node (position_on L.shows board.old) }
 {
-    let captured = board.cell(node.target) == Cell::Empty;
+    let captured = board.cell(node.turn.target) == Cell::Empty;
     if won {
         return captured;
     }
@@ -52,12 +52,16 @@ pub fn is_settled<L: Look>(board: &mut Trial<L>, node: Node, plies: u8, won: boo
     if plies == 0 {
         return true;
     }
-    are_too_many(node, plies, board.liberties(node.target).count())
+    are_too_many(node, plies, board.liberties(node.turn.target).count())
 }
 
 /// Whether the claim is what the side to play wants.
 pub fn is_wanted(node: Node, won: bool) -> bool
     ensures { result ≡ is_wanted won node }
 {
-    if node.attacker_to_play { won } else { !won }
+    if node.turn.attacker_to_play {
+        won
+    } else {
+        !won
+    }
 }

@@ -6,7 +6,7 @@ ghost use Rattle.std.specs.Option.{option_to_list};
 ghost use Rattle.trial_board.specs.Trials.{Stays, most_moves};
 ghost use Rattle.read_rules.specs.GameTree.{child_of, first_move};
 ghost use Rattle.read_tree.specs.Allowances.{under, neither_may, has_some};
-ghost use Rattle.read_tree.specs.Table.{IsTrueTable};
+ghost use Rattle.read_tree.specs.Table.{IsTrueTableAt};
 ghost use Rattle.read_tree.specs.Walk.{IsPointOf};
 ghost use Rattle.read_proof.specs.Proves.{pass_children, play_children};
 ghost use Rattle.read_proof.specs.FirstProof.{write_each, write_move, first_words};
@@ -20,10 +20,10 @@ use crate::settled::{is_settled, is_wanted};
 use crate::text::{NoRoom, put_move, put_word};
 use go_base::{Look, Point};
 use read_moves::candidates;
-use read_rules::{Node, Spot};
+use read_rules::{Node, Spot, Turn};
+use read_tree::Allowances;
 use read_tree::making::{Made, make};
 use read_tree::memory::Memory;
-use read_tree::{Allowances, Turn};
 use trial_board::Trial;
 
 /// The node of a turn where neither side may ignore the ban.
@@ -31,11 +31,7 @@ fn node_of(turn: Turn) -> Node
     ensures { result ≡ under turn neither_may }
 {
     Node {
-        tree: turn.tree,
-        target: turn.target,
-        defender: turn.defender,
-        attacker_to_play: turn.attacker_to_play,
-        wide: turn.wide,
+        turn,
         attacker_ko: 0,
         defender_ko: 0,
     }
@@ -66,10 +62,10 @@ fn write_pass<L: Look>(
     requires room { length board.old.moves + plies < most_moves }
     requires target { IsPointOf L.shows board.old turn.target }
     requires some { has_some asked ≡ true }
-    requires table { IsTrueTable (L.seen board.old.look) turn.tree turn.target turn.defender memory.old.table.now }
+    requires table { IsTrueTableAt (L.seen board.old.look) turn memory.old.table.now }
     requires bytes { length out.old ≤ most_bytes }
     ensures stays { Stays L.shows L.seen board.old board.new }
-    ensures table { IsTrueTable (L.seen board.new.look) turn.tree turn.target turn.defender memory.new.table.now }
+    ensures table { IsTrueTableAt (L.seen board.new.look) turn memory.new.table.now }
     ensures puts { PutsAlike asked out.old (λ ko. write_each (first_words plies won)
         (pass_children (under turn ko) (position_on L.shows board.old))) out.new result }
     ensures one { IsOne asked → result ≢ Ok false }
@@ -100,10 +96,10 @@ fn write_play<L: Look>(
     requires target { IsPointOf L.shows board.old turn.target }
     requires on_board { IsPointOf L.shows board.old p }
     requires some { has_some asked ≡ true }
-    requires table { IsTrueTable (L.seen board.old.look) turn.tree turn.target turn.defender memory.old.table.now }
+    requires table { IsTrueTableAt (L.seen board.old.look) turn memory.old.table.now }
     requires bytes { length out.old ≤ most_bytes }
     ensures stays { Stays L.shows L.seen board.old board.new }
-    ensures table { IsTrueTable (L.seen board.new.look) turn.tree turn.target turn.defender memory.new.table.now }
+    ensures table { IsTrueTableAt (L.seen board.new.look) turn memory.new.table.now }
     ensures puts { PutsAlike asked out.old (λ ko. write_each (first_words plies won)
         (option_to_list (child_of (under turn ko) (position_on L.shows board.old) p))) out.new result }
     ensures one { IsOne asked → result ≢ Ok false }
@@ -142,21 +138,15 @@ fn write_plays<L: Look>(
     requires room { length board.old.moves + plies < most_moves }
     requires target { IsPointOf L.shows board.old turn.target }
     requires some { has_some asked ≡ true }
-    requires table { IsTrueTable (L.seen board.old.look) turn.tree turn.target turn.defender memory.old.table.now }
+    requires table { IsTrueTableAt (L.seen board.old.look) turn memory.old.table.now }
     requires bytes { length out.old ≤ most_bytes }
     ensures stays { Stays L.shows L.seen board.old board.new }
-    ensures table { IsTrueTable (L.seen board.new.look) turn.tree turn.target turn.defender memory.new.table.now }
+    ensures table { IsTrueTableAt (L.seen board.new.look) turn memory.new.table.now }
     ensures puts { PutsAlike asked out.old (λ ko. write_each (first_words plies won)
         (play_children (under turn ko) (position_on L.shows board.old))) out.new result }
     ensures one { IsOne asked → result ≢ Ok false }
 {
-    let candidates = candidates(
-        board,
-        turn.tree,
-        turn.attacker_to_play,
-        turn.target,
-        turn.wide,
-    );
+    let candidates = candidates(board, turn);
     let mut from = 0;
     'plays: while let Some(p) = candidates.first_from(from) {
         let alike = write_play(board, turn, asked, p, plies, won, memory, out)?;
@@ -182,10 +172,10 @@ fn write_move<L: Look>(
     requires room { length board.old.moves + plies < most_moves }
     requires target { IsPointOf L.shows board.old turn.target }
     requires some { has_some asked ≡ true }
-    requires table { IsTrueTable (L.seen board.old.look) turn.tree turn.target turn.defender memory.old.table.now }
+    requires table { IsTrueTableAt (L.seen board.old.look) turn memory.old.table.now }
     requires bytes { length out.old ≤ most_bytes }
     ensures stays { Stays L.shows L.seen board.old board.new }
-    ensures table { IsTrueTable (L.seen board.new.look) turn.tree turn.target turn.defender memory.new.table.now }
+    ensures table { IsTrueTableAt (L.seen board.new.look) turn memory.new.table.now }
     ensures puts { PutsAlike asked out.old (λ ko. write_move (first_words plies won) (under turn ko)
         (position_on L.shows board.old) (first_move plies (under turn ko) (position_on L.shows board.old)))
         out.new result }
@@ -220,10 +210,10 @@ pub fn write<L: Look>(
     requires room { length board.old.moves + plies ≤ most_moves }
     requires target { IsPointOf L.shows board.old turn.target }
     requires some { has_some asked ≡ true }
-    requires table { IsTrueTable (L.seen board.old.look) turn.tree turn.target turn.defender memory.old.table.now }
+    requires table { IsTrueTableAt (L.seen board.old.look) turn memory.old.table.now }
     requires bytes { length out.old ≤ most_bytes }
     ensures stays { Stays L.shows L.seen board.old board.new }
-    ensures table { IsTrueTable (L.seen board.new.look) turn.tree turn.target turn.defender memory.new.table.now }
+    ensures table { IsTrueTableAt (L.seen board.new.look) turn memory.new.table.now }
     ensures puts { PutsAlike asked out.old (λ ko. first_words plies won (under turn ko) (position_on L.shows board.old))
         out.new result }
     ensures one { IsOne asked → result ≢ Ok false }

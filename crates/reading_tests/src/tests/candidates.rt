@@ -1,11 +1,11 @@
 //! The candidates of small positions, counted by hand.
 
-ghost use Rattle.std.specs.Prelude.{◌*◌, ◌<◌};
+ghost use Rattle.std.specs.Prelude.{◌≡◌, ◌*◌, ◌<◌};
 
 use super::{IN_ATARI, Stones, position, vertex};
-use go_base::{Point, PointSet, Position, Size, Watch};
+use go_base::{Colour, Point, PointSet, Position, Size, Watch};
 use read_moves::{candidates, empty_sides, wide_candidates};
-use read_rules::Tree;
+use read_rules::{Tree, Turn};
 use std::process::Abort;
 use trial_board::Trial;
 use wider_moves::further_candidates;
@@ -91,6 +91,20 @@ static CANDIDATES: [Row; 8] = [
     },
 ];
 
+/// The attacker's turn in the stated tree, with so many wide plies left. The candidates are the same for a target of
+/// either colour.
+fn attackers_turn(target: Point, wide: u8) -> Turn
+    ensures { result.target ≡ target }
+{
+    Turn {
+        tree: Tree::Stated,
+        target,
+        defender: Colour::Black,
+        attacker_to_play: true,
+        wide,
+    }
+}
+
 /// The candidates of a target on the position.
 fn candidates_of(position: &Position, which: &Which, target: Point) -> PointSet
     requires { target < position.now.size * position.now.size }
@@ -98,8 +112,8 @@ fn candidates_of(position: &Position, which: &Which, target: Point) -> PointSet
     let mut board = Trial::new(Watch::new(position));
     let liberties = board.liberties(target);
     let found = match which {
-        Which::All(wide) => candidates(&mut board, Tree::Stated, true, target, *wide),
-        Which::Wide => wide_candidates(&mut board, Tree::Stated, true, target, &liberties),
+        Which::All(wide) => candidates(&mut board, attackers_turn(target, *wide)),
+        Which::Wide => wide_candidates(&mut board, attackers_turn(target, 1), &liberties),
         Which::OfAttacker => further_candidates(&mut board, target, true, &liberties),
         Which::OfDefender => further_candidates(&mut board, target, false, &liberties),
     };

@@ -2,14 +2,14 @@
 use Rattle.std.proofs.Common.{◌∙◌, ◌*◌, nat_lt, ap, sym}
 use Rattle.go_base.specs.Facts.{same_size}
 use Rattle.trial_board.proofs.AfterLemmas.{size-after}
-use Rattle.read_rules.specs.Answer.{first_node}
+use Rattle.read_rules.specs.Answer.{first_turn}
 use Rattle.read_tree.proofs.ReadyLemmas.{candidate_inside}
 use Rattle.read_all.proofs.moves.points_among.Goals as goal
 
 -- a candidate is a point of the board
 pub returns-in-Candidates-clause-on_board : goal.returns-in-Candidates-clause-on_board
 returns-in-Candidates-clause-on_board g c = λ p there.
-    candidate_inside (first_node c.args.question.now 0) (g.L.Look.shows c.args.board.now.look)
+    candidate_inside (first_turn c.args.question.now) (g.L.Look.shows c.args.board.now.look)
     c.args.board.now.moves p (sym (rw c.first_turn-turn.ensures at (c.candidates.ensures.answer p)) ∙ there)
 
 -- the board has the same size on each position that agrees

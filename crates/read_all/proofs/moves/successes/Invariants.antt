@@ -6,7 +6,7 @@ use Rattle.go_rules.specs.Position.{BoardState}
 use Rattle.go_base.specs.Facts.{Agrees}
 use Rattle.trial_board.specs.Trials.{Stays, after}
 use Rattle.read_rules.specs.GameTree.{succeeds}
-use Rattle.read_tree.specs.Table.{IsTrueTable}
+use Rattle.read_tree.specs.Table.{IsTrueTableAt}
 use Rattle.read_all.proofs.FoundMoves.{HasBelow}
 use Rattle.read_all.proofs.moves.successes.Given as goal
 
@@ -14,7 +14,7 @@ use Rattle.read_all.proofs.moves.successes.Given as goal
 abbrev pub invariant-points : goal.invariant-points
 invariant-points g l = record {
   stays : Stays g.L.Look.shows g.L.Look.seen l.fn.board l.board;
-  table : IsTrueTable (g.L.Look.seen l.board.look) l.node.tree l.node.target l.node.defender l.memory.table.now;
+  table : IsTrueTableAt (g.L.Look.seen l.board.look) l.node.turn l.memory.table.now;
   found : (pos : BoardState) → Agrees (g.L.Look.seen l.board.look) pos
       → HasBelow (set.contains l.tried) (succeeds l.plies l.node (after pos l.fn.board.moves)) l.from l.found;
 }

@@ -19,8 +19,8 @@ wide_candidates-requires-clause-liberties g c = λ pos a.
     rw c.surroundings-liberties.ensures.stays.moves (c.surroundings-liberties.ensures.over pos a).0
 
 -- a wide ply is left
-pub returns-then-wide-gt0-clause-over : goal.returns-then-wide-gt0-clause-over
-returns-then-wide-gt0-clause-over g c = λ pos a p.
+pub returns-then-turn-gt0-clause-over : goal.returns-then-turn-gt0-clause-over
+returns-then-turn-gt0-clause-over g c = λ pos a p.
     let here = after pos c.args.board.now.moves in
     let size = size-after pos c.args.board.now.moves in
     let libs = c.surroundings-liberties.result.liberties in
@@ -29,59 +29,59 @@ returns-then-wide-gt0-clause-over g c = λ pos a p.
     let it = c.surroundings-liberties.ensures.over pos (agrees_before c.wide_candidates.ensures.stays.grows a) in
     let found = rw c.surroundings-liberties.ensures.stays.moves at (c.wide_candidates.ensures.over pos a p) in
     let joined = ap (λ t. set.contains t p) c.join.ensures ∙ set.contains-union nat_cmp_total last libs p in
-    candidate_wide c.args.tree c.args.attacker_to_play here c.args.target c.args.wide p libs last
-    (its_liberties here pos.size c.args.target libs size it.0)
-    (it.1 p ∙ ap (λ n. is_last_liberty_of_enemy n here.cells c.args.target p) (sym size))
-    (set.contains c.join-then-wide-gt0.new.self p) (set.contains wide p)
-    (lt-ltb 0 c.args.wide c.if-wide-gt0.true) found
-    (ap (λ t. set.contains t p) c.join-then-wide-gt0.ensures
+    candidate_wide c.args.turn here p libs last
+    (its_liberties here pos.size c.args.turn.target libs size it.0)
+    (it.1 p ∙ ap (λ n. is_last_liberty_of_enemy n here.cells c.args.turn.target p) (sym size))
+    (set.contains c.join-then-turn-gt0.new.self p) (set.contains wide p)
+    (lt-ltb 0 c.args.turn.wide c.if-turn-gt0.true) found
+    (ap (λ t. set.contains t p) c.join-then-turn-gt0.ensures
     ∙ set.contains-union nat_cmp_total c.join.new.self wide p ∙ ap (λ y. y || set.contains wide p) joined)
 
 -- no wide ply is left
-pub returns-else-wide-gt0-clause-over : goal.returns-else-wide-gt0-clause-over
-returns-else-wide-gt0-clause-over g c = λ pos a p.
+pub returns-else-turn-gt0-clause-over : goal.returns-else-turn-gt0-clause-over
+returns-else-turn-gt0-clause-over g c = λ pos a p.
     let here = after pos c.args.board.now.moves in
     let size = size-after pos c.args.board.now.moves in
     let libs = c.surroundings-liberties.result.liberties in
     let last = c.surroundings-liberties.result.last_liberties in
     let it = c.surroundings-liberties.ensures.over pos a in
-    candidate_plain c.args.tree c.args.attacker_to_play here c.args.target c.args.wide p libs last
-    (its_liberties here pos.size c.args.target libs size it.0)
-    (it.1 p ∙ ap (λ n. is_last_liberty_of_enemy n here.cells c.args.target p) (sym size))
+    candidate_plain c.args.turn here p libs last
+    (its_liberties here pos.size c.args.turn.target libs size it.0)
+    (it.1 p ∙ ap (λ n. is_last_liberty_of_enemy n here.cells c.args.turn.target p) (sym size))
     (set.contains c.join.new.self p)
-    (le-ltb 0 c.args.wide c.if-wide-gt0.false)
+    (le-ltb 0 c.args.turn.wide c.if-turn-gt0.false)
     (ap (λ t. set.contains t p) c.join.ensures ∙ set.contains-union nat_cmp_total last libs p)
 
 -- each look is where candidates are looked for
-pub returns-then-wide-gt0-clause-near : goal.returns-then-wide-gt0-clause-near
-returns-then-wide-gt0-clause-near g c = λ pos a.
+pub returns-then-turn-gt0-clause-near : goal.returns-then-turn-gt0-clause-near
+returns-then-turn-gt0-clause-near g c = λ pos a.
     let here = after pos c.args.board.now.moves in
     let a1 = agrees_before c.wide_candidates.ensures.stays.grows a in
     let on = on_agreed _ _ (g.met.L.Look.sized c.args.board.now.look)
     (agrees_before c.surroundings-liberties.ensures.stays.grows a1) c.requires.on_board in
     AddsIn-trans (AddsIn-mono (c.surroundings-liberties.ensures.near pos a1)
-    (near_twice pos.size here.cells c.args.target on))
+    (near_twice pos.size here.cells c.args.turn.target on))
     (rw c.surroundings-liberties.ensures.stays.moves at (c.wide_candidates.ensures.near pos a))
 
 -- where no wide ply is left, only the target's surroundings are looked at
-pub returns-else-wide-gt0-clause-near : goal.returns-else-wide-gt0-clause-near
-returns-else-wide-gt0-clause-near g c = λ pos a.
+pub returns-else-turn-gt0-clause-near : goal.returns-else-turn-gt0-clause-near
+returns-else-turn-gt0-clause-near g c = λ pos a.
     let here = after pos c.args.board.now.moves in
     let on = on_agreed _ _ (g.met.L.Look.sized c.args.board.now.look)
     (agrees_before c.surroundings-liberties.ensures.stays.grows a) c.requires.on_board in
-    AddsIn-mono (c.surroundings-liberties.ensures.near pos a) (near_twice pos.size here.cells c.args.target on)
+    AddsIn-mono (c.surroundings-liberties.ensures.near pos a) (near_twice pos.size here.cells c.args.turn.target on)
 
 -- the position shown is one of those that agree
-pub returns-then-wide-gt0-clause-answer : goal.returns-then-wide-gt0-clause-answer
-returns-then-wide-gt0-clause-answer g c =
+pub returns-then-turn-gt0-clause-answer : goal.returns-then-turn-gt0-clause-answer
+returns-then-turn-gt0-clause-answer g c =
     let shown = c.wide_candidates.ensures.stays.shown ∙ c.surroundings-liberties.ensures.stays.shown in
-    returns-then-wide-gt0-clause-over g c (g.L.Look.shows c.args.board.now.look)
+    returns-then-turn-gt0-clause-over g c (g.L.Look.shows c.args.board.now.look)
     (subst (λ (pos : BoardState). Agrees (g.L.Look.seen c.wide_candidates.new.board.look) pos) shown
     (g.met.L.Look.holds c.wide_candidates.new.board.look))
 
 -- where no wide ply is left, what was gathered are the candidates on the position shown
-pub returns-else-wide-gt0-clause-answer : goal.returns-else-wide-gt0-clause-answer
-returns-else-wide-gt0-clause-answer g c =
-    returns-else-wide-gt0-clause-over g c (g.L.Look.shows c.args.board.now.look)
+pub returns-else-turn-gt0-clause-answer : goal.returns-else-turn-gt0-clause-answer
+returns-else-turn-gt0-clause-answer g c =
+    returns-else-turn-gt0-clause-over g c (g.L.Look.shows c.args.board.now.look)
     (subst (λ (pos : BoardState). Agrees (g.L.Look.seen c.surroundings-liberties.new.self.look) pos)
     c.surroundings-liberties.ensures.stays.shown (g.met.L.Look.holds c.surroundings-liberties.new.self.look))

@@ -34,14 +34,14 @@ add_backfilling-requires g c = λ l h.
 
 -- the neighbours and what the plays leave were gathered
 pub returns-clause-over : goal.returns-clause-over
-returns-clause-over g c = λ pos a attacker p.
+returns-clause-over g c = λ pos a p.
     let here = after pos c.args.board.now.moves in
     let a2 = agrees_before c.add_backfilling.ensures.stays.grows a in
     let a1 = agrees_before c.cell.ensures.stays.grows a2 in
     let m1 = c.add_beside_few.ensures.stays.moves in
     let m2 = c.cell.ensures.stays.moves ∙ m1 in
     stated_found here pos.size c.args.target p c.args.liberties.now c.new-found.result c.add_beside_few.new.found
-    c.add_backfilling.new.found attacker c.attacker_of-attacker.result (size-after pos c.args.board.now.moves)
+    c.add_backfilling.new.found c.attacker_of-attacker.result (size-after pos c.args.board.now.moves)
     (c.requires.liberties pos (agrees_before c.add_beside_few.ensures.stays.grows a1)) c.new-found.ensures
     (c.attacker_of-attacker.ensures ∙ ap attacker_of (rw m1 at (c.cell.ensures.over pos a2)))
     (c.add_beside_few.ensures.over pos a1 p) (rw m2 at (c.add_backfilling.ensures.over pos a p))

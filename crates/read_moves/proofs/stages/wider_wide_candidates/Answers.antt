@@ -1,5 +1,5 @@
 -- What was gathered are the wide candidates of the wider tree, on every position that agrees with what was seen.
-use Rattle.std.proofs.Common.{ap, sym, ◌∙◌}
+use Rattle.std.proofs.Common.{◌&&◌, ap, sym, ◌∙◌}
 use Rattle.std.specs.Cmp.{nat_cmp_total}
 use Rattle.std.specs.FinSet as set
 use Rattle.go_base.specs.Facts.{agrees_before, AddsIn-trans, AddsIn-mono}
@@ -7,7 +7,7 @@ use Rattle.trial_board.proofs.WalkLemmas.{on_agreed}
 use Rattle.trial_board.specs.Trials.{after}
 use Rattle.trial_board.proofs.AfterLemmas.{size-after}
 use Rattle.wider_rules.specs.Further.{is_further}
-use Rattle.read_rules.specs.declared.tree.Tree.TheVariants.{Wider}
+use Rattle.read_rules.specs.Trees.{is_wider}
 use Rattle.read_rules.proofs.AreaLemmas.{search_further}
 use Rattle.read_rules.proofs.StageLemmas.{wide_further}
 use Rattle.read_moves.proofs.stages.wider_wide_candidates.Goals as goal
@@ -22,15 +22,17 @@ further_candidates-further-requires-clause-liberties g c = λ pos a.
 pub returns-clause-over : goal.returns-clause-over
 returns-clause-over g c = λ pos a p.
     let here = after pos c.args.board.now.moves in
-    let attacker = c.args.attacker_to_play in
+    let turn = c.args.turn in
+    let attacker = turn.attacker_to_play in
     let first = c.stated_wide_candidates-found in
     let a1 = agrees_before c.further_candidates-further.ensures.stays.grows a in
     let found = rw first.ensures.stays.moves at (c.further_candidates-further.ensures.over pos a p) in
     ap (λ t. set.contains t p) c.join.ensures
     ∙ set.contains-union nat_cmp_total first.result c.further_candidates-further.result p
-    ∙ wide_further Wider attacker here c.args.target p (set.contains first.result p)
-    (set.contains c.further_candidates-further.result p) (first.ensures.over pos a1 attacker p)
-    (found ∙ ap (λ n. is_further attacker n here.cells c.args.target p) (sym (size-after pos c.args.board.now.moves)))
+    ∙ wide_further c.args.turn here p (set.contains first.result p)
+    (set.contains c.further_candidates-further.result p) (first.ensures.over pos a1 p)
+    (found ∙ ap (λ n. is_further attacker n here.cells turn.target p) (sym (size-after pos c.args.board.now.moves))
+    ∙ sym (ap (λ tree. is_wider tree && is_further attacker here.size here.cells turn.target p) c.requires.tree))
 
 -- each look is where candidates are looked for
 pub returns-clause-near : goal.returns-clause-near
@@ -42,4 +44,4 @@ returns-clause-near g c = λ pos a.
     let on = on_agreed _ _ (g.met.L.Look.sized c.args.board.now.look) a0 c.requires.on_board in
     let later = rw first.ensures.stays.moves at (c.further_candidates-further.ensures.near pos a) in
     AddsIn-trans (first.ensures.near pos a1)
-    (AddsIn-mono later (search_further pos.size here.cells c.args.target on c.args.attacker_to_play))
+    (AddsIn-mono later (search_further pos.size here.cells c.args.turn.target on c.args.turn.attacker_to_play))

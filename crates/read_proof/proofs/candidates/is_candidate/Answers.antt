@@ -11,12 +11,12 @@ use Rattle.read_proof.proofs.candidates.is_candidate.Goals as goal
 pub returns-then-has : goal.returns-then-has
 returns-then-has c =
     let pos = c.args.pos.now in
-    let node = c.args.node in
+    let turn = c.args.turn in
     let p = c.args.p in
-    let its : is_liberty pos.size pos.cells node.target p ≡ true =
-    sym (contains-liberty_points pos.size pos.cells node.target p)
+    let its : is_liberty pos.size pos.cells turn.target p ≡ true =
+    sym (contains-liberty_points pos.size pos.cells turn.target p)
     ∙ ap (λ s. set.contains s p) (sym c.liberty_points.ensures)
     ∙ sym c.has.ensures ∙ c.if-has.true in
     c.if-has.true
-    ∙ sym (candidate_from node.tree node.attacker_to_play pos node.target node.wide p c.requires.target
-    (fills (IsLiberty-from_test pos.size pos.cells node.target p its)))
+    ∙ sym (candidate_from turn pos p c.requires.target
+    (fills (IsLiberty-from_test pos.size pos.cells turn.target p its)))

@@ -9,21 +9,21 @@ use Rattle.read_proof.proofs.candidates.wide_candidates.Goals as goal
 -- the further candidates were joined in the wider tree
 pub returns-then-is_wider : goal.returns-then-is_wider
 returns-then-is_wider c = λ p.
-    let node = c.args.node in
+    let turn = c.args.turn in
     let pos = c.args.pos.now in
     joined c.stated_candidates-found.result c.further_candidates.result c.join.new.self p c.join.ensures
-    ∙ wide_further node.tree node.attacker_to_play pos node.target p _ _
-    (c.stated_candidates-found.ensures node.attacker_to_play p)
-    (c.further_candidates.ensures p ∙ ap (λ b. b && is_further node.attacker_to_play pos.size pos.cells node.target p)
+    ∙ wide_further turn pos p _ _
+    (c.stated_candidates-found.ensures p)
+    (c.further_candidates.ensures p ∙ ap (λ b. b && is_further turn.attacker_to_play pos.size pos.cells turn.target p)
     (sym c.if-is_wider.true ∙ c.is_wider.ensures))
 
 -- in the stated tree nothing more is
 pub returns-else-is_wider : goal.returns-else-is_wider
 returns-else-is_wider c = λ p.
-    let node = c.args.node in
+    let turn = c.args.turn in
     let pos = c.args.pos.now in
     or-false (set.contains c.stated_candidates-found.result p)
-    ∙ wide_further node.tree node.attacker_to_play pos node.target p _ _
-    (c.stated_candidates-found.ensures node.attacker_to_play p)
-    (ap (λ b. b && is_further node.attacker_to_play pos.size pos.cells node.target p)
+    ∙ wide_further turn pos p _ _
+    (c.stated_candidates-found.ensures p)
+    (ap (λ b. b && is_further turn.attacker_to_play pos.size pos.cells turn.target p)
     (sym c.if-is_wider.false ∙ c.is_wider.ensures))

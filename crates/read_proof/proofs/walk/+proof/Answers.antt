@@ -2,7 +2,7 @@
 use Rattle.std.proofs.Common.{◌∙◌, ◌-◌, ◌*◌, true, false, ap, sym}
 use Rattle.std.specs.Option.{option_and_then}
 use Rattle.vertices.specs.Words.{kept}
-use Rattle.read_rules.specs.Candidates.{is_candidate_at}
+use Rattle.read_rules.specs.Candidates.{is_candidate}
 use Rattle.read_rules.specs.GameTree.{child_of}
 use Rattle.read_proof.specs.declared.token.Token.TheVariants.{Move, Each}
 use Rattle.read_proof.specs.Tokens.{words_in, token_of}
@@ -22,7 +22,7 @@ plays_proved-returns-in_err-left t c =
     let pos = c.args.pos.now in
     let found = c.in-Some.ensures.some in
     rw c.from_residual.ensures (walk_fails (proves c.args.plies c.args.won) (child_of c.args.node pos)
-    (is_candidate_at c.args.node pos) (pos.size * pos.size) c.plays.from c.in-Some.p
+    (is_candidate c.args.node.turn pos) (pos.size * pos.size) c.plays.from c.in-Some.p
     (words_in c.plays.left.now) _ found.0
     (c.candidates-candidates.ensures.on_board c.in-Some.p found.2)
     (sym (c.candidates-candidates.ensures.value c.in-Some.p) ∙ found.2)
@@ -35,7 +35,7 @@ plays_proved-plays-preserved t c =
     let pos = c.args.pos.now in
     let found = c.in-Some.ensures.some in
     walk_on (proves c.args.plies c.args.won) (child_of c.args.node pos)
-    (is_candidate_at c.args.node pos) (pos.size * pos.size) c.plays.from c.in-Some.p
+    (is_candidate c.args.node.turn pos) (pos.size * pos.size) c.plays.from c.in-Some.p
     (words_in c.plays.left.now) _ found.0
     (c.candidates-candidates.ensures.on_board c.in-Some.p found.2)
     (sym (c.candidates-candidates.ensures.value c.in-Some.p) ∙ found.2)
@@ -47,7 +47,7 @@ pub plays_proved-returns : goal.plays_proved-returns
 plays_proved-returns t c =
     let pos = c.args.pos.now in
     walk_ends (proves c.args.plies c.args.won) (child_of c.args.node pos)
-    (is_candidate_at c.args.node pos) (pos.size * pos.size - c.plays.from) c.plays.from
+    (is_candidate c.args.node.turn pos) (pos.size * pos.size - c.plays.from) c.plays.from
     (words_in c.plays.left.now) _
     (λ k lo. sym (c.candidates-candidates.ensures.value k) ∙ c.in_default.ensures.none k lo) c.plays.invariant
 

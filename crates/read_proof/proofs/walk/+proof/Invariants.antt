@@ -1,7 +1,7 @@
 use Rattle.std.proofs.Common.{◌≡◌, ◌+◌, ◌-◌, ◌*◌}
 use Rattle.std.specs.List.{filter_map, filter, range_with_len}
 use Rattle.go_rules.specs.Board.{largest_points}
-use Rattle.read_rules.specs.Candidates.{is_candidate_at}
+use Rattle.read_rules.specs.Candidates.{is_candidate}
 use Rattle.read_rules.specs.GameTree.{child_of}
 use Rattle.read_proof.specs.Tokens.{words_in}
 use Rattle.read_proof.specs.Proves.{proves, at_each, play_children}
@@ -31,7 +31,7 @@ decreases-plays_proved l = 4 * l.plies + 2
 abbrev pub invariant-plays_proved-plays : goal.invariant-plays_proved-plays
 invariant-plays_proved-plays l =
     at_each (proves l.plies l.won) (filter_map (child_of l.node l.pos)
-    (filter (is_candidate_at l.node l.pos)
+    (filter (is_candidate l.node.turn l.pos)
     (range_with_len l.from (l.pos.size * l.pos.size - l.from)))) (words_in l.left)
     ≡ at_each (proves l.plies l.won) (play_children l.node l.pos) (words_in l.fn.text)
 

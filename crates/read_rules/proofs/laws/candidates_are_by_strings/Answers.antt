@@ -3,8 +3,8 @@ use Rattle.read_rules.proofs.laws.candidates_are_by_strings.Goals as goal
 
 -- the test for a candidate and the sets of the rules are one
 pub returns-clause-candidate : goal.returns-clause-candidate
-returns-clause-candidate c = λ tree attacker pos target k p on.
-    (candidate_gives tree attacker pos target k p on, candidate_from tree attacker pos target k p on)
+returns-clause-candidate c =
+    λ turn pos p on. (candidate_gives turn pos p on, candidate_from turn pos p on)
 
 -- each candidate lies on the board
 pub returns-clause-on_board : goal.returns-clause-on_board

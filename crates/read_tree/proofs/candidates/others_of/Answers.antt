@@ -22,6 +22,6 @@ returns-clause-over g c = λ pos a p.
     ∙ ap (λ b. b && not (set.contains c.args.captures.now p)) (ap (λ t. set.contains t p) c.difference.ensures
     ∙ set.contains-difference nat_cmp_total _ c.args.known.now p
     ∙ ap (λ b. b && not (set.contains c.args.known.now p)) (c.wide_of.ensures.over pos a p)
-    ∙ ap (λ b. is_wide_candidate c.args.turn.tree c.args.turn.attacker_to_play here c.args.turn.target p && not b) its)
-    ∙ ap (λ b. (is_wide_candidate c.args.turn.tree c.args.turn.attacker_to_play here c.args.turn.target p
+    ∙ ap (λ b. is_wide_candidate c.args.turn here p && not b) its)
+    ∙ ap (λ b. (is_wide_candidate c.args.turn here p
     && not (is_liberty here.size here.cells c.args.turn.target p)) && not b) (c.requires.captures pos a0 p)

@@ -54,10 +54,10 @@ first_success-plays-init g t c = record {
 pub first_success-succeeds-requires : goal.first_success-succeeds-requires
 first_success-succeeds-requires g t c κs within =
     let i = c.plays.invariant in
-    let on = point_after i.stays c.in-Some.p (candidate_inside c.args.node (g.L.Look.shows c.args.board.now.look)
+    let on = point_after i.stays c.in-Some.p (candidate_inside c.args.node.turn (g.L.Look.shows c.args.board.now.look)
     c.args.board.now.moves c.in-Some.p
     (sym (c.candidates-candidates.ensures.answer c.in-Some.p) ∙ c.in-Some.ensures.some.2)) in
-    let target = point_after i.stays c.args.node.target c.requires.target in
+    let target = point_after i.stays c.args.node.turn.target c.requires.target in
     search rules
 
 -- it does not succeed, and none before it did
@@ -91,7 +91,7 @@ first_success-returns-then-succeeds-clause-over g t c = λ pos a.
 -- it is on the board
 pub first_success-returns-then-succeeds-clause-on_board : goal.first_success-returns-then-succeeds-clause-on_board
 first_success-returns-then-succeeds-clause-on_board g t c =
-    candidate_inside c.args.node (g.L.Look.shows c.args.board.now.look) c.args.board.now.moves c.in-Some.p
+    candidate_inside c.args.node.turn (g.L.Look.shows c.args.board.now.look) c.args.board.now.moves c.in-Some.p
     (sym (c.candidates-candidates.ensures.answer c.in-Some.p)
     ∙ c.in-Some.ensures.some.2)
 

@@ -5,7 +5,7 @@ use Rattle.go_rules.specs.Position.{BoardState}
 use Rattle.go_base.specs.Facts.{Agrees, Grows}
 use Rattle.trial_board.specs.Trials.{Stays, after}
 use Rattle.read_rules.specs.GameTree.{succeeds}
-use Rattle.read_tree.specs.Table.{IsTrueTable}
+use Rattle.read_tree.specs.Table.{IsTrueTableAt}
 use Rattle.read_tree.proofs.nodes.+wins.Given as goal
 
 -- each step down the tree spends a ply, and within a node the order of the calls is fixed
@@ -37,7 +37,7 @@ abbrev pub invariant-first_success-plays : goal.invariant-first_success-plays
 invariant-first_success-plays g l = record {
   stays : Stays g.L.Look.shows g.L.Look.seen l.fn.board l.board;
   grows : Grows (g.L.Look.seen l.initial.board.look) (g.L.Look.seen l.board.look);
-  table : IsTrueTable (g.L.Look.seen l.board.look) l.node.tree l.node.target l.node.defender l.memory.table.now;
+  table : IsTrueTableAt (g.L.Look.seen l.board.look) l.node.turn l.memory.table.now;
   none : (pos : BoardState) → Agrees (g.L.Look.seen l.board.look) pos → (q : ℕ) → q < l.from
       → (set.contains l.candidates q && succeeds l.plies l.node (after pos l.fn.board.moves) q) ≡ false;
 }

@@ -4,8 +4,8 @@ use Rattle.std.specs.FinSet as set
 use Rattle.go_base.specs.Facts.{Agrees, agrees_before, Grows-refl, Grows-trans}
 use Rattle.go_rules.specs.Position.{BoardState}
 use Rattle.trial_board.specs.Trials.{after}
-use Rattle.read_tree.specs.Allowances.{neither_may, under}
-use Rattle.read_tree.specs.Stages.{is_candidate_on}
+use Rattle.read_rules.specs.Candidates.{is_candidate}
+use Rattle.read_tree.specs.Allowances.{neither_may}
 use Rattle.read_tree.proofs.AllowanceLemmas.{fewer_nodes, has_all}
 use Rattle.read_rules.proofs.AreaLemmas.{AddsNear-trans}
 use Rattle.read_tree.proofs.BestLemmas.{asks_some, better_on, best_start, best_point, best_all, best_three}
@@ -47,7 +47,7 @@ succeeds-good-requires g c =
     let i = c.loop-p.invariant in
     let some = asks_some c.loop-p.best.code c.args.turn.attacker_to_play i.code in
     let on = point_after i.stays c.in-Some.p
-    (candidate_inside (under c.args.turn neither_may) (g.L.Look.shows c.args.board.now.look)
+    (candidate_inside c.args.turn (g.L.Look.shows c.args.board.now.look)
     c.args.board.now.moves c.in-Some.p (sym (c.candidates-candidates.ensures.answer c.in-Some.p)
     ∙ c.in-Some.ensures.some.2)) in
     let target = point_after i.stays c.args.turn.target c.requires.target in
@@ -87,7 +87,7 @@ module _ (g : Over) (c : After-better-best g) where
   read_on_board = rw c.better-best.ensures.is
       (better_on c.loop-p.best c.args.turn.attacker_to_play c.succeeds-good.result c.in-Some.p
       (g.L.Look.shows c.args.board.now.look).size c.loop-p.invariant.on_board
-      (candidate_inside (under c.args.turn neither_may) (g.L.Look.shows c.args.board.now.look)
+      (candidate_inside c.args.turn (g.L.Look.shows c.args.board.now.look)
       c.args.board.now.moves c.in-Some.p (sym (c.candidates-candidates.ensures.answer c.in-Some.p)
       ∙ c.in-Some.ensures.some.2)))
 
@@ -123,7 +123,7 @@ returns-then-best-eq3 g c =
           best_three c.args.plies c.args.turn (after pos c.args.board.now.moves)
           (λ q. nat_lt q (c.in-Some.p + 1) && set.contains c.candidates-candidates.result q) c.better-best.result
           (read_best g d pos a start) c.if-best-eq3.true
-          (is_candidate_on c.args.turn (after pos c.args.board.now.moves));
+          (is_candidate c.args.turn (after pos c.args.board.now.moves));
     }
 
 -- no candidate is left, and the best of those that were read is the best of all

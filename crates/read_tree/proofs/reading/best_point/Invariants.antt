@@ -8,7 +8,7 @@ use Rattle.trial_board.specs.Trials.{Stays, after}
 use Rattle.read_tree.specs.Allowances.{all_three}
 use Rattle.read_rules.specs.GoodMoves.{IsOnBoard}
 use Rattle.read_tree.specs.Steps.{IsBest}
-use Rattle.read_tree.specs.Table.{IsTrueTable}
+use Rattle.read_tree.specs.Table.{IsTrueTableAt}
 use Rattle.read_tree.specs.Walk.{LooksNear}
 use Rattle.read_tree.proofs.reading.best_point.Given as goal
 
@@ -20,7 +20,7 @@ invariant-loop-p g l = record {
   code : l.best.code < 3;
   none : IsNone l.best.at ↔ (l.best.code ≡ 0);
   on_board : IfSome l.best.at (IsOnBoard (g.L.Look.shows l.fn.board.look).size);
-  table : IsTrueTable (g.L.Look.seen l.board.look) l.turn.tree l.turn.target l.turn.defender l.memory.table.now;
+  table : IsTrueTableAt (g.L.Look.seen l.board.look) l.turn l.memory.table.now;
   near : LooksNear g.L.Look.seen l.fn.board l.board (suc l.plies) l.turn all_three;
   best : (pos : BoardState) → Agrees (g.L.Look.seen l.board.look) pos
       → IsBest l.plies l.turn (after pos l.fn.board.moves) nowhere l.fn.first

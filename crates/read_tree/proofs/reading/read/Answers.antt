@@ -11,14 +11,15 @@ use Rattle.go_base.specs.Views.{alone}
 use Rattle.go_base.proofs.AddedFacts.{cell_near}
 use Rattle.go_base.proofs.PointNeighbourhoods.{close_alone}
 use Rattle.go_rules.specs.Neighbourhood.{neighbourhood_of}
+use Rattle.read_rules.specs.Answer.{first_turn}
 use Rattle.read_rules.specs.declared.question.ReadingQuestion.{ReadingQuestion}
 use Rattle.read_rules.specs.ActiveArea.{InActiveArea, AddsNear}
-use Rattle.read_rules.specs.Answer.{is_about, is_attack, answer_of}
-use Rattle.read_rules.specs.Bound.{outlasts}
+use Rattle.read_rules.specs.Answer.{is_about, answer_of}
+use Rattle.read_rules.specs.Bound.{outlasts_at}
 use Rattle.read_rules.proofs.AnswerLemmas.{about_from, about_stands}
 use Rattle.read_rules.proofs.AreaLemmas.{AddsNear-trans, target_on}
-use Rattle.read_tree.specs.declared.turn.Turn.{Turn}
-use Rattle.read_tree.specs.Steps.{TellsLiberties, first_turn, unread}
+use Rattle.read_rules.specs.declared.turn.Turn.{Turn}
+use Rattle.read_tree.specs.Steps.{TellsLiberties, unread}
 use Rattle.read_tree.proofs.BestLemmas.{unread_answer, first_nodes}
 use Rattle.read_tree.proofs.StandingNodes.{near_asked, near_beside, standing_node}
 use Rattle.read_tree.proofs.reading.read.Given.{Over}
@@ -27,12 +28,12 @@ use Rattle.read_tree.proofs.reading.read.Goals.{After-first_look-liberties, Afte
 
 -- the liberties that were found are too many where the target's are
 many_at : (q : ReadingQuestion) (s : ℕ) (cells : List Cell) {turn : Turn} {known : set.FinSet nat_cmp} {many : Bool}
-    → turn ≡ first_turn q → many ≡ outlasts turn.tree turn.attacker_to_play q.plies turn.wide (set.len known)
+    → turn ≡ first_turn q → many ≡ outlasts_at turn q.plies (set.len known)
     → TellsLiberties turn q.plies s cells known
-    → many ≡ outlasts q.tree (is_attack q.kind) q.plies q.wide (liberties s cells q.target)
+    → many ≡ outlasts_at (first_turn q) q.plies (liberties s cells q.target)
 many_at q s cells {turn} first many tells =
     many ∙ tells.many
-    ∙ ap (λ (t : Turn). outlasts t.tree t.attacker_to_play q.plies t.wide (liberties s cells t.target)) first
+    ∙ ap (λ (t : Turn). outlasts_at t q.plies (liberties s cells t.target)) first
 
 -- the target is on the board that is still shown
 still_on : (g : Over) (c : After-first_look-liberties g)
@@ -155,7 +156,7 @@ read_through-requires g c = record {
       (sym c.has_too_many.ensures ∙ c.if-has_too_many.false)
       ∙ ap (λ (t : Turn). liberty_points pos.size pos.cells t.target) c.first_turn-turn.ensures;
   few = sym (c.has_too_many.ensures
-      ∙ ap (λ (t : Turn). outlasts t.tree t.attacker_to_play c.args.question.plies t.wide
+      ∙ ap (λ (t : Turn). outlasts_at t c.args.question.plies
       (set.len c.first_look-liberties.result.liberties)) c.first_turn-turn.ensures) ∙ c.if-has_too_many.false;
 }
 

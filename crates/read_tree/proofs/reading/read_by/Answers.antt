@@ -5,17 +5,16 @@ use Rattle.std.specs.Ordering.{nat_cmp}
 use Rattle.go_rules.specs.declared.Cell.{Cell}
 use Rattle.go_rules.specs.Strings.{liberties, liberty_points}
 use Rattle.go_base.proofs.Liberties.{len-liberty_points}
+use Rattle.read_rules.specs.Answer.{first_turn}
+use Rattle.read_rules.specs.Candidates.{is_candidate}
 use Rattle.read_rules.specs.declared.question.ReadingQuestion.{ReadingQuestion}
-use Rattle.read_rules.specs.Bound.{outlasts}
+use Rattle.read_rules.specs.Bound.{outlasts_at}
 use Rattle.go_base.specs.Facts.{agrees_before}
 use Rattle.go_base.specs.Views.{nowhere}
 use Rattle.trial_board.specs.Trials.{after}
 use Rattle.trial_board.proofs.AfterLemmas.{size-after}
-use Rattle.read_tree.specs.declared.turn.Turn.{Turn}
-use Rattle.read_rules.specs.Answer.{is_attack}
+use Rattle.read_rules.specs.declared.turn.Turn.{Turn}
 use Rattle.read_tree.specs.Allowances.{Ko, neither_may, under}
-use Rattle.read_tree.specs.Stages.{is_candidate_on}
-use Rattle.read_tree.specs.Steps.{first_turn}
 use Rattle.read_rules.proofs.AnswerLemmas.{about_stands}
 use Rattle.read_rules.proofs.AreaLemmas.{AddsNear-trans, undecided_defender}
 use Rattle.read_tree.proofs.BestLemmas.{best_pass, best_three, attack_answer, defence_answer, first_nodes}
@@ -34,11 +33,11 @@ turn_of e h = sym (ap (λ (t : Turn). t.attacker_to_play) e) ∙ h
 
 -- liberties that are known and not too many are not too many on the board
 few_at : (q : ReadingQuestion) (s : ℕ) (cells : List Cell) (known : set.FinSet nat_cmp)
-    → outlasts q.tree (is_attack q.kind) q.plies q.wide (set.len known) ≡ false
+    → outlasts_at (first_turn q) q.plies (set.len known) ≡ false
     → known ≡ liberty_points s cells q.target
-    → outlasts q.tree (is_attack q.kind) q.plies q.wide (liberties s cells q.target) ≡ false
+    → outlasts_at (first_turn q) q.plies (liberties s cells q.target) ≡ false
 few_at q s cells known few is =
-    sym (ap (outlasts q.tree (is_attack q.kind) q.plies q.wide)
+    sym (ap (outlasts_at (first_turn q) q.plies)
     (ap set.len is ∙ len-liberty_points s cells q.target)) ∙ few
 
 -- The attacker's moves were read.
@@ -114,7 +113,7 @@ returns-then-best-eq3 g c =
           let here = after pos c.args.board.now.moves in
           defence_answer q here c.better-best.result (omega (arith, c.requires.ready.plies)) about (defends g d)
           (best_three (q.plies - 1) (first_turn q) here nowhere c.better-best.result (pass_best g d pos a)
-          c.if-best-eq3.true (is_candidate_on (first_turn q) here));
+          c.if-best-eq3.true (is_candidate (first_turn q) here));
       near = pass_near g d;
     }
 

@@ -8,13 +8,15 @@ use Rattle.go_rules.specs.declared.Cell.TheVariants.{Empty}
 use Rattle.go_rules.proofs.Cells.{eq_is_same_cell}
 use Rattle.std.proofs.lemmas.Bool.{and_parts, lt-ltb, le-ltb}
 use Rattle.go_rules.specs.Strings.{is_liberty}
+use Rattle.read_rules.specs.Turns.{next_turn}
+use Rattle.read_rules.specs.Candidates.{is_candidate}
 use Rattle.read_rules.specs.Bound.{outlasts}
-use Rattle.read_tree.specs.Stages.{is_candidate_on, is_other}
+use Rattle.read_tree.specs.Stages.{is_other}
 use Rattle.trial_board.specs.Trials.{after}
 use Rattle.trial_board.proofs.AfterLemmas.{size-after}
 use Rattle.read_rules.specs.ActiveArea.{IsUndecided, InActiveArea}
 use Rattle.read_tree.specs.Table.{IsTrueOf}
-use Rattle.read_tree.specs.Allowances.{Ko, under, next_turn, own_ko, neither_may, has_some, without}
+use Rattle.read_tree.specs.Allowances.{Ko, under, own_ko, neither_may, has_some, without}
 use Rattle.read_rules.specs.GoodMoves.{good_move}
 use Rattle.read_tree.specs.Steps.{AreNodesOf, TellsBy, is_off_liberties, is_safe}
 use Rattle.read_rules.specs.GameTree.{has_many_liberties, attacker_wins, child_of, first_success}
@@ -196,7 +198,7 @@ some_of-loop-p-init g t c = record {
 -- the choice of a point and the reading of its play look at the active area alone
 tried_near : (g : Over) (t : ℕ) (c : some_of-After-succeeds-good g t) → LooksNearWhere g.L.Look.seen c.args.board.now
     c.succeeds-good.new.board (suc c.args.plies) c.args.turn c.args.asked (λ here. (p : ℕ)
-    → set.contains c.args.points.now p ≡ true → is_candidate_on c.args.turn here p ≡ true)
+    → set.contains c.args.points.now p ≡ true → is_candidate c.args.turn here p ≡ true)
 tried_near g t c = λ pos a q root tree und its.
     let i = c.loop-p.invariant in
     let chosen = c.next_to_try.ensures.stays in
@@ -530,8 +532,7 @@ pub has_good_move-returns-then-turn-clause-over : goal.has_good_move-returns-the
 has_good_move-returns-then-turn-clause-over g t c = λ pos a und.
     let here = after pos c.args.board.now.moves in
     Tells-same (c.some_by_table.ensures.over pos a)
-    (λ ko. good_attacker c.args.turn.attacker_to_play (has_many_liberties c.args.turn.tree here c.args.turn.target
-    c.args.turn.wide) _
+    (λ ko. good_attacker c.args.turn.attacker_to_play (has_many_liberties c.args.turn here) _
     (first_success c.args.plies (under c.args.turn ko) here) c.if-turn.true ((und ko).few c.if-turn.true))
 
 -- what is known is on the board

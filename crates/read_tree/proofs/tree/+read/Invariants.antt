@@ -4,10 +4,10 @@ use Rattle.go_rules.specs.Below.{count_below}
 use Rattle.go_rules.specs.Board.{largest_points}
 use Rattle.go_base.specs.Facts.{Grows}
 use Rattle.trial_board.specs.Trials.{Stays}
+use Rattle.read_rules.specs.Candidates.{is_candidate}
 use Rattle.read_tree.specs.Allowances.{has_some}
-use Rattle.read_tree.specs.Stages.{is_candidate_on}
 use Rattle.read_tree.specs.Steps.{IsLeft}
-use Rattle.read_tree.specs.Table.{IsTrueTable}
+use Rattle.read_tree.specs.Table.{IsTrueTableAt}
 use Rattle.read_tree.specs.Walk.{OnEachAgreeing, LooksNearWhere}
 use Rattle.read_tree.proofs.tree.+read.Given as goal
 
@@ -53,9 +53,9 @@ invariant-some_of-loop-p g l = record {
   stays : Stays g.L.Look.shows g.L.Look.seen l.fn.board l.board;
   grows : Grows (g.L.Look.seen l.initial.board.look) (g.L.Look.seen l.board.look);
   some : has_some l.missing ≡ true;
-  table : IsTrueTable (g.L.Look.seen l.board.look) l.turn.tree l.turn.target l.turn.defender l.memory.table.now;
+  table : IsTrueTableAt (g.L.Look.seen l.board.look) l.turn l.memory.table.now;
   near : LooksNearWhere g.L.Look.seen l.fn.board l.board (suc l.plies) l.turn l.asked (λ here. (p : ℕ)
-      → set.contains l.points p ≡ true → is_candidate_on l.turn here p ≡ true);
+      → set.contains l.points p ≡ true → is_candidate l.turn here p ≡ true);
   left : OnEachAgreeing g.L.Look.seen l.fn.board l.board (λ here. IsLeft l.plies l.turn here (set.contains l.points)
       (set.contains l.tried) l.asked l.missing);
 }

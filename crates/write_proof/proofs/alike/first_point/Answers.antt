@@ -3,7 +3,7 @@ use Rattle.std.specs.FinSet as set
 use Rattle.go_rules.specs.Position.{BoardState}
 use Rattle.read_rules.specs.GameTree.{succeeds}
 use Rattle.read_rules.proofs.WinLemmas.{none_up_to, first_success-found}
-use Rattle.read_tree.specs.Allowances.{neither_may, under}
+use Rattle.read_tree.specs.Allowances.{under}
 use Rattle.read_tree.proofs.TableLemmas.{table_more}
 use Rattle.write_proof.specs.Printed.{position_on}
 use Rattle.write_proof.proofs.WriteLemmas.{here_stays}
@@ -26,7 +26,7 @@ pub play_told-requires : goal.play_told-requires
 play_told-requires g c =
     let i = c.plays.invariant in
     let ready = ready_after i.stays c.args.asked c.requires c.requires.some i.table in
-    let on_board = point_after i.stays c.in-Some.p (candidate_inside (under c.args.turn neither_may)
+    let on_board = point_after i.stays c.in-Some.p (candidate_inside c.args.turn
     (g.L.Look.shows c.args.board.now.look) c.args.board.now.moves c.in-Some.p
     (sym (c.candidates-candidates.ensures.answer c.in-Some.p) ∙ c.in-Some.ensures.some.2)) in
     search rules
@@ -64,7 +64,7 @@ returns-in-Always-clause-first g c = λ ko asked.
 -- and is on the board
 pub returns-in-Always-clause-on_board : goal.returns-in-Always-clause-on_board
 returns-in-Always-clause-on_board g c =
-    candidate_inside (under c.args.turn neither_may) (g.L.Look.shows c.args.board.now.look)
+    candidate_inside c.args.turn (g.L.Look.shows c.args.board.now.look)
     c.args.board.now.moves c.in-Some.p (sym (c.candidates-candidates.ensures.answer c.in-Some.p)
     ∙ c.in-Some.ensures.some.2)
 

@@ -4,7 +4,7 @@ use Rattle.go_rules.specs.Board.{largest_points}
 use Rattle.trial_board.specs.Trials.{Stays}
 use Rattle.read_rules.specs.GameTree.{succeeds}
 use Rattle.read_tree.specs.Allowances.{Ko, has, under}
-use Rattle.read_tree.specs.Table.{IsTrueTable}
+use Rattle.read_tree.specs.Table.{IsTrueTableAt}
 use Rattle.write_proof.specs.Printed.{position_on}
 use Rattle.write_proof.proofs.alike.first_point.Given as goal
 
@@ -12,7 +12,7 @@ use Rattle.write_proof.proofs.alike.first_point.Given as goal
 abbrev pub invariant-plays : goal.invariant-plays
 invariant-plays g l = record {
   stays : Stays g.L.Look.shows g.L.Look.seen l.fn.board l.board;
-  table : IsTrueTable (g.L.Look.seen l.board.look) l.turn.tree l.turn.target l.turn.defender l.memory.table.now;
+  table : IsTrueTableAt (g.L.Look.seen l.board.look) l.turn l.memory.table.now;
   none : (ko : Ko) → has l.asked ko ≡ true → (q : ℕ) → q < l.next
       → (set.contains l.candidates q
       && succeeds l.plies (under l.turn ko) (position_on g.L.Look.shows l.fn.board) q) ≡ false;

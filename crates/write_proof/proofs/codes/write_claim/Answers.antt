@@ -1,9 +1,9 @@
 use Rattle.std.proofs.Common.{◌≡◌, ◌∙◌, ℕ, Bool, List, ◌++◌, [], ◌∷◌, refl, ap, sym}
 use Rattle.go_rules.specs.Position.{BoardState}
+use Rattle.read_rules.specs.Answer.{first_turn}
 use Rattle.read_rules.specs.declared.question.ReadingQuestion.{ReadingQuestion}
-use Rattle.read_tree.specs.declared.turn.Turn.{Turn}
+use Rattle.read_rules.specs.declared.turn.Turn.{Turn}
 use Rattle.read_tree.specs.Allowances.{Ko, under}
-use Rattle.read_tree.specs.Steps.{first_turn}
 use Rattle.read_proof.specs.FirstProof.{first_words}
 use Rattle.read_proof.specs.ProofOf.{letter_of}
 use Rattle.write_proof.specs.Alike.{claim_words}

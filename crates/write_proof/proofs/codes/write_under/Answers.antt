@@ -1,5 +1,5 @@
 use Rattle.std.proofs.Common.{◌≡◌, ◌∙◌, Bool, ap, subst}
-use Rattle.read_tree.specs.declared.turn.Turn.{Turn}
+use Rattle.read_rules.specs.declared.turn.Turn.{Turn}
 use Rattle.read_rules.specs.Answer.{is_attack}
 use Rattle.read_tree.specs.Allowances.{has_some}
 use Rattle.write_proof.specs.Alike.{only, ko_under, claim_words}

@@ -15,7 +15,7 @@ use Rattle.write_proof.proofs.settled.is_settled.Goals.{After-eq-captured}
 
 -- whether the target is captured
 captured : (g : Over) (c : After-eq-captured g)
-    → c.eq-captured.result ≡ is_captured (position_on g.L.Look.shows c.args.board.now) c.args.node.target
+    → c.eq-captured.result ≡ is_captured (position_on g.L.Look.shows c.args.board.now) c.args.node.turn.target
 captured g c =
     c.eq-captured.ensures ∙ eq_is_same_cell c.cell.result Empty ∙ ap (λ (x : Cell). same_cell x Empty)
     c.cell.ensures.answer
@@ -49,6 +49,6 @@ returns-clause-answer g c =
     ∙ settled_many c.args.plies c.args.node here c.eq-captured.result
     (captured g (goal.at.returns-clause-answer g c).After-eq-captured) c.args.won c.count.result c.if-won.false
     c.if-captured.false c.if-plies-eq0.false
-    (c.count.ensures.value ∙ its_count shown.size here c.args.node.target c.liberties.result
+    (c.count.ensures.value ∙ its_count shown.size here c.args.node.turn.target c.liberties.result
     (size-after shown c.args.board.now.moves)
     (rw (c.cell.ensures.stays.moves, c.cell.ensures.stays.shown) at c.liberties.ensures.answer))

@@ -7,13 +7,14 @@ use Rattle.go_rules.specs.Position.{BoardState}
 use Rattle.go_rules.specs.Play.{pass}
 use Rattle.trial_board.specs.Trials.{after}
 use Rattle.trial_board.proofs.AfterLemmas.{size-after}
+use Rattle.read_rules.specs.Turns.{next_turn}
+use Rattle.read_rules.specs.Candidates.{is_candidate}
 use Rattle.read_rules.specs.declared.node.Node.{Node}
-use Rattle.read_tree.specs.Stages.{is_candidate_on}
 use Rattle.read_rules.specs.declared.question.Spot.{Spot}
 use Rattle.read_rules.specs.declared.question.Spot.TheVariants.{At, Pass}
 use Rattle.read_rules.specs.GameTree.{child_of, first_move}
 use Rattle.read_rules.specs.GoodMoves.{IsOnBoard}
-use Rattle.read_tree.specs.Allowances.{Ko, neither_may, under, next_turn}
+use Rattle.read_tree.specs.Allowances.{Ko, neither_may, under}
 use Rattle.read_tree.proofs.AllowanceLemmas.{next_keeps}
 use Rattle.read_tree.proofs.TableLemmas.{table_more}
 use Rattle.read_proof.specs.Proves.{is_wanted}
@@ -129,7 +130,7 @@ write_plays-plays-init g t c =
       stays = c.candidates-candidates.ensures.stays;
       table = table_more c.requires.table c.candidates-candidates.ensures.stays.grows;
       text = λ ko asked. all_left (first_words c.args.plies c.args.won) (child_of (under c.args.turn ko) here)
-          (is_candidate_on c.args.turn here) (here.size * here.size) c.args.out.now;
+          (is_candidate c.args.turn here) (here.size * here.size) c.args.out.now;
       bytes = c.requires.bytes;
     }
 
@@ -137,7 +138,7 @@ write_plays-plays-init g t c =
 pub write_plays-write_play-requires : goal.write_plays-write_play-requires
 write_plays-write_play-requires g t c κs within =
     let i = c.plays.invariant in
-    let on = point_after i.stays c.in-Some.p (candidate_inside (under c.args.turn neither_may)
+    let on = point_after i.stays c.in-Some.p (candidate_inside c.args.turn
     (g.L.Look.shows c.args.board.now.look) c.args.board.now.moves c.in-Some.p
     (sym (c.candidates-candidates.ensures.answer c.in-Some.p) ∙ c.in-Some.ensures.some.2)) in
     let target = point_after i.stays c.args.turn.target c.requires.target in
@@ -208,7 +209,7 @@ pub write_plays-returns-clause-puts : goal.write_plays-returns-clause-puts
 write_plays-returns-clause-puts g t c = λ same ko asked.
     let here = position_on g.L.Look.shows c.args.board.now in (
       walk_written (first_words c.args.plies c.args.won) (child_of (under c.args.turn ko) here)
-          (is_candidate_on c.args.turn here) (here.size * here.size - c.plays.from) c.plays.from
+          (is_candidate c.args.turn here) (here.size * here.size - c.plays.from) c.plays.from
           c.plays.out _ (λ k lo. sym (c.candidates-candidates.ensures.answer k) ∙ c.in_default.ensures.none k lo)
           (c.plays.invariant.text ko asked),
       c.plays.invariant.bytes,
@@ -303,7 +304,7 @@ write-returns-then-plies-eq0-clause-puts g t c = λ same ko asked.
 -- the target is on the board
 pub write-is_settled-requires : goal.write-is_settled-requires
 write-is_settled-requires g t c = record {
-  target = subst (λ (m : Node). m.target < (g.L.Look.shows c.args.board.now.look).size
+  target = subst (λ (m : Node). m.turn.target < (g.L.Look.shows c.args.board.now.look).size
       * (g.L.Look.shows c.args.board.now.look).size) (sym c.node_of-node.ensures) c.requires.target;
 }
 

@@ -2,10 +2,10 @@ use Rattle.std.proofs.Common.{◌≡◌, ◌+◌, ◌-◌, ◌*◌, ◌≤◌, �
 use Rattle.std.specs.List.{filter_map, filter, range_with_len}
 use Rattle.go_rules.specs.Board.{largest_points}
 use Rattle.trial_board.specs.Trials.{Stays}
-use Rattle.read_tree.specs.Stages.{is_candidate_on}
+use Rattle.read_rules.specs.Candidates.{is_candidate}
 use Rattle.read_rules.specs.GameTree.{child_of}
 use Rattle.read_tree.specs.Allowances.{Ko, has, under}
-use Rattle.read_tree.specs.Table.{IsTrueTable}
+use Rattle.read_tree.specs.Table.{IsTrueTableAt}
 use Rattle.read_proof.specs.Proves.{play_children}
 use Rattle.read_proof.specs.FirstProof.{write_each, first_words}
 use Rattle.write_proof.specs.Printed.{behind_blanks, position_on}
@@ -37,10 +37,10 @@ decreases-write_move g l = 4 * l.plies + 2
 abbrev pub invariant-write_plays-plays : goal.invariant-write_plays-plays
 invariant-write_plays-plays g l = record {
   stays : Stays g.L.Look.shows g.L.Look.seen l.fn.board l.board;
-  table : IsTrueTable (g.L.Look.seen l.board.look) l.turn.tree l.turn.target l.turn.defender l.memory.table.now;
+  table : IsTrueTableAt (g.L.Look.seen l.board.look) l.turn l.memory.table.now;
   text : (ko : Ko) → has l.asked ko ≡ true → l.out ++ behind_blanks (write_each (first_words l.plies l.won)
       (filter_map (child_of (under l.turn ko) (position_on g.L.Look.shows l.fn.board))
-      (filter (is_candidate_on l.turn (position_on g.L.Look.shows l.fn.board))
+      (filter (is_candidate l.turn (position_on g.L.Look.shows l.fn.board))
       (range_with_len l.from ((position_on g.L.Look.shows l.fn.board).size
       * (position_on g.L.Look.shows l.fn.board).size - l.from)))))
       ≡ l.fn.out ++ behind_blanks (write_each (first_words l.plies l.won)

@@ -1,13 +1,12 @@
-//! A node of the game tree under whatever ko allowances: what is read, whose turn it is, and how many wide plies are
-//! left.
+//! Whose turn it is at a node of the game tree, under whatever ko allowances.
 
 ghost use Rattle.std.specs.Prelude.{◌≡◌};
-ghost use Rattle.read_tree.specs.Allowances.{mover_on, next_turn};
+ghost use Rattle.read_rules.specs.Turns.{mover_of, next_turn};
 
+use crate::tree::Tree;
 use go_base::{Colour, Point};
-use read_rules::Tree;
 
-/// A node under whatever ko allowances: the walk reads it under several at once.
+/// A turn of the game tree: a node but for its position, the plies that are left, and the ko allowances.
 #[derive(Clone, Copy, Debug, PartialEq, Eq)]
 pub struct Turn {
     /// Which tree is read.
@@ -25,7 +24,7 @@ pub struct Turn {
 impl Turn {
     /// The colour whose turn it is.
     pub fn mover(self) -> Colour
-        ensures { result ≡ mover_on self }
+        ensures { result ≡ mover_of self }
     {
         if self.attacker_to_play {
             self.defender.other()
