@@ -3,3 +3,4 @@ pub mod SureMoves
 pub mod StayLemmas
 pub mod SureCodes
 pub mod DefenceLemmas
+pub mod ZoneLemmas
