@@ -4,3 +4,4 @@ pub mod StayLemmas
 pub mod SureCodes
 pub mod DefenceLemmas
 pub mod ZoneLemmas
+pub mod PlanLemmas

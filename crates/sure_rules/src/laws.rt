@@ -18,7 +18,7 @@ ghost use Rattle.sure_rules.specs.SureTree.{surely_wins};
 ghost use Rattle.sure_rules.specs.SureAnswer.{surely_attains, sure_code_of, sure_answer_of};
 ghost use Rattle.sure_rules.specs.SureInWords.{SomeCandidateCaptures, EveryReplyFails};
 ghost use Rattle.sure_rules.specs.SureInWords.{IsFirstSureMove, IsGreatestSureCode};
-ghost use Rattle.sure_rules.specs.Defences.{IsTakenAnyway, standing_at, start_of};
+ghost use Rattle.sure_rules.specs.Defences.{IsTakenAnyway, HasPlanWithin, standing_at, start_of};
 ghost use Rattle.sure_rules.specs.Zones.{IsZone, IsPlayZone, IsReplyZone};
 
 use read_rules::Kind;
@@ -73,6 +73,18 @@ pub fn sure_captures_stand_against_every_defence()
     ensures defend { (q : ReadingQuestion) (pos : BoardState) → is_about q pos ≡ true → q.kind ≡ Kind.Defend
         → sure_code_of q pos ≡ 0 → (code : ℕ) → 1 ≤ code → code ≤ 3
         → IsTakenAnyway q.plies q.target q.colour (start_of q pos code) }
+{}
+
+/// A sure capture has a plan: a point for each list of moves so far, such that in every game in which the attacker plays
+/// by it, and the defender as he likes, the plan's move may be made and the stone is taken within so many moves.
+pub fn sure_captures_have_a_plan()
+    ensures node { (n : ℕ) (node : Node) (pos : BoardState) → IsTrue (surely_wins n node pos)
+        → HasPlanWithin n (target_of node) (defender_of node) (standing_at node pos) }
+    ensures attack { (q : ReadingQuestion) (pos : BoardState) → q.kind ≡ Kind.Attack → sure_code_of q pos ≢ 0
+        → HasPlanWithin q.plies q.target q.colour (start_of q pos (sure_code_of q pos)) }
+    ensures defend { (q : ReadingQuestion) (pos : BoardState) → is_about q pos ≡ true → q.kind ≡ Kind.Defend
+        → sure_code_of q pos ≡ 0 → (code : ℕ) → 1 ≤ code → code ≤ 3
+        → HasPlanWithin q.plies q.target q.colour (start_of q pos code) }
 {}
 
 /// The codes of a sure answer by their ko allowances of attacker and defender, each code within the one below it, the
