@@ -48,13 +48,13 @@ sides false Black a d left new = refl
 sides false White a d left new = refl
 
 -- where the two sides stand after a move is where they stand at the next node
-stands_next : (node : Node) (pos new : BoardState) (left : ℕ)
+pub stands_next : (node : Node) (pos new : BoardState) (left : ℕ)
     → standing_at (next_node node left) new ≡ turned (standing_at node pos) new left
 stands_next node pos new left =
     sides node.attacker_to_play node.defender node.attacker_ko node.defender_ko left new
 
 -- a play that can be made at a node is a move from where the two sides stand
-child_is_move : (node : Node) (pos : BoardState) (p : ℕ) (next : Node) (new : BoardState) → p < pos.size * pos.size
+pub child_is_move : (node : Node) (pos : BoardState) (p : ℕ) (next : Node) (new : BoardState) → p < pos.size * pos.size
     → IsChild node pos p next new → IsMove (standing_at node pos) (At p) (standing_at next new)
 child_is_move node pos p next new on (inl w) =
     subst (IsMove (standing_at node pos) (At p))
@@ -66,7 +66,7 @@ child_is_move node pos p next new on (inr w) =
     (ignores_the_ban p new on w.banned w.free w.some_left)
 
 -- a child is about the same string of the same colour
-child_target : (node : Node) (pos : BoardState) (p : ℕ) (next : Node) (new : BoardState) → IsChild node pos p next new
+pub child_target : (node : Node) (pos : BoardState) (p : ℕ) (next : Node) (new : BoardState) → IsChild node pos p next new
     → (target_of next ≡ target_of node) × (defender_of next ≡ defender_of node)
 child_target node pos p next new (inl w) = (ap target_of w.next_is, ap defender_of w.next_is)
 child_target node pos p next new (inr w) = (ap target_of w.next_is, ap defender_of w.next_is)
@@ -166,7 +166,7 @@ taken_anyway n node pos sure = λ reply answers.
     (omega arith) sure
 
 -- a question's first node is where the question begins
-start_is : (q : ReadingQuestion) (pos : BoardState) (code : ℕ) (kind : Kind)
+pub start_is : (q : ReadingQuestion) (pos : BoardState) (code : ℕ) (kind : Kind)
     → standing_at (first_node (asked_as q kind) code) pos ≡ start_of (asked_as q kind) pos code
 start_is q pos code Attack = refl
 start_is q pos code Defend = refl
@@ -179,23 +179,33 @@ question_taken q pos code sure =
     subst (IsTakenAnyway q.plies q.target q.colour) (start_is q pos code q.kind)
     (taken_anyway q.plies (first_node q code) pos sure)
 
+-- what is surely captured if an attack has a sure code
+pub attack_sure : (q : ReadingQuestion) (pos : BoardState) → q.kind ≡ Attack → sure_code_of q pos ≢ 0
+    → surely_wins q.plies (first_node q (sure_code_of q pos)) pos ≡ true
+attack_sure q pos kind some = elim (cases_Bool (is_about q pos)) [
+  | inr f ↦ absurd (some (sure_code_another q pos f))
+  | inl about ↦
+      let sure = surely_wins q.plies (first_node q (sure_code_of q pos)) pos in
+      sym (ap (λ b. cond b sure (not sure)) (ap is_attack kind)) ∙ (sure_code_greatest q pos about).attained some
+]
+
+-- and under each code if a string is surely not to be saved
+pub defence_sure : (q : ReadingQuestion) (pos : BoardState) → is_about q pos ≡ true → q.kind ≡ Defend
+    → sure_code_of q pos ≡ 0 → (code : ℕ) → 1 ≤ code → code ≤ 3
+    → surely_wins q.plies (first_node q code) pos ≡ true
+defence_sure q pos about kind none code lo hi =
+    let sure = surely_wins q.plies (first_node q code) pos in
+    not-false sure (sym (ap (λ b. cond b sure (not sure)) (ap is_attack kind))
+    ∙ (sure_code_greatest q pos about).greatest code (omega (arith, none, lo)) hi)
+
 -- a sure attack takes the target against every defence
 pub attack_taken : (q : ReadingQuestion) (pos : BoardState) → q.kind ≡ Attack → sure_code_of q pos ≢ 0
     → IsTakenAnyway q.plies q.target q.colour (start_of q pos (sure_code_of q pos))
-attack_taken q pos kind some = elim (cases_Bool (is_about q pos)) [
-  | inr f ↦ absurd (some (sure_code_another q pos f))
-  | inl about ↦
-      let code = sure_code_of q pos in
-      let sure = surely_wins q.plies (first_node q code) pos in
-      question_taken q pos code (sym (ap (λ b. cond b sure (not sure)) (ap is_attack kind))
-      ∙ (sure_code_greatest q pos about).attained some)
-]
+attack_taken q pos kind some = question_taken q pos (sure_code_of q pos) (attack_sure q pos kind some)
 
 -- a string that is surely not to be saved is taken whatever the defender plays first, under each of the codes
 pub defence_taken : (q : ReadingQuestion) (pos : BoardState) → is_about q pos ≡ true → q.kind ≡ Defend
     → sure_code_of q pos ≡ 0 → (code : ℕ) → 1 ≤ code → code ≤ 3
     → IsTakenAnyway q.plies q.target q.colour (start_of q pos code)
 defence_taken q pos about kind none code lo hi =
-    let sure = surely_wins q.plies (first_node q code) pos in
-    question_taken q pos code (not-false sure (sym (ap (λ b. cond b sure (not sure)) (ap is_attack kind))
-    ∙ (sure_code_greatest q pos about).greatest code (omega (arith, none, lo)) hi))
+    question_taken q pos code (defence_sure q pos about kind none code lo hi)

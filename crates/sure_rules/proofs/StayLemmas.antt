@@ -108,7 +108,7 @@ module _ (node more : Node) (h : IsNoHarder node more) where
       (λ _. h.defender_ko)
 
   -- after a move that leaves the attacker at least as much, or the defender at most as much, it still does
-  next_stays : (left new_left : ℕ) → (is_attackers node ≡ true → left ≤ new_left)
+  pub next_stays : (left new_left : ℕ) → (is_attackers node ≡ true → left ≤ new_left)
       → (is_attackers node ≡ false → new_left ≤ left) → IsNoHarder (next_node node left) (next_node more new_left)
   next_stays left new_left attacks defends = record {
     target = h.target;

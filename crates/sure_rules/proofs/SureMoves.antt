@@ -4,7 +4,7 @@ use Rattle.std.proofs.Common.{List, [], ◌∷◌, Option, Some, None, refl, ap,
 use Rattle.std.proofs.Common.{inl, inr}
 use Rattle.std.specs.List.{find, list_any, list_all}
 use mathlib.Core.Bool.{beq}
-use Rattle.std.proofs.lemmas.Bool.{cases_Bool, both_ways, not-true, not_from_false, and_from}
+use Rattle.std.proofs.lemmas.Bool.{cases_Bool, both_ways, not-true, not_from_false, and_from, and_parts}
 use Rattle.go_rules.specs.Position.{BoardState}
 use Rattle.go_rules.specs.Play.{pass}
 use Rattle.read_rules.specs.declared.node.Node.{Node}
@@ -217,3 +217,23 @@ pub first_sure_move_gives : (n : ℕ) (node : Node) (pos : BoardState) (spot : S
     → first_sure_move n node pos ≡ Some spot → IsFirstSureMove n node pos spot
 first_sure_move_gives n node pos spot e =
     first_by n node pos (pass_holds n node pos) (first_sure n node pos) spot refl refl e
+
+-- a point that is there
+there_point : (o : Option ℕ) → is_some o ≡ true → (p : ℕ) × (o ≡ Some p)
+there_point None e = cc
+there_point (Some p) e = (p, refl)
+
+-- at the attacker's turn a target that is surely captured is so by the first point that succeeds
+pub first_sure_there : (n : ℕ) (node : Node) (pos : BoardState) → is_gone node pos ≡ false → is_attackers node ≡ true
+    → surely_wins (suc n) node pos ≡ true
+    → (p : ℕ) × (first_sure n node pos ≡ Some p) × (is_tried node pos p ≡ true)
+    × (some_child (surely_wins n) (child_of node pos p) ≡ true)
+first_sure_there n node pos stands turn sure =
+    let parts = and_parts _ _ (sym (sure-attacker n node pos stands turn) ∙ sure) in
+    let found = there_point (first_sure n node pos) (attacker_first n node pos turn ∙ parts.1) in
+    let w = find_gives (is_tried node pos) (surely_succeeds n node pos) (pos.size * pos.size) 0 found.0 found.1 in (
+      found.0,
+      found.1,
+      w.chosen,
+      sym (ap (λ b. surely_suits n b (child_of node pos found.0)) turn) ∙ w.passes,
+    )

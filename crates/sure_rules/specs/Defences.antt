@@ -1,6 +1,6 @@
 -- Play against every defence, told by moves alone. Nothing here speaks of game trees or of candidates: two sides move in
 -- turn, and the one that defends a stone may answer as it likes.
-use Rattle.std.specs.Prelude.{◌≡◌, ℕ, ◌-◌, ◌*◌, ◌<◌, ◌≤◌, List, [], ◌∷◌, length, Ok, Err, if◌then◌else◌}
+use Rattle.std.specs.Prelude.{◌≡◌, ◌≢◌, ℕ, ◌-◌, ◌*◌, ◌<◌, ◌≤◌, List, [], ◌∷◌, length, Ok, Err, if◌then◌else◌}
 use Rattle.go_rules.specs.declared.Cell.TheVariants.{Empty}
 use Rattle.go_rules.specs.declared.Colour.{Colour}
 use Rattle.go_rules.specs.declared.Illegal.TheVariants.{Ko}
@@ -70,6 +70,31 @@ pub record IsTakenAgainst (n target : ℕ) (defender : Colour) (start : Standing
 abbrev pub IsTakenAnyway : ℕ → ℕ → Colour → Standing → Type 0
 IsTakenAnyway n target defender start = (reply : List Spot → Spot) → IsDefence defender reply start
     → IsTakenAgainst n target defender start reply
+
+-- these moves, the newest first, lead from the start to here: each may be made, the attacker plays at the point that his
+-- plan names for the moves so far, the defender moves as he likes, and the stone at the target stood before each move
+pub data IsPlayed (target : ℕ) (defender : Colour) (plan : List Spot → ℕ) (start : Standing) : List Spot → Standing
+    → Type 0 where
+  opens : IsPlayed target defender plan start [] start
+  follows : {moves : List Spot} {here there : Standing} → IsPlayed target defender plan start moves here
+      → cell_at here.board.cells target ≢ Empty → here.to_play ≡ other defender → IsMove here (At (plan moves)) there
+      → IsPlayed target defender plan start (At (plan moves) ∷ moves) there
+  answers : {moves : List Spot} {here there : Standing} → IsPlayed target defender plan start moves here
+      → cell_at here.board.cells target ≢ Empty → here.to_play ≡ defender → (spot : Spot) → IsMove here spot there
+      → IsPlayed target defender plan start (spot ∷ moves) there
+
+-- the plan takes the stone at the target within n moves, whatever the defender plays: in every game by the plan, as long
+-- as the stone stands, fewer than n moves were made, and at the attacker's turn the plan's move may be made
+pub record IsPlanWithin (n target : ℕ) (defender : Colour) (start : Standing) (plan : List Spot → ℕ) : Type 0 where
+  pub in_time : (moves : List Spot) (here : Standing) → IsPlayed target defender plan start moves here
+      → cell_at here.board.cells target ≢ Empty → length moves < n
+  pub can_go_on : (moves : List Spot) (here : Standing) → IsPlayed target defender plan start moves here
+      → cell_at here.board.cells target ≢ Empty → here.to_play ≡ other defender
+      → (there : Standing) × IsMove here (At (plan moves)) there
+
+-- some plan takes the stone at the target within n moves, whatever the defender plays
+abbrev pub HasPlanWithin : ℕ → ℕ → Colour → Standing → Type 0
+HasPlanWithin n target defender start = (plan : List Spot → ℕ) × IsPlanWithin n target defender start plan
 
 -- where the two sides stand at a node
 abbrev pub standing_at : Node → BoardState → Standing

@@ -3,3 +3,4 @@ pub mod SureTree
 pub mod SureAnswer
 pub mod SureInWords
 pub mod Defences
+pub mod Zones

@@ -1,7 +1,11 @@
 //! What the definitions of sure captures mean, in Go's words.
 
-ghost use Rattle.std.specs.Prelude.{◌≡◌, ◌≢◌, ◌↔◌, ℕ, ◌+◌, ◌-◌, ◌<◌, ◌≤◌, true, false, not, IsTrue, Some, None};
-ghost use Rattle.go_rules.specs.Position.{BoardState};
+ghost use Rattle.std.specs.Prelude.{◌≡◌, ◌≢◌, ◌↔◌, ℕ, ◌+◌, ◌-◌, ◌*◌, ◌<◌, ◌≤◌, true, false, not, IsTrue, Some, None};
+ghost use Rattle.std.specs.Prelude.{Bool, Ok, slice_set};
+ghost use Rattle.go_rules.specs.declared.Colour.{Colour};
+ghost use Rattle.go_rules.specs.Position.{BoardState, IsPosition, stone_of};
+ghost use Rattle.go_rules.specs.Play.{play_free};
+ghost use Rattle.go_rules.specs.Rules.{IsCaptured, IsOnlyLiberty};
 ghost use Rattle.read_rules.specs.declared.node.Node.{Node};
 ghost use Rattle.read_rules.specs.declared.question.ReadingQuestion.{ReadingQuestion};
 ghost use Rattle.read_rules.specs.declared.question.Spot.{Spot};
@@ -14,7 +18,8 @@ ghost use Rattle.sure_rules.specs.SureTree.{surely_wins};
 ghost use Rattle.sure_rules.specs.SureAnswer.{surely_attains, sure_code_of, sure_answer_of};
 ghost use Rattle.sure_rules.specs.SureInWords.{SomeCandidateCaptures, EveryReplyFails};
 ghost use Rattle.sure_rules.specs.SureInWords.{IsFirstSureMove, IsGreatestSureCode};
-ghost use Rattle.sure_rules.specs.Defences.{IsTakenAnyway, standing_at, start_of};
+ghost use Rattle.sure_rules.specs.Defences.{IsTakenAnyway, HasPlanWithin, standing_at, start_of};
+ghost use Rattle.sure_rules.specs.Zones.{IsZone, IsPlayZone, IsReplyZone};
 
 use read_rules::Kind;
 
@@ -70,6 +75,18 @@ pub fn sure_captures_stand_against_every_defence()
         → IsTakenAnyway q.plies q.target q.colour (start_of q pos code) }
 {}
 
+/// A sure capture has a plan: a point for each list of moves so far, such that in every game in which the attacker plays
+/// by it, and the defender as he likes, the plan's move may be made and the stone is taken within so many moves.
+pub fn sure_captures_have_a_plan()
+    ensures node { (n : ℕ) (node : Node) (pos : BoardState) → IsTrue (surely_wins n node pos)
+        → HasPlanWithin n (target_of node) (defender_of node) (standing_at node pos) }
+    ensures attack { (q : ReadingQuestion) (pos : BoardState) → q.kind ≡ Kind.Attack → sure_code_of q pos ≢ 0
+        → HasPlanWithin q.plies q.target q.colour (start_of q pos (sure_code_of q pos)) }
+    ensures defend { (q : ReadingQuestion) (pos : BoardState) → is_about q pos ≡ true → q.kind ≡ Kind.Defend
+        → sure_code_of q pos ≡ 0 → (code : ℕ) → 1 ≤ code → code ≤ 3
+        → HasPlanWithin q.plies q.target q.colour (start_of q pos code) }
+{}
+
 /// The codes of a sure answer by their ko allowances of attacker and defender, each code within the one below it, the
 /// greatest of them, and the first move that attains it.
 pub fn sure_answers_are_by_codes()
@@ -101,4 +118,26 @@ pub fn sure_answers_are_by_codes()
     ensures first_move { (q : ReadingQuestion) (pos : BoardState) → q.plies ≢ 0 → sure_code_of q pos ≢ 0 →
         (spot : Spot) × ((sure_answer_of q pos).at ≡ Some spot)
         × IsFirstSureMove (q.plies - 1) (first_node q (sure_code_of q pos)) pos spot }
+{}
+
+/// A zone of a sure capture is a set of points on which it rests: on every position that agrees there, in cells and
+/// bans, the target is surely captured with the same plies. A captured target rests on its own point. At the attacker's
+/// turn a capture rests on what shows one play of his, and on what its child rests on. At the defender's turn it rests
+/// on what the pass rests on and on the replies that are read: those at an empty point of that zone, and those at the
+/// only liberty of an attacker's string that has a stone in it. Every other reply changes nothing there, since what a
+/// play captures had its only liberty at the point of the play.
+pub fn zones_are_by_rules()
+    ensures itself { (n : ℕ) (node : Node) (pos : BoardState) (Z : ℕ → Bool) → IsPosition pos → IsZone n node pos Z
+        → IsTrue (surely_wins n node pos) }
+    ensures larger { (n : ℕ) (node : Node) (pos : BoardState) (Z W : ℕ → Bool) → ((p : ℕ) → IsTrue (Z p) → IsTrue (W p))
+        → IsZone n node pos Z → IsZone n node pos W }
+    ensures captured { (n : ℕ) (node : Node) (pos : BoardState) (Z : ℕ → Bool) → IsTrue (is_gone node pos)
+        → IsTrue (Z (target_of node)) → IsZone n node pos Z }
+    ensures attacker { (n : ℕ) (node : Node) (pos : BoardState) (Z : ℕ → Bool) → is_attackers node ≡ true
+        → IsPlayZone n node pos Z → IsZone (n + 1) node pos Z }
+    ensures defender { (n : ℕ) (node : Node) (pos : BoardState) (Z : ℕ → Bool) → is_attackers node ≡ false
+        → IsReplyZone n node pos Z → IsZone (n + 1) node pos Z }
+    ensures last_liberty { (pos : BoardState) (c : Colour) (p : ℕ) (new : BoardState) → IsPosition pos
+        → p < pos.size * pos.size → play_free pos c p ≡ Ok new → (q : ℕ) → q < pos.size * pos.size
+        → IsCaptured pos.size (slice_set pos.cells p (stone_of c)) c q → IsOnlyLiberty pos.size pos.cells q p }
 {}

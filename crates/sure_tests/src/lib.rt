@@ -1,0 +1,6 @@
+//! Worked rows of sure captures: small positions, what the tree of a reading answers there, and what is sure. There is
+//! no code here but tests, so that the readers are not proved once more for them.
+#![tactic(auto)]
+
+#[cfg(test)]
+mod tests;

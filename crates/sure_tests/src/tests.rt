@@ -1,0 +1,336 @@
+//! Sure answers on small positions, beside those of the tree. Both are from a second plain program, which tries every
+//! move by the definition alone.
+
+ghost use Rattle.std.specs.Prelude.{◌≡◌, ◌≢◌, ◌*◌, ◌<◌, IfSome};
+ghost use Rattle.go_rules.specs.Strings.{cell_at};
+
+use go_base::{Cell, Colour, Point, Position, Size, Watch};
+use read_rules::Kind::{self, Attack, Defend};
+use read_rules::Tree::{self, Stated, Wider};
+use read_rules::{Answer, Depths, Spot};
+use read_sure::{sure_attack, sure_defend};
+use read_tree::{attack, defend};
+use vertices::vertex_named;
+
+/// A question on a position, and its two answers.
+struct Row {
+    /// What it shows.
+    name: &'static str,
+    /// The size of the board.
+    size: u8,
+    /// Black's stones.
+    black: &'static str,
+    /// White's stones, played after black's; the last one may leave a ban.
+    white: &'static str,
+    /// What is asked.
+    kind: Kind,
+    /// The vertex of the stone.
+    target: &'static str,
+    /// The plies, and how many of them are wide.
+    depths: (u8, u8),
+    /// The tree whose candidates are tried.
+    tree: Tree,
+    /// The code of the reading in that tree.
+    code: u8,
+    /// The sure code.
+    sure: u8,
+    /// The move of the sure code, empty if there is none.
+    at: &'static str,
+}
+
+/// Rows by what they show.
+static ROWS: [Row; 16] = [
+    Row {
+        name: "a stone in the corner is taken whatever black plays",
+        size: 5,
+        black: "A1",
+        white: "B2",
+        kind: Attack,
+        target: "A1",
+        depths: (3, 0),
+        tree: Stated,
+        code: 3,
+        sure: 3,
+        at: "A2",
+    },
+    Row {
+        name: "two plies are too few for it",
+        size: 5,
+        black: "A1",
+        white: "B2",
+        kind: Attack,
+        target: "A1",
+        depths: (2, 0),
+        tree: Stated,
+        code: 0,
+        sure: 0,
+        at: "",
+    },
+    Row {
+        name: "with four plies it is surely not to be saved",
+        size: 5,
+        black: "A1",
+        white: "B2",
+        kind: Defend,
+        target: "A1",
+        depths: (4, 0),
+        tree: Stated,
+        code: 0,
+        sure: 0,
+        at: "",
+    },
+    Row {
+        name: "with three plies black may pass",
+        size: 5,
+        black: "A1",
+        white: "B2",
+        kind: Defend,
+        target: "A1",
+        depths: (3, 0),
+        tree: Stated,
+        code: 3,
+        sure: 3,
+        at: "PASS",
+    },
+    Row {
+        name: "on a board of nine it is the same",
+        size: 9,
+        black: "A1",
+        white: "B2",
+        kind: Attack,
+        target: "A1",
+        depths: (3, 0),
+        tree: Stated,
+        code: 3,
+        sure: 3,
+        at: "A2",
+    },
+    Row {
+        name: "a stone in atari is captured at once",
+        size: 9,
+        black: "D4",
+        white: "C4 E4 D5",
+        kind: Attack,
+        target: "D4",
+        depths: (1, 0),
+        tree: Stated,
+        code: 3,
+        sure: 3,
+        at: "D3",
+    },
+    Row {
+        name: "black answers C2 at D1, where the tree does not look",
+        size: 5,
+        black: "A2 B1 C1",
+        white: "A3 B3 E2 E3 E5",
+        kind: Attack,
+        target: "A2",
+        depths: (5, 2),
+        tree: Stated,
+        code: 3,
+        sure: 0,
+        at: "",
+    },
+    Row {
+        name: "the wider tree looks there",
+        size: 5,
+        black: "A2 B1 C1",
+        white: "A3 B3 E2 E3 E5",
+        kind: Attack,
+        target: "A2",
+        depths: (5, 2),
+        tree: Wider,
+        code: 0,
+        sure: 0,
+        at: "",
+    },
+    Row {
+        name: "the pass is enough where the tree wants a move",
+        size: 5,
+        black: "A2 B1 C1",
+        white: "A3 B3 E2 E3 E5",
+        kind: Defend,
+        target: "A2",
+        depths: (6, 3),
+        tree: Stated,
+        code: 3,
+        sure: 3,
+        at: "PASS",
+    },
+    Row {
+        name: "black answers C4 away from the two stones",
+        size: 5,
+        black: "D4 E4 C5 D2 A1",
+        white: "D3 E3 E1",
+        kind: Attack,
+        target: "D4",
+        depths: (5, 2),
+        tree: Stated,
+        code: 3,
+        sure: 0,
+        at: "",
+    },
+    Row {
+        name: "a net holds against every reply",
+        size: 5,
+        black: "C3",
+        white: "B3 C4 D4 E2 B2",
+        kind: Attack,
+        target: "C3",
+        depths: (5, 2),
+        tree: Stated,
+        code: 3,
+        sure: 3,
+        at: "D3",
+    },
+    Row {
+        name: "two eyes are not captured",
+        size: 5,
+        black: "A2 B2 C2 D2 B1 D1",
+        white: "A3 B3 C3 D3 E2 E1",
+        kind: Attack,
+        target: "A2",
+        depths: (5, 2),
+        tree: Stated,
+        code: 0,
+        sure: 0,
+        at: "",
+    },
+    Row {
+        name: "the retake of a ko needs the attacker's allowance",
+        size: 5,
+        black: "B3 C4 C2 D3",
+        white: "D4 E3 D2 C3",
+        kind: Attack,
+        target: "C3",
+        depths: (3, 4),
+        tree: Stated,
+        code: 1,
+        sure: 1,
+        at: "D3",
+    },
+    Row {
+        name: "the defender who may ignore the ban saves his stones",
+        size: 5,
+        black: "A1 B2 C1 A3",
+        white: "A4 B3 C2 D1",
+        kind: Attack,
+        target: "A1",
+        depths: (3, 2),
+        tree: Stated,
+        code: 2,
+        sure: 2,
+        at: "A2",
+    },
+    Row {
+        name: "without it they are not to be saved",
+        size: 5,
+        black: "A1 B2 C1 A3",
+        white: "A4 B3 C2 D1",
+        kind: Defend,
+        target: "A1",
+        depths: (4, 2),
+        tree: Stated,
+        code: 1,
+        sure: 1,
+        at: "PASS",
+    },
+    Row {
+        name: "a stone in atari extends",
+        size: 9,
+        black: "D4",
+        white: "C4 E4 D5",
+        kind: Defend,
+        target: "D4",
+        depths: (3, 2),
+        tree: Stated,
+        code: 3,
+        sure: 3,
+        at: "D3",
+    },
+];
+
+/// The point of a vertex.
+fn vertex(size: Size, name: &str) -> Option<Point>
+    ensures { IfSome result (λ p. p < size * size) }
+{
+    let p = vertex_named(name.as_bytes(), size)?;
+    if p < size.points() { Some(p) } else { None }
+}
+
+/// The point of a vertex where a stone stands.
+fn stone(position: &Position, name: &str) -> Option<Point>
+    ensures on_board { IfSome result (λ p. p < position.now.size * position.now.size) }
+    ensures stone { IfSome result (λ p. cell_at position.now.cells p ≢ Cell.Empty) }
+{
+    let p = vertex(position.size(), name)?;
+    if position.cell(p) == Cell::Empty {
+        return None;
+    }
+    Some(p)
+}
+
+/// The position with these stones more.
+fn with_stones(position: Position, colour: Colour, names: &str) -> Option<Position> {
+    let mut position = position;
+    for name in names.split_whitespace() {
+        let p = vertex(position.size(), name)?;
+        position = position.play(colour, p).ok()?;
+    }
+    Some(position)
+}
+
+/// The position of a row.
+fn position(row: &Row) -> Option<Position> {
+    let position = Position::new(Size::new(row.size)?);
+    with_stones(
+        with_stones(position, Colour::Black, row.black)?,
+        Colour::White,
+        row.white,
+    )
+}
+
+/// The move that is written so, a vertex or `PASS`; nothing if no move is written.
+fn spot(size: Size, name: &str) -> Option<Spot> {
+    if name == "PASS" {
+        return Some(Spot::Pass);
+    }
+    Some(Spot::At(vertex(size, name)?))
+}
+
+/// The code of the reading of a row, and the sure answer.
+fn answers(row: &Row, position: &Position) -> Option<(u8, Answer)> {
+    let target = stone(position, row.target)?;
+    let (plies, wide) = row.depths;
+    let depths = Depths::new(plies, wide)?.in_tree(row.tree);
+    let (told, sure) = match row.kind {
+        Kind::Attack => (
+            attack(Watch::new(position), target, depths).answer,
+            sure_attack(Watch::new(position), target, depths).answer,
+        ),
+        Kind::Defend => (
+            defend(Watch::new(position), target, depths).answer,
+            sure_defend(Watch::new(position), target, depths).answer,
+        ),
+    };
+    Some((told.code, sure))
+}
+
+/// Whether the row's question has its two answers.
+fn is_right(row: &Row) -> Option<bool> {
+    let position = position(row)?;
+    let (code, sure) = answers(row, &position)?;
+    let want = Answer {
+        code: row.sure,
+        at: spot(position.size(), row.at),
+    };
+    Some(code == row.code && sure == want)
+}
+
+#[test]
+fn sure_answers_stand_beside_those_of_the_tree(rt: HostRuntime) {
+    for row in &ROWS {
+        let right = is_right(row);
+        assert!(rt; right == Some(true), "{}", row.name);
+    }
+}
