@@ -1,17 +1,20 @@
 //! What the constraint of a pattern is valued by: the position before the move, the moved labels, and fresh readings.
-ghost use Rattle.std.specs.Prelude.{◌≡◌, ◌*◌, ◌<◌, pos, true, Some};
+ghost use Rattle.std.specs.Prelude.{◌≡◌, ◌*◌, ◌<◌, pos, true, Some, IfOk, option_map};
 ghost use Rattle.cons_eval.specs.Values.{is_so as is_so_value, value_of};
 ghost use Rattle.match_rules.specs.Fits.{place_of_cell};
 ghost use Rattle.match_rules.specs.Conditions.{label_with as first_label, place_of_label, meanings_at};
 ghost use Rattle.match_rules.specs.Conditions.{is_constraint_true as is_true};
+ghost use Rattle.constraint_values.specs.Parts.{values_in};
 ghost use Rattle.match_reasons.specs.FreshReadings.{fresh_codes};
 
 use crate::fresh::code;
 use cons_eval::{Env, eval};
-use go_base::{Colour, Point, Position, Size, Transform};
+use constraint_values::values;
+use go_base::{Colour, NoMemory, Point, Position, Size, Transform};
 use pat_types::{Arg, Expr, LabelAt, Pattern};
 use read_rules::{Depths, Kind};
 use spiral::place_from;
+use std::alloc::Global;
 
 /// What the constraint of a pattern is valued by, with the star at a point under a transformation. Each reading that it
 /// asks for is made afresh.
@@ -159,5 +162,58 @@ pub(crate) fn is_constraint_true(
     match &p.constraint {
         Some(constraint) => is_so(p, constraint, position, friend, t, at, depths),
         None => true,
+    }
+}
+
+/// The value of each part of an expression that a pattern has as its constraint, or none for a part that is not needed.
+fn values_of(
+    alloc: Global,
+    p: &Pattern,
+    constraint: &Expr,
+    position: &Position,
+    friend: Colour,
+    t: Transform,
+    at: Point,
+    depths: Depths,
+) -> Result<Vec<Option<i64>>, NoMemory>
+    requires constraint { p.now.constraint ≡ Some constraint.now }
+    requires on_board { at < position.now.size * position.now.size }
+    ensures { IfOk result (λ v. v.items ≡ values_in
+        (meanings_at (fresh_codes depths) p.now position.now friend t at) constraint.now) }
+{
+    let mut question = FreshQuestion {
+        position,
+        friend,
+        pattern: p,
+        transform: t,
+        star: at,
+        depths,
+        asked: 0,
+    };
+    values(alloc, constraint, &mut question)
+}
+
+/// The value of each part of a pattern's constraint, if it has one, with the star at a point under a transformation; a
+/// part that is not needed has none. The parts below a part come before it, those of a left side first, so the value of
+/// the whole is the last. Each reading is made afresh at `depths`; no helper is asked. Takes memory.
+pub fn constraint_values(
+    alloc: Global,
+    p: &Pattern,
+    position: &Position,
+    friend: Colour,
+    t: Transform,
+    at: Point,
+    depths: Depths,
+) -> Result<Option<Vec<Option<i64>>>, NoMemory>
+    requires { at < position.now.size * position.now.size }
+    ensures { IfOk result (λ values. option_map (λ v. v.items) values ≡ option_map
+        (values_in (meanings_at (fresh_codes depths) p.now position.now friend t at)) p.now.constraint) }
+{
+    match &p.constraint {
+        Some(constraint) => match values_of(alloc, p, constraint, position, friend, t, at, depths) {
+            Ok(values) => Ok(Some(values)),
+            Err(_) => Err(NoMemory),
+        },
+        None => Ok(None),
     }
 }

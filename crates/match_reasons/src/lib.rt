@@ -15,6 +15,6 @@ mod fresh;
 pub mod laws;
 mod reason;
 
-pub use constraint::FreshQuestion;
+pub use constraint::{FreshQuestion, constraint_values};
 pub use match_misfit::Misfit;
 pub use reason::{Reason, first_reason};

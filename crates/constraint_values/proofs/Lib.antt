@@ -1,0 +1,3 @@
+pub mod PartSteps
+pub mod PartValues
+pub mod ValuedParts
