@@ -71,6 +71,15 @@ typedef struct {
     uint16_t at;
 } GopatAnswer;
 
+/* Each byte of the points is 1 if a play there attains the code, else 0, in the order of the points. Bytes behind the
+   last point of the board are 0. */
+typedef struct {
+    uint8_t status;
+    uint8_t code;
+    uint8_t pass; /* 1 if the defender's pass attains the code, else 0 */
+    uint8_t points[625];
+} GopatMoves;
+
 typedef struct {
     uint8_t status;
     uint16_t number;
@@ -89,6 +98,11 @@ GopatAnswer gopat_attack(GopatBoard board, uint16_t target, GopatDepths depths);
 /* Whether the string at the target can be saved when the defender plays first; codes and faults as above. The move is
    GOPAT_PASS if no stone need be added. */
 GopatAnswer gopat_defend(GopatBoard board, uint16_t target, GopatDepths depths);
+
+/* Every move that attains the code of gopat_attack (kind GOPAT_ATTACK) or of gopat_defend (GOPAT_DEFEND), of the moves
+   that the reader tries. With code 0 there are none. Faults: of the board (1 to 4), the question (10), the target
+   (5, 6), the depths (7). */
+GopatMoves gopat_all(GopatBoard board, uint8_t kind, uint16_t target, GopatDepths depths);
 
 /* Whether the strings at a and b can be joined when their own colour plays first. The move is GOPAT_PASS if they are
    one string already. Faults: of the board (1 to 4), of a and then b (5, 6), two colours (8), the plies (7). */

@@ -1,1 +1,2 @@
 pub mod DepthNumbers
+pub mod MoveNumbers

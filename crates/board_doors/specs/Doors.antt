@@ -14,6 +14,7 @@ use Rattle.read_rules.specs.declared.depths.Depths.{Depths}
 use Rattle.read_rules.specs.declared.question.Kind.{Kind}
 use Rattle.read_rules.specs.declared.question.Kind.TheVariants.{Attack, Defend}
 use Rattle.read_rules.specs.declared.question.Answer.{Answer}
+use Rattle.read_rules.specs.declared.question.ReadingQuestion.{ReadingQuestion}
 use Rattle.read_rules.specs.Ranges.{least_plies, most_plies, most_wide}
 use Rattle.read_rules.specs.Answer.{answer_of, asked_in}
 use Rattle.connect_rules.specs.declared.question.LinkKind.{LinkKind}
@@ -137,6 +138,43 @@ liberties_of board p = on_position (liberties_on p) (position_of board)
 -- the question with this number
 abbrev pub kind_named : ℕ → Option Kind
 kind_named n = if n == 1 then Some Attack else if n == 2 then Some Defend else None
+
+-- a question, and the position that it is asked on
+pub record Asked : Type 0 where
+  pub question : ReadingQuestion
+  pub position : BoardState
+
+-- the question of a kind and depths about the stone at the target, asked on the position; or the fault
+abbrev pub with_question : ℕ → BoardState → Result (Kind × Depths) DoorFault → Result Asked DoorFault
+with_question target pos (Ok asked) = Ok (record {
+  question = asked_in asked.1.tree pos asked.0 target asked.1.plies asked.1.wide;
+  position = pos;
+})
+with_question target pos (Err fault) = Err fault
+
+-- the question of a kind about the stone at the target, or the fault of the depths
+abbrev pub question_with : Kind → ℕ → DepthBytes → BoardState → Result Asked DoorFault
+question_with kind target depths pos =
+    if are_depths depths
+    then Ok (record {
+      question = asked_in (tree_named depths.tree) pos kind target depths.plies depths.wide;
+      position = pos;
+    })
+    else Err bad_depths
+
+-- the same, or the first fault: of the question, of the point, of the depths
+abbrev pub question_by : ℕ → DepthBytes → BoardState → Option Kind → Result Asked DoorFault
+question_by target depths pos None = Err bad_kind
+question_by target depths pos (Some kind) =
+    and_then (λ stone. question_with kind target depths pos) (stone_at pos target)
+
+-- the same of the question with this number
+unfoldable pub question_on : ℕ → ℕ → DepthBytes → BoardState → Result Asked DoorFault
+question_on kind target depths pos = question_by target depths pos (kind_named kind)
+
+-- the same on the position of the bytes
+unfoldable pub question_of : BoardBytes → ℕ → ℕ → DepthBytes → Result Asked DoorFault
+question_of board kind target depths = on_position (question_on kind target depths) (position_of board)
 
 -- proofs stood in front of all words, and nothing follows
 abbrev pub is_whole : Option (List Word) → Bool

@@ -1,25 +1,14 @@
 //! Whether a text proves the code of a reading.
 
 ghost use Rattle.std.specs.Prelude.{◌≡◌, ◌≤◌};
-ghost use Rattle.board_doors.specs.Doors.{kind_named, check_on, checking_of};
+ghost use Rattle.board_doors.specs.Doors.{check_on, checking_of};
 
 use crate::depths::{DepthBytes, depths_of};
 use crate::fault::DoorFault;
+use crate::questions::kind_named;
 use crate::stones::stone_at;
 use board_bytes::{BoardBytes, position_of};
 use go_base::{Point, Position};
-use read_rules::Kind;
-
-/// The question with this number: 1 is attack, 2 is defend, and no other number is one.
-fn kind_named(kind: u8) -> Option<Kind>
-    ensures { result ≡ kind_named kind }
-{
-    match kind {
-        1 => Some(Kind::Attack),
-        2 => Some(Kind::Defend),
-        _ => None,
-    }
-}
 
 /// Whether the text proves the code, or the first fault: of the question, of the point, of the depths, of the code.
 #[tactic(auto, unfolding(crate::specs::Doors::check_on))]

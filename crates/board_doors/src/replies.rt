@@ -1,14 +1,19 @@
 //! Replies in the layout of C: a status, and what is answered if it is 0.
 
-ghost use Rattle.std.specs.Prelude.{◌≡◌};
+ghost use Rattle.std.specs.Prelude.{◌≡◌, ℕ, ◌<◌, slice_index_or, replicate};
+ghost use Rattle.std.specs.FinSet as set;
+ghost use Rattle.go_rules.specs.Board.{largest_points};
 ghost use Rattle.board_doors.specs.Replies.{status_of, spot_number, answer_reply, linkage_reply, number_reply};
 ghost use Rattle.board_doors.specs.Replies.{truth_number, truth_reply, play_reply};
+ghost use Rattle.board_doors.specs.Moves.{RepliesMoves};
 
 use crate::fault::DoorFault;
+use crate::moves::MoveSet;
 use crate::plays::PASS;
 use board_bytes::{BoardBytes, BoardFault, bytes_of};
 use connect_rules::Linkage;
-use go_base::{Illegal, Position};
+use go_base::size::MAX_POINTS;
+use go_base::{Illegal, Point, PointSet, Position};
 use read_rules::{Answer, Spot};
 
 /// The point's number that says that there is no move.
@@ -44,6 +49,20 @@ pub struct PlayReply {
     pub status: u8,
     /// The board after the play; with a fault the board that was handed over.
     pub board: BoardBytes,
+}
+
+/// The reply to a question for all its moves.
+#[repr(C)]
+#[derive(Clone, Copy)]
+pub struct MovesReply {
+    /// 0 for an answer, else the number of the fault.
+    pub status: u8,
+    /// The code, 0 to 3; 0 with a fault.
+    pub code: u8,
+    /// 1 if the defender's pass attains the code, else 0.
+    pub pass: u8,
+    /// For each point 1 if a play there attains the code, else 0.
+    pub points: [u8; MAX_POINTS],
 }
 
 /// The number of the reason why bytes are no position.
@@ -181,6 +200,44 @@ pub fn play_reply(board: &BoardBytes, found: Result<Position, DoorFault>) -> Pla
         Err(fault) => PlayReply {
             status: status_of(fault),
             board: *board,
+        },
+    }
+}
+
+/// No bytes but 0.
+fn no_points() -> [u8; MAX_POINTS]
+    ensures { result ≡ replicate largest_points 0 }
+{
+    [0; MAX_POINTS]
+}
+
+/// For each point 1 if it is in the set, else 0.
+fn point_bytes(points: &PointSet) -> [u8; MAX_POINTS]
+    ensures { (p : ℕ) → p < largest_points → slice_index_or result p 0 ≡ truth_number (set.contains points.now p) }
+{
+    let mut bytes = no_points();
+    for p in 0..MAX_POINTS {
+        bytes[p] = truth_number(points.has(p as Point));
+    }
+    bytes
+}
+
+/// The reply to a question for all its moves.
+pub fn moves_reply(found: Result<MoveSet, DoorFault>) -> MovesReply
+    ensures { RepliesMoves found result }
+{
+    match found {
+        Ok(moves) => MovesReply {
+            status: 0,
+            code: moves.code,
+            pass: truth_number(moves.pass),
+            points: point_bytes(&moves.points),
+        },
+        Err(fault) => MovesReply {
+            status: status_of(fault),
+            code: 0,
+            pass: 0,
+            points: no_points(),
         },
     }
 }

@@ -1,7 +1,11 @@
 //! Questions as a caller in C puts them, and the numbers that come back.
 
-use crate::replies::{answer_reply, linkage_reply, number_reply, play_reply, truth_reply};
-use crate::{BoardBytes, DepthBytes, attack, check, connect, defend, disconnect, liberties, play};
+use crate::replies::{
+    answer_reply, linkage_reply, moves_reply, number_reply, play_reply, truth_reply,
+};
+use crate::{
+    BoardBytes, DepthBytes, all, attack, check, connect, defend, disconnect, liberties, play,
+};
 use read_rules::Kind;
 
 /// A white stone in the middle of a board of 9 rows, with Black on three sides; its last liberty is point 49.
@@ -91,6 +95,44 @@ fn readings_are_answered_or_have_a_status(rt: HostRuntime) {
             (reply.status, reply.code, reply.at) == (*status, *code, *at),
             "{what}"
         );
+    }
+}
+
+/// A question for all moves about the stone in atari: what is special about it, its kind, its target, its plies, the
+/// status, the code and the pass of its reply, and the points.
+type Moves = (&'static str, u8, u16, u8, (u8, u8, u8), &'static [u16]);
+
+/// Questions for all moves.
+static MOVES: [Moves; 7] = [
+    ("one move takes it", 1, 40, 10, (0, 3, 0), &[49]),
+    ("one move saves it", 2, 40, 10, (0, 3, 0), &[49]),
+    ("nothing captures", 1, 31, 1, (0, 0, 0), &[]),
+    (
+        "the pass and each liberty",
+        2,
+        31,
+        10,
+        (0, 3, 1),
+        &[22, 30, 32, 49],
+    ),
+    ("the third question", 3, 40, 10, (10, 0, 0), &[]),
+    ("an empty point", 1, 49, 10, (6, 0, 0), &[]),
+    ("no plies", 1, 40, 0, (7, 0, 0), &[]),
+];
+
+#[test]
+fn all_moves_are_told_or_a_status(rt: HostRuntime) {
+    let atari = board(&ATARI);
+    for (what, kind, target, plies, numbers, points) in &MOVES {
+        let reply = moves_reply(all(&atari, *kind, *target, depths(*plies, 0, 0)));
+        assert!(rt;
+            (reply.status, reply.code, reply.pass) == *numbers,
+            "{what}"
+        );
+        for (p, byte) in reply.points.iter().enumerate() {
+            let is_one = points.iter().any(|q| usize::from(*q) == p);
+            assert!(rt; *byte == u8::from(is_one), "{what}");
+        }
     }
 }
 

@@ -7,11 +7,14 @@
 #![tactic(auto)]
 
 ghost use Rattle.std.specs.Prelude.{◌≡◌};
-ghost use Rattle.board_doors.specs.Doors.{reading_of, linking_of, play_of, liberties_of, checking_of};
+ghost use Rattle.board_doors.specs.Doors.{reading_of, question_of, linking_of, play_of, liberties_of, checking_of};
+ghost use Rattle.board_doors.specs.Moves.{AnswersMoves};
 ghost use Rattle.board_doors.specs.Replies.{answer_reply, linkage_reply, play_reply, number_reply, truth_reply};
 
-use board_doors::replies::{answer_reply, linkage_reply, number_reply, play_reply, truth_reply};
-use board_doors::{AnswerReply, BoardBytes, DepthBytes, NumberReply, PlayReply};
+use board_doors::replies::{
+    answer_reply, linkage_reply, moves_reply, number_reply, play_reply, truth_reply,
+};
+use board_doors::{AnswerReply, BoardBytes, DepthBytes, MovesReply, NumberReply, PlayReply};
 use connect_rules::LinkKind;
 use read_rules::Kind;
 
@@ -31,6 +34,20 @@ pub extern "C" fn gopat_defend(board: BoardBytes, target: u16, depths: DepthByte
     ensures { result ≡ answer_reply (reading_of Kind.Defend board target depths) }
 {
     answer_reply(board_doors::defend(&board, target, depths))
+}
+
+/// Every move that attains the code of an attack on the string at `target` (`kind` 1) or of its defence (`kind` 2), of
+/// the moves that the reader tries: the code, whether the pass attains it, and for each point whether a play there does.
+#[unsafe(no_mangle)]
+pub extern "C" fn gopat_all(
+    board: BoardBytes,
+    kind: u8,
+    target: u16,
+    depths: DepthBytes,
+) -> MovesReply
+    ensures { AnswersMoves (question_of board kind target depths) result }
+{
+    moves_reply(board_doors::all(&board, kind, target, depths))
 }
 
 /// Whether the strings at `a` and `b`, of one colour, can be joined when their own colour plays first, and the first
