@@ -1,6 +1,6 @@
 """Makes docs/page/gopat.html: a page that reads attacks, defences and connections in a browser, by the proved source.
 
-usage: python3 tools/make_page.py [--same-module | --check | --module FILE OUT]
+usage: python3 tools/make_page.py [--in FOLDER | --same-module | --check | --module FILE OUT]
 
 It runs at the top of a clone. The page's module is made from the crate gopat_c and the crates that it stands on, as HEAD
 has them: in a temporary copy, in whose crates.txt the crate has a line `gopat_c wasm64 memory=.. stack=..` in the place
@@ -8,7 +8,8 @@ of its own, `rt lib` proves it and leaves the module. So what answers in the pag
 the gate, which takes no crate for wasm64. The page is then put together from tools/page and the module, and has the
 commit and the checksum of the module.
 
-With --same-module the module stays the one of the page, for a change of the scripts alone. With --check nothing is
+With --in the copy stands in this folder and stays there, so that the next run begins with what this one proved. With
+--same-module the module stays the one of the page, for a change of the scripts alone. With --check nothing is
 written: the page has to be what tools/page and its module give, and the crates that the module was made from have to be
 as they were then. With --module the page is made in the file OUT with a module of one's own, to try the scripts.
 
@@ -20,6 +21,7 @@ import base64
 import hashlib
 import pathlib
 import re
+import shutil
 import subprocess
 import sys
 import tempfile
@@ -61,17 +63,35 @@ def sources() -> list[str]:
     return [f"crates/{name}" for name in [CRATE, *line[1].split()]]
 
 
-def made() -> Module:
-    """The module of the crates as HEAD has them, proved."""
-    with tempfile.TemporaryDirectory() as room:
-        archive = subprocess.run(["git", "archive", "HEAD"], capture_output=True, check=True).stdout
-        subprocess.run(["tar", "-x", "-C", room], input=archive, check=True)
-        crates = pathlib.Path(room) / "crates.txt"
-        ours = rf"{CRATE} wasm64 memory={MEMORY} stack={STACK}:\1"
-        crates.write_text(LINE.sub(ours, crates.read_text(encoding="utf-8")), encoding="utf-8")
-        folder = pathlib.Path(room) / "crates" / CRATE
-        subprocess.run(["rt", "lib"], cwd=folder, stdout=sys.stderr, check=True)
-        return Module((folder / "out" / f"{CRATE}.wasm").read_bytes(), git("rev-parse", "HEAD"))
+def made(room: pathlib.Path) -> Module:
+    """The module of the crates as HEAD has them, proved in a copy of them in this folder."""
+    for old in room.glob("crates/*/*"):
+        if old.name != "out":
+            shutil.rmtree(old) if old.is_dir() else old.unlink()
+    archive = subprocess.run(["git", "archive", "HEAD"], capture_output=True, check=True).stdout
+    subprocess.run(["tar", "-x", "-C", str(room)], input=archive, check=True)
+    crates = room / "crates.txt"
+    ours = rf"{CRATE} wasm64 memory={MEMORY} stack={STACK}:\1"
+    crates.write_text(LINE.sub(ours, crates.read_text(encoding="utf-8")), encoding="utf-8")
+    folder = room / "crates" / CRATE
+    subprocess.run(["rt", "lib"], cwd=folder, stdout=sys.stderr, check=True)
+    return Module((folder / "out" / f"{CRATE}.wasm").read_bytes(), git("rev-parse", "HEAD"))
+
+
+def made_in(folder: str | None) -> Module | None:
+    """The same in a folder that stays, or in a temporary one; none if a command failed, which is told."""
+    if git("status", "--porcelain", "--", "crates.txt", *sources()):
+        print("the crates are not those of HEAD: commit them first", file=sys.stderr)
+        return None
+    try:
+        if folder:
+            pathlib.Path(folder).mkdir(parents=True, exist_ok=True)
+            return made(pathlib.Path(folder))
+        with tempfile.TemporaryDirectory() as room:
+            return made(pathlib.Path(room))
+    except subprocess.CalledProcessError as why:
+        print(f"{' '.join(why.cmd)}: status {why.returncode}", file=sys.stderr)
+        return None
 
 
 def module_in(page: str) -> Module:
@@ -127,14 +147,9 @@ def main(*words: str) -> int:
             return 0
         case ["--same-module"]:
             module = module_in(PAGE.read_text(encoding="utf-8"))
-        case []:
-            if git("status", "--porcelain", "--", "crates.txt", *sources()):
-                print("the crates are not those of HEAD: commit them first", file=sys.stderr)
-                return 1
-            try:
-                module = made()
-            except subprocess.CalledProcessError as why:
-                print(f"{' '.join(why.cmd)}: status {why.returncode}", file=sys.stderr)
+        case [] | ["--in", _]:
+            module = made_in(words[1] if words else None)
+            if module is None:
                 return 1
         case _:
             print(__doc__, file=sys.stderr)
