@@ -5,6 +5,10 @@
     4
     >>> board.play(WHITE, "A1").attack("A1", plies=4)
     Answer(code=3, move='A2')
+    >>> board.play(WHITE, "A1").all_moves("attack", "A1", plies=4)
+    Moves(code=3, moves=['A2', 'B1'])
+    >>> board.play(WHITE, "A1").proof("attack", "A1", plies=4)
+    Proof(code=3, text='W A2 * B1 .')
 
 The module wants the shared library of the crate `gopat_c`: `GOPAT_LIBRARY` names its file, else `libgopat_c.so` stands
 beside this one. What has no answer raises `Refused`. Boards never change: `play` gives a new one.
@@ -19,7 +23,9 @@ from typing import NamedTuple
 BLACK, WHITE = 1, 2
 COLUMNS = "ABCDEFGHJKLMNOPQRSTUVWXYZ"
 MOST_POINTS = 625
+MOST_TEXT = 60000
 NO_MOVE, PASS = 65534, 65535
+KINDS = {"attack": 1, "defend": 2}
 
 
 class Status(enum.IntEnum):
@@ -39,6 +45,8 @@ class Status(enum.IntEnum):
     OCCUPIED = 12
     KO = 13
     SUICIDE = 14
+    SHORT_BUFFER = 15
+    TOO_LONG = 16
 
 
 class Refused(ValueError):
@@ -55,6 +63,21 @@ class Answer(NamedTuple):
 
     code: int
     move: str | None
+
+
+class Moves(NamedTuple):
+    """The code of a reading (0 to 3), and all moves that attain it, of those that the reader tries: `PASS` before all
+    vertices, and these row by row from the top. There are none with code 0."""
+
+    code: int
+    moves: list[str]
+
+
+class Proof(NamedTuple):
+    """The code of a reading (0 to 3), and the words of its first proof."""
+
+    code: int
+    text: str
 
 
 class _Board(ctypes.Structure):
@@ -74,6 +97,19 @@ class _Answer(ctypes.Structure):
     _fields_ = [("status", ctypes.c_uint8), ("code", ctypes.c_uint8), ("at", ctypes.c_uint16)]
 
 
+class _Moves(ctypes.Structure):
+    _fields_ = [
+        ("status", ctypes.c_uint8),
+        ("code", ctypes.c_uint8),
+        ("pass_", ctypes.c_uint8),
+        ("points", ctypes.c_uint8 * MOST_POINTS),
+    ]
+
+
+class _Proof(ctypes.Structure):
+    _fields_ = [("status", ctypes.c_uint8), ("code", ctypes.c_uint8), ("length", ctypes.c_uint16)]
+
+
 class _Number(ctypes.Structure):
     _fields_ = [("status", ctypes.c_uint8), ("number", ctypes.c_uint16)]
 
@@ -90,6 +126,8 @@ def _library() -> ctypes.CDLL:
     for name, result, arguments in [
         ("attack", _Answer, [point, _Depths]),
         ("defend", _Answer, [point, _Depths]),
+        ("all", _Moves, [byte, point, _Depths]),
+        ("proof", _Proof, [byte, point, _Depths, ctypes.c_char_p, ctypes.c_size_t]),
         ("connect", _Answer, [point, point, byte]),
         ("disconnect", _Answer, [point, point, byte]),
         ("play", _Played, [byte, point]),
@@ -164,6 +202,20 @@ class Board:
         """Whether the string can be saved when the defender plays first."""
         return self._answer(_LIBRARY.gopat_defend(self._board, self.point(vertex), _depths(plies, wide, wider)))
 
+    def all_moves(self, kind: str, vertex: str, plies: int = 10, wide: int = 2, wider: bool = False) -> Moves:
+        """Every move that attains the code of `attack` or `defend`, of those that the reader tries."""
+        arguments = KINDS.get(kind, 0), self.point(vertex), _depths(plies, wide, wider)
+        reply = _told(_LIBRARY.gopat_all(self._board, *arguments))
+        points = [self.vertex(point) for point, good in enumerate(reply.points) if good]
+        return Moves(reply.code, ["PASS"] * reply.pass_ + points)
+
+    def proof(self, kind: str, vertex: str, plies: int = 10, wide: int = 2, wider: bool = False) -> Proof:
+        """The code of `attack` or `defend`, and the words of its first proof, which `proves` accepts."""
+        room = ctypes.create_string_buffer(MOST_TEXT)
+        arguments = KINDS.get(kind, 0), self.point(vertex), _depths(plies, wide, wider), room, MOST_TEXT
+        reply = _told(_LIBRARY.gopat_proof(self._board, *arguments))
+        return Proof(reply.code, room.raw[: reply.length].decode())
+
     def connect(self, a: str, b: str, plies: int = 4) -> Answer:
         """Whether the two strings can be joined when their own colour plays first."""
         return self._answer(_LIBRARY.gopat_connect(self._board, self.point(a), self.point(b), _fitting(plies, 255)))
@@ -182,11 +234,12 @@ class Board:
         """How many liberties the string has."""
         return _told(_LIBRARY.gopat_liberties(self._board, self.point(vertex))).number
 
-    def proves(self, kind: str, vertex: str, code: int, text: str, plies: int = 10, wide: int = 2) -> bool:
+    def proves(
+        self, kind: str, vertex: str, code: int, text: str, plies: int = 10, wide: int = 2, wider: bool = False
+    ) -> bool:
         """Whether the text proves that `attack` or `defend` has this code."""
-        number = {"attack": 1, "defend": 2}.get(kind, 0)
-        words = text.encode()
-        arguments = number, self.point(vertex), _depths(plies, wide, False), _fitting(code, 255), words, len(words)
+        words, depths = text.encode(), _depths(plies, wide, wider)
+        arguments = KINDS.get(kind, 0), self.point(vertex), depths, _fitting(code, 255), words, len(words)
         return _told(_LIBRARY.gopat_check(self._board, *arguments)).number == 1
 
 

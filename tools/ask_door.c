@@ -11,9 +11,33 @@ typedef struct {
     GopatBoard board;
     uint16_t a, b;
     GopatDepths depths;
-    uint8_t call, number, code, length; /* number: a colour or a kind; length: the bytes of the text */
+    uint8_t call, number, code, length; /* number: a colour or a kind; length: the bytes of the text, or the room */
     char text[256];
 } Question;
+
+/* A number of the bytes. */
+static uint16_t mixed(const void *bytes, int n) {
+    uint16_t number = 0;
+    for (int i = 0; i < n; i++)
+        number = (uint16_t)(number * 31 + ((const uint8_t *)bytes)[i]);
+    return number;
+}
+
+/* The proof is asked for with so much room, its bytes in memory of their own. */
+static GopatAnswer proved(const Question *q) {
+    char *text = malloc(q->length + 1u);
+    memset(text, 7, q->length + 1u);
+    GopatProof proof = gopat_proof(q->board, q->number, q->a, q->depths, text, q->length);
+    uint16_t number = (uint16_t)(mixed(text, q->length + 1) + proof.length);
+    free(text);
+    return (GopatAnswer){proof.status, proof.code, number};
+}
+
+/* All moves are asked for. */
+static GopatAnswer all(const Question *q) {
+    GopatMoves moves = gopat_all(q->board, q->number, q->a, q->depths);
+    return (GopatAnswer){moves.status, moves.code, (uint16_t)(mixed(moves.points, 625) * 31 + moves.pass)};
+}
 
 static GopatAnswer asked(const Question *q) {
     GopatNumber number = {0, 0};
@@ -25,11 +49,11 @@ static GopatAnswer asked(const Question *q) {
     case 3: return gopat_disconnect(q->board, q->a, q->b, q->depths.plies);
     case 4: number = gopat_liberties(q->board, q->a); break;
     case 5: number = gopat_check(q->board, q->number, q->a, q->depths, q->code, q->text, q->length); break;
+    case 7: return all(q);
+    case 8: return proved(q);
     default:
         played = gopat_play(q->board, q->number, q->a);
-        number.status = played.status;
-        for (int i = 0; i < 625; i++)
-            number.number = (uint16_t)(number.number * 31 + played.board.cells[i]);
+        number = (GopatNumber){played.status, mixed(played.board.cells, 625)};
     }
     return (GopatAnswer){number.status, 0, number.number};
 }

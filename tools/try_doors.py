@@ -20,14 +20,16 @@ import shutil
 import subprocess
 import sys
 import tempfile
-from typing import Iterator, NamedTuple
+from typing import Iterable, Iterator, NamedTuple
 
 import command_line
 import gtp
 
 CRATE = pathlib.Path("crates/gopat_c")
 EXAMPLES = pathlib.Path("docs/examples/doors")
-CALLS = ["attack", "defend", "connect", "disconnect", "liberties", "check", "play"]
+CALLS = ["attack", "defend", "connect", "disconnect", "liberties", "check", "play", "all", "proof"]
+PLAY, ALL, PROOF = 6, 7, 8
+MOST_LIBERTIES = 625
 UNDER_VALGRIND = 500
 # Stones around a ko, each a colour, a row and a column; the last one takes.
 KO = [(1, 0, 1), (1, 1, 0), (1, 2, 1), (2, 0, 2), (2, 1, 3), (2, 2, 2), (2, 1, 1), (1, 1, 2)]
@@ -88,6 +90,22 @@ def declare(gopat) -> None:
     ]  # fmt: skip
 
 
+def mixed(values: Iterable[int]) -> int:
+    """A number of the bytes, as ask_door.c makes it."""
+    number = 0
+    for value in values:
+        number = (number * 31 + value) % 65536
+    return number
+
+
+def printed(library, question: Question) -> tuple[int, int, int, bytes]:
+    """The numbers of the reply to a question for a proof, and its buffer, which has one byte more than is told."""
+    room = question.length
+    text = ctypes.create_string_buffer(b"\7" * (room + 1), room + 1)
+    reply = library.gopat_proof(question.board, question.number, question.a, question.depths, text, room)
+    return reply.status, reply.code, reply.length, text.raw
+
+
 def words(question: Question) -> bytes:
     """The text of a question."""
     return bytes(question)[Question.text.offset :][: question.length]
@@ -102,6 +120,12 @@ def ask(library, question: Question) -> tuple[int, int, int]:
     if name in ("connect", "disconnect"):
         reply = getattr(library, f"gopat_{name}")(board, question.a, question.b, question.depths.plies)
         return reply.status, reply.code, reply.at
+    if name == "all":
+        moves = library.gopat_all(board, question.number, question.a, question.depths)
+        return moves.status, moves.code, (mixed(moves.points) * 31 + moves.pass_) % 65536
+    if name == "proof":
+        status, code, length, text = printed(library, question)
+        return status, code, (mixed(text) + length) % 65536
     if name == "liberties":
         reply = library.gopat_liberties(board, question.a)
     elif name == "check":
@@ -109,10 +133,7 @@ def ask(library, question: Question) -> tuple[int, int, int]:
         reply = library.gopat_check(board, *arguments)
     else:
         played = library.gopat_play(board, question.number, question.a)
-        number = 0
-        for cell in played.board.cells:
-            number = (number * 31 + cell) % 65536
-        return played.status, 0, number
+        return played.status, 0, mixed(played.board.cells)
     return reply.status, 0, reply.number
 
 
@@ -189,11 +210,17 @@ def first_fault(question: Question) -> int:
         return 0 if 1 <= depths.plies <= 200 else 7
     if name == "liberties":
         return stone(question.a)
-    if name == "check":
+    if name in ("check", "all", "proof"):
         if question.number not in (1, 2):
             return 10
-        return stone(question.a) or depth() or (11 if question.code > 3 else 0)
+        return stone(question.a) or depth() or (11 if name == "check" and question.code > 3 else 0)
     return play_fault(question, rules)
+
+
+def short_buffer(asked: "Asked") -> int:
+    """The status of a proof, of which the reply of the program is known, for which there is no room; 0 if there is."""
+    known = asked.question.call == PROOF and asked.text
+    return 15 if known and len(asked.text) - 2 > asked.question.length else 0
 
 
 def play_fault(question: Question, rules: Rules) -> int:
@@ -213,12 +240,28 @@ def play_fault(question: Question, rules: Rules) -> int:
 
 
 class Asked(NamedTuple):
-    """A question, what the library says, and the protocol lines whose last reply has to say the same; no line for a
-    question that is not one of the program's."""
+    """A question, what the library says, the protocol lines whose last reply has to say the same, none for a question
+    that is not one of the program's, and the text of that reply, if the numbers do not tell it."""
 
     question: Question
     reply: tuple[int, int, int]
     lines: list[str]
+    text: str = ""
+
+
+class Tried(NamedTuple):
+    """A move that the library tells, or not, as one that attains a code, and protocol lines: the move, what the other
+    side attains then with one ply less, and the move taken back. The move attains the code if the number of the reply
+    to the line before the last is below `below`, or nothing stands on the target any more."""
+
+    move: str
+    told: bool
+    lines: list[str]
+    below: int
+
+    def is_right(self, reply: gtp.Reply) -> bool:
+        left = int(reply.text.split()[0]) if reply.ok else 0
+        return self.told == (left < self.below)
 
 
 def vertex(size: int, p: int) -> str:
@@ -236,6 +279,10 @@ def line_of(question: Question) -> list[str]:
         return [f"depths {question.depths.plies} 0", f"{name} {a} {b}"]
     if name == "liberties":
         return [f"countlib {a}"]
+    if name == "all":
+        return [depths, f"{CALLS[question.number - 1]} {a}"]
+    if name == "proof":
+        return [depths, f"{CALLS[question.number - 1]}_proof {a}"]
     text = words(question).decode()
     return [depths, f"check_proof {CALLS[question.number - 1]} {a} {question.code} {text}"]
 
@@ -244,6 +291,8 @@ def expected(asked: Asked, shown: str) -> gtp.Reply:
     """The reply of the program that says the same as the library."""
     status, code, at = asked.reply
     name, size = CALLS[asked.question.call], asked.question.board.size
+    if asked.text:
+        return gtp.Reply(True, asked.text)
     if status:
         texts = {6: "vertex must not be empty", 8: "colours differ", 12: "illegal move", 13: "illegal move"}
         return gtp.Reply(False, texts.get(status, "illegal move" if status == 14 else shown))
@@ -252,6 +301,10 @@ def expected(asked: Asked, shown: str) -> gtp.Reply:
     if name == "check":
         return gtp.Reply(True, "true" if at else "false")
     return gtp.Reply(True, f"{code} {vertex(size, at)}" if code else "0")
+
+
+# The lines of a move of a game and whether it is legal, or the lines of a question or of a move that is tried.
+Step = tuple[list[str], Asked | Tried | None, bool]
 
 
 class Games:
@@ -264,11 +317,47 @@ class Games:
     def asked(self, board) -> Asked:
         """A question about a board that a game has led to; a third of them are broken."""
         question = self.question(board)
-        lines = line_of(question)
         if self.choose.random() < 1 / 3:
             self.break_one(question)
-            lines = []
-        return Asked(question, ask(self.library, question), lines)
+            return Asked(question, ask(self.library, question), [], self.text_of(question))
+        return Asked(question, ask(self.library, question), line_of(question), self.text_of(question))
+
+    def text_of(self, question: Question) -> str:
+        """What the program says to a question for all moves, which is the first of them, or for a proof."""
+        arguments = question.board, question.number, question.a, question.depths
+        if question.call == ALL:
+            moves = self.library.gopat_all(*arguments)
+            points = [65535] * moves.pass_ + [p for p, good in enumerate(moves.points) if good]
+            told = f"{moves.code} {vertex(question.board.size, points[0])}" if points else "0"
+            return told if moves.status == 0 else ""
+        if question.call == PROOF:
+            text = ctypes.create_string_buffer(60000)
+            proof = self.library.gopat_proof(*arguments, text, len(text))
+            return f"{proof.code} {text.raw[: proof.length].decode()}" if proof.status == 0 else ""
+        return ""
+
+    def tried(self, question: Question) -> Iterator[Tried]:
+        """The moves that are told as those that attain the code, and the liberties of the target."""
+        board, target, kind = question.board, question.a, question.number
+        moves = self.library.gopat_all(board, kind, target, question.depths)
+        if moves.status or moves.code == 0:
+            return
+        points = Rules(board).liberties(target) | {p for p, good in enumerate(moves.points) if good}
+        side = board.cells[target] if kind == 2 else 3 - board.cells[target]
+        for p in [65535] * (kind == 2) + sorted(points):
+            told = bool(moves.pass_ if p == 65535 else moves.points[p])
+            if self.library.gopat_play(board, side, p).status == 0:
+                yield self.tried_at(question, side, p, told, 4 - moves.code)
+
+    def tried_at(self, question: Question, side: int, p: int, told: bool, below: int) -> Tried:
+        """The play at p. Without a ply left the other side attains nothing, so a play saves, and it captures if nothing
+        stands on the target."""
+        size, plies, wide = question.board.size, question.depths.plies - 1, max(question.depths.wide - 1, 0)
+        move, target = vertex(size, p), vertex(size, question.a)
+        lines = [f"depths {plies} {wide}", f"{'defend' if question.number == 1 else 'attack'} {target}"]
+        if plies == 0:
+            lines, below = [f"countlib {target}"], 1 if question.number == 1 else MOST_LIBERTIES
+        return Tried(move, told, [f"play {' bw'[side]} {move}", *lines, "undo"], below)
 
     def question(self, board) -> Question:
         choose, points = self.choose, board.size**2
@@ -277,10 +366,11 @@ class Games:
         target = choose.choice(near or stones) if choose.random() < 0.9 else choose.randrange(points + 1)
         number = choose.choice([1, 2])
         text = choose.choice(["W .", "N .", "N . N . N .", "", f"W {vertex(board.size, choose.randrange(points))} ."])
+        call, code = choose.choice([0, 1, 2, 3, 4, 5, ALL, PROOF]), choose.randrange(4)
+        room = len(text) if call != PROOF else choose.choice([choose.randrange(256), 255, 255])
         plies = choose.choice([1, 2, 3, 4, 5, 6, 7, 10]) if board.size < 7 else choose.choice([1, 2, 3, 5, 8])
         depths = self.gopat._Depths(plies, choose.choice([0, 0, 1, 2]), 0)
-        call, code = choose.randrange(6), choose.randrange(4)
-        return Question(board, target, choose.choice(stones), depths, call, number, code, len(text), text.encode())
+        return Question(board, target, choose.choice(stones), depths, call, number, code, room, text.encode())
 
     def break_one(self, question: Question) -> None:
         """Changes one argument to any number, or the call to a play."""
@@ -306,7 +396,7 @@ class Games:
         elif way == 7:
             question.code, question.number = choose.choice([(4, 1), (255, 2), (0, 0), (3, 3)])
         else:
-            question.call, question.number = 6, choose.choice([0, 1, 2, 2, 1, 3])
+            question.call, question.number = PLAY, choose.choice([0, 1, 2, 2, 1, 3])
 
     def moves(self, size: int, turn: int) -> Iterator[tuple[int, int]]:
         """Random plays and passes, or those that make a ko somewhere on the board."""
@@ -319,8 +409,8 @@ class Games:
             p = choose.randrange(size**2 + 1)
             yield choose.choice([1 + turn % 2, 1, 2]), 65535 if p == size**2 else p
 
-    def game(self, turns: int) -> Iterator[tuple[list[str], Asked | None, bool]]:
-        """The steps of a game: the lines of a move and whether it is legal, or the lines of a question."""
+    def game(self, turns: int) -> Iterator[Step]:
+        """The steps of a game."""
         size = self.choose.choice([2, 3, 4, 4, 5, 5, 6, 7, 9, 13])
         board = self.gopat._Board(size)
         yield [f"boardsize {size}"], None, True
@@ -334,9 +424,12 @@ class Games:
             self.bans += board.ban_colour > 0
             one = self.asked(board)
             yield one.lines, one, True
+            if one.lines and one.question.call == ALL:
+                for move in self.tried(one.question):
+                    yield move.lines, move, True
 
 
-def differences(gopat_path: str, steps: list[tuple[list[str], Asked | None, bool]]) -> Iterator[str]:
+def differences(gopat_path: str, steps: list[Step]) -> Iterator[str]:
     """What the program says otherwise, and the statuses that are not those of the rules."""
     lines = [line for step in steps for line in step[0]]
     replies, _ = gtp.session([gopat_path], lines)
@@ -348,7 +441,11 @@ def differences(gopat_path: str, steps: list[tuple[list[str], Asked | None, bool
             if reply.ok != legal:
                 yield f"{step_lines[-1]}: {reply.text!r}, the library says {legal}"
             continue
-        if asked.reply[0] != first_fault(asked.question):
+        if isinstance(asked, Tried):
+            if not asked.is_right(replies[at - 2]):
+                yield f"{asked.lines}: {replies[at - 2].text!r}, the library says {asked.told} of {asked.move}"
+            continue
+        if asked.reply[0] != (first_fault(asked.question) or short_buffer(asked)):
             yield f"{CALLS[asked.question.call]}: status {asked.reply[0]}, by the rules {first_fault(asked.question)}"
         if step_lines and reply != expected(asked, reply.text):
             yield f"{step_lines[-1]}: {reply}, the library says {asked.reply}"
@@ -437,17 +534,19 @@ def main(gopat_path: str, count: str, seed: str = "1") -> int:
 
         declare(gopat)
         games = Games(gopat, int(seed))
-        asked, wrong = [], []
+        asked, wrong, tried = [], [], 0
         while len(asked) < int(count):
             steps = list(games.game(20))
-            asked += [one for _, one, _ in steps if one]
+            asked += [one for _, one, _ in steps if isinstance(one, Asked)]
+            tried += sum(isinstance(one, Tried) for _, one, _ in steps)
             wrong += differences(gopat_path, steps)
         questions = [one.question for one in asked]
         told = [" ".join(map(str, one.reply)) for one in asked]
         wrong += [f"from C {c}, from Python {p}" for c, p in zip(from_c(folder, questions, []), told) if c != p]
         with_status = sum(one.reply[0] > 0 for one in asked)
         print(f"{len(asked)} questions, {with_status} with a status, {games.bans} boards with a ban of a ko,", end=" ")
-        print(f"{sum(bool(one.lines) for one in asked)} asked of the program too: {len(wrong)} differ")
+        print(f"{sum(bool(one.lines) for one in asked)} asked of the program too, {tried} moves tried there:", end=" ")
+        print(f"{len(wrong)} differ")
         if shutil.which("valgrind"):
             checked = from_c(folder, questions[:UNDER_VALGRIND], ["valgrind", "-q", "--error-exitcode=1"])
             print(f"{len(checked)} questions under valgrind without an error")

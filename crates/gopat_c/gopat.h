@@ -45,8 +45,13 @@ enum {
     GOPAT_BAD_CODE = 11,   /* the code is above 3 */
     GOPAT_OCCUPIED = 12,   /* a stone stands on the point */
     GOPAT_KO = 13,         /* the ko ban forbids the play */
-    GOPAT_SUICIDE = 14     /* the stone would have no liberty after its captures */
+    GOPAT_SUICIDE = 14,    /* the stone would have no liberty after its captures */
+    GOPAT_SHORT_BUFFER = 15, /* the proof has more bytes than the buffer */
+    GOPAT_TOO_LONG = 16      /* the proof has more than GOPAT_MOST_TEXT bytes */
 };
+
+/* How many bytes a proof may have. */
+enum { GOPAT_MOST_TEXT = 60000 };
 
 /* A position. Only the first size * size bytes of cells are looked at. A board of zeros with a size is empty. */
 typedef struct {
@@ -80,6 +85,14 @@ typedef struct {
     uint8_t points[625];
 } GopatMoves;
 
+/* With GOPAT_OK the first length bytes of the buffer are the proof of the code; with GOPAT_SHORT_BUFFER the proof has
+   this length and the buffer is as it was. */
+typedef struct {
+    uint8_t status;
+    uint8_t code;
+    uint16_t length;
+} GopatProof;
+
 typedef struct {
     uint8_t status;
     uint16_t number;
@@ -104,6 +117,13 @@ GopatAnswer gopat_defend(GopatBoard board, uint16_t target, GopatDepths depths);
    (5, 6), the depths (7). */
 GopatMoves gopat_all(GopatBoard board, uint8_t kind, uint16_t target, GopatDepths depths);
 
+/* Writes the first proof of the code of gopat_attack (kind GOPAT_ATTACK) or of gopat_defend (GOPAT_DEFEND) into the
+   first bytes of a buffer of n bytes, without a zero behind it: the words that the program's attack_proof and
+   defend_proof print behind the code, which gopat_check accepts. A buffer of GOPAT_MOST_TEXT bytes is always enough.
+   Faults: of the board (1 to 4), the question (10), the target (5, 6), the depths (7), the proof (16), the buffer (15).
+   With a fault the buffer stays as it is. It must not be null, and n bytes must be there. */
+GopatProof gopat_proof(GopatBoard board, uint8_t kind, uint16_t target, GopatDepths depths, char *text, size_t n);
+
 /* Whether the strings at a and b can be joined when their own colour plays first. The move is GOPAT_PASS if they are
    one string already. Faults: of the board (1 to 4), of a and then b (5, 6), two colours (8), the plies (7). */
 GopatAnswer gopat_connect(GopatBoard board, uint16_t a, uint16_t b, uint8_t plies);
@@ -120,8 +140,8 @@ GopatNumber gopat_liberties(GopatBoard board, uint16_t at);
 
 /* Whether the n bytes of text prove that the attack on the target's string, or its defence, has this code: 1 or 0. They
    are the words that the program's attack_proof and defend_proof print behind the code. Faults: of the board (1 to 4),
-   the question (10), the target (5, 6), the depths (7), the code (11). The text is the one pointer of this file: it
-   must not be null, and n bytes must be there. */
+   the question (10), the target (5, 6), the depths (7), the code (11). The text must not be null,
+   and n bytes must be there. */
 GopatNumber gopat_check(GopatBoard board, uint8_t kind, uint16_t target, GopatDepths depths, uint8_t code,
                         const char *text, size_t n);
 

@@ -1,2 +1,3 @@
 pub mod DepthNumbers
 pub mod MoveNumbers
+pub mod PrintedProofs

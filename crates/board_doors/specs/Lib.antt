@@ -1,3 +1,4 @@
 pub mod Doors
 pub mod Moves
+pub mod Printed
 pub mod Replies

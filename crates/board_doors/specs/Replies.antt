@@ -11,7 +11,7 @@ use Rattle.board_bytes.specs.declared.board.BoardFault.TheVariants.{Size, Cell, 
 use Rattle.board_bytes.specs.Bytes.{bytes_of}
 use Rattle.board_doors.specs.declared.fault.DoorFault.{DoorFault}
 use Rattle.board_doors.specs.declared.fault.DoorFault.TheVariants.{Board, OffBoard, NoStone, Depths, TwoColours, Colour}
-use Rattle.board_doors.specs.declared.fault.DoorFault.TheVariants.{Kind, Code, Illegal}
+use Rattle.board_doors.specs.declared.fault.DoorFault.TheVariants.{Kind, Code, Illegal, ShortBuffer, TooLong}
 use Rattle.board_doors.specs.declared.replies.AnswerReply.{AnswerReply}
 use Rattle.board_doors.specs.declared.replies.NumberReply.{NumberReply}
 use Rattle.board_doors.specs.declared.replies.PlayReply.{PlayReply}
@@ -33,6 +33,8 @@ status_of Code = 11
 status_of (Illegal Occupied) = 12
 status_of (Illegal Ko) = 13
 status_of (Illegal Suicide) = 14
+status_of ShortBuffer = 15
+status_of TooLong = 16
 
 -- the fault with this number
 abbrev pub fault_named : ℕ → Option DoorFault
@@ -51,6 +53,8 @@ fault_named n =
     else if n == 12 then Some (Illegal Occupied)
     else if n == 13 then Some (Illegal Ko)
     else if n == 14 then Some (Illegal Suicide)
+    else if n == 15 then Some ShortBuffer
+    else if n == 16 then Some TooLong
     else None
 
 -- the number that says that there is no move

@@ -25,4 +25,8 @@ pub enum DoorFault {
     Code,
     /// The rules forbid the play.
     Illegal(Illegal),
+    /// The proof has more bytes than the caller's buffer.
+    ShortBuffer,
+    /// The proof has more than 60,000 bytes.
+    TooLong,
 }

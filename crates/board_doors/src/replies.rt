@@ -65,6 +65,18 @@ pub struct MovesReply {
     pub points: [u8; MAX_POINTS],
 }
 
+/// The reply to a question for its first proof, whose bytes are in the caller's buffer.
+#[repr(C)]
+#[derive(Clone, Copy, Debug, PartialEq, Eq)]
+pub struct ProofReply {
+    /// 0 if the proof was written, else the number of the fault.
+    pub status: u8,
+    /// The code, 0 to 3, if the proof was written or the buffer is too short for it; else 0.
+    pub code: u8,
+    /// How many bytes the proof has, if it was written or the buffer is too short for it; else 0.
+    pub length: u16,
+}
+
 /// The number of the reason why bytes are no position.
 fn board_status(fault: BoardFault) -> u8
     ensures { result ≡ status_of (DoorFault.Board fault) }
@@ -88,7 +100,7 @@ fn illegal_status(why: Illegal) -> u8
     }
 }
 
-/// The number of a fault. Each has its own, from 1 to 14.
+/// The number of a fault. Each has its own, from 1 to 16.
 pub fn status_of(fault: DoorFault) -> u8
     ensures { result ≡ status_of fault }
 {
@@ -102,6 +114,8 @@ pub fn status_of(fault: DoorFault) -> u8
         DoorFault::Kind => 10,
         DoorFault::Code => 11,
         DoorFault::Illegal(why) => illegal_status(why),
+        DoorFault::ShortBuffer => 15,
+        DoorFault::TooLong => 16,
     }
 }
 

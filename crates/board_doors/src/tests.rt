@@ -4,7 +4,7 @@ use crate::replies::{
     answer_reply, linkage_reply, moves_reply, number_reply, play_reply, truth_reply,
 };
 use crate::{
-    BoardBytes, DepthBytes, all, attack, check, connect, defend, disconnect, liberties, play,
+    BoardBytes, DepthBytes, all, attack, check, connect, defend, disconnect, liberties, play, proof,
 };
 use read_rules::Kind;
 
@@ -184,5 +184,41 @@ fn a_proof_is_checked_or_has_a_status(rt: HostRuntime) {
     ] {
         let reply = truth_reply(check(&atari, kind, 40, depths(10, 2, 0), code, text.as_bytes()));
         assert!(rt; (reply.status, reply.number) == want, "{what}");
+    }
+}
+
+/// A question for a proof about the stone in atari: what is special about it, its kind, its target, the room, the
+/// numbers of its reply, and the bytes in front of the buffer.
+type Proved = (&'static str, u8, u16, usize, (u8, u8, u16), &'static str);
+
+/// Questions for a proof.
+static PROVED: [Proved; 6] = [
+    ("it is written", 1, 40, 9, (0, 3, 6), "W E4 .---"),
+    ("it fits just", 1, 40, 6, (0, 3, 6), "W E4 ."),
+    ("it does not fit", 1, 40, 5, (15, 3, 6), "-----"),
+    ("there is no room", 1, 40, 0, (15, 3, 6), ""),
+    ("the third question", 3, 40, 9, (10, 0, 0), "---------"),
+    ("an empty point", 1, 49, 9, (6, 0, 0), "---------"),
+];
+
+#[test]
+fn a_proof_is_written_or_has_a_status(rt: HostRuntime) {
+    let atari = board(&ATARI);
+    for (what, kind, target, room, numbers, bytes) in &PROVED {
+        let mut buffer = [b'-'; 9];
+        if *room <= 9 {
+            let reply = proof(
+                &atari,
+                *kind,
+                *target,
+                depths(10, 0, 0),
+                &mut buffer[..*room],
+            );
+            assert!(rt;
+                (reply.status, reply.code, reply.length) == *numbers,
+                "{what}"
+            );
+            assert!(rt; &buffer[..*room] == bytes.as_bytes(), "{what}");
+        }
     }
 }

@@ -1,20 +1,23 @@
 //! gopat for programs in C, and in any language that can call C: the exports of the static library `libgopat_c.a`.
 //!
 //! Each export is one call of a door of `board_doors`, and its clause says that the reply is the one for the answer
-//! that is defined there. A board crosses by value, so no export but `gopat_check` takes a pointer, and a caller may
-//! hand over any numbers: what has no answer has a status of its own. Nothing takes memory, and no export keeps
-//! anything from one call to the next. `gopat.h`, in the folder of this crate, is what a C compiler reads.
+//! that is defined there. A board crosses by value, so no export but `gopat_check` and `gopat_proof` takes a pointer, and
+//! a caller may hand over any numbers: what has no answer has a status of its own. Nothing takes memory, and no export
+//! keeps anything from one call to the next. `gopat.h`, in the folder of this crate, is what a C compiler reads.
 #![tactic(auto)]
 
-ghost use Rattle.std.specs.Prelude.{◌≡◌};
+ghost use Rattle.std.specs.Prelude.{◌≡◌, length, take, true, Ok};
 ghost use Rattle.board_doors.specs.Doors.{reading_of, question_of, linking_of, play_of, liberties_of, checking_of};
 ghost use Rattle.board_doors.specs.Moves.{AnswersMoves};
+ghost use Rattle.board_doors.specs.Printed.{proof_reply, proof_over};
 ghost use Rattle.board_doors.specs.Replies.{answer_reply, linkage_reply, play_reply, number_reply, truth_reply};
 
 use board_doors::replies::{
     answer_reply, linkage_reply, moves_reply, number_reply, play_reply, truth_reply,
 };
-use board_doors::{AnswerReply, BoardBytes, DepthBytes, MovesReply, NumberReply, PlayReply};
+use board_doors::{
+    AnswerReply, BoardBytes, DepthBytes, MovesReply, NumberReply, PlayReply, ProofReply,
+};
 use connect_rules::LinkKind;
 use read_rules::Kind;
 
@@ -48,6 +51,26 @@ pub extern "C" fn gopat_all(
     ensures { AnswersMoves (question_of board kind target depths) result }
 {
     moves_reply(board_doors::all(&board, kind, target, depths))
+}
+
+/// Writes the first proof of the code of an attack on the string at `target` (`kind` 1) or of its defence (`kind` 2)
+/// into the first bytes of the buffer: the words that the program prints behind the code. `gopat_check` accepts them.
+/// With a fault, and where the buffer is too short, it stays as it is. The buffer is a pointer and then a length; the
+/// pointer is not null, even for no bytes.
+#[unsafe(no_mangle)]
+pub extern "C" fn gopat_proof(
+    board: BoardBytes,
+    kind: u8,
+    target: u16,
+    depths: DepthBytes,
+    text: &mut [u8],
+) -> ProofReply
+    ensures reply { result ≡ proof_reply (question_of board kind target depths) (length text.old) }
+    ensures over { text.new ≡ proof_over (question_of board kind target depths) text.old }
+    ensures accepted { result.status ≡ 0
+        → checking_of board kind target depths result.code (take result.length text.new) ≡ Ok true }
+{
+    board_doors::proof(&board, kind, target, depths, text)
 }
 
 /// Whether the strings at `a` and `b`, of one colour, can be joined when their own colour plays first, and the first

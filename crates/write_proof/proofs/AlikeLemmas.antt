@@ -1,6 +1,6 @@
 -- What is the same under each of the asked ko allowances.
 use Rattle.std.proofs.Common.{◌≡◌, ◌≢◌, ◌∙◌, ℕ, Bool, true, false, not, cond, eqb, ◌&&◌, List, [], ◌∷◌, ◌++◌}
-use Rattle.std.proofs.Common.{Some, Result, Ok, Err, refl, sym, ap, subst, arith, inl, inr}
+use Rattle.std.proofs.Common.{Some, Result, Ok, Err, refl, sym, ap, subst, arith, inl, inr, length, length-append}
 use Rattle.std.proofs.lemmas.Bool.{cases_Bool, both_ways, and_parts, eqb-true, ne_eqb}
 use Rattle.std.specs.Result.{IsErrAnd}
 use Rattle.go_rules.specs.Position.{BoardState}
@@ -23,23 +23,21 @@ use Rattle.write_proof.specs.declared.alike.Told.{Told}
 use Rattle.write_proof.specs.declared.alike.Told.TheVariants.{Always, Never, Differs}
 use Rattle.write_proof.specs.declared.alike.Common.{Common}
 use Rattle.write_proof.specs.declared.alike.Common.TheVariants.{Move, Nothing, Differs as differs}
-use Rattle.write_proof.specs.declared.text.ProofError.{ProofError}
-use Rattle.write_proof.specs.declared.text.ProofError.TheVariants.{TooLong, NoMemory}
+use Rattle.write_proof.specs.declared.text.NoRoom.{NoRoom}
 use Rattle.read_proof.specs.Tokens.{Word}
-use Rattle.write_proof.specs.Printed.{behind_blanks, Puts, Writes}
-use Rattle.write_proof.specs.Alike.{IsOne, only, ko_under, IsTold, IsCommon, claim_words, PutsAlike, WritesMaybe}
+use Rattle.write_proof.specs.Printed.{behind_blanks, Puts}
+use Rattle.write_proof.specs.Alike.{IsOne, only, ko_under, IsTold, IsCommon, claim_words, PutsAlike}
 use Rattle.write_proof.proofs.PutLemmas.{puts_fails, blanks_both, part, under_words, whole_one, whole_first}
-use Rattle.write_proof.proofs.WriteLemmas.{not_written}
 
 -- an error that is handed up is that of the first piece
-pub puts_up_told : {U : Type 0} (old new after x y : List ℕ) (e : ProofError) (s : Result U ProofError)
+pub puts_up_told : {U : Type 0} (old new after x y : List ℕ) (e : NoRoom) (s : Result U NoRoom)
     → IsErrAnd s (λ k. k ≡ e) → Puts {T = Bool} old x new (Err e) → Puts old (x ++ y) after s
 puts_up_told old new after x y e (Ok done) same h = absurd same
 puts_up_told {U} old new after x y e (Err k) same h =
     puts_fails {T = Bool} {U = U} old new after x y (Err e) (Err k) e refl (ap Err same) h
 
 -- where it was told that the words are the same, it was not told that they are not
-pub yes_told : (b : Bool) → b ≡ true → ◌≢◌ {A = Result Bool ProofError} (Ok b) (Ok false)
+pub yes_told : (b : Bool) → b ≡ true → ◌≢◌ {A = Result Bool NoRoom} (Ok b) (Ok false)
 yes_told true e = λ w. cc
 yes_told false e = absurd (let w = e in cc)
 
@@ -134,17 +132,16 @@ pub only_one : (one : Ko) → IsOne (only one)
 only_one one = λ ko other h k. only_is one ko h ∙ sym (only_is one other k)
 
 -- of one allowance the words were put
-pub one_put : (asked : Allowances) (ko : Ko) (old new : List ℕ) (words : Ko → List Word) (r : Result Bool ProofError)
+pub one_put : (asked : Allowances) (ko : Ko) (old new : List ℕ) (words : Ko → List Word) (r : Result Bool NoRoom)
     → asked ≡ only ko → PutsAlike asked old words new r → (IsOne asked → r ≢ Ok false)
     → Puts old (behind_blanks (words ko)) new r
 one_put asked ko old new words r is puts one =
     puts (one (subst IsOne (sym is) (only_one ko))) ko (ap (λ (s : Allowances). has s ko) is ∙ only_has ko)
 
 -- why they were not is the same whatever else would have been answered
-pub puts_why : (T U : Type 0) (old more new : List ℕ) (e : ProofError) → Puts {T = T} old more new (Err e)
+pub puts_why : (T U : Type 0) (old more new : List ℕ) (e : NoRoom) → Puts {T = T} old more new (Err e)
     → Puts {T = U} old more new (Err e)
-puts_why T U old more new TooLong h = h
-puts_why T U old more new NoMemory h = tt
+puts_why T U old more new e h = h
 
 -- of one allowance it is not told that a move is good under some alone
 pub told_one : (asked good : Allowances) → IsOne asked → has_some (without asked good) ≡ true
@@ -239,51 +236,45 @@ module _ (q : ReadingQuestion) (pos : BoardState) where
       ∙ sym (whole_one q pos 0 (λ w. cc) (λ w. cc))
 
   -- under each allowance the part was put, or why it was not
-  each_put : (piece : List ℕ) (r s : Result Bool ProofError) → r ≡ s → s ≢ Ok false
+  each_put : (piece : List ℕ) (r s : Result Bool NoRoom) → r ≡ s → s ≢ Ok false
       → PutsAlike all_three [] (claim_words q pos (claim_under q 0 3)) piece r
       → (ko : Ko) → Puts [] (behind_blanks (claim_words q pos (claim_under q 0 3) ko)) piece s
   each_put piece r s is same puts ko =
       subst (λ t. PutsAlike all_three [] (claim_words q pos (claim_under q 0 3)) piece t) is puts same ko (has_all ko)
 
   -- three times the part that was put is the whole
-  three_put : (piece : List ℕ) (r : Result Bool ProofError) → r ≡ Ok true
+  three_put : (piece : List ℕ) (r : Result Bool NoRoom) → r ≡ Ok true
       → PutsAlike all_three [] (claim_words q pos (claim_under q 0 3)) piece r
       → piece ++ (piece ++ piece) ≡ behind_blanks (first_words_of q pos 0 (codes_down_to 0))
   three_put piece r told puts =
       thrice_whole piece (λ ko. (each_put piece r (Ok true) told (yes_told true refl) puts ko).0)
 
-  -- where the first part was not written, nor was the whole
-  part_refused : (out : List ℕ) (e : ProofError)
+  -- if the first part was too long, so is the whole
+  part_refused : (old out new : List ℕ) (e : NoRoom)
       → ((ko : Ko) → Puts {T = Bool} [] (behind_blanks (claim_words q pos (claim_under q 0 3) ko)) out (Err e))
-      → Writes (behind_blanks (first_words_of q pos 0 (codes_down_to 0))) (Err e)
-  part_refused out e h =
+      → Puts {T = Bool} old (behind_blanks (first_words_of q pos 0 (codes_down_to 0))) new (Err e)
+  part_refused old out new e h =
       let first = whole_first q pos 0 in
-      not_written {T = Unit {0}} [] (part q pos 0 3 ++ first.0)
-      (behind_blanks (first_words_of q pos 0 (codes_down_to 0))) out (Err e) e refl (sym first.1) refl
-      (puts_fails {T = Bool} {U = Unit {0}} [] out out (part q pos 0 3) first.0 (Err e) (Err e) e refl refl
-      (subst (λ t. Puts {T = Bool} [] t out (Err e)) (sym (part_by q pos 3 refl))
-      (h (ko_under (is_attack q.kind) 3))))
+      let whole = behind_blanks (first_words_of q pos 0 (codes_down_to 0)) in
+      let long : Puts {T = Bool} [] (part q pos 0 3) out (Err e) =
+      subst (λ t. Puts {T = Bool} [] t out (Err e)) (sym (part_by q pos 3 refl)) (h (ko_under (is_attack q.kind) 3)) in
+      omega (
+        arith,
+        long,
+        ap length first.1,
+        length-append (part q pos 0 3) first.0,
+        length-append old whole,
+      )
 
-  -- the part was written, and then three of it
-  pub maybe_written : (piece words : List ℕ) (r : Result Bool ProofError) (s : Result (List ℕ) ProofError) → r ≡ Ok true
-      → PutsAlike all_three [] (claim_words q pos (claim_under q 0 3)) piece r → s ≡ Ok words
-      → Writes (piece ++ (piece ++ piece)) s
-      → WritesMaybe (behind_blanks (first_words_of q pos 0 (codes_down_to 0))) (Ok (Some words))
-  maybe_written piece words r s told puts is h =
-      let done : Writes (piece ++ (piece ++ piece)) (Ok words) = subst (Writes (piece ++ (piece ++ piece))) is h in
-      (done.0 ∙ three_put piece r told puts, done.1)
-
-  -- the part was written, and three of it were not
-  pub maybe_refused : (piece : List ℕ) (e : ProofError) (r : Result Bool ProofError) (s : Result (List ℕ) ProofError)
-      → r ≡ Ok true → PutsAlike all_three [] (claim_words q pos (claim_under q 0 3)) piece r → s ≡ Err e
-      → Writes (piece ++ (piece ++ piece)) s
-      → WritesMaybe (behind_blanks (first_words_of q pos 0 (codes_down_to 0))) (Err e)
-  maybe_refused piece e r s told puts is h =
-      subst (λ bytes. Writes bytes (Err e)) (three_put piece r told puts)
-      (subst (Writes (piece ++ (piece ++ piece))) is h)
-
-  -- the part was not written
-  pub maybe_none : (piece : List ℕ) (e : ProofError) (r : Result Bool ProofError) → r ≡ Err e
+  -- three times the part is the whole, or would be too long
+  pub alike_put : (old piece new : List ℕ) (r : Result Bool NoRoom) (s : Result (Unit {0}) NoRoom) → r ≡ Ok true
       → PutsAlike all_three [] (claim_words q pos (claim_under q 0 3)) piece r
-      → WritesMaybe (behind_blanks (first_words_of q pos 0 (codes_down_to 0))) (Err e)
-  maybe_none piece e r is puts = part_refused piece e (each_put piece r (Err e) is (λ w. cc) puts)
+      → Puts old (piece ++ (piece ++ piece)) new s
+      → Puts old (behind_blanks (first_words_of q pos 0 (codes_down_to 0))) new s
+  alike_put old piece new r s told puts h = subst (λ bytes. Puts old bytes new s) (three_put piece r told puts) h
+
+  -- the part was too long
+  pub alike_refused : (old piece new : List ℕ) (e : NoRoom) (r : Result Bool NoRoom) → r ≡ Err e
+      → PutsAlike all_three [] (claim_words q pos (claim_under q 0 3)) piece r
+      → Puts {T = Bool} old (behind_blanks (first_words_of q pos 0 (codes_down_to 0))) new (Err e)
+  alike_refused old piece new e r is puts = part_refused old piece new e (each_put piece r (Err e) is (λ w. cc) puts)

@@ -13,33 +13,31 @@ use Rattle.read_rules.specs.declared.node.Node.{Node}
 use Rattle.read_rules.specs.declared.question.ReadingQuestion.{ReadingQuestion}
 use Rattle.read_rules.specs.Answer.{first_node, code_of}
 use Rattle.read_rules.specs.GameTree.{first_move}
-use Rattle.write_proof.specs.declared.text.ProofError.{ProofError}
-use Rattle.write_proof.specs.declared.text.ProofError.TheVariants.{TooLong, NoMemory}
+use Rattle.write_proof.specs.declared.text.NoRoom.{NoRoom}
 use Rattle.read_proof.specs.Tokens.{Word}
 use Rattle.read_proof.specs.Proves.{is_settled, is_wanted, pass_children, play_children, children_of}
 use Rattle.read_proof.specs.FirstProof.{Writer, write_each, write_move, first_words, first_words_of, first_text}
 use Rattle.read_proof.specs.ProofOf.{codes_down_to, claim_under, letter_of}
-use Rattle.write_proof.specs.Printed.{most_bytes, behind_blanks, Puts}
+use Rattle.write_proof.specs.Printed.{behind_blanks, Puts}
+use Rattle.write_proof.specs.Room.{most_bytes}
 use Rattle.read_proof.proofs.ChildLemmas.{walk_next, walk_over}
 use Rattle.read_proof.proofs.FirstLemmas.{words_by}
 
 -- what is put behind what was put
-pub puts_both : {T : Type 0} (old mid new x y : List ℕ) (r : Result T ProofError) → mid ≡ old ++ x → Puts mid y new r
+pub puts_both : {T : Type 0} (old mid new x y : List ℕ) (r : Result T NoRoom) → mid ≡ old ++ x → Puts mid y new r
     → Puts old (x ++ y) new r
 puts_both old mid new x y (Ok done) e h = (h.0 ∙ ap (λ m. m ++ y) e ∙ append_assoc old x y, h.1)
-puts_both old mid new x y (Err TooLong) e h =
+puts_both old mid new x y (Err why) e h =
     subst (λ m. most_bytes < length m) (ap (λ m. m ++ y) e ∙ append_assoc old x y) h
-puts_both old mid new x y (Err NoMemory) e h = tt
 
 -- where the first piece is too long, so is the whole
-pub puts_fails : {T U : Type 0} (old new after x y : List ℕ) (r : Result T ProofError) (s : Result U ProofError)
-    (e : ProofError) → r ≡ Err e → s ≡ Err e → Puts old x new r → Puts old (x ++ y) after s
+pub puts_fails : {T U : Type 0} (old new after x y : List ℕ) (r : Result T NoRoom) (s : Result U NoRoom)
+    (e : NoRoom) → r ≡ Err e → s ≡ Err e → Puts old x new r → Puts old (x ++ y) after s
 puts_fails {T} {U} old new after x y r s e is same h =
     subst (Puts old (x ++ y) after) (sym same) (by e (subst (Puts old x new) is h))
   where
-    by : (e : ProofError) → Puts {T = T} old x new (Err e) → Puts {T = U} old (x ++ y) after (Err e)
-    by TooLong h = omega (arith, h, length-append (old ++ x) y, ap length (append_assoc old x y))
-    by NoMemory h = tt
+    by : (e : NoRoom) → Puts {T = T} old x new (Err e) → Puts {T = U} old (x ++ y) after (Err e)
+    by why h = omega (arith, h, length-append (old ++ x) y, ap length (append_assoc old x y))
 
 -- the words of two rows behind blanks
 pub blanks_both : (xs ys : List Word) → behind_blanks (xs ++ ys) ≡ behind_blanks xs ++ behind_blanks ys
@@ -122,7 +120,7 @@ walk_written write f g m a out whole none e =
     ∙ sym (ap (λ ps. out ++ behind_blanks (write_each write (filter_map f ps))) (walk_over g m a none)) ∙ e
 
 -- an error that is handed up is that of the first piece
-pub puts_up : {U : Type 0} (old new after x y : List ℕ) (e : ProofError) (s : Result U ProofError)
+pub puts_up : {U : Type 0} (old new after x y : List ℕ) (e : NoRoom) (s : Result U NoRoom)
     → IsErrAnd s (λ k. k ≡ e)
     → Puts {T = Unit {0}} old x new (Err e) → Puts old (x ++ y) after s
 puts_up old new after x y e (Ok done) same h = absurd same
@@ -130,11 +128,10 @@ puts_up {U} old new after x y e (Err k) same h =
     puts_fails {T = Unit {0}} {U = U} old new after x y (Err e) (Err k) e refl (ap Err same) h
 
 -- what is put depends on the whole text alone
-pub puts_same : {T : Type 0} (old old' new x y : List ℕ) (r : Result T ProofError) → old ++ x ≡ old' ++ y
+pub puts_same : {T : Type 0} (old old' new x y : List ℕ) (r : Result T NoRoom) → old ++ x ≡ old' ++ y
     → Puts old x new r → Puts old' y new r
 puts_same old old' new x y (Ok done) e h = (h.0 ∙ e, h.1)
-puts_same old old' new x y (Err TooLong) e h = subst (λ t. most_bytes < length t) e h
-puts_same old old' new x y (Err NoMemory) e h = tt
+puts_same old old' new x y (Err why) e h = subst (λ t. most_bytes < length t) e h
 
 -- The claims of a proof of the code.
 module _ (q : ReadingQuestion) (pos : BoardState) (code : ℕ) where

@@ -25,7 +25,9 @@ use Rattle.read_proof.specs.Proves.{child_after, passed, pass_children, play_chi
 use Rattle.read_proof.specs.FirstProof.{Writer, move_word, write_child, write_each, write_move, first_words}
 use Rattle.write_proof.specs.declared.text.ProofError.{ProofError}
 use Rattle.write_proof.specs.declared.text.ProofError.TheVariants.{TooLong, NoMemory}
-use Rattle.write_proof.specs.Printed.{most_bytes, behind_blanks, Puts, Writes, position_on}
+use Rattle.write_proof.specs.declared.text.NoRoom.{NoRoom}
+use Rattle.write_proof.specs.Printed.{behind_blanks, Puts, position_on}
+use Rattle.write_proof.specs.Room.{most_bytes}
 use Rattle.write_proof.proofs.PutLemmas.{puts_both, puts_up, blanks_both, one_less, walk_words}
 
 -- where the trial moves and the position shown stay, so does the position after the moves
@@ -79,7 +81,7 @@ module _ (n : ℕ) (won : Bool) (node : Node) (here : BoardState) where
 
   -- what is written after a play that was made
   pub play_written : {T : Type 0} (p : ℕ) (child : Option Node) (next : Node) (new : BoardState) (old out : List ℕ)
-      (r : Result T ProofError) → LeadsTo node here p child new → child ≡ Some next
+      (r : Result T NoRoom) → LeadsTo node here p child new → child ≡ Some next
       → Puts old (behind_blanks (first_words n won next new)) out r
       → Puts old (behind_blanks (write_each (first_words n won) (option_to_list (child_of node here p)))) out r
   play_written p child next new old out r leads is h =
@@ -102,7 +104,7 @@ module _ (n : ℕ) (won : Bool) (node : Node) (here : BoardState) where
       sym (ap (λ b. behind_blanks (write_each (first_words n won) (cond b [] (passed node here ∷ [])))) e)
 
   -- what is written after the defender's pass
-  pub pass_written : {T : Type 0} (old out : List ℕ) (r : Result T ProofError) → node.attacker_to_play ≡ false
+  pub pass_written : {T : Type 0} (old out : List ℕ) (r : Result T NoRoom) → node.attacker_to_play ≡ false
       → Puts old (behind_blanks (first_words n won (next_node node (allowance_of node)) (pass here))) out r
       → Puts old (behind_blanks (write_each (first_words n won) (pass_children node here))) out r
   pass_written old out r e h =
@@ -121,7 +123,7 @@ module _ (n : ℕ) (won : Bool) (node : Node) (here : BoardState) where
       ∙ ap (λ o. behind_blanks (write_move (first_words n won) node here o)) is
 
   -- what is written at the child of the first move, behind its word
-  pub move_written : {T : Type 0} (size : ℕ) (spot : Spot) (old mid out more : List ℕ) (r : Result T ProofError)
+  pub move_written : {T : Type 0} (size : ℕ) (spot : Spot) (old mid out more : List ℕ) (r : Result T NoRoom)
       → size ≡ here.size → Some spot ≡ first_move n node here → mid ≡ old ++ behind_blanks (move_word size spot ∷ [])
       → more ≡ behind_blanks (write_child (first_words n won) (child_after node here spot))
       → Puts mid more out r
@@ -133,8 +135,8 @@ module _ (n : ℕ) (won : Bool) (node : Node) (here : BoardState) where
       (subst (λ ws. Puts mid ws out r) words h))
 
   -- there was no room for its word
-  pub move_refused : {T : Type 0} (size : ℕ) (spot : Spot) (old out end : List ℕ) (e : ProofError)
-      (r : Result T ProofError) → size ≡ here.size → Some spot ≡ first_move n node here → IsErrAnd r (λ k. k ≡ e)
+  pub move_refused : {T : Type 0} (size : ℕ) (spot : Spot) (old out end : List ℕ) (e : NoRoom)
+      (r : Result T NoRoom) → size ≡ here.size → Some spot ≡ first_move n node here → IsErrAnd r (λ k. k ≡ e)
       → Puts {T = Unit {0}} old (behind_blanks (move_word size spot ∷ [])) out (Err e)
       → Puts old (behind_blanks (write_move (first_words n won) node here (first_move n node here))) end r
   move_refused size spot old out end e r same is up h =
@@ -215,47 +217,24 @@ module _ (n : ℕ) (node : Node) (here : BoardState) (captured : Bool) (found : 
         ∙ ap (λ b. b || has_too_many n node here) (ne_eqb n 0 some))
 
 -- The whole text, by its words behind blanks.
-module _ {U : Type 0} (bytes text : List ℕ) (some : 0 < length bytes) (is : drop 1 bytes ≡ text) where
-  -- it is not too long where these are not
-  pub short_text : (proof : U) → length bytes ≤ most_bytes → ◌≢◌ {A = Result U ProofError} (Ok proof) (Err NoMemory)
-      → ◌≡◌ {A = Result U ProofError} (Ok proof) (Err TooLong) ↔ (60000 < length text)
-  short_text proof few memory = (
-    (λ e. absurd cc),
-    (λ long. absurd
-        (let less = one_less bytes some in let same = ap length is in omega (arith, less, same, few, long))),
-  )
+module _ (bytes text : List ℕ) (is : drop 1 bytes ≡ text) where
+  -- it is not too long if these are not
+  pub short_text : length bytes ≤ most_bytes → length text ≤ 60000
+  short_text few = subst (λ t. length t ≤ 60000) is (by bytes few)
+    where
+      by : (bytes : List ℕ) → length bytes ≤ most_bytes → length (drop 1 bytes) ≤ 60000
+      by [] few = omega arith
+      by (x ∷ xs) few = omega (arith, few)
 
-  -- and where these were not all written for want of room, it is
-  pub long_text : (e : ProofError) (s : Result U ProofError) → IsErrAnd s (λ k. k ≡ e) → Writes bytes (Err e)
-      → s ≢ Err NoMemory → s ≡ Err TooLong ↔ (60000 < length text)
-  long_text e (Ok proof) same h memory = absurd same
-  long_text TooLong (Err k) same h memory = (
-    (λ over. let less = one_less bytes some in let size = ap length is in omega (arith, less, size, h)),
-    (λ long. ap Err same),
-  )
-  long_text NoMemory (Err k) same h memory = absurd (memory (ap Err same))
+  -- and it is if these are
+  pub long_text : most_bytes < length bytes → 60000 < length text
+  long_text many =
+      let some : 0 < length bytes = omega (arith, many) in
+      let less = one_less bytes some in
+      let same = ap length is in
+      omega (arith, less, same, many)
 
--- what was put behind nothing was written
-pub written : {T : Type 0} (start bytes all out : List ℕ) (r : Result T ProofError) (done : T) → start ≡ []
-    → bytes ≡ all → r ≡ Ok done → Puts start bytes out r → Writes all (Ok out)
-written {T} start bytes all out r done none same is h =
-    let put : Puts {T = T} [] all out (Ok done) =
-    subst (λ (x : Result T ProofError). Puts [] all out x) is
-    (subst (λ b. Puts [] b out r) same (subst (λ a. Puts a bytes out r) none h)) in
-    (put.0, put.1)
-
--- where not all of it was put, not all was written
-pub not_written : {T : Type 0} (start bytes all out : List ℕ) (r : Result T ProofError) (e : ProofError) → start ≡ []
-    → bytes ≡ all → r ≡ Err e → Puts start bytes out r → Writes all (Err e)
-not_written {T} start bytes all out r e none same is h =
-    by e (subst (λ (x : Result T ProofError). Puts [] all out x) is
-    (subst (λ b. Puts [] b out r) same (subst (λ a. Puts a bytes out r) none h)))
-  where
-    by : (e : ProofError) → Puts {T = T} [] all out (Err e) → Writes all (Err e)
-    by TooLong long = long
-    by NoMemory done = tt
-
--- the words without their first byte are not too long
-pub short_length : (bytes text : List ℕ) → text ≡ drop 1 bytes → length bytes ≤ most_bytes → length text ≤ 60000
-short_length [] text is few = rw is (omega arith)
-short_length (x ∷ xs) text is few = rw is (omega (arith, few))
+-- a proof that was found is not told to be too long, and is not
+pub found_short : {U : Type 0} (proof : U) (n : ℕ) → n ≤ 60000 → ◌≢◌ {A = Result U ProofError} (Ok proof) (Err NoMemory)
+    → ◌≡◌ {A = Result U ProofError} (Ok proof) (Err TooLong) ↔ (60000 < n)
+found_short proof n few memory = ((λ e. absurd cc), (λ long. absurd (omega (arith, few, long))))

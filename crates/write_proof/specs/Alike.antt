@@ -15,8 +15,8 @@ use Rattle.write_proof.specs.declared.alike.Told.{Told}
 use Rattle.write_proof.specs.declared.alike.Told.TheVariants.{Always, Never, Differs}
 use Rattle.write_proof.specs.declared.alike.Common.{Common}
 use Rattle.write_proof.specs.declared.alike.Common.TheVariants.{Move, Nothing, Differs as differs}
-use Rattle.write_proof.specs.declared.text.ProofError.{ProofError}
-use Rattle.write_proof.specs.Printed.{most_bytes, behind_blanks, Puts, Writes}
+use Rattle.write_proof.specs.declared.text.NoRoom.{NoRoom}
+use Rattle.write_proof.specs.Printed.{behind_blanks, Puts}
 
 -- no two allowances are in the set
 abbrev pub IsOne : Allowances → Type 0
@@ -53,16 +53,10 @@ IsMoveOn size differs = Unit {0}
 
 -- unless it was told that they are not the same, the words that were put are those under each asked allowance, each
 -- behind a blank
-abbrev pub PutsAlike : Allowances → List ℕ → (Ko → List Word) → List ℕ → Result Bool ProofError → Type 0
+abbrev pub PutsAlike : Allowances → List ℕ → (Ko → List Word) → List ℕ → Result Bool NoRoom → Type 0
 PutsAlike asked old words new result = result ≢ Ok false → (ko : Ko) → has asked ko ≡ true
     → Puts old (behind_blanks (words ko)) new result
 
 -- the words of a claim under an allowance: its letter, and its first proof
 abbrev pub claim_words : ReadingQuestion → BoardState → Bool → Ko → List Word
 claim_words q pos won ko = letter_of won ∷ first_words q.plies won (under (first_turn q) ko) pos
-
--- the bytes were written; or it is not told what they are; or they would be too many; or there was no memory
-abbrev pub WritesMaybe : List ℕ → Result (Option (List ℕ)) ProofError → Type 0
-WritesMaybe bytes (Ok (Some written)) = (written ≡ bytes) × (length written ≤ most_bytes)
-WritesMaybe bytes (Ok None) = Unit {0}
-WritesMaybe bytes (Err e) = Writes bytes (Err e)

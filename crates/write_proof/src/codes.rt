@@ -7,12 +7,14 @@ ghost use Rattle.read_tree.specs.Table.{IsTrueTable};
 ghost use Rattle.read_tree.specs.Walk.{IsPointOf};
 ghost use Rattle.read_proof.specs.ProofOf.{codes_down_to, letter_of};
 ghost use Rattle.read_proof.specs.FirstProof.{first_words_of};
-ghost use Rattle.write_proof.specs.Printed.{behind_blanks, most_bytes, Puts, position_on};
+ghost use Rattle.write_proof.specs.Printed.{behind_blanks, Puts, position_on};
+ghost use Rattle.write_proof.specs.Room.{most_bytes};
 ghost use Rattle.write_proof.specs.Alike.{only, ko_under, claim_words, IsOne, PutsAlike};
 
-use crate::text::{ProofError, put_word};
+use crate::room::Text;
+use crate::text::{NoRoom, put_word};
 use crate::walk::write;
-use go_base::{Bytes, Look};
+use go_base::Look;
 use read_proof::codes::claim_under;
 use read_rules::ReadingQuestion;
 use read_tree::memory::Memory;
@@ -45,8 +47,8 @@ pub fn write_claim<L: Look>(
     asked: Allowances,
     won: bool,
     memory: &mut Memory,
-    out: &mut Bytes,
-) -> Result<bool, ProofError>
+    out: &mut Text,
+) -> Result<bool, NoRoom>
     requires room { length board.old.moves + question.now.plies ≤ most_moves }
     requires target { IsPointOf L.shows board.old question.now.target }
     requires some { has_some asked ≡ true }
@@ -79,8 +81,8 @@ fn write_under<L: Look>(
     code: u8,
     more: u8,
     memory: &mut Memory,
-    out: &mut Bytes,
-) -> Result<(), ProofError>
+    out: &mut Text,
+) -> Result<(), NoRoom>
     requires room { length board.old.moves + question.now.plies ≤ most_moves }
     requires target { IsPointOf L.shows board.old question.now.target }
     requires table { IsTrueTable (L.seen board.old.look) question.now.tree question.now.target question.now.colour
@@ -106,8 +108,8 @@ pub fn write_all<L: Look>(
     question: &ReadingQuestion,
     code: u8,
     memory: &mut Memory,
-    out: &mut Bytes,
-) -> Result<(), ProofError>
+    out: &mut Text,
+) -> Result<(), NoRoom>
     requires room { length board.old.moves + question.now.plies ≤ most_moves }
     requires target { IsPointOf L.shows board.old question.now.target }
     requires table { IsTrueTable (L.seen board.old.look) question.now.tree question.now.target question.now.colour

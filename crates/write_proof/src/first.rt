@@ -1,6 +1,7 @@
 //! The first proof of the code of a question, as it is printed.
 
-ghost use Rattle.std.specs.Prelude.{◌≡◌, ◌≢◌, ◌↔◌, ◌+◌, ◌*◌, ◌<◌, ◌≤◌, Bool, IfOk, Err, length, drop};
+ghost use Rattle.std.specs.Prelude.{◌≡◌, ◌≢◌, ◌↔◌, ◌+◌, ◌*◌, ◌<◌, ◌≤◌, [], Bool, false, IfOk, IfErr, Ok, Err};
+ghost use Rattle.std.specs.Prelude.{length, drop};
 ghost use Rattle.go_rules.specs.Strings.{cell_at};
 ghost use Rattle.go_base.specs.Facts.{Fact};
 ghost use Rattle.trial_board.specs.Trials.{Stays, most_moves};
@@ -10,12 +11,13 @@ ghost use Rattle.read_rules.specs.Answer.{answer_of, asked_in};
 ghost use Rattle.read_tree.specs.Table.{IsTrueTable};
 ghost use Rattle.read_proof.specs.ProofOf.{codes_down_to, IsProofOf};
 ghost use Rattle.read_proof.specs.FirstProof.{first_words_of, first_text};
-ghost use Rattle.write_proof.specs.Printed.{behind_blanks, Writes, position_on};
-ghost use Rattle.write_proof.specs.Alike.{WritesMaybe};
+ghost use Rattle.write_proof.specs.Printed.{behind_blanks, Puts, position_on};
+ghost use Rattle.write_proof.specs.Room.{most_bytes};
 
 use crate::codes::{write_all, write_claim};
-use crate::text::ProofError;
-use crate::thrice::thrice;
+use crate::room::Text;
+use crate::text::{NoRoom, ProofError};
+use crate::thrice::put_thrice;
 use go_base::{Bytes, Cell, Look, NoMemory, Point, Position, Watch};
 use read_proof::codes::{claim_under, question_on};
 use read_rules::{Depths, Kind, ReadingQuestion};
@@ -52,102 +54,88 @@ fn code_of(pos: &Position, of: Kind, target: Point, depths: Depths) -> u8
     }
 }
 
-/// The words of the first proof of code 0, each behind a blank, where its three parts are the same.
+/// Puts the words of the first proof of code 0 behind a text, each behind a blank, if its three parts are the same.
+/// Else it answers false and puts nothing.
 fn alike_words<L: Look>(
-    alloc: Global,
     board: &mut Trial<L>,
     question: &ReadingQuestion,
     memory: &mut Memory,
-) -> Result<Option<Bytes>, ProofError>
+    out: &mut Text,
+) -> Result<bool, NoRoom>
     requires room { length board.old.moves + question.now.plies ≤ most_moves }
     requires target { IsPointOf L.shows board.old question.now.target }
     requires table { IsTrueTable (L.seen board.old.look) question.now.tree question.now.target question.now.colour
         memory.old.table.now }
+    requires bytes { length out.old ≤ most_bytes }
     ensures stays { Stays L.shows L.seen board.old board.new }
     ensures table { IsTrueTable (L.seen board.new.look) question.now.tree question.now.target question.now.colour
         memory.new.table.now }
-    ensures words { WritesMaybe
-        (behind_blanks (first_words_of question.now (position_on L.shows board.old) 0 (codes_down_to 0))) result }
+    ensures puts { result ≢ Ok false → Puts out.old
+        (behind_blanks (first_words_of question.now (position_on L.shows board.old) 0 (codes_down_to 0))) out.new
+        result }
+    ensures kept { result ≡ Ok false → out.new ≡ out.old }
 {
     let won = claim_under(question, 0, 3);
-    let mut part = Bytes::new(alloc);
+    let mut part = Text::new();
     match write_claim(board, question, Allowances::all(), won, memory, &mut part) {
-        Ok(true) => match thrice(alloc, part.as_slice()) {
-            Ok(words) => Ok(Some(words)),
+        Ok(true) => match put_thrice(out, part.as_slice()) {
+            Ok(()) => Ok(true),
             Err(why) => Err(why),
         },
-        Ok(false) => Ok(None),
+        Ok(false) => Ok(false),
         Err(why) => Err(why),
     }
 }
 
-/// The words of the first proof of the code, each behind a blank, code by code.
-fn words_by_codes<L: Look>(
-    alloc: Global,
-    board: &mut Trial<L>,
-    question: &ReadingQuestion,
-    code: u8,
-    memory: &mut Memory,
-) -> Result<Bytes, ProofError>
-    requires room { length board.old.moves + question.now.plies ≤ most_moves }
-    requires target { IsPointOf L.shows board.old question.now.target }
-    requires table { IsTrueTable (L.seen board.old.look) question.now.tree question.now.target question.now.colour
-        memory.old.table.now }
-    ensures { Writes
-        (behind_blanks (first_words_of question.now (position_on L.shows board.old) code (codes_down_to code))) result }
-{
-    let mut out = Bytes::new(alloc);
-    match write_all(board, question, code, memory, &mut out) {
-        Ok(()) => Ok(out),
-        Err(why) => Err(why),
-    }
-}
-
-/// The same; of code 0 at once, where its parts are the same.
+/// Puts the words of the first proof of the code behind a text, each behind a blank; those of code 0 at once, if its
+/// parts are the same.
 fn words_on<L: Look>(
-    alloc: Global,
     board: &mut Trial<L>,
     question: &ReadingQuestion,
     code: u8,
     memory: &mut Memory,
-) -> Result<Bytes, ProofError>
+    out: &mut Text,
+) -> Result<(), NoRoom>
     requires room { length board.old.moves + question.now.plies ≤ most_moves }
     requires target { IsPointOf L.shows board.old question.now.target }
     requires table { IsTrueTable (L.seen board.old.look) question.now.tree question.now.target question.now.colour
         memory.old.table.now }
-    ensures { Writes
-        (behind_blanks (first_words_of question.now (position_on L.shows board.old) code (codes_down_to code))) result }
+    requires bytes { length out.old ≤ most_bytes }
+    ensures { Puts out.old (behind_blanks
+        (first_words_of question.now (position_on L.shows board.old) code (codes_down_to code))) out.new result }
 {
-    if code == 0 {
-        match alike_words(alloc, board, question, memory) {
-            Ok(Some(words)) => return Ok(words),
-            Ok(None) => {}
-            Err(why) => return Err(why),
-        }
+    if code != 0 {
+        return write_all(board, question, code, memory, out);
     }
-    words_by_codes(alloc, board, question, code, memory)
+    match alike_words(board, question, memory, out) {
+        Ok(true) => Ok(()),
+        Ok(false) => write_all(board, question, code, memory, out),
+        Err(why) => Err(why),
+    }
 }
 
 /// The same for a position. The table remembers the nodes of the whole proof.
 fn words_with(
-    alloc: Global,
     pos: &Position,
     question: &ReadingQuestion,
     code: u8,
     table: &mut [Entry],
-) -> Result<Bytes, ProofError>
+    out: &mut Text,
+) -> Result<(), NoRoom>
     requires plies { question.now.plies ≤ most_plies }
     requires target { question.now.target < pos.now.size * pos.now.size }
     requires table { (seen : Fact → Bool)
         → IsTrueTable seen question.now.tree question.now.target question.now.colour table.old }
-    ensures { Writes (behind_blanks (first_words_of question.now pos.now code (codes_down_to code))) result }
+    requires bytes { length out.old ≤ most_bytes }
+    ensures { Puts out.old (behind_blanks (first_words_of question.now pos.now code (codes_down_to code))) out.new
+        result }
 {
     let mut board = Trial::new(Watch::new(pos));
     let mut memory = Memory {
         reply: question.target,
         table,
     };
-    let words = words_on(alloc, &mut board, question, code, &mut memory);
+    let words = words_on(&mut board, question, code, &mut memory, out);
     board.finish();
     words
 }
@@ -155,38 +143,79 @@ fn words_with(
 /// The same with a table, which is made here: it is large, and a short proof is not to pay for it.
 #[inline(never)]
 fn words_with_table(
-    alloc: Global,
     pos: &Position,
     question: &ReadingQuestion,
     code: u8,
-) -> Result<Bytes, ProofError>
+    out: &mut Text,
+) -> Result<(), NoRoom>
     requires plies { question.now.plies ≤ most_plies }
     requires target { question.now.target < pos.now.size * pos.now.size }
-    ensures { Writes (behind_blanks (first_words_of question.now pos.now code (codes_down_to code))) result }
+    requires bytes { length out.old ≤ most_bytes }
+    ensures { Puts out.old (behind_blanks (first_words_of question.now pos.now code (codes_down_to code))) out.new
+        result }
 {
     let mut table = empty_table();
-    words_with(alloc, pos, question, code, &mut table)
+    words_with(pos, question, code, &mut table, out)
 }
 
 /// The same with a table where there are plies enough, and else without one.
 fn words_of(
-    alloc: Global,
     pos: &Position,
     question: &ReadingQuestion,
     code: u8,
-) -> Result<Bytes, ProofError>
+    out: &mut Text,
+) -> Result<(), NoRoom>
     requires plies { question.now.plies ≤ most_plies }
     requires target { question.now.target < pos.now.size * pos.now.size }
-    ensures { Writes (behind_blanks (first_words_of question.now pos.now code (codes_down_to code))) result }
+    requires bytes { length out.old ≤ most_bytes }
+    ensures { Puts out.old (behind_blanks (first_words_of question.now pos.now code (codes_down_to code))) out.new
+        result }
 {
     if question.plies < PLIES_WITH_TABLE {
-        return words_with(alloc, pos, question, code, &mut []);
+        return words_with(pos, question, code, &mut [], out);
     }
-    words_with_table(alloc, pos, question, code)
+    words_with_table(pos, question, code, out)
+}
+
+/// Writes the first proof of the code of an attack on the string at `target`, or of its defence, into an empty text,
+/// behind one blank, and tells the code.
+///
+/// The proof takes `.` wherever it will do, else the first move in reading order that will, the pass before all points,
+/// and else `*`. `NoRoom` exactly if it has more than 60,000 bytes. Takes no memory.
+pub fn write_first(
+    pos: &Position,
+    of: Kind,
+    target: Point,
+    depths: Depths,
+    out: &mut Text,
+) -> Result<u8, NoRoom>
+    requires on_board { target < pos.now.size * pos.now.size }
+    requires stone { cell_at pos.now.cells target ≢ Cell.Empty }
+    requires empty { out.old ≡ [] }
+    ensures code { IfOk result (λ code. code
+        ≡ (answer_of (asked_in depths.tree pos.now of target depths.plies depths.wide) pos.now).code) }
+    ensures few { IfOk result (λ code. code ≤ 3) }
+    ensures some { IfOk result (λ code. 0 < length out.new) }
+    ensures text { IfOk result (λ code. drop 1 out.new
+        ≡ first_text (asked_in depths.tree pos.now of target depths.plies depths.wide) pos.now) }
+    ensures short { IfOk result (λ code.
+        length (first_text (asked_in depths.tree pos.now of target depths.plies depths.wide) pos.now) ≤ 60000) }
+    ensures too_long { IfErr result (λ e.
+        60000 < length (first_text (asked_in depths.tree pos.now of target depths.plies depths.wide) pos.now)) }
+    ensures accepted { IfOk result (λ code.
+        IsProofOf (asked_in depths.tree pos.now of target depths.plies depths.wide) pos.now code (drop 1 out.new)) }
+{
+    let _ = pos.size();
+    let question = question_on(pos, of, target, depths);
+    let code = code_of(pos, of, target, depths);
+    match words_of(pos, &question, code, out) {
+        Ok(()) => Ok(code),
+        Err(why) => Err(why),
+    }
 }
 
 /// The text without its first byte.
-fn without_first(alloc: Global, text: &Bytes) -> Result<Bytes, NoMemory>
+fn without_first(alloc: Global, text: &Text) -> Result<Bytes, NoMemory>
     requires { 0 < length text.now }
     ensures { IfOk result (λ new. new ≡ drop 1 text.now) }
 {
@@ -219,12 +248,12 @@ pub fn first_proof(
     ensures accepted { IfOk result (λ proof.
         IsProofOf (asked_in depths.tree pos.now of target depths.plies depths.wide) pos.now proof.code proof.text) }
 {
-    let _ = pos.size();
-    let question = question_on(pos, of, target, depths);
-    let code = code_of(pos, of, target, depths);
-    let words = words_of(alloc, pos, &question, code)?;
-    match without_first(alloc, &words) {
-        Ok(text) => Ok(Proof { code, text }),
-        Err(NoMemory) => Err(ProofError::NoMemory),
+    let mut words = Text::new();
+    match write_first(pos, of, target, depths, &mut words) {
+        Ok(code) => match without_first(alloc, &words) {
+            Ok(text) => Ok(Proof { code, text }),
+            Err(NoMemory) => Err(ProofError::NoMemory),
+        },
+        Err(NoRoom) => Err(ProofError::TooLong),
     }
 }

@@ -7,11 +7,13 @@
 mod alike;
 mod codes;
 mod first;
+mod room;
 mod settled;
 mod text;
 mod thrice;
 mod walk;
 
-pub use first::{Proof, first_proof};
+pub use first::{Proof, first_proof, write_first};
 pub use read_proof::{Depths, ProofOf, Tree};
-pub use text::ProofError;
+pub use room::Text;
+pub use text::{NoRoom, ProofError};

@@ -3,15 +3,14 @@
 ghost use Rattle.std.specs.Prelude.{◌≡◌, ◌≤◌, [], ◌∷◌, length};
 ghost use Rattle.read_rules.specs.GoodMoves.{IsOnBoard};
 ghost use Rattle.read_proof.specs.FirstProof.{move_word};
-ghost use Rattle.write_proof.specs.Printed.{behind_blanks, most_bytes, Puts};
+ghost use Rattle.write_proof.specs.Printed.{behind_blanks, Puts};
+ghost use Rattle.write_proof.specs.Room.{most_bytes};
 
-use go_base::{Bytes, NoMemory, Size};
+use crate::room::{MAX_BYTES, Text};
+use go_base::Size;
 use read_rules::Spot;
 use thiserror::Error;
 use vertices::vertex_text;
-
-/// How many bytes a printed proof may have, with a blank before its first word.
-const MAX_BYTES: usize = 60_001;
 
 /// Why a proof is not told.
 #[derive(Clone, Copy, Debug, PartialEq, Eq, Error)]
@@ -24,22 +23,24 @@ pub enum ProofError {
     NoMemory,
 }
 
-/// Puts bytes behind a text, where there is room for them.
-pub fn put(out: &mut Bytes, more: &[u8]) -> Result<(), ProofError>
+/// A text has no room for more bytes: it would have more than 60,001.
+#[derive(Clone, Copy, Debug, PartialEq, Eq)]
+pub struct NoRoom;
+
+/// Puts bytes behind a text, if there is room for them.
+pub fn put(out: &mut Text, more: &[u8]) -> Result<(), NoRoom>
     requires { length out.old ≤ most_bytes }
     ensures { Puts out.old more.now out.new result }
 {
     if more.len() > MAX_BYTES - out.as_slice().len() {
-        return Err(ProofError::TooLong);
+        return Err(NoRoom);
     }
-    match out.extend(more) {
-        Ok(()) => Ok(()),
-        Err(NoMemory) => Err(ProofError::NoMemory),
-    }
+    out.extend(more);
+    Ok(())
 }
 
 /// Puts a word behind a blank.
-pub fn put_word(out: &mut Bytes, word: &[u8]) -> Result<(), ProofError>
+pub fn put_word(out: &mut Text, word: &[u8]) -> Result<(), NoRoom>
     requires { length out.old ≤ most_bytes }
     ensures { Puts out.old (behind_blanks (word.now ∷ [])) out.new result }
 {
@@ -48,7 +49,7 @@ pub fn put_word(out: &mut Bytes, word: &[u8]) -> Result<(), ProofError>
 }
 
 /// Puts the word of a move behind a blank.
-pub fn put_move(out: &mut Bytes, size: Size, spot: Spot) -> Result<(), ProofError>
+pub fn put_move(out: &mut Text, size: Size, spot: Spot) -> Result<(), NoRoom>
     requires room { length out.old ≤ most_bytes }
     requires on_board { IsOnBoard size spot }
     ensures { Puts out.old (behind_blanks (move_word size spot ∷ [])) out.new result }

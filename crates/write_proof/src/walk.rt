@@ -10,13 +10,15 @@ ghost use Rattle.read_tree.specs.Table.{IsTrueTable};
 ghost use Rattle.read_tree.specs.Walk.{IsPointOf};
 ghost use Rattle.read_proof.specs.Proves.{pass_children, play_children};
 ghost use Rattle.read_proof.specs.FirstProof.{write_each, write_move, first_words};
-ghost use Rattle.write_proof.specs.Printed.{behind_blanks, most_bytes, Puts, position_on};
+ghost use Rattle.write_proof.specs.Printed.{behind_blanks, Puts, position_on};
+ghost use Rattle.write_proof.specs.Room.{most_bytes};
 ghost use Rattle.write_proof.specs.Alike.{IsOne, PutsAlike};
 
 use crate::alike::{Common, first_alike, is_own_alone};
+use crate::room::Text;
 use crate::settled::{is_settled, is_wanted};
-use crate::text::{ProofError, put_move, put_word};
-use go_base::{Bytes, Look, Point};
+use crate::text::{NoRoom, put_move, put_word};
+use go_base::{Look, Point};
 use read_moves::candidates;
 use read_rules::{Node, Spot};
 use read_tree::making::{Made, make};
@@ -40,7 +42,7 @@ fn node_of(turn: Turn) -> Node
 }
 
 /// Writes that a claim is settled, which it then is under each allowance.
-fn put_dot(out: &mut Bytes) -> Result<bool, ProofError>
+fn put_dot(out: &mut Text) -> Result<bool, NoRoom>
     requires { length out.old ≤ most_bytes }
     ensures puts { Puts out.old (behind_blanks (codes "." ∷ [])) out.new result }
     ensures told { result ≢ Ok false }
@@ -59,8 +61,8 @@ fn write_pass<L: Look>(
     plies: u8,
     won: bool,
     memory: &mut Memory,
-    out: &mut Bytes,
-) -> Result<bool, ProofError>
+    out: &mut Text,
+) -> Result<bool, NoRoom>
     requires room { length board.old.moves + plies < most_moves }
     requires target { IsPointOf L.shows board.old turn.target }
     requires some { has_some asked ≡ true }
@@ -92,8 +94,8 @@ fn write_play<L: Look>(
     plies: u8,
     won: bool,
     memory: &mut Memory,
-    out: &mut Bytes,
-) -> Result<bool, ProofError>
+    out: &mut Text,
+) -> Result<bool, NoRoom>
     requires room { length board.old.moves + plies < most_moves }
     requires target { IsPointOf L.shows board.old turn.target }
     requires on_board { IsPointOf L.shows board.old p }
@@ -135,8 +137,8 @@ fn write_plays<L: Look>(
     plies: u8,
     won: bool,
     memory: &mut Memory,
-    out: &mut Bytes,
-) -> Result<bool, ProofError>
+    out: &mut Text,
+) -> Result<bool, NoRoom>
     requires room { length board.old.moves + plies < most_moves }
     requires target { IsPointOf L.shows board.old turn.target }
     requires some { has_some asked ≡ true }
@@ -175,8 +177,8 @@ fn write_move<L: Look>(
     plies: u8,
     won: bool,
     memory: &mut Memory,
-    out: &mut Bytes,
-) -> Result<bool, ProofError>
+    out: &mut Text,
+) -> Result<bool, NoRoom>
     requires room { length board.old.moves + plies < most_moves }
     requires target { IsPointOf L.shows board.old turn.target }
     requires some { has_some asked ≡ true }
@@ -213,8 +215,8 @@ pub fn write<L: Look>(
     plies: u8,
     won: bool,
     memory: &mut Memory,
-    out: &mut Bytes,
-) -> Result<bool, ProofError>
+    out: &mut Text,
+) -> Result<bool, NoRoom>
     requires room { length board.old.moves + plies ≤ most_moves }
     requires target { IsPointOf L.shows board.old turn.target }
     requires some { has_some asked ≡ true }

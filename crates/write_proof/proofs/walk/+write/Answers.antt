@@ -17,9 +17,10 @@ use Rattle.read_tree.specs.Allowances.{Ko, neither_may, under, next_turn}
 use Rattle.read_tree.proofs.AllowanceLemmas.{next_keeps}
 use Rattle.read_tree.proofs.TableLemmas.{table_more}
 use Rattle.read_proof.specs.Proves.{is_wanted}
-use Rattle.write_proof.specs.declared.text.ProofError.{ProofError}
+use Rattle.write_proof.specs.declared.text.NoRoom.{NoRoom}
 use Rattle.read_proof.specs.FirstProof.{write_move, move_word, first_words}
-use Rattle.write_proof.specs.Printed.{behind_blanks, most_bytes, Puts, position_on}
+use Rattle.write_proof.specs.Printed.{behind_blanks, Puts, position_on}
+use Rattle.write_proof.specs.Room.{most_bytes}
 use Rattle.write_proof.proofs.PutLemmas.{puts_both, puts_up, puts_same, dot_words, move_words, each_words, walk_written}
 use Rattle.write_proof.proofs.WriteLemmas.{here_stays, nothing_put, no_move_written, play_written, refused_written}
 use Rattle.write_proof.proofs.WriteLemmas.{no_pass_written, pass_written, move_written, move_refused, play_child}
@@ -63,7 +64,7 @@ shown_agrees g t c = subst (Agrees (g.L.Look.seen c.make.new.board.look)) c.make
 
 -- what is written at the child to which a play leads that was made
 child_written : (g : Over) (t : ℕ) (c : write_play-After-make g t) (node next : Node) (out : List ℕ)
-    (r : Result Bool ProofError) → let here = position_on g.L.Look.shows c.args.board.now in
+    (r : Result Bool NoRoom) → let here = position_on g.L.Look.shows c.args.board.now in
     child_of node here c.args.p ≡ Some (next, after (g.L.Look.shows c.args.board.now.look) c.make.new.board.moves)
     → Puts c.args.out.now (behind_blanks (first_words c.args.plies c.args.won next
     (position_on g.L.Look.shows c.make.new.board))) out r

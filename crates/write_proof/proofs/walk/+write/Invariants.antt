@@ -8,7 +8,8 @@ use Rattle.read_tree.specs.Allowances.{Ko, has, under}
 use Rattle.read_tree.specs.Table.{IsTrueTable}
 use Rattle.read_proof.specs.Proves.{play_children}
 use Rattle.read_proof.specs.FirstProof.{write_each, first_words}
-use Rattle.write_proof.specs.Printed.{behind_blanks, most_bytes, position_on}
+use Rattle.write_proof.specs.Printed.{behind_blanks, position_on}
+use Rattle.write_proof.specs.Room.{most_bytes}
 use Rattle.write_proof.proofs.walk.+write.Given as goal
 
 -- each step down the tree spends a ply
