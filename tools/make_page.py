@@ -38,7 +38,7 @@ PAGE_SCRIPTS = ["rules.js", "texts.js", "board.js", "page.js"]
 WORKER_SCRIPTS = ["rules.js", "proof.js", "worker.js"]
 # The greatest number of plies that the page takes, and the bytes of the module's stack and of its whole memory, in pages
 # of 65536: docs/DOORS.md says what of the stack the deepest question was seen to use.
-MOST_PLIES = 60
+MOST_PLIES = 200
 STACK = 16 * 65536
 MEMORY = STACK + 4 * 65536
 LINE = re.compile(rf"(?m)^{CRATE} staticlib:(.*)$")

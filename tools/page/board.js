@@ -32,7 +32,8 @@ function gridSvg(size) {
   }
   const box = `x="${frame.left}" y="${frame.top}" width="${frame.width}" height="${frame.height}"`;
   const edge = `M0 0H${last}V${last}H0Z`;
-  return `<rect class="wood" ${box} rx=".15"/><path class="line" d="${lines}"/><path class="edge" d="${edge}"/>${names}`;
+  const wood = `<rect class="wood" ${box} rx=".15"/>`;
+  return `${wood}<path class="line" d="${lines}"/><path class="edge" d="${edge}"/>${names}`;
 }
 
 /** A mark at a point, by what it says: "good" (a move of the attack), "safe" (of the defence), "both", "target",
@@ -42,11 +43,12 @@ function markSvg(size, kind, point, colour) {
   const y = Math.floor(point / size);
   const on = { [BLACK]: "on-black", [WHITE]: "on-white" }[colour] ?? "on-wood";
   const disc = `<circle class="good" cx="${x}" cy="${y}" r=".34"/>`;
+  const inner = `<rect class="inner" x="${x - 0.2}" y="${y - 0.2}" width=".4" height=".4"/>`;
   const square = `<rect class="safe" x="${x - 0.29}" y="${y - 0.29}" width=".58" height=".58"/>`;
   return {
     good: disc,
     safe: square,
-    both: `<circle class="good" cx="${x}" cy="${y}" r=".4"/><rect class="inner" x="${x - 0.2}" y="${y - 0.2}" width=".4" height=".4"/>`,
+    both: `<circle class="good" cx="${x}" cy="${y}" r=".4"/>${inner}`,
     target: `<path class="mark ${on}" d="M${x} ${y - 0.3}L${x + 0.26} ${y + 0.17}H${x - 0.26}Z"/>`,
     picked: `<rect class="mark ${on}" x="${x - 0.22}" y="${y - 0.22}" width=".44" height=".44"/>`,
     last: `<circle class="last" cx="${x}" cy="${y}" r=".17"/>`,

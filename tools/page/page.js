@@ -1,5 +1,5 @@
-// The page: what is shown, and what a click or a key does. What is asked about a position goes to the module in a worker
-// (worker.js); boards are drawn by board.js, and pasted texts are read by texts.js.
+// The page: what is shown, and what a click or a key does. What is asked about a position goes to the module in a
+// worker (worker.js); boards are drawn by board.js, and pasted texts are read by texts.js.
 
 /** The controls of the page by their ids. */
 const id = (name) => document.getElementById(name);
@@ -90,9 +90,14 @@ let reader;
 let isReading = false;
 let running = Promise.resolve();
 
-/** Does things one after another. A reading that is under way is stopped, so that no action waits for it. */
+/** Does something; a reading that is under way is stopped, so that nothing waits for it. */
 function perform(action) {
   stopReading();
+  return performNext(action);
+}
+
+/** Does something when all that is under way has been done. */
+function performNext(action) {
   running = running.then(action).catch((why) => {
     if (!(why instanceof Stopped)) tellNote(why instanceof NotRead ? why.message : `This went wrong: ${why.message}`);
   });
@@ -125,8 +130,8 @@ function showBusy() {
 
 // What is shown.
 
-/** What stands on the page: the board, whose turn it is, the last play, the cursor, and what was asked. */
-let shown = { board: emptyBoard(9), turn: BLACK, last: undefined };
+/** What stands on the page: the board, whose turn it is, and the last play. */
+let shown = placed(emptyBoard(9));
 const earlier = [];
 let cursor = 0;
 let picked;
@@ -151,7 +156,8 @@ function marks() {
   const { board, last } = shown;
   const found = [];
   if (board.banColour !== 0) found.push(["ban", board.banPoint]);
-  const [good, safe] = ["attack", "defend"].map((kind) => (asked?.moves?.[kind] ?? []).filter((move) => move < PASS - 1));
+  const pointsOf = (kind) => (asked?.moves[kind] ?? []).filter((move) => move < board.cells.length);
+  const [good, safe] = [pointsOf("attack"), pointsOf("defend")];
   for (const point of new Set([...good, ...safe])) {
     const kind = good.includes(point) ? (safe.includes(point) ? "both" : "good") : "safe";
     found.push([kind, point]);
@@ -172,9 +178,16 @@ const LEGEND = {
   ban: "red square: the ko ban",
 };
 
+/** The same if two strings were asked about. */
+const LEGEND_OF_TWO = {
+  ...LEGEND,
+  good: "green disc: connects",
+  safe: "light square: keeps apart",
+  both: "disc with a square: connects and keeps apart",
+};
+
 function legend(kinds) {
-  const isLinks = asked?.points.length === 2;
-  const words = isLinks ? { ...LEGEND, good: "green disc: connects", safe: "light square: keeps apart", both: "disc with a square: connects and keeps apart" } : LEGEND;
+  const words = asked?.points.length === 2 ? LEGEND_OF_TWO : LEGEND;
   return Object.keys(LEGEND).filter((kind) => kinds.has(kind)).map((kind) => words[kind]).join("; ");
 }
 
@@ -225,12 +238,18 @@ async function play(colour, point) {
 }
 
 function erase(point) {
-  if (shown.board.cells[point] !== EMPTY) change({ ...shown, board: withCell(shown.board, point, EMPTY), last: undefined });
+  const board = withCell(shown.board, point, EMPTY);
+  if (shown.board.cells[point] !== EMPTY) change({ ...shown, board, last: undefined });
+}
+
+/** A board without a last play. */
+function placed(board) {
+  return { board, turn: BLACK, last: undefined };
 }
 
 /** Sets up a pasted text. */
 async function setUp(text) {
-  const next = isRecord(text) ? await playedOut(recordOf(text)) : { board: boardOfRows(text), turn: BLACK, last: undefined };
+  const next = isRecord(text) ? await playedOut(recordOf(text)) : placed(boardOfRows(text));
   const { status } = await reader.ask("liberties", { board: next.board, point: 0 });
   if (status >= 1 && status <= 4) throw new NotRead(STATUSES[status]);
   change(next);
@@ -238,7 +257,7 @@ async function setUp(text) {
 
 /** What stands at the end of the main line of a record. */
 async function playedOut({ size, steps }) {
-  let next = { board: emptyBoard(size), turn: BLACK, last: undefined };
+  let next = placed(emptyBoard(size));
   for (const [number, step] of steps.entries()) {
     if (step.cells) {
       const board = step.cells.reduce((before, [point, colour]) => withCell(before, point, colour), next.board);
@@ -265,11 +284,11 @@ function depths() {
 async function askString(point) {
   const { board } = shown;
   forget();
+  draw();
   const words = { board, target: point, depths: depths() };
   if (!words.depths) return;
   if (board.cells[point] === EMPTY) {
     tellNote(`${vertexOf(board.size, point)}: ${STATUSES[6]}`);
-    draw();
     return;
   }
   asked = { points: [point], moves: {} };
@@ -314,9 +333,10 @@ async function readString(kind, words) {
 /** The frame of an answer, with the reply as the program prints it. */
 function answerCard(kind, heading, size, reply) {
   const text = reply.code === 0 ? "0" : `${reply.code} ${vertexOf(size, reply.at)}`;
-  const time = `read in ${reply.milliseconds.toFixed(1)} ms`;
+  const code = element("code", { className: "reply" }, text);
+  const time = element("span", { className: "soft" }, `read in ${reply.milliseconds.toFixed(1)} ms`);
   const head = element("h3", {}, heading);
-  const line = element("p", {}, element("code", { className: "reply" }, text), " ", element("span", { className: "soft" }, time));
+  const line = element("p", {}, code, " ", time);
   const card = element("article", { id: kind, className: reply.code > 0 ? "reading yes" : "reading" }, head, line);
   id("answer").append(card);
   return card;
@@ -337,14 +357,15 @@ function inWords(kind, board, target, { code, at }) {
   const plies = counted(Number(id("plies").value), "ply", "plies");
   if (code === 0) return `No: none of the moves that were tried ${does} within ${plies}.`;
   const move = at === PASS ? "without adding a stone" : `by ${vertexOf(board.size, at)}`;
-  if (code === 3) return `Yes: ${mover} ${does} ${move}, even if ${opponent} may once retake where the ko rule forbids it.`;
+  const retakes = "may once retake where the ko rule forbids it";
+  if (code === 3) return `Yes: ${mover} ${does} ${move}, even if ${opponent} ${retakes}.`;
   if (code === 2) return `Yes: ${mover} ${does} ${move}, if neither side plays against the ko rule.`;
-  return `Only with a ko threat: ${mover} ${does} ${move}, if ${mover} may once retake where the ko rule forbids it.`;
+  return `Only with a ko threat: ${mover} ${does} ${move}, if ${mover} ${retakes}.`;
 }
 
 function worth() {
-  const text = "A yes to the attack holds against the replies that are tried, not against every reply; a yes to the defence holds within the plies.";
-  return element("p", { className: "soft" }, text);
+  const attack = "A yes to the attack holds against the replies that are tried, not against every reply";
+  return element("p", { className: "soft" }, `${attack}; a yes to the defence holds within the plies.`);
 }
 
 // Asking about a connection.
@@ -358,7 +379,8 @@ async function pick(point) {
     forget();
     picked = point;
     tellNote("");
-    id("answer").replaceChildren(element("p", {}, `${vertexOf(board.size, point)} is one stone; click on the other one.`));
+    const text = `${vertexOf(board.size, point)} is one stone; click on the other one.`;
+    id("answer").replaceChildren(element("p", {}, text));
     draw();
   } else {
     await askConnection(picked, point);
@@ -368,6 +390,7 @@ async function pick(point) {
 async function askConnection(a, b) {
   const { board } = shown;
   forget();
+  draw();
   const found = depths();
   if (!found) return;
   const { plies } = found;
@@ -377,7 +400,8 @@ async function askConnection(a, b) {
     begin(`The strings at ${names.join(" and ")}`);
     await readConnection("connect", { board, a, b, plies });
     await readConnection("disconnect", { board, a, b, plies });
-    id("answer").append(element("p", { className: "soft" }, "A yes holds within the plies, against the replies that are tried."));
+    const text = "A yes holds within the plies, against the replies that are tried.";
+    id("answer").append(element("p", { className: "soft" }, text));
   });
 }
 
@@ -392,7 +416,8 @@ async function readConnection(kind, words) {
   }
   const owner = COLOUR_NAMES[board.cells[a]];
   const mover = kind === "connect" ? owner : COLOUR_NAMES[other(board.cells[a])];
-  const card = answerCard(kind, `${kind === "connect" ? "Connect" : "Disconnect"}: ${mover} plays first`, board.size, reply);
+  const name = kind === "connect" ? "Connect" : "Disconnect";
+  const card = answerCard(kind, `${name}: ${mover} plays first`, board.size, reply);
   card.append(element("p", {}, connectionInWords(kind, board.size, mover, reply)));
   asked.moves[kind === "connect" ? "attack" : "defend"] = reply.code > 0 ? [reply.at] : [];
 }
@@ -410,7 +435,7 @@ function proofOf(kind, words) {
   const details = element("details", { className: "proof" }, element("summary", {}, "Why: the proof"));
   details.addEventListener("toggle", () => {
     if (details.open && details.children.length === 1) {
-      perform(() => reading(async () => {
+      performNext(() => reading(async () => {
         const found = await reader.ask("proof", { ...words, kind });
         details.append(...proofParts(kind, words, found));
       }));
@@ -423,7 +448,8 @@ function proofOf(kind, words) {
 function proofParts(kind, words, { status, code, text, isProof, parts }) {
   if (status !== 0) return [element("p", {}, STATUSES[status] ?? `Status ${status}.`)];
   const count = counted(text.split(" ").length, "word", "words");
-  const judged = isProof ? `The checker in the module accepts them as a proof of code ${code}.` : "The checker does not accept them.";
+  const accepts = `The checker in the module accepts them as a proof of code ${code}.`;
+  const judged = isProof ? accepts : "The checker in the module does not accept them.";
   const shownWords = element("details", {}, element("summary", {}, count), element("pre", {}, text));
   const found = [element("p", { className: "judged" }, judged), shownWords];
   if (!parts) return [...found, element("p", {}, "This page's script could not follow them.")];
@@ -457,7 +483,7 @@ function stepParts({ word, isAttackers, reason, behind }, board, defender) {
 
 /** A move of a proof; its board and what follows are made when it is unfolded. */
 function moveDetails(colour, point, step, board, defender) {
-  const name = point === PASS ? `${COLOUR_NAMES[colour]} passes` : `${COLOUR_NAMES[colour]} ${vertexOf(board.size, point)}`;
+  const name = `${COLOUR_NAMES[colour]} ${point === PASS ? "passes" : vertexOf(board.size, point)}`;
   const details = element("details", {}, element("summary", {}, name));
   details.addEventListener("toggle", () => {
     if (!details.open || details.children.length > 1) return;
@@ -556,7 +582,7 @@ function listen() {
 }
 
 function startOn(size) {
-  change({ board: emptyBoard(size), turn: BLACK, last: undefined });
+  change(placed(emptyBoard(size)));
 }
 
 // The beginning.
@@ -566,10 +592,10 @@ const SMALL = [0x00, 0x61, 0x73, 0x6d, 0x01, 0x00, 0x00, 0x00, 0x05, 0x03, 0x01,
 
 /** Why the page cannot answer in this browser; an empty text if it can. */
 function whyNot() {
-  const needed = "The board needs Chrome or Edge from version 133, Firefox from version 134, or another browser with memory64.";
+  const needed = "The board needs Chrome or Edge from version 133, Firefox from version 134, or another with memory64.";
   if (typeof WebAssembly === "undefined") return `This browser has no WebAssembly. ${needed}`;
-  if (!WebAssembly.validate(Uint8Array.from(SMALL))) return `This browser has no 64-bit memory for WebAssembly. ${needed}`;
-  return "";
+  const hasMemory = WebAssembly.validate(Uint8Array.from(SMALL));
+  return hasMemory ? "" : `This browser has no 64-bit memory for WebAssembly. ${needed}`;
 }
 
 /** Shows a message in place of the board. */

@@ -1,9 +1,9 @@
 // Follows the words of a proof through the game tree, so that the page can show each move: the candidates of
 // docs/DEFINITIONS.md and the rules of docs/PROOFS_OF_READINGS.md. Whether the words are a proof is said by the module;
-// this only finds out which moves they stand for.
+// this finds out which moves they stand for.
 //
-// A node is { board, target, defender, isAttackers, plies, wide, isWider, attackerKo, defenderKo }. A step is the word at
-// a node and the steps behind it: { word, isAttackers, reason, behind: [{ point, step }] }.
+// A node is { board, target, defender, isAttackers, plies, wide, isWider, attackerKo, defenderKo }. A step is the word
+// at a node and the steps behind it: { word, isAttackers, reason, behind: [{ point, step }] }.
 
 /** The points of these strings' liberties, of each string that has at most so many. */
 function libertiesOf(strings, most) {
@@ -160,8 +160,8 @@ function firstNode(board, kind, target, { plies, wide, tree }, code) {
   return { board, target, defender, isAttackers, plies, wide, isWider: tree === 1, attackerKo, defenderKo };
 }
 
-/** The parts of a proof, from code 3 downwards: { code, claim, text, first }, where the claim is W if the attacker wins,
-    and the text is the part's words. Null if the words do not fit the tree. */
+/** The parts of a proof, from code 3 downwards: { code, claim, text, first }; the claim is W if the attacker wins, and
+    the text is the part's words. Null if the words do not fit the tree. */
 function partsOf(board, kind, target, depths, code, text) {
   const words = new Words(text);
   const parts = [];

@@ -5,10 +5,12 @@ class NotRead extends Error {}
 
 /** The board that the rows of a text show: X is black, O is white. */
 function boardOfRows(text) {
-  const rows = text.split("\n").filter((line) => /^ *\d+ +[.+XO]/.test(line)).map((line) => line.trim().split(/\s+/));
+  const lines = text.split("\n").filter((line) => /^ *\d+ +[.+XO]/.test(line));
+  const rows = lines.map((line) => line.trim().split(/\s+/));
   const board = emptyBoard(checkedSize(rows.length, "rows"));
   rows.forEach(([name, ...marks], row) => {
-    if (Number(name) !== board.size - row) throw new NotRead(`row ${name} stands where row ${board.size - row} belongs`);
+    const wanted = board.size - row;
+    if (Number(name) !== wanted) throw new NotRead(`row ${name} stands where row ${wanted} belongs`);
     const shown = marks.slice(0, board.size);
     if (shown.length < board.size || !shown.every((mark) => ".+XO".includes(mark) && mark.length === 1)) {
       throw new NotRead(`row ${name} does not have ${board.size} points, each . X or O`);
