@@ -6,8 +6,10 @@ usage: python3 tools/try_doors.py GOPAT QUESTIONS [SEED]
 It runs at the top of a clone and wants `rt`, a C compiler and Python; GOPAT is the path of the program. `rustc`, `go`
 and `valgrind` are used if they are there. The questions arise in random games on boards of 2 to 13 rows: the moves go
 to the program line by line and to the library as boards, so that bans are those of real kos. A third of the questions
-have one argument broken, or a ban that no game left: their status is compared with that of the rules in this file. The
-same questions go to the library once more from C, and a part of them under valgrind. The last lines are figures:
+have one argument broken, or a ban that no game left: their status is compared with that of the rules in this file. Each
+move that the library tells as one that attains a code, and each liberty of the target, is played in the program too,
+which then says what the other side attains. Proofs are compared with those that the program prints. The same questions
+go to the library once more from C, and a part of them under valgrind. The last lines are figures:
 questions by each way in a second of the processor, that of both ends of a pipe together. The exit status is 1 where
 anything differs.
 """
