@@ -59,6 +59,16 @@ def session(command: list[str], lines: list[str], folder: str | None = None) -> 
     return replies, seconds
 
 
+def reply_of(text: bytes) -> Reply:
+    """A reply without an id."""
+    said = text.decode()
+    return Reply(said[0] == "=", said[1:].removeprefix(" ").removesuffix("\n\n"))
+
+
+# So many lines are sent together by `Running.ask_all`.
+TOGETHER = 200
+
+
 class Ended(Exception):
     """The program ended where a reply was wanted."""
 
@@ -76,6 +86,10 @@ class Running:
             self.process.stdin.flush()
         except BrokenPipeError as why:
             raise Ended from why
+        return self.next_reply()
+
+    def next_reply(self) -> bytes:
+        """The next reply, with its empty line."""
         reply = b""
         while not reply.endswith(b"\n\n"):
             part = self.process.stdout.readline()
@@ -86,8 +100,17 @@ class Running:
 
     def ask(self, line: str) -> Reply:
         """The reply to a line without an id."""
-        text = self.pass_on(line.encode()).decode()
-        return Reply(text[0] == "=", text[1:].removeprefix(" ").removesuffix("\n\n"))
+        return reply_of(self.pass_on(line.encode()))
+
+    def ask_all(self, lines: list[str]) -> list[Reply]:
+        """The replies to lines without ids, each of which has words. So many lines at once go out together that their
+        replies stay in the pipe."""
+        replies: list[Reply] = []
+        for first in range(0, len(lines), TOGETHER):
+            part = lines[first : first + TOGETHER]
+            replies.append(reply_of(self.pass_on("\n".join(part).encode())))
+            replies += [reply_of(self.next_reply()) for _ in part[1:]]
+        return replies
 
     def end(self) -> int:
         """The exit status, after the end of the lines."""

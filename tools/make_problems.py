@@ -8,10 +8,11 @@ set in a part of a board (--size 7). About each string with at most three libert
 and whether it can be saved (--kind attack or defend asks one of these alone), at --depths 16:6. Kept is a question
 
 - whose code is above 0, while the other side would have a code above 0 if it moved first, so that a move is needed;
-- that takes at least and at most so many plies as --plies says (3:16);
+- that takes at least and at most so many plies as --plies says (3:16): those of the capture, in a defence those of the
+  one that threatens;
 - for which, over every legal move and not only those that the reading tries, exactly one attains the code.
 
-Then stones are taken off as long as code, answer and fewest plies stay and the answer is the only one. A position that
+It is asked at no more than 8 plies, 4 of them wide, before it is asked at these depths. Then stones are taken off as long as code, answer and fewest plies stay and the answer is the only one. A position that
 is another one turned, mirrored or with the colours exchanged is left out. The side to move is made Black.
 
 A record has the position, the question as a line `gopat:` (docs/USING.md, *Problem sets*), the solution as its main
@@ -33,8 +34,10 @@ import gtp
 import positions
 import solutions
 from go_rules import BLACK, EMPTY, WHITE, Move, Position, other, string_at, vertex_of
-from problems import Expected, Problem, attains, fewest_plies, legal_moves, told
+from problems import Expected, Problem, legal_moves, told
 
+# A position is asked at no more than so many plies, and so many wide ones, before it is asked at the depths wanted.
+FIRST_PLIES, FIRST_WIDE = 8, 4
 # A part of the board in which stones are set has at least so many rows and columns.
 LEAST_PART = 4
 MOST_LIBERTIES = 3
@@ -51,7 +54,7 @@ class Wanted(NamedTuple):
 
 
 class Found(NamedTuple):
-    """A problem with the code, the only move that attains it, and the fewest plies."""
+    """A problem with the code, the only move that attains it, and the fewest plies of the capture."""
 
     problem: Problem
     code: int
@@ -122,80 +125,108 @@ def problem_about(position: Position, kind: str, target: int, depths: asking.Dep
     return Problem("", "", positions.set_up(position, []), question, Expected([]))
 
 
-def code_of(gopat: gtp.Running, problem: Problem, kind: str) -> int:
-    """The code of a question of this kind about a problem's string; the board is set up before."""
+def asks_about(problem: Problem, kind: str, plies: int, wide: int) -> list[str]:
+    """The lines that ask a question of this kind about a problem's string."""
+    return [f"depths {plies} {wide}", f"{kind} {problem.question.vertex}"]
+
+
+def code_of(reply: gtp.Reply) -> int:
+    """The code of an answer."""
+    if not reply.ok:
+        raise asking.Refused(reply.text)
+    return int(reply.text[0])
+
+
+def codes(gopat: gtp.Running, problem: Problem) -> dict[str, int]:
+    """Sets the position up, and asks both questions: the codes by the kind."""
+    depths, kinds = problem.question.depths, ("attack", "defend")
+    lines = [line for kind in kinds for line in asks_about(problem, kind, *depths[:2])]
+    replies = gopat.ask_all([*problem.situation.lines, *lines])
+    return dict(zip(kinds, (code_of(replies[-3]), code_of(replies[-1]))))
+
+
+def capture_plies(gopat: gtp.Running, problem: Problem, code: int, most: int) -> int:
+    """The fewest plies with which the attacker attains a code, above `most` if these are too few."""
     depths = problem.question.depths
-    told(gopat, f"depths {depths.plies} {depths.wide}")
-    return int(told(gopat, f"{kind} {problem.question.vertex}")[0])
-
-
-def set_up(gopat: gtp.Running, problem: Problem):
-    for line in problem.situation.lines:
-        told(gopat, line)
+    for plies in range(1, most + 1, 4):
+        some = range(plies, min(plies + 4, most + 1))
+        lines = [line for number in some for line in asks_about(problem, "attack", number, depths.wide)]
+        for number, reply in zip(some, gopat.ask_all(lines)[1::2]):
+            if code_of(reply) >= code:
+                return number
+    return most + 1
 
 
 def only_move(gopat: gtp.Running, problem: Problem, code: int) -> Move | None:
     """The only legal move that attains the code; none if several do, or it is the pass."""
-    found = None
-    for move in legal_moves(problem):
-        if attains(gopat, problem, move, code):
-            if found or move.point is None:
-                return None
-            found = move
-    return found
+    (kind, vertex, depths), size = problem.question, problem.situation.position.size
+    against = "defend" if kind == "attack" else "attack"
+    moves, colour = list(legal_moves(problem)), positions.LETTERS[problem.mover()]
+    told(gopat, f"depths {depths.plies - 1} {max(depths.wide - 1, 0)}")
+    lines = [[f"play {colour} {vertex_of(size, move.point)}", f"{against} {vertex}", "undo"] for move in moves]
+    replies = gopat.ask_all([line for three in lines for line in three])[1::3]
+    found = [move for move, reply in zip(moves, replies) if not reply.ok or code_of(reply) <= 3 - code]
+    return found[0] if len(found) == 1 and found[0].point is not None else None
 
 
 def asked(gopat: gtp.Running, problem: Problem, plies: tuple[int, int]) -> Found | None:
     """The problem with its answer, if it is one that is kept."""
-    set_up(gopat, problem)
-    kind = problem.question.kind
-    code = code_of(gopat, problem, kind)
-    if code == 0 or code_of(gopat, problem, "defend" if kind == "attack" else "attack") == 0:
+    found = codes(gopat, problem)
+    if 0 in found.values():
         return None
-    least = fewest_plies(gopat, problem, code)
+    least = capture_plies(gopat, problem, found["attack"], plies[1])
     if not plies[0] <= least <= plies[1]:
         return None
+    code = found[problem.question.kind]
     move = only_move(gopat, problem, code)
     return Found(problem, code, move, least) if move else None
 
 
 def reduced(gopat: gtp.Running, found: Found, chance: random.Random) -> Found:
-    """The problem without the stones that it does not need."""
+    """The problem without the stones that it does not need, looked at one after the other by chance."""
     target = found.problem.target()
     left = [point for point, cell in enumerate(found.problem.situation.position.cells) if cell != EMPTY]
     chance.shuffle(left)
     for point in left:
-        position = found.problem.situation.position
-        cells = bytearray(position.cells)
-        cells[point] = EMPTY
         if point == target:
             continue
-        fewer = problem_about(position._replace(cells=bytes(cells)), found.problem.question.kind, target,
-                              found.problem.question.depths)
+        position, question = found.problem.situation.position, found.problem.question
+        cells = bytearray(position.cells)
+        cells[point] = EMPTY
+        fewer = problem_about(position._replace(cells=bytes(cells)), question.kind, target, question.depths)
         again = asked(gopat, fewer, (found.plies, found.plies))
         if again and (again.code, again.move) == (found.code, found.move):
             found = again
     return found
 
 
+def confirmed(gopat: gtp.Running, found: Found, wanted: Wanted) -> Found | None:
+    """The problem asked at the depths wanted, with Black to move; none if its answer is another one there."""
+    question = found.problem.question
+    problem = problem_about(with_black_to_move(found), question.kind, found.problem.target(), wanted.depths)
+    again = asked(gopat, problem, wanted.plies)
+    return again if again and (again.code, again.move) == (found.code, found.move) else None
+
+
 def search(gopat: gtp.Running, chance: random.Random, wanted: Wanted) -> Iterator[Found]:
     """The problems of random positions, without end."""
     seen: set[tuple[bytes, int, str]] = set()
+    depths = wanted.depths
+    first = depths._replace(plies=min(depths.plies, FIRST_PLIES), wide=min(depths.wide, FIRST_WIDE))
     while True:
         position = random_position(chance, wanted)
         for target, liberties in strings(position) if position else ():
             for kind in wanted.kinds if len(liberties) <= MOST_LIBERTIES else ():
-                found = asked(gopat, problem_about(position, kind, target, wanted.depths), wanted.plies)
+                found = asked(gopat, problem_about(position, kind, target, first), wanted.plies)
                 if not found:
                     continue
                 found = reduced(gopat, found, chance)
                 is_swapped = found.problem.mover() == WHITE
-                image = min(images(found.problem.situation.position, found.problem.target(), is_swapped))
-                if (*image, kind) not in seen:
-                    seen.add((*image, kind))
-                    position_of_black = with_black_to_move(found)
-                    problem = problem_about(position_of_black, kind, found.problem.target(), wanted.depths)
-                    yield found._replace(problem=problem)
+                image = *min(images(found.problem.situation.position, found.problem.target(), is_swapped)), kind
+                again = None if image in seen else confirmed(gopat, found, wanted)
+                seen.add(image)
+                if again:
+                    yield again
 
 
 # The command.
@@ -238,7 +269,7 @@ def main(*given: str) -> int:
             path = out / f"{solution.theme}-{words.seed}-{written:03}.sgf"
             path.write_text(solutions.record(found.problem, found.code, solution), encoding="ascii")
             print(f"{path.name}: {found.problem.question.kind} {found.problem.question.vertex}, "
-                  f"{solutions.in_words(solution)}, {found.plies} plies", flush=True)
+                  f"{solutions.in_words(solution, words.size)}, {found.plies} plies", flush=True)
             if written == words.number:
                 break
         gopat.end()

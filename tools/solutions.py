@@ -6,9 +6,9 @@ from typing import NamedTuple
 import gtp
 import positions
 import sgf
-from go_rules import BLACK, EMPTY, Move, Position, captures, other, string_at, vertex_of
+from go_rules import BLACK, EMPTY, Move, Position, captures, neighbours, other, string_at, vertex_of
 from positions import Played, Situation
-from problems import Problem, legal_moves, told
+from problems import Problem, told
 
 # A line of play is shown up to so many moves; of a defence so many tries of the attacker.
 MOST_MOVES, MOST_TRIES = 21, 3
@@ -44,8 +44,7 @@ class Asked(NamedTuple):
 
     def at(self, situation: Situation):
         """Sets up a position, and plays the moves behind it."""
-        for line in situation.lines:
-            told(self.gopat, line)
+        self.gopat.ask_all(situation.lines)
 
 
 # The line of play.
@@ -57,14 +56,27 @@ def after(situation: Situation, colour: int, point: int | None) -> Situation | N
 
 def plies_to_capture(asked: Asked, situation: Situation, most: int, code: int) -> tuple[int, str] | None:
     """The fewest plies with which the attacker, to move, attains the code, and his move."""
-    if asked.is_captured(situation.position):
-        return 0, ""
-    asked.at(situation)
-    for plies in range(1, most + 1):
-        found, move = asked.answer("attack", plies)
-        if found >= code:
-            return plies, move
+    some = range(1, most + 1)
+    depths = [f"depths {plies} {min(asked.wide, plies)}" for plies in some]
+    questions = [line for depth in depths for line in (depth, f"attack {asked.vertex}")]
+    replies = asked.gopat.ask_all([*situation.lines, *questions])[len(situation.lines) + 1 :: 2]
+    for plies, reply in zip(some, replies):
+        words = reply.text.split()
+        if reply.ok and int(words[0]) >= code:
+            return plies, words[1]
     return None
+
+
+def near(asked: Asked, position: Position) -> set[int]:
+    """The replies that a line shows: the liberties of the target and the empty points beside them, and where the
+    defender takes a string that is next to it."""
+    size = position.size
+    stones, liberties = string_at(size, position.cells, asked.target)
+    beside = {point for one in stones | liberties for point in neighbours(size)[one]}
+    enemies = [point for point in beside if position.cells[point] == other(asked.defender)]
+    takes = [string_at(size, position.cells, point)[1] for point in enemies]
+    found = liberties | {point for point in beside if position.cells[point] == EMPTY}
+    return found.union(*(points for points in takes if len(points) == 1))
 
 
 def longest_reply(asked: Asked, situation: Situation, most: int, code: int) -> tuple[Situation, int, str] | None:
@@ -72,10 +84,10 @@ def longest_reply(asked: Asked, situation: Situation, most: int, code: int) -> t
     play at a liberty of the target comes first, and of these the one that leaves it the most liberties."""
     size, best, best_worth = situation.position.size, None, (-1, 0, 0)
     liberties = string_at(size, situation.position.cells, asked.target)[1]
-    for point in range(size * size):
-        reply = after(situation, asked.defender, point) if situation.position.cells[point] == EMPTY else None
+    for point in sorted(near(asked, situation.position)):
+        reply = after(situation, asked.defender, point)
         found = plies_to_capture(asked, reply, most, code) if reply else None
-        if found is None or found[0] == 0:
+        if found is None:
             continue
         left = len(string_at(size, reply.position.cells, asked.target)[1])
         worth = found[0], int(point in liberties), left
@@ -90,10 +102,6 @@ def captured_by(asked: Asked, situation: Situation, plies: int, code: int) -> li
     while not asked.is_captured(situation.position) and len(situation.moves) - start < MOST_MOVES and plies > 0:
         found = longest_reply(asked, situation, plies - 1, code)
         if not found:
-            liberties = sorted(string_at(situation.position.size, situation.position.cells, asked.target)[1])
-            taken = after(after(situation, asked.defender, None), other(asked.defender), liberties[0])
-            if len(liberties) == 1 and taken:
-                situation = taken
             break
         situation, plies, move = found
         point = positions.point_named(situation.position, move)
@@ -129,13 +137,13 @@ def forced(asked: Asked, situation: Situation, point: int, plies: int) -> Situat
 
 
 def refuted(asked: Asked, problem: Problem, right: Move) -> list[Played]:
-    """A wrong move at a liberty of the target, or beside one, and what refutes it: a line that ends as the other side
+    """A wrong move at a liberty of the target, or near one, and what refutes it: a line that ends as the other side
     wants. Nothing if no such move has to be answered."""
     situation, size = problem.situation, problem.situation.position.size
     liberties = string_at(size, situation.position.cells, asked.target)[1]
     kind, plies = problem.question.kind, problem.question.depths.plies
-    for move in sorted(legal_moves(problem), key=lambda move: move.point not in liberties):
-        wrong = after(situation, problem.mover(), move.point) if move.point is not None and move != right else None
+    for point in sorted(near(asked, situation.position), key=lambda point: point not in liberties):
+        wrong = after(situation, problem.mover(), point) if point != right.point else None
         if wrong is None or asked.is_captured(wrong.position):
             continue
         asked.at(wrong)
@@ -244,7 +252,7 @@ def joins_own(position: Position, move: Played) -> bool:
 def move_sgf(size: int, move: Played, comment: str = "") -> str:
     """A node with a move."""
     said = f"C[{sgf.escaped(comment)}]" if comment else ""
-    return f";{'B' if move.colour == BLACK else 'W'}[{sgf.point_at(move.point, size)}]{said}"
+    return f";{'BW'[move.colour - BLACK]}[{sgf.point_at(move.point, size)}]{said}"
 
 
 def line_sgf(size: int, line: list[Played], comment: str) -> str:
@@ -266,19 +274,21 @@ def first_words(problem: Problem) -> str:
     return f"{mover} to {'take' if problem.question.kind == 'attack' else 'save'} the string at {vertex}."
 
 
-def record(problem: Problem, code: int, solution: Solution, words: str = "") -> str:
-    """The record of a problem, with what it teaches."""
+def record(problem: Problem, code: int, solution: Solution, words: str = "", chapter: str = "") -> str:
+    """The record of a problem, with what it teaches, and the chapter of a set in which it stands."""
     position = problem.situation.position
     comment = f"{words or first_words(problem)}\n{question_line(problem, code, Move(solution.line[0].point))}"
-    colour = "B" if problem.mover() == BLACK else "W"
+    colour = "BW"[problem.mover() - BLACK]
     target = sgf.point_at(problem.target(), position.size)
-    head = f"(;GM[1]FF[4]CA[UTF-8]SZ[{position.size}]{positions.set_up_sgf(position)}PL[{colour}]TR[{target}]"
+    named = f"GN[{sgf.escaped(chapter or solution.theme)}]"
+    stones = positions.set_up_sgf(position)
+    head = f"(;GM[1]FF[4]CA[UTF-8]SZ[{position.size}]{named}{stones}PL[{colour}]TR[{target}]"
     main = line_sgf(position.size, solution.line, "RIGHT")
     wrong = line_sgf(position.size, solution.wrong, "WRONG")
     branches = f"({main})\n({wrong})" if wrong else main
     return f"{head}\nC[{sgf.escaped(comment)}]\n{branches})\n"
 
 
-def in_words(solution: Solution, size: int = 0) -> str:
-    """The theme and the line."""
-    return solution.theme if not size else " ".join(vertex_of(size, move.point) for move in solution.line)
+def in_words(solution: Solution, size: int) -> str:
+    """The line."""
+    return " ".join(vertex_of(size, move.point) for move in solution.line)

@@ -39,8 +39,8 @@ TOOLS, EXPECTED, INPUTS, EXAMPLES = "tools", "tools/expected", "tools/expected/i
 
 
 class Run(NamedTuple):
-    """A run of a script: a name, the words of its command line, in which {gopat} stands for the program, the exit
-    status, and what comes on standard input."""
+    """A run of a script: a name, the words of its command line, in which {gopat} stands for the program and {out} for a
+    new folder, the exit status, and what comes on standard input."""
 
     name: str
     words: str
@@ -55,6 +55,8 @@ NET = (
     "3 W D3 * E3 * D2 * E1 . C2 * E1 . D2 . E4 * D2 * E1 . C2 * E1 . D2 . C2 * E3 * E1 . E4 * E1 . E3 . "
     "E3 * D2 . C2 ."
 )
+# Both trees have the same answers at these depths.
+FIRST_CAPTURES = "--number 2 --size 5 --stones 6:10 --depths 3:0 --plies 1:3 --seed 5"
 ATARI = f"{EXAMPLES}/atari.db {EXAMPLES}/hane.db"
 RUNS = [
     Run("board.svg", f"board_picture.py {EXAMPLES}/record.sgf --numbers --last --triangle D4 --label D3=A"),
@@ -62,7 +64,7 @@ RUNS = [
     Run("board.txt", f"board_picture.py {EXAMPLES}/record.sgf --form text --numbers --last --triangle D4 --label D3=A"),
     Run("part.txt", f"board_picture.py {EXAMPLES}/problem.gtp --form text --part A1:E4 --label A1=a --label C2=b"),
     Run("setup.txt", f"board_picture.py {INPUTS}/setup.sgf --form text --numbers"),
-    Run("problem.svg", f"board_picture.py {EXAMPLES}/problem.gtp --part A1:G6 --triangle C2"),
+    Run("problem.svg", f"board_picture.py {EXAMPLES}/problem.gtp --part A1:J5 --triangle C1"),
     Run("matches.svg", f"show_matches.py {{gopat}} {EXAMPLES}/problem.gtp b {EXAMPLES}/play.db --svg"),
     Run("row.html", f"board_picture.py {INPUTS}/corner.gtp --form row"),
     Run("board.html", f"board_picture.py {INPUTS}/ko.gtp --form page"),
@@ -76,8 +78,8 @@ RUNS = [
     Run("ladder_proof.sgf", f"proof_as_sgf.py {EXAMPLES}/ladder.gtp defend D4 20:0 --gopat {{gopat}}"),
     Run("wider_proof.sgf", f"proof_as_sgf.py {INPUTS}/net.gtp attack E2 7:3 --wider", 0, NET),
     Run("not_stated.txt", f"proof_as_sgf.py {INPUTS}/net.gtp attack E2 7:3", 1, NET),
-    Run("problem_proof.sgf", f"proof_as_sgf.py {EXAMPLES}/problem.gtp attack C2 20:4 --gopat {{gopat}}"),
-    Run("problem_line.sgf", f"proof_as_sgf.py {EXAMPLES}/problem.gtp attack C2 20:4 --shortest --gopat {{gopat}}"),
+    Run("problem_proof.sgf", f"proof_as_sgf.py {EXAMPLES}/problem.gtp attack C1 20:4 --gopat {{gopat}}"),
+    Run("problem_line.sgf", f"proof_as_sgf.py {EXAMPLES}/problem.gtp attack C1 20:4 --shortest --gopat {{gopat}}"),
     Run("ladder_line.sgf", f"proof_as_sgf.py {EXAMPLES}/ladder.gtp defend D4 20:0 --shortest --gopat {{gopat}}"),
     Run("ladder.svg", f"board_picture.py {EXPECTED}/ladder_line.sgf --numbers"),
     Run("alone_proof.sgf", f"proof_as_sgf.py {INPUTS}/alone.gtp attack D4 20:1 --gopat {{gopat}}"),
@@ -93,10 +95,17 @@ RUNS = [
     Run("problems.html", f"problem_page.py {{gopat}} {INPUTS}/problems --depths 3:1"),
     Run("unexpected.html", f"problem_page.py {{gopat}} {INPUTS}/unexpected --depths 3:1", 1),
     Run("long.html", f"problem_page.py {{gopat}} {INPUTS}/long"),
-    Run("no_problem.txt", f"problem_page.py {{gopat}} {EXAMPLES}", 2),
+    Run("random_problems.txt", f"make_problems.py {{gopat}} {{out}} {FIRST_CAPTURES}"),
+    Run("no_depths.txt", "make_problems.py {gopat} {out} --depths 6", 2),
+    Run("no_suites.txt", f"suites_as_records.py {INPUTS} {{out}}", 2),
+    Run("README.md", f"problem_index.py {EXAMPLES}/problems"),
+    Run("no_index.txt", f"problem_index.py {INPUTS}/records", 2),
+    Run("no_problem.txt", f"problem_page.py {{gopat}} {INPUTS}/records", 2),
 ]
-# The pictures of the documents, which stand in docs/pictures.
-PICTURES = {"problem.svg", "ladder.svg", "matches.svg"}
+# What stands in the documents, and where.
+IN_DOCUMENTS = {
+    **dict.fromkeys(("problem.svg", "ladder.svg", "matches.svg"), plot_costs.OUT), "README.md": f"{EXAMPLES}/problems",
+}
 SCRIPTS = sorted({run.words.split()[0] for run in RUNS} | {"plot_costs.py", "look_at_pages.py", "stored_replies.py"})
 
 
@@ -130,7 +139,8 @@ def program(run: Run, gopat: str | None, is_stored: bool) -> str:
 def done_of(run: Run, gopat: str | None, is_stored: bool) -> Done:
     """Runs a script with its words."""
     words = [word.replace("{gopat}", program(run, gopat, is_stored)) for word in shlex.split(run.words)]
-    return execute(words, run.given)
+    with tempfile.TemporaryDirectory() as room:
+        return execute([word.replace("{out}", room) for word in words], run.given)
 
 
 def shown(done: Done) -> str:
@@ -140,7 +150,7 @@ def shown(done: Done) -> str:
 
 def compare(run: Run, done: Done, is_stored: bool) -> Iterator[str]:
     """What is wrong with a run; with `is_stored` its output is stored instead."""
-    path = pathlib.Path(plot_costs.OUT if run.name in PICTURES else EXPECTED) / run.name
+    path = pathlib.Path(IN_DOCUMENTS.get(run.name, EXPECTED)) / run.name
     if is_stored:
         path.write_text(shown(done), encoding="utf-8")
     if done.status != run.status:
