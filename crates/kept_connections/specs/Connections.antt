@@ -20,19 +20,19 @@ pub record ConnectionsView : Type 0 where
   pub plies : ℕ
   pub answers : Keeping LinkKey Linkage
 
--- the answer is that to the question on the position; it has no move exactly where it is no, and its move is on the
+-- the linkage is the answer to the question on the position; it has no move exactly if it is no, and its move is on the
 -- board
-pub record Answers (key : LinkKey) (pos : BoardState) (answer : Linkage) : Type 0 where
-  pub right : answer ≡ linkage_of key.question pos
-  pub none : IsNone answer.at ↔ (answer.yes ≡ false)
-  pub on_board : IfSome answer.at (IsOnBoard key.question.size)
+pub record IsLinkageOf (key : LinkKey) (pos : BoardState) (linkage : Linkage) : Type 0 where
+  pub right : linkage ≡ linkage_of key.question pos
+  pub none : IsNone linkage.at ↔ (linkage.yes ≡ false)
+  pub on_board : IfSome linkage.at (IsOnBoard key.question.size)
 
 -- The answer of the variant rests on its facts, both stones among them: on each position on which they hold it is the
 -- answer to the question, and there each of them lies in the active area of the connection.
 pub record Rests (key : LinkKey) (variant : Variant Linkage) : Type 0 where
   pub a : IsTrue (told variant.facts (CellIs key.question.a (stone_of key.question.colour)))
   pub b : IsTrue (told variant.facts (CellIs key.question.b (stone_of key.question.colour)))
-  pub answers : (pos : BoardState) → Agrees (told variant.facts) pos → Answers key pos variant.answer
+  pub answers : (pos : BoardState) → Agrees (told variant.facts) pos → IsLinkageOf key pos variant.answer
   pub near : (pos : BoardState) → Agrees (told variant.facts) pos → (fact : Fact) → IsTrue (told variant.facts fact)
       → IsAboutOne (InConnectionArea key.question pos) fact
 

@@ -1,4 +1,3 @@
-pub mod KeptReadings
 pub mod RepeatedQuestions
 pub mod Places
 pub mod Corners

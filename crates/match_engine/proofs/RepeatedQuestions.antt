@@ -1,19 +1,26 @@
 -- A question that was read is found again while the facts of its answer hold and few other questions were read.
-use Rattle.std.proofs.Common.{◌≡◌, ◌∙◌, ℕ, suc, ◌≤◌, ◌⊎◌, arith, inl, inr, sym, ap, subst, None, true, rules}
+use Rattle.std.proofs.Common.{◌≡◌, ◌∙◌, ℕ, suc, ◌≤◌, ◌⊎◌, arith, inl, inr, refl, sym, ap, subst, true, rules}
+use Rattle.std.proofs.Common.{Option, Some, None, IfSome}
 use Rattle.go_rules.specs.Position.{BoardState, IsPosition}
 use Rattle.go_base.specs.Facts.{Fact, SizeIs, CellIs, BanIs, IsFactOf}
 use Rattle.read_rules.specs.declared.question.Answer.{Answer}
 use Rattle.read_rules.specs.ActiveArea.{InActiveArea, AgreeOn, IsAboutOne}
 use Rattle.read_cache.specs.Variants.{Stands}
 use Rattle.read_cache.specs.Kept.{Kept, HoldsOfEach}
-use Rattle.read_cache.specs.Keeping.{Keeping, IsKeptFirst, WasKept, raised}
+use Rattle.read_cache.specs.Keeping.{Keeping, IsKeptFirst, WasAsked, WasKept, WasFresh, raised}
 use Rattle.read_cache.specs.declared.variants.Variant.{Variant}
+use Rattle.read_cache.proofs.KeepingLemmas.{WasAsked-answered}
 use Rattle.read_cache.proofs.LastingVariants.{IsAmongFirst, of_first, IsAmongFirst-stands, IsAmongFirst-kept}
 use Rattle.read_cache.proofs.LastingVariants.{IsAmongFirst-found, IsAmongFirst-first, IsAmongFirst-again}
 use Rattle.match_engine.specs.declared.keys.Key.{Key}
 use Rattle.match_engine.specs.Keys.{same_key, same_key-is}
-use Rattle.match_engine.specs.Readings.{ReadingsView, Rests, HasRead}
-use Rattle.match_engine.proofs.KeptReadings.{WasAsked-read}
+use Rattle.match_engine.specs.Readings.{ReadingsView, Rests, HasRead, MayTry}
+
+-- after one reading its question was asked, whatever was tried for it
+WasAsked-read : (key : Key) (pos : BoardState) (answer : Answer) (old new : ReadingsView)
+    → HasRead key pos answer old new → WasAsked same_key key Rests pos answer old.answers new.answers
+WasAsked-read key pos answer old new has =
+    WasAsked-answered same_key key Rests (MayTry key pos) pos answer new.last old.answers new.answers has.read
 
 -- a question equals itself
 same_key-self : (q : Key) → same_key q q ≡ true
@@ -117,16 +124,21 @@ IsAtHand-later key pos n other there answer old new has none few room hand = rec
   ];
 }
 
+-- what is there only with a fact that never holds is not there
+none-never : {E F : Type 0} (o : Option E) → IfSome o (λ _. F) → (F → ⊥) → o ≡ None
+none-never None there never = refl
+none-never (Some e) there never = absurd (never there)
+
 -- where the active area is the same, a reading of the question is not fresh
 pub IsAtHand-kept : (key : Key) (pos : BoardState) (n : ℕ) (here : BoardState) (answer : Answer)
     (old new : ReadingsView) → IsAtHand key pos n old.answers.kept
     → IsPosition here → AgreeOn (InActiveArea key.question pos) pos here → HasRead key here answer old new
     → new.last ≡ None
-IsAtHand-kept key pos n here answer old new hand sound agree has = elim has.read [
-  | inl fresh ↦ absurd (IsAmongFirst-stands same_key key hand.variant n old.answers.kept here hand.among
-      (Stands-agree key hand.variant pos here hand.rests hand.stands sound agree) fresh.fresh.missing)
-  | inr kept ↦ kept.last
-]
+IsAtHand-kept key pos n here answer old new hand sound agree has =
+    none-never new.last has.read.fresh
+    (λ (fresh : WasFresh same_key key Rests here answer old.answers new.answers).
+    IsAmongFirst-stands same_key key hand.variant n old.answers.kept here hand.among
+    (Stands-agree key hand.variant pos here hand.rests hand.stands sound agree) fresh.missing)
 
 -- as many questions may be kept after a reading as before
 pub HasRead-capacity : (key : Key) (pos : BoardState) (answer : Answer) (old new : ReadingsView)

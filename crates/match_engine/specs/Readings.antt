@@ -11,7 +11,7 @@ use Rattle.read_rules.specs.Bound.{outlasts}
 use Rattle.read_rules.specs.ActiveArea.{InActiveArea, IsAboutOne}
 use Rattle.read_rules.specs.GoodMoves.{IsOnBoard}
 use Rattle.read_cache.specs.declared.variants.Variant.{Variant}
-use Rattle.read_cache.specs.Keeping.{Keeping, WasKept, WasFresh, raised, first_keeping, Follows as KeepingFollows}
+use Rattle.read_cache.specs.Keeping.{Keeping, WasAnswered, raised, first_keeping, Follows as KeepingFollows}
 use Rattle.match_engine.specs.declared.keys.Key.{Key}
 use Rattle.match_engine.specs.Keys.{same_key}
 use Rattle.match_engine.specs.ReadingDepths.{ReadingDepths, asked_at}
@@ -53,33 +53,30 @@ pub record Rests (key : Key) (variant : Variant Answer) : Type 0 where
   pub on_board : IfSome variant.answer.at (IsOnBoard key.question.size)
 
 -- the answer is that to the question on the position, its code is at most 3, and its move is on the board
-pub record Answers (key : Key) (pos : BoardState) (answer : Answer) : Type 0 where
+pub record IsAnswerTo (key : Key) (pos : BoardState) (answer : Answer) : Type 0 where
   pub right : answer ≡ answer_of key.question pos
   pub code : answer.code ≤ 3
   pub on_board : IfSome answer.at (IsOnBoard key.question.size)
 
--- the answer came from those that are kept: no play was tried for it, and there is no last fresh reading
-pub record FoundKept (key : Key) (pos : BoardState) (answer : Answer) (old new : ReadingsView) : Type 0 where
-  pub kept : WasKept same_key key pos answer old.answers new.answers
-  pub last : new.last ≡ None
-  pub trials : new.trials ≡ old.trials
+-- a count that is raised by the trial plays of a reading, if it was fresh
+abbrev pub after_trials : ℕ → Option ℕ → ℕ
+after_trials count None = count
+after_trials count (Some n) = raised count n
 
 -- the target has too many liberties for the plies or the wide plies of the question, so no play is tried for it
 abbrev pub is_untried : ReadingQuestion → BoardState → Bool
 is_untried q pos = outlasts q.tree (is_attack q.kind) q.plies q.wide (liberties pos.size pos.cells q.target)
 
--- the answer was fresh, and its trial plays were counted; where its target has too many liberties there were none
-pub record ReadAfresh (key : Key) (pos : BoardState) (answer : Answer) (old new : ReadingsView) : Type 0 where
-  pub fresh : WasFresh same_key key Rests pos answer old.answers new.answers
-  pub trials_of_last : ℕ
-  pub last : new.last ≡ Some trials_of_last
-  pub trials : new.trials ≡ raised old.trials trials_of_last
-  pub untried : IsTrue (is_untried key.question pos) → trials_of_last ≡ 0
+-- a reading of the question may make so many trial plays: none if its target has too many liberties
+abbrev pub MayTry : Key → BoardState → ℕ → Type 0
+MayTry key pos trials = IsTrue (is_untried key.question pos) → trials ≡ 0
 
--- new is old after one reading at the same depths, which was kept or fresh
+-- New is old after one reading at the same depths. Its answer was kept, and the last reading tells no trial plays; or
+-- it was fresh, and the trial plays that it tells were counted.
 pub record HasRead (key : Key) (pos : BoardState) (answer : Answer) (old new : ReadingsView) : Type 0 where
   pub depths : new.depths ≡ old.depths
-  pub read : ReadAfresh key pos answer old new ⊎ FoundKept key pos answer old new
+  pub read : WasAnswered same_key key Rests (MayTry key pos) pos answer new.last old.answers new.answers
+  pub trials : new.trials ≡ after_trials old.trials new.last
 
 -- new is old after any number of readings: the depths are the same, the answers follow, and the trial plays have not
 -- become fewer

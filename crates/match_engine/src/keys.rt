@@ -1,15 +1,14 @@
-//! Questions as they are kept.
+//! Questions as they are kept, and how one is read.
 
-ghost use Rattle.std.specs.Prelude.{◌≡◌, ◌≢◌, ◌*◌, ◌<◌, ◌≤◌};
+ghost use Rattle.std.specs.Prelude.{◌≡◌, ◌≢◌, ◌*◌, ◌<◌};
 ghost use Rattle.go_rules.specs.Strings.{cell_at};
-ghost use Rattle.go_rules.specs.Position.{stone_of};
-ghost use Rattle.read_rules.specs.Ranges.{most_plies};
-ghost use Rattle.match_engine.specs.Keys.{number_of, number_of_kind};
+ghost use Rattle.match_engine.specs.Keys.{IsAbout, number_of, number_of_kind};
 ghost use Rattle.match_engine.specs.ReadingDepths.{asked_at, depths_of};
 
-use go_base::{Cell, Point, Position};
-use read_cache::Question;
+use go_base::{Cell, Point, Position, Watch};
+use read_cache::{PLY_VALUES, POINT_VALUES, Question, Readable, Variant};
 use read_rules::{Answer, Depths, Kind, ReadingQuestion};
+use read_tree::read;
 use std::hash::{Hash, Hasher};
 
 /// A question as it is kept: its size, kind, target, colour, tree and depths.
@@ -27,6 +26,30 @@ impl Question for Key {
     ghost meaning = { meaning_of };
 
     ghost same = { same_key-is };
+}
+
+impl Readable for Key {
+    ghost use Rattle.match_engine.specs.Keys.{IsAbout};
+    ghost use Rattle.match_engine.specs.Readings.{Rests, MayTry};
+
+    type Effort = u64;
+
+    ghost is_about = { IsAbout };
+
+    ghost rests = { Rests };
+
+    ghost takes = { MayTry };
+
+    fn read(&self, position: &Position) -> (Variant<Answer>, u64) {
+        let report = read(Watch::new(position), self.question);
+        let variant = Variant {
+            answer: report.answer,
+            facts: report.look.facts(),
+        };
+        (variant, report.trials)
+    }
+
+    ghost right = { λ key variant rests. record { right = rests.answers } };
 }
 
 /// A question is hashed as one number, so that its place is found by one step of the hasher.
@@ -55,24 +78,23 @@ fn number_of_kind(kind: Kind) -> u64
     }
 }
 
-/// The number that a question is hashed as. Questions about two points, of two kinds or at two depths
-/// have two numbers; those in two trees have one, as a session reads one tree.
+/// The number that a question is hashed as. Its digits are, from the highest to the lowest, the size, the target, the
+/// kind, the plies and the wide plies. Two questions that differ in one of these have two numbers; the tree is left
+/// out, as a session reads one tree.
 fn number_of(question: &ReadingQuestion) -> u64
     ensures { result ≡ number_of question.now }
 {
-    let place = question.size.get() as u64 * 65536 + question.target as u64;
+    let place = question.size.get() as u64 * POINT_VALUES + question.target as u64;
     let about = place * 2 + number_of_kind(question.kind);
-    (about * 256 + question.plies as u64) * 256 + question.wide as u64
+    (about * PLY_VALUES + question.plies as u64) * PLY_VALUES + question.wide as u64
 }
 
 /// The question of this kind about a stone of the position.
 pub(crate) fn key_of(kind: Kind, position: &Position, target: Point, depths: Depths) -> Key
     requires on_board { target < position.now.size * position.now.size }
     requires stone { cell_at position.now.cells target ≢ Cell.Empty }
-    ensures question { result.question ≡ asked_at (depths_of depths) position.now kind target }
-    ensures stone { stone_of result.question.colour ≡ cell_at position.now.cells target }
-    ensures some_plies { 0 < result.question.plies }
-    ensures few_plies { result.question.plies ≤ most_plies }
+    ensures question { result ≡ record { question = asked_at (depths_of depths) position.now kind target } }
+    ensures about { IsAbout result position.now }
 {
     Key {
         question: ReadingQuestion {

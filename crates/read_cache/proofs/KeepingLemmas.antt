@@ -1,10 +1,10 @@
 -- What holds after questions were asked through a cache.
-use Rattle.std.proofs.Common.{◌≡◌, ◌∙◌, Bool, true, sym, subst, arith}
-use Rattle.go_base.specs.declared.facts.Facts.{Facts}
+use Rattle.std.proofs.Common.{◌≡◌, ◌∙◌, Bool, true, Option, Some, None, IfSome, IfNone, inl, inr, sym, subst, arith}
+use Rattle.go_rules.specs.Position.{BoardState}
 use Rattle.read_cache.specs.declared.variants.Variant.{Variant}
-use Rattle.read_cache.specs.Kept.{Kept, HoldsOfEach, kept_first}
-use Rattle.read_cache.specs.Keeping.{Keeping, Follows}
-use Rattle.read_cache.proofs.Each.{HoldsOfEach-kept}
+use Rattle.read_cache.specs.Kept.{Kept, HoldsOfEach, IsFound, kept_first}
+use Rattle.read_cache.specs.Keeping.{Keeping, Follows, RestsOn, WasAnswered, WasAsked}
+use Rattle.read_cache.proofs.Each.{HoldsOfEach-found, HoldsOfEach-kept, found_holds}
 
 -- questions after questions
 pub Follows-trans : {Q A : Type 0} (a b c : Keeping Q A) → Follows a b → Follows b c → Follows a c
@@ -14,11 +14,36 @@ Follows-trans a b c first next = record {
   refused = omega (arith, first.refused, next.refused);
 }
 
--- where each kept variant rests on its facts, each does after one that does was kept first
-pub each_rests-kept : {Q A : Type 0} (Rests : Q → Variant A → Type 0) (eq : Q → Q → Bool)
-    (one : (p q : Q) → eq p q ≡ true → p ≡ q) (q : Q) (facts : Facts) (answer : A) (old new : Kept Q A)
-    → Rests q (record { facts = facts; answer = answer }) → HoldsOfEach Rests old
-    → new ≡ kept_first eq q (record { facts = facts; answer = answer }) old → HoldsOfEach Rests new
-each_rests-kept Rests eq one q facts answer old new rests rest is =
-    subst (HoldsOfEach Rests) (sym is)
-    (HoldsOfEach-kept Rests eq one q (record { facts = facts; answer = answer }) old rest rests)
+module _ {Q A : Type 0} (Rests : Q → Variant A → Type 0) (eq : Q → Q → Bool) (one : (p q : Q) → eq p q ≡ true → p ≡ q)
+    (q : Q) (old new : Kept Q A) (rest : HoldsOfEach Rests old) where
+  -- where each kept variant rests on its facts, each does after one that does was kept first
+  pub each_rests-kept : (variant : Variant A) → Rests q variant → new ≡ kept_first eq q variant old
+      → HoldsOfEach Rests new
+  each_rests-kept variant rests is =
+      subst (HoldsOfEach Rests) (sym is) (HoldsOfEach-kept Rests eq one q variant old rest rests)
+
+  -- each does after the question was looked up, found or not
+  pub each_rests-sought : (pos : BoardState) (answer : Option A) → IfSome answer (IsFound eq q pos old new)
+      → IfNone answer (new ≡ old) → HoldsOfEach Rests new
+  each_rests-sought pos None found same = subst (HoldsOfEach Rests) (sym same) rest
+  each_rests-sought pos (Some answer) found same = HoldsOfEach-found Rests eq one q pos old new answer rest found
+
+  -- the answer that was found, if one was, rests on facts that hold on the position
+  pub RestsOn-found : (pos : BoardState) (answer : Option A) → IfSome answer (IsFound eq q pos old new)
+      → IfSome answer (RestsOn Rests q pos)
+  RestsOn-found pos None found = found
+  RestsOn-found pos (Some answer) found =
+      let variant = found.brought.first.found in
+      record {
+        facts = variant.facts;
+        holds = found.brought.first.stands;
+        rests = subst (λ a. Rests q (record { facts = variant.facts; answer = a })) (sym found.answer_is)
+            (found_holds Rests eq one q pos old new answer rest found);
+      }
+
+-- a question that was answered was asked
+pub WasAsked-answered : {Q A E : Type 0} (eq : Q → Q → Bool) (q : Q) (Rests : Q → Variant A → Type 0)
+    (Takes : E → Type 0) (pos : BoardState) (answer : A) (effort : Option E) (old new : Keeping Q A)
+    → WasAnswered eq q Rests Takes pos answer effort old new → WasAsked eq q Rests pos answer old new
+WasAsked-answered eq q Rests Takes pos answer None old new answered = inr answered.kept
+WasAsked-answered eq q Rests Takes pos answer (Some e) old new answered = inl answered.fresh

@@ -1,6 +1,6 @@
 -- How asking through a cache changes what is kept and what is counted: an answer was kept, or it was fresh, and then it
 -- is kept first or its keeping was refused.
-use Rattle.std.specs.Prelude.{◌≡◌, ℕ, ◌+◌, ◌-◌, ◌^◌, ◌≤◌, ◌⊎◌, Bool, None, min}
+use Rattle.std.specs.Prelude.{◌≡◌, ℕ, ◌+◌, ◌-◌, ◌^◌, ◌≤◌, ◌⊎◌, Bool, Option, None, IfSome, IfNone, min}
 use Rattle.go_rules.specs.Position.{BoardState}
 use Rattle.go_base.specs.Facts.{Agrees}
 use Rattle.go_base.specs.AmongFacts.{told}
@@ -25,6 +25,13 @@ pub record Keeping (Q A : Type 0) : Type 0 where
 -- nothing was asked, and of at most so many questions answers may be kept
 abbrev pub first_keeping : {Q A : Type 0} → ℕ → Keeping Q A
 first_keeping capacity = record { fresh = 0; refused = 0; kept = no_questions capacity }
+
+-- the answer to the question rests on facts that hold on the position
+pub record RestsOn {Q A : Type 0} (Rests : Q → Variant A → Type 0) (q : Q) (pos : BoardState) (answer : A) : Type 0
+  where
+    pub facts : Facts
+    pub holds : Agrees (told facts) pos
+    pub rests : Rests q (record { facts = facts; answer = answer })
 
 module _ {Q A : Type 0} (eq : Q → Q → Bool) (q : Q) where
   -- the answer came from those that are kept: no count has changed
@@ -55,6 +62,13 @@ module _ {Q A : Type 0} (eq : Q → Q → Bool) (q : Q) where
     pub missing : IsMissing eq q pos old.kept
     pub fresh : new.fresh ≡ raised old.fresh 1
     pub keeping : IsKeptFirst Rests pos answer old new ⊎ WasRefused old new
+
+  -- the question was answered: without an effort the answer was kept, with one it was fresh and may take that effort
+  pub record WasAnswered {E : Type 0} (Rests : Q → Variant A → Type 0) (Takes : E → Type 0) (pos : BoardState)
+      (answer : A) (effort : Option E) (old new : Keeping Q A) : Type 0 where
+    pub kept : IfNone effort (WasKept pos answer old new)
+    pub fresh : IfSome effort (λ _. WasFresh Rests pos answer old new)
+    pub takes : IfSome effort Takes
 
   -- new is old after the question was asked once
   abbrev pub WasAsked : (Q → Variant A → Type 0) → BoardState → A → Keeping Q A → Keeping Q A → Type 0

@@ -10,10 +10,14 @@
 #![tactic(auto)]
 
 mod cache;
+mod digits;
 mod front;
+mod kept_answers;
 mod question;
 mod variants;
 
 pub use cache::Cache;
-pub use question::Question;
+pub use digits::{PLY_VALUES, POINT_VALUES};
+pub use kept_answers::{Asked, KeptAnswers};
+pub use question::{Question, Readable};
 pub use variants::Variant;
