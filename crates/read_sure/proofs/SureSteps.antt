@@ -32,25 +32,25 @@ module _ (n : ℕ) (node : Node) (here : BoardState) where
   -- a play that is made succeeds if its child's outcome is what the mover wants
   pub play_made : (p : ℕ) (next : Node) (new : BoardState) (child : Option Node) (won : Bool)
       → LeadsTo node here p child new → child ≡ Some next → won ≡ surely_wins n next new
-      → beq won node.attacker_to_play ≡ surely_succeeds n node here p
+      → beq won node.turn.attacker_to_play ≡ surely_succeeds n node here p
   play_made p next new child won leads is e =
-      way_by node.attacker_to_play won ∙ ap (has_way node.attacker_to_play) e
-      ∙ suits_child n node.attacker_to_play (child_of node here p) next new
+      way_by node.turn.attacker_to_play won ∙ ap (has_way node.turn.attacker_to_play) e
+      ∙ suits_child n node.turn.attacker_to_play (child_of node here p) next new
       (leads ∙ ap (option_map (λ (m : Node). (m, new))) is)
 
   -- one that cannot be made does not
   pub play_refused : (p : ℕ) (new : BoardState) (child : Option Node) → LeadsTo node here p child new → child ≡ None
       → false ≡ surely_succeeds n node here p
   play_refused p new child leads is =
-      sym (suits_none n node.attacker_to_play (child_of node here p)
+      sym (suits_none n node.turn.attacker_to_play (child_of node here p)
       (leads ∙ ap (option_map (λ (m : Node). (m, new))) is))
 
   -- the attacker does not pass
-  pub no_pass : node.attacker_to_play ≡ true → false ≡ pass_holds n node here
+  pub no_pass : node.turn.attacker_to_play ≡ true → false ≡ pass_holds n node here
   no_pass e = sym (ap (λ b. not b && not (surely_wins n (next_node node (allowance_of node)) (pass here))) e)
 
   -- the defender's pass holds if after it the target is not surely captured
-  pub pass_made : (won : Bool) → node.attacker_to_play ≡ false
+  pub pass_made : (won : Bool) → node.turn.attacker_to_play ≡ false
       → won ≡ surely_wins n (next_node node (allowance_of node)) (pass here) → not won ≡ pass_holds n node here
   pass_made won e is =
       ap not is ∙ sym (ap (λ b. not b && not (surely_wins n (next_node node (allowance_of node)) (pass here))) e)

@@ -24,20 +24,14 @@ fn every_point(size: Size) -> PointSet
 
 /// The points that the side to play tries: the attacker the candidates, the defender every point of the board.
 pub fn tried_points<L: Look>(board: &mut Trial<L>, node: Node) -> PointSet
-    requires target { IsPointOf L.shows board.old node.target }
+    requires target { IsPointOf L.shows board.old node.turn.target }
     ensures stays { Stays L.shows L.seen board.old board.new }
     ensures on_board { (p : ℕ) → set.contains result p ≡ true → IsPointOf L.shows board.old p }
     ensures over { OnEachAgreeing L.seen board.old board.new (λ here. (p : ℕ)
         → set.contains result p ≡ is_tried node here p) }
 {
-    if node.attacker_to_play {
-        return candidates(
-            board,
-            node.tree,
-            node.attacker_to_play,
-            node.target,
-            node.wide,
-        );
+    if node.turn.attacker_to_play {
+        return candidates(board, node.turn);
     }
     every_point(board.size())
 }

@@ -34,14 +34,18 @@ fn has_many(tree: Tree, liberties: u16, wide: u8) -> bool
 
 /// Whether it is the attacker's turn, and the target has more liberties than he may play at.
 fn is_barred<L: Look>(board: &mut Trial<L>, node: Node) -> bool
-    requires target { IsPointOf L.shows board.old node.target }
+    requires target { IsPointOf L.shows board.old node.turn.target }
     ensures stays { Stays L.shows L.seen board.old board.new }
     ensures over { OnEachAgreeing L.seen board.old board.new (λ here. result ≡ is_barred node here) }
 {
-    if !node.attacker_to_play {
+    if !node.turn.attacker_to_play {
         return false;
     }
-    has_many(node.tree, board.liberties(node.target).count(), node.wide)
+    has_many(
+        node.turn.tree,
+        board.liberties(node.turn.target).count(),
+        node.turn.wide,
+    )
 }
 
 /// Whether the mover's play at p can be made, and with `plies` plies left after it the target is surely captured if the
@@ -49,7 +53,7 @@ fn is_barred<L: Look>(board: &mut Trial<L>, node: Node) -> bool
 #[cycle(sure)]
 fn succeeds<L: Look>(board: &mut Trial<L>, node: Node, p: Point, plies: u8) -> bool
     requires room { length board.old.moves + plies < most_moves }
-    requires target { IsPointOf L.shows board.old node.target }
+    requires target { IsPointOf L.shows board.old node.turn.target }
     requires on_board { IsPointOf L.shows board.old p }
     ensures stays { Stays L.shows L.seen board.old board.new }
     ensures over { OnEachAgreeing L.seen board.old board.new (λ here. result ≡ surely_succeeds plies node here p) }
@@ -58,7 +62,7 @@ fn succeeds<L: Look>(board: &mut Trial<L>, node: Node, p: Point, plies: u8) -> b
         Some(next) => {
             let won = surely_wins(board, next, plies);
             board.back();
-            won == node.attacker_to_play
+            won == node.turn.attacker_to_play
         }
         None => false,
     }
@@ -68,11 +72,11 @@ fn succeeds<L: Look>(board: &mut Trial<L>, node: Node, p: Point, plies: u8) -> b
 #[cycle(sure)]
 fn pass_holds<L: Look>(board: &mut Trial<L>, node: Node, plies: u8) -> bool
     requires room { length board.old.moves + plies < most_moves }
-    requires target { IsPointOf L.shows board.old node.target }
+    requires target { IsPointOf L.shows board.old node.turn.target }
     ensures stays { Stays L.shows L.seen board.old board.new }
     ensures over { OnEachAgreeing L.seen board.old board.new (λ here. result ≡ pass_holds plies node here) }
 {
-    if node.attacker_to_play {
+    if node.turn.attacker_to_play {
         return false;
     }
     board.pass();
@@ -85,7 +89,7 @@ fn pass_holds<L: Look>(board: &mut Trial<L>, node: Node, plies: u8) -> bool
 #[cycle(sure)]
 fn first_sure<L: Look>(board: &mut Trial<L>, node: Node, plies: u8) -> Option<Point>
     requires room { length board.old.moves + plies < most_moves }
-    requires target { IsPointOf L.shows board.old node.target }
+    requires target { IsPointOf L.shows board.old node.turn.target }
     ensures stays { Stays L.shows L.seen board.old board.new }
     ensures over { OnEachAgreeing L.seen board.old board.new (λ here. result ≡ first_sure plies node here) }
     ensures on_board { IfSome result (IsPointOf L.shows board.old) }
@@ -106,7 +110,7 @@ fn first_sure<L: Look>(board: &mut Trial<L>, node: Node, plies: u8) -> Option<Po
 #[cycle(sure)]
 fn first_sure_move<L: Look>(board: &mut Trial<L>, node: Node, plies: u8) -> Option<Spot>
     requires room { length board.old.moves + plies < most_moves }
-    requires target { IsPointOf L.shows board.old node.target }
+    requires target { IsPointOf L.shows board.old node.turn.target }
     ensures stays { Stays L.shows L.seen board.old board.new }
     ensures over { OnEachAgreeing L.seen board.old board.new (λ here. result ≡ first_sure_move plies node here) }
     ensures on_board { IfSome result (IsOnBoard (L.shows board.old.look).size) }
@@ -125,7 +129,7 @@ fn first_sure_move<L: Look>(board: &mut Trial<L>, node: Node, plies: u8) -> Opti
 #[cycle(sure)]
 pub fn sure_move<L: Look>(board: &mut Trial<L>, node: Node, plies: u8) -> Option<Spot>
     requires room { length board.old.moves + plies < most_moves }
-    requires target { IsPointOf L.shows board.old node.target }
+    requires target { IsPointOf L.shows board.old node.turn.target }
     ensures stays { Stays L.shows L.seen board.old board.new }
     ensures over { OnEachAgreeing L.seen board.old board.new (λ here. result ≡ sure_move plies node here) }
     ensures on_board { IfSome result (IsOnBoard (L.shows board.old.look).size) }
@@ -140,15 +144,15 @@ pub fn sure_move<L: Look>(board: &mut Trial<L>, node: Node, plies: u8) -> Option
 #[cycle(sure)]
 fn surely_wins<L: Look>(board: &mut Trial<L>, node: Node, plies: u8) -> bool
     requires room { length board.old.moves + plies ≤ most_moves }
-    requires target { IsPointOf L.shows board.old node.target }
+    requires target { IsPointOf L.shows board.old node.turn.target }
     ensures stays { Stays L.shows L.seen board.old board.new }
     ensures over { OnEachAgreeing L.seen board.old board.new (λ here. result ≡ surely_wins plies node here) }
 {
-    if board.cell(node.target) == Cell::Empty {
+    if board.cell(node.turn.target) == Cell::Empty {
         return true;
     }
     if plies == 0 {
         return false;
     }
-    sure_move(board, node, plies - 1).is_some() == node.attacker_to_play
+    sure_move(board, node, plies - 1).is_some() == node.turn.attacker_to_play
 }

@@ -17,7 +17,7 @@ use Rattle.read_rules.specs.GameTree.{is_captured, allowance_of, next_node}
 use Rattle.read_rules.specs.Answer.{is_attack, first_node, is_about}
 use Rattle.read_rules.specs.Rules.{IsChild}
 use Rattle.read_rules.proofs.AreaWords.{asked_as}
-use Rattle.read_rules.proofs.CandidateLaws.{candidate_at_on}
+use Rattle.read_rules.proofs.CandidateLaws.{candidate_on}
 use Rattle.sure_rules.specs.Nodes.{is_attackers, defender_of, target_of, is_gone}
 use Rattle.sure_rules.specs.SureTree.{surely_wins}
 use Rattle.sure_rules.specs.SureAnswer.{sure_code_of}
@@ -51,7 +51,7 @@ sides false White a d left new = refl
 pub stands_next : (node : Node) (pos new : BoardState) (left : ℕ)
     → standing_at (next_node node left) new ≡ turned (standing_at node pos) new left
 stands_next node pos new left =
-    sides node.attacker_to_play node.defender node.attacker_ko node.defender_ko left new
+    sides node.turn.attacker_to_play node.turn.defender node.attacker_ko node.defender_ko left new
 
 -- a play that can be made at a node is a move from where the two sides stand
 pub child_is_move : (node : Node) (pos : BoardState) (p : ℕ) (next : Node) (new : BoardState) → p < pos.size * pos.size
@@ -145,7 +145,7 @@ module _ (target : ℕ) (defender : Colour) (start : Standing) (reply : List Spo
           let same = child_target node pos w.point w.next w.new w.child in
           goes_on n total w.next w.new (At w.point ∷ moves) (same.0 ∙ its) (same.1 ∙ his)
           (attacks game (ap (λ b. cond b (other (defender_of node)) (defender_of node)) turn ∙ ap other his) w.point
-          (child_is_move node pos w.point w.next w.new (candidate_at_on node pos w.point w.candidate) w.child))
+          (child_is_move node pos w.point w.next w.new (candidate_on node.turn pos w.point w.candidate) w.child))
           (omega (arith, few)) w.wins
       | inr turn ↦
           let his_turn = ap (λ b. cond b (other (defender_of node)) (defender_of node)) turn ∙ his in

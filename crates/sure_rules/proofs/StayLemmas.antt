@@ -1,6 +1,6 @@
 -- A sure capture stays sure with more plies, with further candidates of the attacker, and with fewer allowances of the
 -- defender.
-use Rattle.std.proofs.Common.{◌≡◌, ◌⊎◌, ℕ, zero, suc, ◌-◌, ◌≤◌, Bool, true, false, not, ◌&&◌, ◌||◌, cond}
+use Rattle.std.proofs.Common.{◌≡◌, ◌⊎◌, ℕ, zero, suc, ◌-◌, ◌<◌, ◌≤◌, Bool, true, false, not, ◌&&◌, ◌||◌, cond}
 use Rattle.std.proofs.Common.{refl, sym, ap, ◌∙◌, arith, inl, inr, subst, ltb}
 use Rattle.std.proofs.lemmas.Bool.{cases_Bool, and_parts, and_from, both_ways, or_cases, or_left, or_right}
 use Rattle.std.proofs.lemmas.Bool.{lt-ltb, ltb-true}
@@ -9,14 +9,16 @@ use Rattle.go_rules.specs.Position.{BoardState, other}
 use Rattle.go_rules.specs.Play.{play, play_free, pass}
 use Rattle.go_base.specs.Surroundings.{is_last_liberty_of_enemy}
 use Rattle.wider_rules.specs.Further.{is_further}
-use Rattle.read_rules.specs.Candidates.{is_candidate, is_candidate_at, is_empty_beside, is_backfilling}
+use Rattle.read_rules.specs.Candidates.{is_candidate}
 use Rattle.read_rules.specs.declared.node.Node.{Node}
+use Rattle.read_rules.specs.declared.turn.Turn.{Turn}
 use Rattle.read_rules.specs.declared.tree.Tree.{Tree}
 use Rattle.read_rules.specs.declared.tree.Tree.TheVariants.{Stated, Wider}
 use Rattle.read_rules.specs.Trees.{is_wider, most_narrow}
-use Rattle.read_rules.specs.Stages.{is_wide_candidate}
+use Rattle.read_rules.specs.Stages.{is_wide_by_liberties, is_wide_candidate}
 use Rattle.read_rules.proofs.StageLemmas.{candidate_stages}
-use Rattle.read_rules.specs.GameTree.{is_captured, has_many_liberties, allowance_of, next_node, mover_of}
+use Rattle.read_rules.specs.GameTree.{is_captured, has_many_liberties, allowance_of, next_node}
+use Rattle.read_rules.specs.Turns.{mover_of}
 use Rattle.read_rules.specs.Rules.{IsChild}
 use Rattle.read_rules.proofs.RuleLemmas.{many_gives, many_from}
 use Rattle.sure_rules.specs.Nodes.{is_attackers, is_gone, has_too_many, IsNoHarder, in_wider_tree}
@@ -35,16 +37,19 @@ most_as_wide Stated larger (inr e) = subst (λ t. 2 ≤ most_narrow t) (sym e) (
 most_as_wide Wider larger (inr e) = subst (λ t. 3 ≤ most_narrow t) (sym e) (omega arith)
 
 -- with more wide plies, or in the wider tree, no target has too many liberties that had few enough
-few_stay : (tree larger : Tree) (pos : BoardState) (t k l : ℕ) → IsAsWide tree larger → k ≤ l
-    → has_many_liberties tree pos t k ≡ false → has_many_liberties larger pos t l ≡ false
-few_stay tree larger pos t k l as_wide more few = elim (cases_Bool (has_many_liberties larger pos t l)) [
+few_stay : (small large : Turn) (pos : BoardState) → large.target ≡ small.target → IsAsWide small.tree large.tree
+    → small.wide ≤ large.wide → has_many_liberties small pos ≡ false → has_many_liberties large pos ≡ false
+few_stay small large pos same as_wide more few = elim (cases_Bool (has_many_liberties large pos)) [
   | inr f ↦ f
-  | inl many ↦ absurd (both_ways (has_many_liberties tree pos t k) few (many_from tree pos t k
-      (elim (many_gives larger pos t l many) [
-        | inl above ↦ inl above
+  | inl many ↦ absurd (both_ways (has_many_liberties small pos) few (many_from small pos
+      (elim (many_gives large pos many) [
+        | inl above ↦ inl (subst (λ t. 4 < liberties pos.size pos.cells t) same above)
         | inr w ↦ inr (
           omega (arith, more, w.0),
-          let most = most_as_wide tree larger as_wide in omega (arith, most, w.1),
+          let most = most_as_wide small.tree large.tree as_wide in
+              let over : most_narrow large.tree < liberties pos.size pos.cells small.target =
+              subst (λ t. most_narrow large.tree < liberties pos.size pos.cells t) same w.1 in
+              omega (arith, most, over),
         )
       ])))
 ]
@@ -56,33 +61,39 @@ further_stay tree larger x (inl e) h = ap (λ t. is_wider t && x) e ∙ h
 further_stay tree larger x (inr e) h = ap (λ t. is_wider t && x) e ∙ (and_parts (is_wider tree) x h).1
 
 -- a wide candidate is one in the wider tree too
-wide_stays : (tree larger : Tree) (turn : Bool) (pos : BoardState) (t p : ℕ) → IsAsWide tree larger
-    → is_wide_candidate tree turn pos t p ≡ true → is_wide_candidate larger turn pos t p ≡ true
+wide_stays : (small large : Turn) (pos : BoardState) (p : ℕ) → large.target ≡ small.target
+    → large.attacker_to_play ≡ small.attacker_to_play → IsAsWide small.tree large.tree
+    → is_wide_candidate small pos p ≡ true → is_wide_candidate large pos p ≡ true
 unfolding is_wide_candidate
-wide_stays tree larger turn pos t p as_wide h =
-    let near = (ltb (liberties pos.size pos.cells t) 3
-    && is_empty_beside pos.size pos.cells (is_liberty pos.size pos.cells t) p)
-    || is_backfilling pos t p in
-    elim (or_cases near (is_wider tree && is_further turn pos.size pos.cells t p) h) [
-      | inl n ↦ or_left near (is_wider larger && is_further turn pos.size pos.cells t p) n
-      | inr f ↦ or_right near (is_wider larger && is_further turn pos.size pos.cells t p)
-          (further_stay tree larger (is_further turn pos.size pos.cells t p) as_wide f)
+wide_stays small large pos p same side as_wide h =
+    let near : ℕ → Bool = λ t. is_wide_by_liberties pos t p in
+    let further : Bool → ℕ → Bool = λ b t. is_further b pos.size pos.cells t p in
+    let here = further small.attacker_to_play small.target in
+    ap (λ t. near t || (is_wider large.tree && further large.attacker_to_play t)) same
+    ∙ ap (λ b. near small.target || (is_wider large.tree && further b small.target)) side
+    ∙ elim (or_cases (near small.target) (is_wider small.tree && here) h) [
+      | inl n ↦ or_left (near small.target) (is_wider large.tree && here) n
+      | inr f ↦ or_right (near small.target) (is_wider large.tree && here)
+          (further_stay small.tree large.tree here as_wide f)
     ]
 
 -- a candidate is one with more wide plies and in the wider tree too
-candidate_stays : (tree larger : Tree) (turn : Bool) (pos : BoardState) (t k l p : ℕ) → IsAsWide tree larger → k ≤ l
-    → is_candidate tree turn pos t k p ≡ true → is_candidate larger turn pos t l p ≡ true
-candidate_stays tree larger turn pos t k l p as_wide more h =
-    let near = is_liberty pos.size pos.cells t p || is_last_liberty_of_enemy pos.size pos.cells t p in
-    let small = ltb 0 k && is_wide_candidate tree turn pos t p in
-    let large = ltb 0 l && is_wide_candidate larger turn pos t p in
-    candidate_stages larger turn pos t l p
-    ∙ elim (or_cases near small (sym (candidate_stages tree turn pos t k p) ∙ h)) [
-      | inl n ↦ or_left near large n
-      | inr w ↦ let parts = and_parts (ltb 0 k) (is_wide_candidate tree turn pos t p) w in
-          or_right near large (and_from (ltb 0 l) (is_wide_candidate larger turn pos t p)
-          (lt-ltb 0 l (let some = ltb-true 0 k parts.0 in omega (arith, some, more)))
-          (wide_stays tree larger turn pos t p as_wide parts.1))
+candidate_stays : (small large : Turn) (pos : BoardState) (p : ℕ) → large.target ≡ small.target
+    → large.attacker_to_play ≡ small.attacker_to_play → IsAsWide small.tree large.tree → small.wide ≤ large.wide
+    → is_candidate small pos p ≡ true → is_candidate large pos p ≡ true
+candidate_stays small large pos p same side as_wide more h =
+    let near : ℕ → Bool =
+    λ t. is_liberty pos.size pos.cells t p || is_last_liberty_of_enemy pos.size pos.cells t p in
+    let less = ltb 0 small.wide && is_wide_candidate small pos p in
+    let wide = ltb 0 large.wide && is_wide_candidate large pos p in
+    candidate_stages large pos p
+    ∙ ap (λ t. near t || wide) same
+    ∙ elim (or_cases (near small.target) less (sym (candidate_stages small pos p) ∙ h)) [
+      | inl n ↦ or_left (near small.target) wide n
+      | inr w ↦ let parts = and_parts (ltb 0 small.wide) (is_wide_candidate small pos p) w in
+          or_right (near small.target) wide (and_from (ltb 0 large.wide) (is_wide_candidate large pos p)
+          (lt-ltb 0 large.wide (let some = ltb-true 0 small.wide parts.0 in omega (arith, some, more)))
+          (wide_stays small large pos p same side as_wide parts.1))
     ]
 
 -- of two choices by the same test the one is at most the other if each of its parts is
@@ -97,13 +108,13 @@ module _ (node more : Node) (h : IsNoHarder node more) where
   -- at the attacker's turn he may ignore the ban at least as often
   own_more : is_attackers node ≡ true → allowance_of node ≤ allowance_of more
   own_more turn =
-      le_chosen node.attacker_to_play more.attacker_to_play node.attacker_ko node.defender_ko more.attacker_ko
+      le_chosen node.turn.attacker_to_play more.turn.attacker_to_play node.attacker_ko node.defender_ko more.attacker_ko
       more.defender_ko h.turn (λ _. h.attacker_ko) (λ f. absurd (both_ways (is_attackers node) f turn))
 
   -- at the defender's turn he may do so at most as often
   own_less : is_attackers node ≡ false → allowance_of more ≤ allowance_of node
   own_less turn =
-      le_chosen more.attacker_to_play node.attacker_to_play more.attacker_ko more.defender_ko node.attacker_ko
+      le_chosen more.turn.attacker_to_play node.turn.attacker_to_play more.attacker_ko more.defender_ko node.attacker_ko
       node.defender_ko (sym h.turn) (λ t. absurd (both_ways (is_attackers node) turn (sym h.turn ∙ t)))
       (λ _. h.defender_ko)
 
@@ -116,17 +127,17 @@ module _ (node more : Node) (h : IsNoHarder node more) where
     turn = ap not h.turn;
     tree = h.tree;
     wide = let wide = h.wide in omega (arith, wide);
-    attacker_ko = le_chosen node.attacker_to_play more.attacker_to_play left node.attacker_ko new_left more.attacker_ko
+    attacker_ko = le_chosen node.turn.attacker_to_play more.turn.attacker_to_play left node.attacker_ko new_left more.attacker_ko
         h.turn attacks (λ _. h.attacker_ko);
-    defender_ko = le_chosen more.attacker_to_play node.attacker_to_play more.defender_ko new_left node.defender_ko left
+    defender_ko = le_chosen more.turn.attacker_to_play node.turn.attacker_to_play more.defender_ko new_left node.defender_ko left
         (sym h.turn) (λ _. h.defender_ko) (λ f. defends (sym h.turn ∙ f));
   }
 
   -- the same side is to play
-  same_mover : mover_of more ≡ mover_of node
+  same_mover : mover_of more.turn ≡ mover_of node.turn
   same_mover =
-      ap (λ b. cond b (other more.defender) more.defender) h.turn
-      ∙ ap (λ c. cond node.attacker_to_play (other c) c) h.defender
+      ap (λ b. cond b (other more.turn.defender) more.turn.defender) h.turn
+      ∙ ap (λ c. cond node.turn.attacker_to_play (other c) c) h.defender
 
   -- the target stands at both or at neither
   same_target : (pos : BoardState) → is_gone more pos ≡ is_gone node pos
@@ -134,17 +145,12 @@ module _ (node more : Node) (h : IsNoHarder node more) where
 
   -- the target has few enough liberties at the other node too
   still_few : (pos : BoardState) → has_too_many node pos ≡ false → has_too_many more pos ≡ false
-  still_few pos few =
-      ap (λ t. has_many_liberties more.tree pos t more.wide) h.target
-      ∙ few_stay node.tree more.tree pos node.target node.wide more.wide h.tree h.wide few
+  still_few pos few = few_stay node.turn more.turn pos h.target h.tree h.wide few
 
   -- a candidate of the attacker is one at the other node too
-  still_candidate : (pos : BoardState) (p : ℕ) → is_candidate_at node pos p ≡ true → is_candidate_at more pos p ≡ true
-  still_candidate pos p candidate =
-      ap (λ b. is_candidate more.tree b pos more.target more.wide p) h.turn
-      ∙ ap (λ t. is_candidate more.tree node.attacker_to_play pos t more.wide p) h.target
-      ∙ candidate_stays node.tree more.tree node.attacker_to_play pos node.target node.wide more.wide p h.tree h.wide
-      candidate
+  still_candidate : (pos : BoardState) (p : ℕ) → is_candidate node.turn pos p ≡ true
+      → is_candidate more.turn pos p ≡ true
+  still_candidate pos p candidate = candidate_stays node.turn more.turn pos p h.target h.turn h.tree h.wide candidate
 
   -- the passes lead to such nodes
   passes_stay : is_attackers node ≡ false

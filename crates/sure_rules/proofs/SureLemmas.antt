@@ -5,10 +5,10 @@ use Rattle.std.specs.List.{list_any, list_all}
 use Rattle.std.proofs.lemmas.Bool.{cases_Bool, and_parts, and_from, both_ways, not-true, not_from_false, lt-ltb, ltb-true}
 use Rattle.go_rules.specs.Position.{BoardState}
 use Rattle.go_rules.specs.Play.{pass}
-use Rattle.read_rules.specs.Candidates.{is_candidate_at}
+use Rattle.read_rules.specs.Candidates.{is_candidate}
 use Rattle.read_rules.specs.declared.node.Node.{Node}
 use Rattle.read_rules.specs.GameTree.{attacker_wins, child_of, next_node, allowance_of, some_child, each_child}
-use Rattle.read_rules.proofs.CandidateLaws.{candidate_at_on}
+use Rattle.read_rules.proofs.CandidateLaws.{candidate_on}
 use Rattle.read_rules.proofs.RuleLemmas.{child_gives, child_from, attacker_from, defender_from}
 use Rattle.read_rules.proofs.WinLemmas.{wins-captured}
 use Rattle.read_rules.proofs.WalkLemmas.{any_gives, any_from, all_gives, all_from}
@@ -18,18 +18,18 @@ use Rattle.sure_rules.specs.SureInWords.{SomeCandidateCaptures, EveryReplyFails}
 
 -- at the attacker's turn the points that are tried are the candidates
 pub tried_candidate : (node : Node) (pos : BoardState) (p : ℕ) → is_attackers node ≡ true
-    → is_tried node pos p ≡ is_candidate_at node pos p
-tried_candidate node pos p turn = ap (λ b. cond b (is_candidate_at node pos p) (nat_lt p (pos.size * pos.size))) turn
+    → is_tried node pos p ≡ is_candidate node.turn pos p
+tried_candidate node pos p turn = ap (λ b. cond b (is_candidate node.turn pos p) (nat_lt p (pos.size * pos.size))) turn
 
 -- at the defender's turn they are those of the board
 pub tried_anywhere : (node : Node) (pos : BoardState) (p : ℕ) → is_attackers node ≡ false
     → is_tried node pos p ≡ nat_lt p (pos.size * pos.size)
-tried_anywhere node pos p turn = ap (λ b. cond b (is_candidate_at node pos p) (nat_lt p (pos.size * pos.size))) turn
+tried_anywhere node pos p turn = ap (λ b. cond b (is_candidate node.turn pos p) (nat_lt p (pos.size * pos.size))) turn
 
 -- a point that is tried is on the board
 pub tried_on : (node : Node) (pos : BoardState) (p : ℕ) → is_tried node pos p ≡ true → p < pos.size * pos.size
 tried_on node pos p h = elim (cases_Bool (is_attackers node)) [
-  | inl turn ↦ candidate_at_on node pos p (sym (tried_candidate node pos p turn) ∙ h)
+  | inl turn ↦ candidate_on node.turn pos p (sym (tried_candidate node pos p turn) ∙ h)
   | inr turn ↦ ltb-true p (pos.size * pos.size) (sym (tried_anywhere node pos p turn) ∙ h)
 ]
 
@@ -74,7 +74,7 @@ some_gives test None h = cc
 some_gives test (Some child) h = (child, refl, h)
 
 -- a candidate at whose child the target is surely captured by the test is one in words
-some_candidate : (n : ℕ) (node : Node) (pos : BoardState) (p : ℕ) → is_candidate_at node pos p ≡ true
+some_candidate : (n : ℕ) (node : Node) (pos : BoardState) (p : ℕ) → is_candidate node.turn pos p ≡ true
     → some_child (surely_wins n) (child_of node pos p) ≡ true → SomeCandidateCaptures n node pos
 some_candidate n node pos p candidate h = let child = some_gives (surely_wins n) (child_of node pos p) h in record {
   point = p;
@@ -104,7 +104,7 @@ sure_attacker_from n node pos stands turn h =
     sure-attacker n node pos stands turn
     ∙ and_from _ _ (not_from_false _ h.0) (any_from (is_tried node pos)
     (λ p. some_child (surely_wins n) (child_of node pos p)) (pos.size * pos.size) 0 w.point (omega arith)
-    (let on = candidate_at_on node pos w.point w.candidate in omega arith)
+    (let on = candidate_on node.turn pos w.point w.candidate in omega arith)
     (tried_candidate node pos w.point turn ∙ w.candidate)
     (ap (some_child (surely_wins n)) (child_from node pos w.point w.next w.new w.child) ∙ w.wins))
 
@@ -181,7 +181,7 @@ sure_is_won (suc n) node pos h = elim (cases_Bool (is_gone node pos)) [
         as_next n node pos (defender_from n node pos stands turn (record {
           passed = sure_is_won n (next_node node (allowance_of node)) (pass pos) w.passed;
           played = λ p next new candidate child.
-              sure_is_won n next new (w.played p next new (candidate_at_on node pos p candidate) child);
+              sure_is_won n next new (w.played p next new (candidate_on node.turn pos p candidate) child);
         }))
   ]
 ]

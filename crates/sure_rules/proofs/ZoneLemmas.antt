@@ -14,11 +14,12 @@ use Rattle.go_rules.proofs.PlayLaws.{done_state, free_keeps, others_stay, pass_k
 use Rattle.go_rules.proofs.PlayLaws.{position_in_words}
 use Rattle.go_rules.proofs.Plays.{at_put_same, at_put_other, enemy_differs}
 use Rattle.read_rules.proofs.AfterPlays.{put_liberty}
-use Rattle.read_rules.proofs.CandidateLaws.{candidate_at_on}
+use Rattle.read_rules.proofs.CandidateLaws.{candidate_on}
 use Rattle.read_rules.proofs.LibertyLemmas.{child_free, play_size}
 use Rattle.read_rules.specs.ActiveArea.{AgreeOn}
 use Rattle.read_rules.specs.declared.node.Node.{Node}
-use Rattle.read_rules.specs.GameTree.{mover_of, allowance_of, next_node}
+use Rattle.read_rules.specs.GameTree.{allowance_of, next_node}
+use Rattle.read_rules.specs.Turns.{mover_of}
 use Rattle.read_rules.specs.Rules.{IsChild}
 use Rattle.sure_rules.specs.Nodes.{is_attackers, is_gone, target_of}
 use Rattle.sure_rules.specs.SureTree.{surely_wins}
@@ -76,7 +77,7 @@ zone_attacker n node pos Z turn w = λ here sound agrees. elim (cases_Bool (is_g
           candidate = candidate;
           child = made.1;
           wins = w.zone made.0
-              (free_keeps here (mover_of node) w.point made.0 sound (candidate_at_on node here w.point candidate)
+              (free_keeps here (mover_of node.turn) w.point made.0 sound (candidate_on node.turn here w.point candidate)
               free.1) made.2;
         },
       )
@@ -104,7 +105,7 @@ module _ (n : ℕ) (node : Node) (pos : BoardState) (Z : ℕ → Bool) (turn : i
 
   -- A reply that is not read.
   module _ (p : ℕ) (new : BoardState) (on : p < here.size * here.size)
-      (played : play_free here (mover_of node) p ≡ Ok new) (unread : w.is_read p ≡ false) where
+      (played : play_free here (mover_of node.turn) p ≡ Ok new) (unread : w.is_read p ≡ false) where
     -- a point of the zone is on the board
     inside_on : (q : ℕ) → w.passed q ≡ true → q < here.size * here.size
     inside_on q inside = subst (λ s. q < s * s) agrees.sizes (w.on_board q inside)
@@ -112,32 +113,32 @@ module _ (n : ℕ) (node : Node) (pos : BoardState) (Z : ℕ → Bool) (turn : i
     -- it is not played at a point of the zone
     elsewhere : (q : ℕ) → w.passed q ≡ true → q ≢ p
     elsewhere q inside e =
-        let empty = (done_state here (mover_of node) p new played).0 in
+        let empty = (done_state here (mover_of node.turn) p new played).0 in
         both_ways (w.is_read p) unread
         (ap w.is_read (sym e) ∙ w.empty_points q inside
         (agrees.cells q (w.within q inside) ∙ ap (cell_at here.cells) e ∙ empty))
 
     -- it captures no stone of the zone
     takes_none : (q : ℕ) → w.passed q ≡ true
-        → IsCaptured here.size (set here.cells p (stone_of (mover_of node))) (mover_of node) q → ⊥
+        → IsCaptured here.size (set here.cells p (stone_of (mover_of node.turn))) (mover_of node.turn) q → ⊥
     takes_none q inside captured =
         both_ways (w.is_read p) unread (w.last_liberties here sound agrees q p inside
-        (sym (at_put_other here.cells p q (stone_of (mover_of node)) (elsewhere q inside)) ∙ captured.enemy)
-        (captured_at_last here (mover_of node) p new sound on played q (inside_on q inside) captured))
+        (sym (at_put_other here.cells p q (stone_of (mover_of node.turn)) (elsewhere q inside)) ∙ captured.enemy)
+        (captured_at_last here (mover_of node.turn) p new sound on played q (inside_on q inside) captured))
 
     -- so it leads to a position that agrees on the zone with that after the pass
     after_reply : AgreeOn (points_of w.passed) (pass pos) new
     after_reply = record {
-      sizes = agrees.sizes ∙ sym (play_size here (mover_of node) p new played);
-      cells = λ q inside. elim (others_stay here (mover_of node) p new q played (inside_on q inside)
+      sizes = agrees.sizes ∙ sym (play_size here (mover_of node.turn) p new played);
+      cells = λ q inside. elim (others_stay here (mover_of node.turn) p new q played (inside_on q inside)
           (elsewhere q inside)) [
             | inl stays ↦ agrees.cells q (w.within q inside) ∙ sym stays
             | inr taken ↦ absurd (takes_none q inside taken.2)
           ];
       bans = λ q c inside. sym (not_banned new.ban c q (λ r k ban e.
-          takes_none q inside (subst (IsCaptured here.size (set here.cells p (stone_of (mover_of node))) (mover_of node))
-          e (ban_means here (mover_of node) p new on played r
-          (ban ∙ ap (λ (x : Colour). Some (r, x)) (ban_parts here (mover_of node) p new on played r k ban).0)).taken)));
+          takes_none q inside (subst (IsCaptured here.size (set here.cells p (stone_of (mover_of node.turn))) (mover_of node.turn))
+          e (ban_means here (mover_of node.turn) p new on played r
+          (ban ∙ ap (λ (x : Colour). Some (r, x)) (ban_parts here (mover_of node.turn) p new on played r k ban).0)).taken)));
     }
 
     -- and fails as the pass does
@@ -146,7 +147,7 @@ module _ (n : ℕ) (node : Node) (pos : BoardState) (Z : ℕ → Bool) (turn : i
         stays_sure n n (next_node node (allowance_of node)) (next_node node left) new (omega arith)
         (next_stays node node (no_harder-refl node) (allowance_of node) left
         (λ t. absurd (both_ways (is_attackers node) turn t)) (λ _. less))
-        (w.zone new (free_keeps here (mover_of node) p new sound on played) after_reply)
+        (w.zone new (free_keeps here (mover_of node.turn) p new sound on played) after_reply)
 
   -- every reply fails
   reply_fails : (p : ℕ) (next : Node) (new : BoardState) → p < here.size * here.size → IsChild node here p next new
@@ -155,7 +156,7 @@ module _ (n : ℕ) (node : Node) (pos : BoardState) (Z : ℕ → Bool) (turn : i
     | inl read ↦ w.fails p read here sound agrees next new child
     | inr unread ↦ elim child [
       | inl legal ↦ ap (λ (m : Node). surely_wins n m new) legal.next_is
-          ∙ unread_fails p new on (play_done here (mover_of node) p new legal.legal) unread (allowance_of node)
+          ∙ unread_fails p new on (play_done here (mover_of node.turn) p new legal.legal) unread (allowance_of node)
           (omega arith)
       | inr allowed ↦ ap (λ (m : Node). surely_wins n m new) allowed.next_is
           ∙ unread_fails p new on allowed.free unread (allowance_of node - 1) (omega arith)

@@ -11,7 +11,8 @@ use Rattle.read_rules.specs.declared.node.Node.{Node}
 use Rattle.read_rules.specs.declared.question.Spot.{Spot}
 use Rattle.read_rules.specs.declared.question.Spot.TheVariants.{At, Pass}
 use Rattle.read_rules.specs.declared.question.ReadingQuestion.{ReadingQuestion}
-use Rattle.read_rules.specs.GameTree.{mover_of, allowance_of}
+use Rattle.read_rules.specs.GameTree.{allowance_of}
+use Rattle.read_rules.specs.Turns.{mover_of}
 use Rattle.read_rules.specs.Answer.{is_attack, own_allowance, other_allowance}
 use Rattle.sure_rules.specs.Nodes.{other_allowance_of}
 
@@ -100,7 +101,7 @@ HasPlanWithin n target defender start = (plan : List Spot → ℕ) × IsPlanWith
 abbrev pub standing_at : Node → BoardState → Standing
 standing_at node pos = record {
   board = pos;
-  to_play = mover_of node;
+  to_play = mover_of node.turn;
   allowance = allowance_of node;
   other_allowance = other_allowance_of node;
 }

@@ -2,7 +2,7 @@
 use Rattle.std.specs.Prelude.{◌≡◌, ◌≢◌, ℕ, ◌*◌, ◌<◌, ◌≤◌, false, IsTrue}
 use Rattle.go_rules.specs.Position.{BoardState}
 use Rattle.go_rules.specs.Play.{pass}
-use Rattle.read_rules.specs.Candidates.{is_candidate_at}
+use Rattle.read_rules.specs.Candidates.{is_candidate}
 use Rattle.read_rules.specs.declared.node.Node.{Node}
 use Rattle.read_rules.specs.declared.question.ReadingQuestion.{ReadingQuestion}
 use Rattle.read_rules.specs.declared.question.Spot.{Spot}
@@ -18,7 +18,7 @@ pub record SomeCandidateCaptures (n : ℕ) (node : Node) (pos : BoardState) : Ty
   pub point : ℕ
   pub next : Node
   pub new : BoardState
-  pub candidate : IsTrue (is_candidate_at node pos point)
+  pub candidate : IsTrue (is_candidate node.turn pos point)
   pub child : IsChild node pos point next new
   pub wins : IsTrue (surely_wins n next new)
 

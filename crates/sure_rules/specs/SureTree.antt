@@ -4,14 +4,14 @@ use Rattle.std.specs.Prelude.{ℕ, zero, suc, ◌*◌, Bool, not, ◌&&◌, ◌|
 use Rattle.std.specs.List.{range_with_len, filter, list_any, list_all}
 use Rattle.go_rules.specs.Position.{BoardState}
 use Rattle.go_rules.specs.Play.{pass}
-use Rattle.read_rules.specs.Candidates.{is_candidate_at}
+use Rattle.read_rules.specs.Candidates.{is_candidate}
 use Rattle.read_rules.specs.declared.node.Node.{Node}
 use Rattle.read_rules.specs.GameTree.{allowance_of, next_node, child_of, some_child, each_child}
 use Rattle.sure_rules.specs.Nodes.{is_attackers, is_gone, has_too_many}
 
 -- p is tried: at the attacker's turn it is a candidate, at the defender's a point of the board
 abbrev pub is_tried : Node → BoardState → ℕ → Bool
-is_tried node pos p = if is_attackers node then is_candidate_at node pos p else nat_lt p (pos.size * pos.size)
+is_tried node pos p = if is_attackers node then is_candidate node.turn pos p else nat_lt p (pos.size * pos.size)
 
 -- the points that are tried, in reading order
 abbrev pub tried_points : Node → BoardState → List ℕ

@@ -7,9 +7,10 @@ use Rattle.go_rules.specs.Position.{BoardState, IsPosition, other, stone_of}
 use Rattle.go_rules.specs.Play.{pass}
 use Rattle.go_rules.specs.Rules.{IsOnlyLiberty}
 use Rattle.read_rules.specs.ActiveArea.{AgreeOn}
-use Rattle.read_rules.specs.Candidates.{is_candidate_at}
+use Rattle.read_rules.specs.Candidates.{is_candidate}
 use Rattle.read_rules.specs.declared.node.Node.{Node}
-use Rattle.read_rules.specs.GameTree.{mover_of, allowance_of, next_node}
+use Rattle.read_rules.specs.GameTree.{allowance_of, next_node}
+use Rattle.read_rules.specs.Turns.{mover_of}
 use Rattle.read_rules.specs.Rules.{IsChild}
 use Rattle.sure_rules.specs.Nodes.{has_too_many}
 use Rattle.sure_rules.specs.SureTree.{surely_wins}
@@ -36,7 +37,7 @@ pub record IsPlayZone (n : ℕ) (node : Node) (pos : BoardState) (Z : ℕ → Bo
   pub new : BoardState
   pub after : ℕ → Bool
   pub few : WhereverAgrees pos Z (λ here. has_too_many node here ≡ false)
-  pub candidate : WhereverAgrees pos Z (λ here. IsTrue (is_candidate_at node here point))
+  pub candidate : WhereverAgrees pos Z (λ here. IsTrue (is_candidate node.turn here point))
   pub leads : WhereverAgrees pos Z (λ here. (made : BoardState) × IsChild node here point next made
       × AgreeOn (points_of after) new made)
   pub zone : IsZone n next new after
@@ -52,7 +53,7 @@ pub record IsReplyZone (n : ℕ) (node : Node) (pos : BoardState) (Z : ℕ → B
   pub on_board : (q : ℕ) → IsTrue (passed q) → q < pos.size * pos.size
   pub empty_points : (q : ℕ) → IsTrue (passed q) → cell_at pos.cells q ≡ Empty → IsTrue (is_read q)
   pub last_liberties : WhereverAgrees pos Z (λ here. (q p : ℕ) → IsTrue (passed q)
-      → cell_at here.cells q ≡ stone_of (other (mover_of node)) → IsOnlyLiberty here.size here.cells q p
+      → cell_at here.cells q ≡ stone_of (other (mover_of node.turn)) → IsOnlyLiberty here.size here.cells q p
       → IsTrue (is_read p))
   pub fails : (p : ℕ) → IsTrue (is_read p) → WhereverAgrees pos Z (λ here. (next : Node) (made : BoardState)
       → IsChild node here p next made → IsTrue (surely_wins n next made))

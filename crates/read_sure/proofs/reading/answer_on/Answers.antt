@@ -33,8 +33,8 @@ returns-in-Some-move_under-2-clause-over g c = λ pos a about.
     (c.move_under-2.ensures.over pos (agrees_before c.move_under-3.ensures.stays.grows a)) in
     answer_some q here (omega (arith, c.requires.plies)) about 2 c.in-Some-move_under-2.spot (omega arith) (omega arith)
     (sym two ∙ c.in-Some-move_under-2.is) (λ more lo hi.
-        let is_three : more ≡ 3 = omega (arith, lo, hi) in
-        ap (λ m. sure_move (q.plies - 1) (first_node q m) here) is_three ∙ sym three ∙ c.in_default-move_under.is)
+    let is_three : more ≡ 3 = omega (arith, lo, hi) in
+    ap (λ m. sure_move (q.plies - 1) (first_node q m) here) is_three ∙ sym three ∙ c.in_default-move_under.is)
 
 -- one was found under code 1, and none under the others
 pub returns-clause-over : goal.returns-clause-over
