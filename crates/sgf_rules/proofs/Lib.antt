@@ -11,3 +11,4 @@ pub mod ReadBack
 pub mod SetPoints
 pub mod FaultKinds
 pub mod RefusedPlays
+pub mod FirstNodes

@@ -7,3 +7,4 @@ pub mod MainLine
 pub mod Uses
 pub mod Points
 pub mod Game
+pub mod FirstNode

@@ -14,7 +14,8 @@ ghost use Rattle.sgf_rules.specs.Written.{IsFirstTree, IsMainLine};
 ghost use Rattle.sgf_rules.specs.MainLine.{main_line};
 ghost use Rattle.sgf_rules.specs.Uses.{Use, uses_in};
 ghost use Rattle.sgf_rules.specs.Game.{size_of_nodes, is_readable, sets, cells_after_uses, HasDeadSetup, after_node};
-ghost use Rattle.sgf_rules.specs.Game.{after_setup, after_nodes, game_of, HasRefusedPlay};
+ghost use Rattle.sgf_rules.specs.Game.{after_setup, after_nodes, game_of, and_then, HasRefusedPlay};
+ghost use Rattle.sgf_rules.specs.FirstNode.{first_position_of};
 
 /// The main line that is computed is that of the tree which the text begins with, as its bytes write it, and a text
 /// that begins with no tree has none.
@@ -56,4 +57,11 @@ pub fn faults_are_by_kind()
         → (after_node pos uses ≡ Err NoLiberty) ↔ HasDeadSetup pos uses }
     ensures refused { (pos now : BoardState) (uses : List Use) → list_all (is_readable pos.size) uses ≡ true
         → after_setup pos uses ≡ Ok now → (after_node pos uses ≡ Err IllegalPlay) ↔ HasRefusedPlay now uses }
+{}
+
+/// A record goes on from the position of its first node, by the other nodes of its main line; so a fault up to the
+/// first node is a fault of the record.
+pub fn records_go_on_from_their_first_node()
+    ensures { (text : List ℕ) (n : Node) (ns : List Node) → IsMainLine text (n ∷ ns)
+        → game_of text ≡ and_then (first_position_of text) (λ now. after_nodes now ns) }
 {}

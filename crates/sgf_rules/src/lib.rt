@@ -15,7 +15,7 @@ pub use area::Area;
 pub use kind::FaultKind;
 pub use laws::{
     a_text_has_one_first_tree, faults_are_by_kind, main_lines_are_of_first_trees,
-    the_last_value_sets_a_point,
+    records_go_on_from_their_first_node, the_last_value_sets_a_point,
 };
 pub use meaning::Meaning;
 pub use token::TokenKind;
