@@ -1,7 +1,8 @@
 -- Steps over the values of a node and over nodes.
 use Rattle.std.proofs.Common.{◌≡◌, ◌↔◌, ℕ, ◌*◌, true, false, List, [], ◌∷◌, ◌++◌, Option, Some, None}
-use Rattle.std.proofs.Common.{Ok, Err, IsSome, IfSome, refl, sym, ap, ◌∙◌, arith, take}
+use Rattle.std.proofs.Common.{Ok, Err, IsSome, IfSome, refl, sym, ap, ◌∙◌, arith, take, if◌then◌else◌}
 use Rattle.std.specs.List.{list_all, list_any, flat_map}
+use Rattle.std.specs.Option.{option_map}
 use Rattle.go_rules.specs.declared.Cell.{Cell}
 use Rattle.go_rules.specs.Board.{IsSize}
 use Rattle.go_rules.specs.Position.{BoardState}
@@ -20,7 +21,8 @@ use Rattle.sgf_rules.specs.Points.{size_of}
 use Rattle.sgf_rules.specs.Game.{size_among, size_of_nodes, usual_size, is_readable, is_setup, cells_after_use}
 use Rattle.sgf_rules.specs.Game.{cells_after_uses, position_with, after_setup, and_then, after_use, after_uses}
 use Rattle.sgf_rules.specs.Game.{after_node, after_nodes}
-use Rattle.sgf_rules.specs.Game.{game_on, game_of}
+use Rattle.sgf_rules.specs.Game.{game_on, game_along, game_of}
+use Rattle.sgf_rules.specs.FirstNode.{first_alone, first_position_of}
 use Rattle.sgf_read.specs.Reads.{tokens_from, uses_from, uses_at, IsFirstNode}
 
 -- no value, no use
@@ -214,3 +216,62 @@ game_played text ts s pos e tree some is =
     ap (λ pos. after_nodes pos (nodes_in ts)) is
     ∙ (ap (λ s. game_on s (nodes_in ts)) some ∙ (ap (λ ts. game_on (size_of_nodes (nodes_in ts)) (nodes_in ts)) e
     ∙ sym (game_some text (ap begins_with_tree (sym e) ∙ tree))))
+
+-- of nodes the first alone is gone through
+pub first_step : (pos : BoardState) (nodes more : List Node) (n : Node) (us : List Use) (next : BoardState)
+    → nodes ≡ n ∷ more → us ≡ uses_in n → after_node pos us ≡ Ok next → Ok next ≡ after_nodes pos (first_alone nodes)
+unfolding after_nodes
+first_step pos nodes more n us next e uses is = sym (ap (λ nodes. after_nodes pos (first_alone nodes)) e
+    ∙ ap (λ r. and_then r (λ next. after_nodes next [])) (ap (after_node pos) (sym uses) ∙ is))
+
+-- or it has a fault
+pub first_stop : (pos : BoardState) (nodes more : List Node) (n : Node) (us : List Use) (kind : FaultKind)
+    → nodes ≡ n ∷ more → us ≡ uses_in n → after_node pos us ≡ Err kind
+    → Err kind ≡ after_nodes pos (first_alone nodes)
+unfolding after_nodes
+first_stop pos nodes more n us kind e uses is = sym (ap (λ nodes. after_nodes pos (first_alone nodes)) e
+    ∙ ap (λ r. and_then r (λ next. after_nodes next [])) (ap (after_node pos) (sym uses) ∙ is))
+
+-- without a node nothing is done
+pub first_none : (pos : BoardState) (nodes : List Node) → nodes ≡ [] → Ok pos ≡ after_nodes pos (first_alone nodes)
+unfolding after_nodes
+first_none pos nodes e = sym (ap (λ nodes. after_nodes pos (first_alone nodes)) e)
+
+-- the size of nodes is that of the first alone
+first_size : (nodes : List Node) → size_of_nodes (first_alone nodes) ≡ size_of_nodes nodes
+first_size [] = refl
+first_size (n ∷ ns) = refl
+
+-- the first node of a text that begins with no tree
+pub first_without_tree : (text : List ℕ) → begins_with_tree (record_tokens text) ≡ false
+    → Err Grammar ≡ first_position_of text
+unfolding first_position_of main_line
+first_without_tree text e = rw e refl
+
+-- the first node of a text that begins with a tree
+first_some : (text : List ℕ) → begins_with_tree (record_tokens text) ≡ true
+    → first_position_of text
+    ≡ game_on (size_of_nodes (nodes_in (record_tokens text))) (first_alone (nodes_in (record_tokens text)))
+unfolding first_position_of main_line
+first_some text e =
+    let nodes = nodes_in (record_tokens text) in
+    ap (λ b. game_along (option_map first_alone (if b then Some nodes else None))) e
+    ∙ ap (λ s. game_on s (first_alone nodes)) (first_size nodes)
+
+-- the first node of a record whose size is none
+pub first_unsized : (text : List ℕ) (ts : List Token) → ts ≡ record_tokens text → begins_with_tree ts ≡ true
+    → None ≡ size_of_nodes (nodes_in ts) → Err BadSize ≡ first_position_of text
+first_unsized text ts e tree none =
+    ap (λ s. game_on s (first_alone (nodes_in ts))) none
+    ∙ (ap (λ ts. game_on (size_of_nodes (nodes_in ts)) (first_alone (nodes_in ts))) e
+    ∙ sym (first_some text (ap begins_with_tree (sym e) ∙ tree)))
+
+-- a first node that is gone through from the empty board
+pub first_played : (text : List ℕ) (ts : List Token) (s : ℕ) (pos : BoardState) → ts ≡ record_tokens text
+    → begins_with_tree ts ≡ true → Some s ≡ size_of_nodes (nodes_in ts) → pos ≡ empty_board s
+    → after_nodes pos (first_alone (nodes_in ts)) ≡ first_position_of text
+first_played text ts s pos e tree some is =
+    ap (λ pos. after_nodes pos (first_alone (nodes_in ts))) is
+    ∙ (ap (λ s. game_on s (first_alone (nodes_in ts))) some
+    ∙ (ap (λ ts. game_on (size_of_nodes (nodes_in ts)) (first_alone (nodes_in ts))) e
+    ∙ sym (first_some text (ap begins_with_tree (sym e) ∙ tree))))

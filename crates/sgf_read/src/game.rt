@@ -41,7 +41,7 @@ fn size_at(text: &[u8], node: usize) -> Option<Size>
 
 /// The size of the board of a record whose tree begins at an index.
 #[tactic(auto, using(crate::proofs::GameSteps::size_at_first))]
-fn record_size(text: &[u8], start: usize) -> Option<Size>
+pub(crate) fn record_size(text: &[u8], start: usize) -> Option<Size>
     requires { start ≤ length text.now }
     ensures { result ≡ size_of_nodes (nodes_in (tokens_from text.now start)) }
 {
@@ -92,7 +92,7 @@ fn play_all(text: &[u8], node: usize, pos: &mut Position) -> Result<(), FaultKin
 }
 
 /// Goes through the node whose properties begin at an index: its setup, and then its moves.
-fn play_node(text: &[u8], node: usize, pos: &mut Position) -> Result<(), FaultKind>
+pub(crate) fn play_node(text: &[u8], node: usize, pos: &mut Position) -> Result<(), FaultKind>
     requires { node ≤ length text.now }
     ensures { Leads result pos.new (after_node pos.old (uses_at text.now node)) }
 {
