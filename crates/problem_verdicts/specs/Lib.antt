@@ -1,0 +1,3 @@
+pub mod MoveSets
+pub mod Verdicts
+pub mod Questions

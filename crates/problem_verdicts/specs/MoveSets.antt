@@ -1,0 +1,27 @@
+-- Moves of one side: the pass, and points at which it plays.
+use Rattle.std.specs.Prelude.{◌≡◌, ℕ, ◌+◌, Bool, true, false, ◌&&◌, ◌||◌, ◌==◌, not, Option, Some, None, if◌then◌else◌}
+use Rattle.std.specs.FinSet as set
+use Rattle.problem_verdicts.specs.declared.moves.Moves.{Moves}
+
+-- each of these moves is one of those
+abbrev pub are_among : Moves → Moves → Bool
+are_among few many = (not few.pass || many.pass) && set.is_subset few.points many.points
+
+-- how many moves these are
+abbrev pub count_of : Moves → ℕ
+count_of m = set.len m.points + (if m.pass then 1 else 0)
+
+-- the point is the one of the move, which is no pass
+abbrev pub is_some_of : Option ℕ → ℕ → Bool
+is_some_of None p = false
+is_some_of (Some q) p = p == q
+
+-- each of these moves is one of those: the pass, if it is one of these, and each point
+pub record AreAmong (these those : Moves) : Type 0 where
+  pub passes : these.pass ≡ true → those.pass ≡ true
+  pub plays : (p : ℕ) → set.contains these.points p ≡ true → set.contains those.points p ≡ true
+
+-- these are the same moves as those: the pass is one of both or of neither, and so is each point
+pub record AreSameMoves (these those : Moves) : Type 0 where
+  pub passes : these.pass ≡ those.pass
+  pub plays : (p : ℕ) → set.contains these.points p ≡ set.contains those.points p

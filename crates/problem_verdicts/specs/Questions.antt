@@ -1,0 +1,36 @@
+-- What a reading finds of a problem's question.
+use Rattle.std.specs.Prelude.{◌≡◌, ◌≢◌, ℕ, Bool, ◌&&◌, ◌==◌, nat_lt, None}
+use Rattle.go_rules.specs.Position.{BoardState}
+use Rattle.read_rules.specs.declared.question.Kind.{Kind}
+use Rattle.read_rules.specs.declared.question.Kind.TheVariants.{Attack, Defend}
+use Rattle.read_rules.specs.declared.depths.Depths.{Depths}
+use Rattle.read_rules.specs.Answer.{asked_in, answer_of}
+use Rattle.read_all.specs.AllMoves.{AreAllMoves}
+use Rattle.read_all.specs.FewestPlies.{AreFewest}
+use Rattle.problem_verdicts.specs.declared.judged.Found.{Found}
+
+-- the question of the other side about the same string
+abbrev pub other_kind : Kind → Kind
+other_kind Attack = Defend
+other_kind Defend = Attack
+
+-- the code of the question with these depths
+abbrev pub code_of : BoardState → Kind → ℕ → Depths → ℕ
+code_of pos kind target depths =
+    (answer_of (asked_in depths.tree pos kind target depths.plies depths.wide) pos).code
+
+-- no move is needed: the question has a code, and the other side, asked with the same depths and playing first, has
+-- none. A string that is attacked is captured already, and one that is defended is safe.
+abbrev pub is_needless : BoardState → Kind → ℕ → Depths → Bool
+is_needless pos kind target depths =
+    nat_lt 0 (code_of pos kind target depths) && code_of pos (other_kind kind) target depths == 0
+
+-- this is found of the question: its code, all moves that attain it, the fewest plies with which they do, and whether
+-- no move is needed
+pub record IsFound (pos : BoardState) (kind : Kind) (target : ℕ) (depths : Depths) (f : Found) : Type 0 where
+  pub moves : AreAllMoves (asked_in depths.tree pos kind target depths.plies depths.wide) pos f.code f.moves.pass
+      f.moves.points
+  pub fewest : f.code ≢ 0
+      → AreFewest (asked_in depths.tree pos kind target depths.plies depths.wide) pos f.code f.fewest
+  pub unattained : f.code ≡ 0 → f.fewest ≡ None
+  pub needless : f.needless ≡ is_needless pos kind target depths

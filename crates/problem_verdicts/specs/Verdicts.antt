@@ -1,0 +1,62 @@
+-- What an author is told of a question: what he expects of it is compared with what a reading finds.
+use Rattle.std.specs.Prelude.{ℕ, Bool, true, false, ◌&&◌, ◌||◌, not, ◌==◌, Option, Some, None, is_some}
+use Rattle.std.specs.Prelude.{if◌then◌else◌}
+use Rattle.problem_verdicts.specs.declared.moves.Moves.{Moves}
+use Rattle.problem_verdicts.specs.declared.expected.Expected.{Expected}
+use Rattle.problem_verdicts.specs.declared.judged.Found.{Found}
+use Rattle.problem_verdicts.specs.declared.verdict.Verdict.{Verdict}
+use Rattle.problem_verdicts.specs.declared.verdict.Verdict.TheVariants as verdict
+use Rattle.problem_verdicts.specs.MoveSets.{are_among}
+
+-- the author tells a code or moves
+abbrev pub is_told : Expected → Bool
+is_told e = is_some e.code || is_some e.answers
+
+-- the pass is one of the moves that he tells
+abbrev pub has_pass : Option Moves → Bool
+has_pass None = false
+has_pass (Some m) = m.pass
+
+abbrev pub expects_pass : Expected → Bool
+expects_pass e = has_pass e.answers
+
+-- the code is one that he allows: he tells it, or he tells none
+abbrev pub allows_code : Option ℕ → ℕ → Bool
+allows_code None code = true
+allows_code (Some told) code = told == code
+
+-- the side that is asked about does not have its way, and he does not tell that
+abbrev pub is_unsolved : Expected → Found → Bool
+is_unsolved e f = f.code == 0 && not (is_some e.code && allows_code e.code 0)
+
+-- each move that he tells attains the code
+abbrev pub all_attain : Option Moves → Moves → Bool
+all_attain None attaining = true
+all_attain (Some told) attaining = are_among told attaining
+
+-- each move that attains the code is one that he tells
+abbrev pub are_all_told : Option Moves → Moves → Bool
+are_all_told None attaining = true
+are_all_told (Some told) attaining = are_among attaining told
+
+-- the question has its answer without a move, and he does not say so by telling the pass
+abbrev pub needs_none : Expected → Found → Bool
+needs_none e f = f.needless && not (expects_pass e)
+
+-- the code is not the one that he tells, or a move that he tells does not attain it
+abbrev pub misses : Expected → Found → Bool
+misses e f = not (allows_code e.code f.code && all_attain e.answers f.moves)
+
+-- no other move should attain the code, and one does
+abbrev pub has_more : Expected → Found → Bool
+has_more e f = e.only && not (are_all_told e.answers f.moves)
+
+-- the verdict: the first of these that applies, in this order
+abbrev pub verdict_on : Expected → Found → Verdict
+verdict_on e f =
+    if not (is_told e) then verdict.NotTold
+    else if is_unsolved e f then verdict.NotSolved
+    else if needs_none e f then verdict.NeedsNoMove
+    else if misses e f then verdict.AnotherAnswer
+    else if has_more e f then verdict.OtherAnswersToo
+    else verdict.AsExpected

@@ -1,0 +1,122 @@
+//! What a reading finds of a problem's question.
+
+ghost use Rattle.std.specs.Prelude.{◌≡◌, ◌≢◌, ◌*◌, ◌<◌, None};
+ghost use Rattle.go_rules.specs.Strings.{cell_at};
+ghost use Rattle.read_rules.specs.Answer.{asked_in};
+ghost use Rattle.read_all.specs.AllMoves.{AreAllMoves};
+ghost use Rattle.read_all.specs.FewestPlies.{AreFewest};
+ghost use Rattle.problem_verdicts.specs.Questions.{other_kind, code_of, is_needless, IsFound};
+ghost use Rattle.problem_verdicts.specs.Verdicts.{verdict_on};
+
+use crate::expected::Expected;
+use crate::moves::Moves;
+use crate::verdict::{Verdict, verdict_of};
+use go_base::{Cell, Point, Position, Watch};
+use read_all::{Depths, Kind, all_moves, fewest_plies};
+use read_tree::{attack, defend};
+
+/// What is found of a question.
+#[derive(Debug, Drop)]
+pub struct Found {
+    /// The code: 3, 2, 1 or 0.
+    pub code: u8,
+    /// All moves that attain the code; none for code 0.
+    pub moves: Moves,
+    /// The fewest plies with which the question has this code; `None` for code 0.
+    pub fewest: Option<u8>,
+    /// The question has its answer without a move.
+    pub needless: bool,
+}
+
+/// What is found of a question, and what its author is told.
+#[derive(Debug, Drop)]
+pub struct Judged {
+    /// What is found.
+    pub found: Found,
+    /// What the author is told.
+    pub verdict: Verdict,
+}
+
+/// The question of the other side about the same string.
+fn other_kind(kind: Kind) -> Kind
+    ensures { result ≡ other_kind kind }
+{
+    match kind {
+        Kind::Attack => Kind::Defend,
+        Kind::Defend => Kind::Attack,
+    }
+}
+
+/// The code of a question.
+fn code_of(pos: &Position, kind: Kind, target: Point, depths: Depths) -> u8
+    requires on_board { target < pos.now.size * pos.now.size }
+    requires stone { cell_at pos.now.cells target ≢ Cell.Empty }
+    ensures { result ≡ code_of pos.now kind target depths }
+{
+    let look = Watch::new(pos);
+    match kind {
+        Kind::Attack => attack(look, target, depths).answer.code,
+        Kind::Defend => defend(look, target, depths).answer.code,
+    }
+}
+
+/// Whether no move is needed for a question with this code.
+fn is_needless(pos: &Position, kind: Kind, target: Point, depths: Depths, code: u8) -> bool
+    requires on_board { target < pos.now.size * pos.now.size }
+    requires stone { cell_at pos.now.cells target ≢ Cell.Empty }
+    requires code { code ≡ code_of pos.now kind target depths }
+    ensures { result ≡ is_needless pos.now kind target depths }
+{
+    code > 0 && code_of(pos, other_kind(kind), target, depths) == 0
+}
+
+/// The fewest plies with which a question has this code; `None` for code 0.
+fn fewest_of(pos: &Position, kind: Kind, target: Point, depths: Depths, code: u8) -> Option<u8>
+    requires on_board { target < pos.now.size * pos.now.size }
+    requires stone { cell_at pos.now.cells target ≢ Cell.Empty }
+    ensures some { code ≢ 0
+        → AreFewest (asked_in depths.tree pos.now kind target depths.plies depths.wide) pos.now code result }
+    ensures none { code ≡ 0 → result ≡ None }
+{
+    if code == 0 {
+        return None;
+    }
+    fewest_plies(Watch::new(pos), kind, target, depths, code).plies
+}
+
+/// What is found of a question about the string at `target`.
+fn find(pos: &Position, kind: Kind, target: Point, depths: Depths) -> Found
+    requires on_board { target < pos.now.size * pos.now.size }
+    requires stone { cell_at pos.now.cells target ≢ Cell.Empty }
+    ensures { IsFound pos.now kind target depths result }
+{
+    let all = all_moves(Watch::new(pos), kind, target, depths);
+    Found {
+        code: all.code,
+        fewest: fewest_of(pos, kind, target, depths, all.code),
+        needless: is_needless(pos, kind, target, depths, all.code),
+        moves: Moves {
+            pass: all.pass,
+            points: all.points,
+        },
+    }
+}
+
+/// What is found of the question, whether the string at `target` can be captured or saved with these depths, and what
+/// its author is told, who expects this.
+pub fn judge(
+    pos: &Position,
+    kind: Kind,
+    target: Point,
+    depths: Depths,
+    expected: &Expected,
+) -> Judged
+    requires on_board { target < pos.now.size * pos.now.size }
+    requires stone { cell_at pos.now.cells target ≢ Cell.Empty }
+    ensures found { IsFound pos.now kind target depths result.found }
+    ensures verdict { result.verdict ≡ verdict_on expected.now result.found }
+{
+    let found = find(pos, kind, target, depths);
+    let verdict = verdict_of(expected, &found);
+    Judged { found, verdict }
+}

@@ -1,0 +1,21 @@
+//! What a verdict means, in words that an author uses.
+
+ghost use Rattle.std.specs.Prelude.{◌≡◌, ◌↔◌, Some, true, false};
+ghost use Rattle.problem_verdicts.specs.declared.moves.Moves.{Moves};
+ghost use Rattle.problem_verdicts.specs.declared.expected.Expected.{Expected};
+ghost use Rattle.problem_verdicts.specs.declared.judged.Found.{Found};
+ghost use Rattle.problem_verdicts.specs.declared.verdict.Verdict.TheVariants.{AsExpected};
+ghost use Rattle.problem_verdicts.specs.MoveSets.{AreSameMoves, AreAmong};
+ghost use Rattle.problem_verdicts.specs.Verdicts.{is_unsolved, needs_none, allows_code, verdict_on};
+
+/// Of a question that is solved, needs a move, and has the code that the author allows: with `only` it is as expected
+/// exactly if the moves that attain the code are exactly those that he tells, and without it exactly if each of those
+/// attains the code.
+pub fn answers_mean_moves()
+    ensures only { (e : Expected) (f : Found) (m : Moves) → e.answers ≡ Some m → e.only ≡ true
+        → is_unsolved e f ≡ false → needs_none e f ≡ false → allows_code e.code f.code ≡ true
+        → (verdict_on e f ≡ AsExpected) ↔ AreSameMoves m f.moves }
+    ensures some { (e : Expected) (f : Found) (m : Moves) → e.answers ≡ Some m → e.only ≡ false
+        → is_unsolved e f ≡ false → needs_none e f ≡ false → allows_code e.code f.code ≡ true
+        → (verdict_on e f ≡ AsExpected) ↔ AreAmong m f.moves }
+{}

@@ -1,0 +1,20 @@
+//! What a problem comes to: the code of its question, all moves that attain it, the fewest plies with which they do,
+//! and whether that is what the author expects.
+//!
+//! `judge` reads the question; `verdict_of` is the rule by which what was found is compared with what is expected.
+//! Codes are those of a reading, and the moves are the candidates of the question and the pass, as `read_all` tells
+//! them. Nothing takes memory.
+#![tactic(auto)]
+
+mod expected;
+mod judged;
+mod laws;
+mod moves;
+mod verdict;
+
+pub use expected::Expected;
+pub use judged::{Found, Judged, judge};
+pub use laws::answers_mean_moves;
+pub use moves::Moves;
+pub use read_all::{Depths, Kind, Tree};
+pub use verdict::{Verdict, verdict_of};

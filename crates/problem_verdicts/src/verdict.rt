@@ -1,0 +1,103 @@
+//! How what was found is compared with what is expected.
+
+ghost use Rattle.std.specs.Prelude.{◌≡◌};
+ghost use Rattle.problem_verdicts.specs.Verdicts.{allows_code, is_unsolved, all_attain, are_all_told, needs_none};
+ghost use Rattle.problem_verdicts.specs.Verdicts.{misses, has_more, verdict_on};
+
+use crate::expected::Expected;
+use crate::judged::Found;
+use crate::moves::Moves;
+
+/// What the author of a problem is told.
+#[derive(Clone, Copy, Debug, PartialEq, Eq)]
+pub enum Verdict {
+    /// The code and the moves are those that he expects.
+    AsExpected,
+    /// The moves that he expects attain the code, and so do others, which he rules out.
+    OtherAnswersToo,
+    /// The code is another one, or a move that he expects does not attain it.
+    AnotherAnswer,
+    /// The question has its answer without a move: the target is captured already, or safe.
+    NeedsNoMove,
+    /// The side that is asked about does not have its way within the depths.
+    NotSolved,
+    /// He tells nothing that he expects.
+    NotTold,
+}
+
+/// Whether the code is one that the author allows, who tells this code or none.
+fn allows_code(told: Option<u8>, code: u8) -> bool
+    ensures { result ≡ allows_code told code }
+{
+    match told {
+        Some(told) => told == code,
+        None => true,
+    }
+}
+
+/// Whether each move that the author tells attains the code.
+fn all_attain(told: &Option<Moves>, attaining: &Moves) -> bool
+    ensures { result ≡ all_attain told.now attaining.now }
+{
+    match told {
+        Some(told) => told.are_among(attaining),
+        None => true,
+    }
+}
+
+/// Whether the author tells each move that attains the code.
+fn are_all_told(told: &Option<Moves>, attaining: &Moves) -> bool
+    ensures { result ≡ are_all_told told.now attaining.now }
+{
+    match told {
+        Some(told) => attaining.are_among(told),
+        None => true,
+    }
+}
+
+/// Whether the side that is asked about fails, which the author does not tell.
+fn is_unsolved(expected: &Expected, found: &Found) -> bool
+    ensures { result ≡ is_unsolved expected.now found.now }
+{
+    found.code == 0 && !(expected.code.is_some() && allows_code(expected.code, 0))
+}
+
+/// Whether the question has its answer without a move, which the author does not tell.
+fn needs_none(expected: &Expected, found: &Found) -> bool
+    ensures { result ≡ needs_none expected.now found.now }
+{
+    found.needless && !expected.expects_pass()
+}
+
+/// Whether the code is another than the author tells, or a move that he tells does not attain it.
+fn misses(expected: &Expected, found: &Found) -> bool
+    ensures { result ≡ misses expected.now found.now }
+{
+    !(allows_code(expected.code, found.code) && all_attain(&expected.answers, &found.moves))
+}
+
+/// Whether a move attains the code that the author rules out.
+fn has_more(expected: &Expected, found: &Found) -> bool
+    ensures { result ≡ has_more expected.now found.now }
+{
+    expected.only && !are_all_told(&expected.answers, &found.moves)
+}
+
+/// What the author is told, who expects this of a question of which that was found.
+pub fn verdict_of(expected: &Expected, found: &Found) -> Verdict
+    ensures { result ≡ verdict_on expected.now found.now }
+{
+    if !expected.is_told() {
+        Verdict::NotTold
+    } else if is_unsolved(expected, found) {
+        Verdict::NotSolved
+    } else if needs_none(expected, found) {
+        Verdict::NeedsNoMove
+    } else if misses(expected, found) {
+        Verdict::AnotherAnswer
+    } else if has_more(expected, found) {
+        Verdict::OtherAnswersToo
+    } else {
+        Verdict::AsExpected
+    }
+}
