@@ -6,9 +6,10 @@ use Rattle.go_rules.specs.Position.{BoardState, IsPosition}
 use Rattle.go_rules.specs.Play.{pass}
 use Rattle.go_rules.proofs.PlayLaws.{free_keeps}
 use Rattle.read_rules.specs.ActiveArea.{AgreeOn}
-use Rattle.read_rules.specs.Candidates.{is_candidate_at}
+use Rattle.read_rules.specs.Candidates.{is_candidate}
 use Rattle.read_rules.specs.declared.node.Node.{Node}
-use Rattle.read_rules.specs.GameTree.{mover_of, child_of, some_child, each_child, next_node, allowance_of}
+use Rattle.read_rules.specs.GameTree.{child_of, some_child, each_child, next_node, allowance_of}
+use Rattle.read_rules.specs.Turns.{mover_of}
 use Rattle.read_rules.proofs.LibertyLemmas.{child_free, play_size}
 use Rattle.read_rules.proofs.RuleLemmas.{child_gives, child_from}
 use Rattle.sure_rules.specs.Nodes.{is_attackers, is_gone, has_too_many}
@@ -39,7 +40,7 @@ module _ (n : ℕ) (node : Node) (p : ℕ) (here : BoardState) (sound : IsPositi
   child_sound : (next : Node) (new : BoardState) → child_of node here p ≡ Some (next, new) → IsPosition new
   child_sound next new is =
       let free = child_free node here p next new (child_gives node here p next new is) in
-      free_keeps here (mover_of node) p new sound on free.1
+      free_keeps here (mover_of node.turn) p new sound on free.1
 
   -- so a play that captures captures there
   some_by : (next : Node) (new : BoardState) → IsZone n next new after → (o : Option (Node × BoardState))
@@ -97,7 +98,8 @@ some_there n (Some child) h = (child.0, child.1, refl, h)
 -- the attacker's turn, by a candidate that captures on every position that agrees
 pub attacker_has : (n : ℕ) (node : Node) (pos : BoardState) (points Y W Z : ℕ → Bool) (p : ℕ)
     → is_attackers node ≡ true → points p ≡ true
-    → WhereverAgrees pos Y (λ here. (has_too_many node here ≡ false) × ((q : ℕ) → points q ≡ is_candidate_at node here q))
+    → WhereverAgrees pos Y (λ here. (has_too_many node here ≡ false)
+    × ((q : ℕ) → points q ≡ is_candidate node.turn here q))
     → WhereverAgrees pos W (λ here. some_child (surely_wins n) (child_of node here p) ≡ true)
     → ((q : ℕ) → Y q ≡ true → Z q ≡ true) → ((q : ℕ) → W q ≡ true → Z q ≡ true) → IsZone (n + 1) node pos Z
 attacker_has n node pos points Y W Z p turn inside shown captures y_in w_in = λ here sound same.
@@ -121,7 +123,7 @@ attacker_has n node pos points Y W Z p turn inside shown captures y_in w_in = λ
 
 -- no candidate captures
 pub attacker_none : (n : ℕ) (node : Node) (pos : BoardState) (points : ℕ → Bool) → is_attackers node ≡ true
-    → is_gone node pos ≡ false → ((q : ℕ) → points q ≡ is_candidate_at node pos q)
+    → is_gone node pos ≡ false → ((q : ℕ) → points q ≡ is_candidate node.turn pos q)
     → ((q : ℕ) → (points q && some_child (surely_wins n) (child_of node pos q)) ≡ false)
     → surely_wins (n + 1) node pos ≡ false
 attacker_none n node pos points turn stands are none =
@@ -197,7 +199,7 @@ defender_has n node pos passed replies Y Z turn sound zone on guarded p_in y_in 
 pub child_size : (node : Node) (pos : BoardState) (p : ℕ) (next : Node) (new : BoardState)
     → child_of node pos p ≡ Some (next, new) → new.size ≡ pos.size
 child_size node pos p next new is =
-    play_size pos (mover_of node) p new (child_free node pos p next new (child_gives node pos p next new is)).1
+    play_size pos (mover_of node.turn) p new (child_free node pos p next new (child_gives node pos p next new is)).1
 
 -- no number passes both tests if none below a bound does and none from there on passes the first
 pub none_left : (points test : ℕ → Bool) (from : ℕ) → ((q : ℕ) → q < from → (points q && test q) ≡ false)

@@ -6,7 +6,7 @@ use Rattle.go_rules.specs.Strings.{cell_at}
 use Rattle.go_rules.specs.Position.{BoardState, other, stone_of, is_banned}
 use Rattle.go_rules.specs.Rules.{IsOnlyLiberty}
 use Rattle.read_rules.specs.declared.node.Node.{Node}
-use Rattle.read_rules.specs.GameTree.{mover_of}
+use Rattle.read_rules.specs.Turns.{mover_of}
 
 -- at the points of the set both positions have the same cells and the same plays that the ban forbids
 pub record AreAlike (Z : ℕ → Bool) (a b : BoardState) : Type 0 where
@@ -16,7 +16,7 @@ pub record AreAlike (Z : ℕ → Bool) (a b : BoardState) : Type 0 where
 -- among the replies are each empty point of the set, and the only liberty of each attacker's string with a stone in it
 pub record IsGuarded (node : Node) (Z : ℕ → Bool) (here : BoardState) (replies : ℕ → Bool) : Type 0 where
   pub empty_points : (q : ℕ) → Z q ≡ true → cell_at here.cells q ≡ Empty → replies q ≡ true
-  pub last_liberties : (q p : ℕ) → Z q ≡ true → cell_at here.cells q ≡ stone_of (other (mover_of node))
+  pub last_liberties : (q p : ℕ) → Z q ≡ true → cell_at here.cells q ≡ stone_of (other (mover_of node.turn))
       → IsOnlyLiberty here.size here.cells q p → replies p ≡ true
 
 -- both plays cannot be made; or both can, lead to one node, and to positions of one size that are alike at the points

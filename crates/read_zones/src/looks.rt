@@ -37,14 +37,18 @@ fn has_many(tree: Tree, liberties: u16, wide: u8) -> bool
 
 /// Whether it is the attacker's turn, and the target has more liberties than he may play at.
 pub fn is_barred<L: Look>(board: &mut Trial<L>, node: Node) -> bool
-    requires target { IsPointOf L.shows board.old node.target }
+    requires target { IsPointOf L.shows board.old node.turn.target }
     ensures stays { Stays L.shows L.seen board.old board.new }
     ensures over { OnEachAgreeing L.seen board.old board.new (λ here. result ≡ is_barred node here) }
 {
-    if !node.attacker_to_play {
+    if !node.turn.attacker_to_play {
         return false;
     }
-    has_many(node.tree, board.liberties(node.target).count(), node.wide)
+    has_many(
+        node.turn.tree,
+        board.liberties(node.turn.target).count(),
+        node.turn.wide,
+    )
 }
 
 /// Looks at the cells and the bans of these points, after the moves that stand.

@@ -7,7 +7,7 @@ ghost use Rattle.go_base.specs.Facts.{Agrees};
 ghost use Rattle.go_base.specs.AmongFacts.{told};
 ghost use Rattle.go_base.specs.Watches.{shown_by, facts_of};
 ghost use Rattle.read_rules.specs.ActiveArea.{AgreeOn};
-ghost use Rattle.read_rules.specs.Candidates.{is_candidate_at};
+ghost use Rattle.read_rules.specs.Candidates.{is_candidate};
 ghost use Rattle.read_rules.specs.GameTree.{child_of};
 ghost use Rattle.sure_rules.specs.Nodes.{is_attackers, has_too_many};
 ghost use Rattle.sure_rules.specs.Zones.{points_of, WhereverAgrees};
@@ -42,12 +42,12 @@ fn points_seen<'a>(board: Trial<Watch<'a>>) -> PointSet
 
 /// The attacker's candidates; none if the target has too many liberties for him.
 pub fn candidates_shown(position: &Position, node: Node) -> Option<Shown>
-    requires target { node.target < position.now.size * position.now.size }
+    requires target { node.turn.target < position.now.size * position.now.size }
     requires turn { is_attackers node ≡ true }
     ensures shown { MatchOption result (has_too_many node position.now ≡ true)
         (λ shown. WhereverAgrees position.now (set.contains shown.zone) (λ here.
         (has_too_many node here ≡ false)
-        × ((p : ℕ) → set.contains shown.points p ≡ is_candidate_at node here p))) }
+        × ((p : ℕ) → set.contains shown.points p ≡ is_candidate node.turn here p))) }
     ensures on_board { IfSome result (λ shown. (q : ℕ) → set.contains shown.zone q ≡ true
         → q < position.now.size * position.now.size) }
 {
@@ -56,13 +56,7 @@ pub fn candidates_shown(position: &Position, node: Node) -> Option<Shown>
         let _look = board.finish();
         return None;
     }
-    let points = candidates(
-        &mut board,
-        node.tree,
-        node.attacker_to_play,
-        node.target,
-        node.wide,
-    );
+    let points = candidates(&mut board, node.turn);
     Some(Shown {
         points,
         zone: points_seen(board),

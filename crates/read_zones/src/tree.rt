@@ -17,7 +17,7 @@ use read_rules::Node;
 /// The zone that shows that the attacker's play at p captures, with `plies` plies left after it; none if it does not.
 #[cycle(zones)]
 fn play_zone(position: &Position, node: Node, p: Point, plies: u8) -> Option<PointSet>
-    requires target { node.target < position.now.size * position.now.size }
+    requires target { node.turn.target < position.now.size * position.now.size }
     requires on_board { p < position.now.size * position.now.size }
     ensures zone { MatchOption result
         (some_child (surely_wins plies) (child_of node position.now p) ≡ false)
@@ -34,7 +34,7 @@ fn play_zone(position: &Position, node: Node, p: Point, plies: u8) -> Option<Poi
 /// The zone that shows that the defender's reply at p fails, with `plies` plies left after it; none if it holds.
 #[cycle(zones)]
 fn reply_zone(position: &Position, node: Node, p: Point, plies: u8) -> Option<PointSet>
-    requires target { node.target < position.now.size * position.now.size }
+    requires target { node.turn.target < position.now.size * position.now.size }
     requires on_board { p < position.now.size * position.now.size }
     ensures zone { MatchOption result
         (each_child (surely_wins plies) (child_of node position.now p) ≡ false)
@@ -55,7 +55,7 @@ fn reply_zone(position: &Position, node: Node, p: Point, plies: u8) -> Option<Po
 /// The zone at the attacker's turn, with `plies` plies left after his move.
 #[cycle(zones)]
 fn attacker_zone(position: &Position, node: Node, plies: u8) -> Option<PointSet>
-    requires target { node.target < position.now.size * position.now.size }
+    requires target { node.turn.target < position.now.size * position.now.size }
     requires turn { is_attackers node ≡ true }
     requires stands { is_gone node position.now ≡ false }
     ensures zone { MatchOption result (surely_wins (plies + 1) node position.now ≡ false)
@@ -80,7 +80,7 @@ fn attacker_zone(position: &Position, node: Node, plies: u8) -> Option<PointSet>
 /// The zone at the defender's turn, with `plies` plies left after his move.
 #[cycle(zones)]
 fn defender_zone(position: &Position, node: Node, plies: u8) -> Option<PointSet>
-    requires target { node.target < position.now.size * position.now.size }
+    requires target { node.turn.target < position.now.size * position.now.size }
     requires turn { is_attackers node ≡ false }
     requires stands { is_gone node position.now ≡ false }
     ensures zone { MatchOption result (surely_wins (plies + 1) node position.now ≡ false)
@@ -105,20 +105,20 @@ fn defender_zone(position: &Position, node: Node, plies: u8) -> Option<PointSet>
 /// it is not. On every position that agrees on them it is surely captured too.
 #[cycle(zones)]
 pub fn zone_of(position: &Position, node: Node, plies: u8) -> Option<PointSet>
-    requires target { node.target < position.now.size * position.now.size }
+    requires target { node.turn.target < position.now.size * position.now.size }
     ensures zone { MatchOption result (surely_wins plies node position.now ≡ false)
         (λ zone. IsZone plies node position.now (set.contains zone)) }
     ensures on_board { IfSome result (λ zone. (q : ℕ) → set.contains zone q ≡ true
         → q < position.now.size * position.now.size) }
 {
     let _ = position.size().points();
-    if position.cell(node.target) == Cell::Empty {
-        return Some(one_point(node.target));
+    if position.cell(node.turn.target) == Cell::Empty {
+        return Some(one_point(node.turn.target));
     }
     if plies == 0 {
         return None;
     }
-    if node.attacker_to_play {
+    if node.turn.attacker_to_play {
         attacker_zone(position, node, plies - 1)
     } else {
         defender_zone(position, node, plies - 1)

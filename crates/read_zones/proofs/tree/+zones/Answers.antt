@@ -14,7 +14,7 @@ use Rattle.read_zones.proofs.TreeLemmas.{some_shown, each_shown, agree_less, agr
 use Rattle.read_zones.proofs.TreeLemmas.{attacker_none, attacker_barred, defender_passes, defender_replies, defender_has}
 use Rattle.read_zones.proofs.TreeLemmas.{child_size, none_left}
 use Rattle.read_rules.specs.GameTree.{child_of, some_child, each_child}
-use Rattle.read_rules.proofs.CandidateLaws.{candidate_at_on}
+use Rattle.read_rules.proofs.CandidateLaws.{candidate_on}
 use Rattle.sure_rules.specs.SureTree.{surely_wins}
 use Rattle.read_zones.proofs.tree.+zones.Goals as goal
 
@@ -75,7 +75,7 @@ attacker_zone-returns-in_err-shown-clause-zone t c =
 -- the candidate is on the board
 pub attacker_zone-play_zone-requires : goal.attacker_zone-play_zone-requires
 attacker_zone-play_zone-requires t c =
-    let on = candidate_at_on c.args.node c.args.position.now c.in-Some.p
+    let on = candidate_on c.args.node.turn c.args.position.now c.in-Some.p
     (sym ((c.in_ok-shown.ensures.shown c.args.position.now c.size.ensures.position
     (agree_self c.args.position.now)).1 c.in-Some.p) ∙ c.in-Some.ensures.some.2) in
     search rules
