@@ -176,10 +176,10 @@ pub zone_of-returns-then-eq-clause-zone : goal.zone_of-returns-then-eq-clause-zo
 zone_of-returns-then-eq-clause-zone t c =
     zone_captured c.args.plies c.args.node c.args.position.now (set.contains c.one_point.result)
     (ap (λ k. same_cell k Empty) (sym c.cell.ensures) ∙ sym (eq_is_same_cell c.cell.result Empty) ∙ sym c.eq.ensures
-    ∙ c.if-eq.true) (c.one_point.ensures c.args.node.target ∙ eq-eqb c.args.node.target c.args.node.target refl)
+    ∙ c.if-eq.true) (c.one_point.ensures c.args.node.turn.target ∙ eq-eqb c.args.node.turn.target c.args.node.turn.target refl)
 
 -- its point is on the board
 pub zone_of-returns-then-eq-clause-on_board : goal.zone_of-returns-then-eq-clause-on_board
 zone_of-returns-then-eq-clause-on_board t c = λ q inside.
     subst (λ p. p < c.args.position.now.size * c.args.position.now.size)
-    (sym (eqb-true q c.args.node.target (sym (c.one_point.ensures q) ∙ inside))) c.requires.target
+    (sym (eqb-true q c.args.node.turn.target (sym (c.one_point.ensures q) ∙ inside))) c.requires.target
