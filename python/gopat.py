@@ -8,7 +8,7 @@
     >>> board.play(WHITE, "A1").all_moves("attack", "A1", plies=4)
     Moves(code=3, moves=['A2', 'B1'])
     >>> board.play(WHITE, "A1").proof("attack", "A1", plies=4)
-    Proof(code=3, text='W A2 * B1 .')
+    Proof(code=3, text='W A2 * B1 . C1 . B1 .')
 
 The module wants the shared library of the crate `gopat_c`: `GOPAT_LIBRARY` names its file, else `libgopat_c.so` stands
 beside this one. What has no answer raises `Refused`. Boards never change: `play` gives a new one.

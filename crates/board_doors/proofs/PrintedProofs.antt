@@ -1,6 +1,6 @@
 -- A proof that is written is accepted by the check.
-use Rattle.std.proofs.Common.{◌≡◌, ◌∙◌, ℕ, ◌<◌, ◌≤◌, Bool, true, false, cond, List, ◌++◌, length, take, drop}
-use Rattle.std.proofs.Common.{Option, Some, None, Result, Ok, Err, refl, sym, ap, subst, arith, not, ltb}
+use Rattle.std.proofs.Common.{◌≡◌, ◌∙◌, ℕ, ◌≤◌, Bool, true, false, cond, List}
+use Rattle.std.proofs.Common.{Option, Some, None, Result, Ok, Err, refl, ap, not, ltb}
 use Rattle.std.proofs.lemmas.Bool.{le-ltb}
 use Rattle.go_rules.specs.declared.Cell.{Cell}
 use Rattle.go_rules.specs.Position.{BoardState}

@@ -1,6 +1,6 @@
 -- What is the same under each of the asked ko allowances.
 use Rattle.std.proofs.Common.{◌≡◌, ◌≢◌, ◌∙◌, ℕ, Bool, true, false, not, cond, eqb, ◌&&◌, List, [], ◌∷◌, ◌++◌}
-use Rattle.std.proofs.Common.{Some, Result, Ok, Err, refl, sym, ap, subst, arith, inl, inr, length, length-append}
+use Rattle.std.proofs.Common.{Result, Ok, Err, refl, sym, ap, subst, arith, inl, inr, length, length-append}
 use Rattle.std.proofs.lemmas.Bool.{cases_Bool, both_ways, and_parts, eqb-true, ne_eqb}
 use Rattle.std.specs.Result.{IsErrAnd}
 use Rattle.go_rules.specs.Position.{BoardState}
