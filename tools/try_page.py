@@ -222,7 +222,8 @@ class Trial:
             wanted = board.proof(kind, *words)
             told = self.person.read()
             self.compare(f"{what} proof of {kind}", told["words"][number], wanted.text)
-            self.compare(f"{what} proof of {kind}", f"code {wanted.code}." in told["judged"][number], True)
+            accepts = f"The checker in the module accepts these words as a proof of code {wanted.code}."
+            self.compare(f"{what} proof of {kind} is judged", told["judged"][number], accepts)
             self.compare(f"{what} proof of {kind} is followed", "could not follow" in told["answer"], False)
             self.ask_program(tree, f"{kind}_proof {words[0]}", f"{wanted.code} {told['words'][number]}")
             self.counts["proofs"] += 1
@@ -359,7 +360,7 @@ def tried_limits(trial: Trial) -> None:
     trial.compare("a ladder over the whole board", (told["attack"], told["defend"]), ("3 E4", "0"))
     person.browser.value("document.querySelector('#defend .proof').open = true")
     person.browser.wait("document.querySelector('#defend .judged')")
-    judged = ["The checker in the module accepts them as a proof of code 0."]
+    judged = ["The checker in the module accepts these words as a proof of code 0."]
     trial.compare("its proof", person.read()["judged"], judged)
 
 
@@ -464,8 +465,11 @@ def library(folder: pathlib.Path):
 
 
 def main(chromium: str, questions: str, seed: str = "1", *programs: str) -> int:
-    if questions == "--picture":
+    if questions == "--picture" and not programs:
         return picture(chromium, seed)
+    if not (questions.isdigit() and seed.isdigit() and len(programs) in (0, 2)):
+        print(__doc__, file=sys.stderr)
+        return 2
     with tempfile.TemporaryDirectory() as room, Browser(chromium) as browser:
         browser.screen(1200, 1000)
         trial = Trial(library(pathlib.Path(room)), Person(browser), int(seed))

@@ -450,8 +450,8 @@ function proofOf(kind, words) {
 function proofParts(kind, words, { status, code, text, isProof, parts }) {
   if (status !== 0) return [element("p", {}, STATUSES[status] ?? `Status ${status}.`)];
   const count = counted(text.split(" ").length, "word", "words");
-  const accepts = `The checker in the module accepts them as a proof of code ${code}.`;
-  const judged = isProof ? accepts : "The checker in the module does not accept them.";
+  const accepts = isProof ? "accepts these words" : "does not accept these words";
+  const judged = `The checker in the module ${accepts} as a proof of code ${code}.`;
   const shownWords = element("details", {}, element("summary", {}, count), element("pre", {}, text));
   const found = [element("p", { className: "judged" }, judged), shownWords];
   if (!parts) return [...found, element("p", {}, "This page's script could not follow them.")];
@@ -515,6 +515,7 @@ function mode() {
 /** What a click on a point does. */
 function act(point) {
   cursor = point;
+  tellCursor();
   tellNote("");
   return perform(() => ({
     ask: () => askString(point),
