@@ -11,7 +11,7 @@ use Rattle.read_sure.proofs.points.tried_points.Goals as goal
 -- a candidate is a point of the board
 pub returns-then-node-clause-on_board : goal.returns-then-node-clause-on_board
 returns-then-node-clause-on_board g c = λ p there.
-    candidate_inside c.args.node (g.L.Look.shows c.args.board.now.look) c.args.board.now.moves p
+    candidate_inside c.args.node.turn (g.L.Look.shows c.args.board.now.look) c.args.board.now.moves p
     (sym (c.candidates.ensures.answer p) ∙ there)
 
 -- the candidates are what the attacker tries
