@@ -12,14 +12,15 @@ and whether it can be saved (--kind attack or defend asks one of these alone), a
   one that threatens;
 - for which, over every legal move and not only those that the reading tries, exactly one attains the code.
 
-It is asked at no more than 8 plies, 4 of them wide, before it is asked at these depths. Then stones are taken off as long as code, answer and fewest plies stay and the answer is the only one. A position that
-is another one turned, mirrored or with the colours exchanged is left out. The side to move is made Black.
+It is asked at no more than 8 plies, 4 of them wide, before it is asked at these depths. Then stones are taken off as
+long as code, answer and fewest plies stay and the answer is the only one. A position that is another one turned,
+mirrored or with the colours exchanged is left out. The side to move is made Black.
 
 A record has the position, the question as a line `gopat:` (docs/USING.md, *Problem sets*), the solution as its main
 line, and a wrong move with what refutes it as a variation. Its name is its theme, told by a few rules from the line of
 play, and a number; with --theme only records of this theme are written. It ends after --number records (10). The same
-words lead to the same records. What is found is only as true as the program's answers, and as pretty as chance makes it:
-look at each record before it goes into a set.
+words lead to the same records. What is found is only as true as the program's answers, and as pretty as chance makes
+it: look at each record before it goes into a set.
 """
 
 import argparse

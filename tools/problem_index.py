@@ -1,15 +1,16 @@
-"""Writes the index of a set of problems, in Markdown: by chapter the boards, drawn in text, and a line for each problem.
+"""Writes the index of a set of problems, in Markdown: by chapter the boards, drawn in text, and a line for each.
 
 usage: python3 tools/problem_index.py FOLDER > FOLDER/README.md
 
-The problems are the game records `*.sgf` of the folder, in the order of their names. The chapter of a problem is its GN;
-its line is its comment without the line `gopat:`. Answers are not shown. A record without a question ends it with status
-2.
+The problems are the game records `*.sgf` of the folder, in the order of their names. The chapter of a problem is its
+GN; its line is its comment without the line `gopat:`. Answers are not shown. If a record has no question, nothing is
+written, and the exit status is 2.
 """
 
 import itertools
 import pathlib
 import sys
+import textwrap
 from typing import Iterator
 
 import asking
@@ -21,6 +22,8 @@ from go_rules import BLACK, Position
 
 # So many columns of text are filled by boards that stand side by side.
 MOST_COLUMNS = 100
+# And so many letters are in a line of words.
+MOST_LETTERS = 120
 HEAD = """# Problems
 
 A set of {count} problems of gopat's own, from the first capture to ladders, nets, snapbacks and kos. Black (`X`) is to
@@ -68,7 +71,8 @@ def line_of(problem: problems.Problem) -> str:
     """The number, the name and the comment of a problem."""
     said = " ".join(line for line in problem.comment.splitlines() if not line.strip().startswith("gopat:"))
     number, _, _ = problem.name.partition("-")
-    return f"- [{number}]({problem.name}) {said}"
+    return textwrap.fill(f"- [{number}]({problem.name}) {said}", MOST_LETTERS, subsequent_indent="  ",
+                         break_long_words=False, break_on_hyphens=False)
 
 
 def chapter(name: str, found: list[problems.Problem]) -> Iterator[str]:

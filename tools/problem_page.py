@@ -10,7 +10,8 @@ there, as a line
 where all that follows the vertex may be left out: the depths (else those of --depths, 10:2), the moves that attain the
 code, the code, and that no other move does. Where there is no such line, the question is about the one stone that is
 marked (TR, SQ, CR or MA): a defence if PL is its colour, else an attack; the moves expected are then the first moves of
-the variations that have TE, or a comment with RIGHT or CORRECT. A record without a question is told with its name.
+the variations that have TE, or a comment with RIGHT or CORRECT, or else that of the main line, and no others. A record
+without a question is told with its name.
 
 gopat is asked, in one session: the question, by `attack` or `defend`; its proof, by `attack_proof` or `defend_proof`;
 the question at 1, 2, .. plies, for the fewest at which the code is the same; and where the code is above 0, after each

@@ -79,16 +79,17 @@ def is_right(node: sgf.Node) -> bool:
 
 
 def from_marks(root: sgf.Node, situation: positions.Situation, depths: Depths) -> tuple[asking.Question, Expected]:
-    """The question about the one marked stone, and the moves that are said to be right."""
+    """The question about the one marked stone, and the moves that are said to be right: all of them. If none is, the
+    main line is the solution."""
     size, cells = situation.position.size, situation.position.cells
     marked = [positions.point_of(size, value) for value in sgf.listed(root.texts("TR", "SQ", "CR", "MA"))]
     if len(marked) != 1 or cells[marked[0]] == EMPTY or not root.texts("PL"):
         raise NoQuestion("it has no line `gopat:`, and not one marked stone and PL")
     plays = positions.MOVES.get(root.texts("PL")[0][:1].upper())
     kind = "defend" if cells[marked[0]] == plays else "attack"
-    right = [value for child in filter(is_right, root.children) for value in child.texts("B", "W")]
-    moves = [sgf.vertex(value, size) for value in right]
-    return asking.Question(kind, vertex_of(size, marked[0]), depths), Expected(moves)
+    right = list(filter(is_right, root.children)) or root.children[:1]
+    moves = [sgf.vertex(value, size) for child in right for value in child.texts("B", "W")]
+    return asking.Question(kind, vertex_of(size, marked[0]), depths), Expected(moves, None, bool(moves))
 
 
 def problem_of(path: pathlib.Path, name: str, depths: Depths) -> Problem:

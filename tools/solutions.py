@@ -1,6 +1,7 @@
 """The solution of a problem with one answer as a line of play, a wrong move with its refutation, the theme of the line,
 and all of it as a game record."""
 
+import textwrap
 from typing import NamedTuple
 
 import gtp
@@ -12,6 +13,8 @@ from problems import Problem, told
 
 # A line of play is shown up to so many moves; of a defence so many tries of the attacker.
 MOST_MOVES, MOST_TRIES = 21, 3
+# A comment is broken into lines of so many letters.
+COMMENT_COLUMNS = 100
 # From so many moves in a row that put the target into atari on, a line is a ladder.
 LEAST_ATARIS = 3
 
@@ -277,7 +280,8 @@ def first_words(problem: Problem) -> str:
 def record(problem: Problem, code: int, solution: Solution, words: str = "", chapter: str = "") -> str:
     """The record of a problem, with what it teaches, and the chapter of a set in which it stands."""
     position = problem.situation.position
-    comment = f"{words or first_words(problem)}\n{question_line(problem, code, Move(solution.line[0].point))}"
+    said = textwrap.fill(words or first_words(problem), COMMENT_COLUMNS)
+    comment = f"{said}\n{question_line(problem, code, Move(solution.line[0].point))}"
     colour = "BW"[problem.mover() - BLACK]
     target = sgf.point_at(problem.target(), position.size)
     named = f"GN[{sgf.escaped(chapter or solution.theme)}]"

@@ -72,7 +72,8 @@ def comment(suite: str, asked: Asked) -> str:
     note = " GNU Go's authors note that their program fails." if asked.expected.endswith("*") else ""
     expected = asked.expected.rstrip("*").strip()
     return (
-        f"GNU Go 3.8, {suite}.tst, {asked.number}: {asked.kind} {asked.vertex}; expected, by GNU Go's codes: {expected}.{note}\n"
+        f"GNU Go 3.8, {suite}.tst, {asked.number}: {asked.kind} {asked.vertex}; "
+        f"expected, by GNU Go's codes: {expected}.{note}\n"
         f"gopat: {asked.kind} {asked.vertex} {parts(expected)}"
     )
 

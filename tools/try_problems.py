@@ -4,9 +4,9 @@ how many are as expected at three depths, in both trees, and how long a thousand
 usage: python3 tools/try_problems.py CHECK_PROBLEMS REGRESSION
 
 REGRESSION is the folder regression/ of GNU Go's source. It runs at the top of a clone. The problems of
-docs/examples/problems have to be as expected, each with one answer, in the wider tree at the depths that they name. Each
-is then changed in four ways, and its verdict has to change with it: another answer is expected; `only` and a second
-answer; another code; and no question. GNU Go's questions are asked at 10 2, 16 6 and 20 4 in both trees; a row tells how
+docs/examples/problems have to be as expected, each with one answer, in the wider tree at the depths that they name.
+Each is then changed in four ways, and its verdict has to change with it: another answer is expected, a second one,
+another code, or nothing is asked. GNU Go's questions are asked at 10 2, 16 6 and 20 4 in both trees; a row tells how
 many have each verdict, and how many have the expected yes or no. For the time a folder has ten copies of each problem.
 Prints what differs; the exit status is then 1.
 """
