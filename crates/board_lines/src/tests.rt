@@ -5,7 +5,7 @@ use crate::cut_record;
 type Row = (&'static str, &'static [u8], u64, &'static [u8], u64);
 
 /// What a front ends before.
-const ROWS: [Row; 6] = [
+static ROWS: [Row; 6] = [
     (
         "the position before the first move",
         b"(;SZ[9]AB[aa];B[bb];W[cc])",

@@ -1,10 +1,10 @@
 //! The values of the parts of constraints, on the board that `docs/FORMATS.md` shows, and the texts of expressions.
 //! Black is the friend; points are numbered in reading order on nine rows.
 use crate::tests::{new_helpers, patterns_of, with_more};
-use cons_parse::{function_named, parse};
+use cons_parse::parse;
 use go_base::{Colour, Point, Position, Size, Transform};
 use match_reasons::constraint_values;
-use pat_types::LabelAt;
+use pat_types::{Expr, Function, LabelAt};
 use read_rules::Depths;
 use std::alloc::Global;
 use why_report::{function_name, put_expression};
@@ -239,41 +239,49 @@ fn each_part_that_is_needed_has_its_value(rt: HostRuntime) {
     }
 }
 
-/// The names of all functions.
-const NAMES: [&str; 21] = [
-    "lib",
-    "xlib",
-    "olib",
-    "attack",
-    "defend",
-    "ko",
-    "safe_xmove",
-    "safe_omove",
-    "legal_xmove",
-    "legal_omove",
-    "same_worm",
-    "does_attack",
-    "does_defend",
-    "odefend_against",
-    "xdefend_against",
-    "o_somewhere",
-    "x_somewhere",
-    "oplay_attack",
-    "oplay_defend",
-    "xplay_attack",
-    "xplay_defend",
+/// The names of all functions, and a call of each.
+static CALLS: [(&str, &str); 21] = [
+    ("lib", "lib(A)"),
+    ("xlib", "xlib(A)"),
+    ("olib", "olib(A)"),
+    ("attack", "attack(A)"),
+    ("defend", "defend(A)"),
+    ("ko", "ko(A)"),
+    ("safe_xmove", "safe_xmove(A)"),
+    ("safe_omove", "safe_omove(A)"),
+    ("legal_xmove", "legal_xmove(A)"),
+    ("legal_omove", "legal_omove(A)"),
+    ("same_worm", "same_worm(A,B)"),
+    ("does_attack", "does_attack(A,B)"),
+    ("does_defend", "does_defend(A,B)"),
+    ("odefend_against", "odefend_against(A,B)"),
+    ("xdefend_against", "xdefend_against(A,B)"),
+    ("o_somewhere", "o_somewhere(A)"),
+    ("x_somewhere", "x_somewhere(A)"),
+    ("oplay_attack", "oplay_attack(A,B)"),
+    ("oplay_defend", "oplay_defend(A,B)"),
+    ("xplay_attack", "xplay_attack(A,B)"),
+    ("xplay_defend", "xplay_defend(A,B)"),
 ];
+
+/// The function that a text calls.
+fn function_called(alloc: Global, text: &str) -> Option<Function> {
+    match &parse(alloc, text.as_bytes(), &LABELS).ok()? {
+        Expr::Call(function, _) => Some(*function),
+        _ => None,
+    }
+}
 
 #[test]
 fn a_function_has_the_name_by_which_it_is_called(rt: HostRuntime) {
-    for name in &NAMES {
-        let function = function_named(name.as_bytes());
+    for (name, call) in &CALLS {
+        let function = function_called(rt.alloc(), call);
         assert_eq!(rt; function.map(function_name), Some(*name));
     }
 }
 
 /// The labels of the texts below.
-const LABELS: [LabelAt; 2] = [
+static LABELS: [LabelAt; 2] = [
     LabelAt {
         letter: b'A',
         row: 0,
@@ -287,7 +295,7 @@ const LABELS: [LabelAt; 2] = [
 ];
 
 /// Expressions as they are put: with the parentheses that they need.
-const TEXTS: [(&str, &str); 7] = [
+static TEXTS: [(&str, &str); 7] = [
     (
         "operators of one level group from the left",
         "1 - 2 - 3 == 4 != 5",
