@@ -146,7 +146,7 @@ class Browser:
     def wait(self, expression: str, seconds: float = PATIENCE):
         """Waits until an expression is true."""
         until = time.monotonic() + seconds
-        while not self.value(expression):
+        while not self.value(f"!!({expression})"):
             if time.monotonic() > until:
                 raise Failed(f"never so: {expression}")
             time.sleep(0.02)

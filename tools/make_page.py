@@ -2,11 +2,11 @@
 
 usage: python3 tools/make_page.py [--in FOLDER | --same-module | --check | --module FILE OUT]
 
-It runs at the top of a clone. The page's module is made from the crate gopat_c and the crates that it stands on, as HEAD
-has them: in a temporary copy, in whose crates.txt the crate has a line `gopat_c wasm64 memory=.. stack=..` in the place
-of its own, `rt lib` proves it and leaves the module. So what answers in the page is proved by this command, and not by
-the gate, which takes no crate for wasm64. The page is then put together from tools/page and the module, and has the
-commit and the checksum of the module.
+It runs at the top of a clone. The page's module is made from the crate gopat_c and the crates that it stands on, as
+HEAD has them: in a temporary copy, in whose crates.txt the crate has a line `gopat_c wasm64 memory=.. stack=..` in the
+place of its own, `rt lib` proves it and leaves the module. So what answers in the page is proved by this command, and
+not by the gate, which takes no crate for wasm64. The page is then put together from tools/page and the module, and has
+the commit and the checksum of the module.
 
 With --in the copy stands in this folder and stays there, so that the next run begins with what this one proved. With
 --same-module the module stays the one of the page, for a change of the scripts alone. With --check nothing is
@@ -36,8 +36,8 @@ PARTS = pathlib.Path("tools/page")
 # The scripts of the page and of its worker, in the order in which they stand in the page.
 PAGE_SCRIPTS = ["rules.js", "texts.js", "board.js", "page.js"]
 WORKER_SCRIPTS = ["rules.js", "proof.js", "worker.js"]
-# The greatest number of plies that the page takes, and the bytes of the module's stack and of its whole memory, in pages
-# of 65536: docs/DOORS.md says what of the stack the deepest question was seen to use.
+# The greatest number of plies that the page takes, and the bytes of the module's stack and of its whole memory, which
+# come in pages of 65536. docs/DOORS.md says how much of the stack was seen in use.
 MOST_PLIES = 200
 STACK = 16 * 65536
 MEMORY = STACK + 4 * 65536

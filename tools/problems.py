@@ -95,7 +95,8 @@ def problem_of(path: pathlib.Path, name: str, depths: Depths) -> Problem:
     """The problem of a record."""
     try:
         text = path.read_bytes().decode("utf-8", "replace")
-        root, situation = sgf.tree(text), positions.record(text)[0]
+        root = sgf.tree(text)
+        situation = positions.after_node(positions.first(positions.size_of(root)), root)
         comment = "\n".join(root.texts("C"))
         told = said(comment)
         question, expected = from_line(told, depths) if told else from_marks(root, situation, depths)

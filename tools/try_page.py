@@ -4,14 +4,14 @@ compares it with what the library answers.
 usage: python3 tools/try_page.py CHROMIUM QUESTIONS [SEED [GOPAT GOPAT_WIDE]]
        python3 tools/try_page.py CHROMIUM --picture OUT.png
 
-It runs at the top of a clone and wants `rt` and a C compiler, by which try_doors.py makes the library. The questions are
-about random boards of 2 to 19 rows, which are set up in turn by a pasted record, by the pasted text of `showboard`, and
-by clicks: attack and defence of a string with all moves, in either tree; of some also the proofs, and of some a
-connection. With GOPAT and GOPAT_WIDE the same is asked of these programs. Further it tries: keys; a ko, a pass and Undo;
-texts that cannot be read; depths that are none; the longest question, which is stopped, and the deepest; a browser
-without 64-bit memory, and a module that is damaged; both widths and screens, on which nothing may lie beside the page;
-that each control has a name; and that the page asks for no other file. Prints what differs. The exit status is 1 if
-something does.
+It runs at the top of a clone and wants `rt` and a C compiler, by which try_doors.py makes the library, unless
+GOPAT_LIBRARY names the shared library. The questions are about random boards of 2 to 19 rows, which are set up in turn
+by a pasted record, by the pasted text of `showboard`, and by clicks: attack and defence of a string with all moves, in
+either tree; of some also the proofs, and of some a connection. With GOPAT and GOPAT_WIDE the same is asked of these
+programs. Further it tries: keys; a ko, a pass and Undo; texts that cannot be read; depths that are none; the longest
+question, which is stopped, and the deepest; a browser without 64-bit memory, and a module that is damaged; both widths
+and screens, on which nothing may lie beside the page; that each control has a name; and that the page asks for no
+other file. Prints what differs. The exit status is 1 if something does.
 
 With --picture nothing is tried: the page is written as a picture, with the answer to a question.
 """
@@ -290,13 +290,15 @@ def tried_rules(trial: Trial) -> None:
     person.mode("turn")
     person.click_on(5, "D3")
     told = person.read()
-    trial.compare("a banned play is told", told["note"], "D3: The ko ban forbids this play. A pass or a play elsewhere lifts it.")
+    ban = "D3: The ko ban forbids this play. A pass or a play elsewhere lifts it."
+    trial.compare("a banned play is told", told["note"], ban)
     trial.compare("a banned play changes nothing", stones(told, 5), before)
     person.click("#pass")
     trial.compare("after the pass it is White's turn", person.read()["turn"], "White")
     person.mode("black")
     person.click_on(5, "D3")
-    trial.compare("after the pass the ko is taken", stones(person.read(), 5), [".....", "..XO.", ".X.XO", "..XO.", "....."])
+    taken = [".....", "..XO.", ".X.XO", "..XO.", "....."]
+    trial.compare("after the pass the ko is taken", stones(person.read(), 5), taken)
     person.click("#undo")
     trial.compare("Undo", stones(person.read(), 5), before)
     person.mode("erase")
@@ -357,7 +359,8 @@ def tried_limits(trial: Trial) -> None:
     trial.compare("a ladder over the whole board", (told["attack"], told["defend"]), ("3 E4", "0"))
     person.browser.value("document.querySelector('#defend .proof').open = true")
     person.browser.wait("document.querySelector('#defend .judged')")
-    trial.compare("its proof", person.read()["judged"], ["The checker in the module accepts them as a proof of code 0."])
+    judged = ["The checker in the module accepts them as a proof of code 0."]
+    trial.compare("its proof", person.read()["judged"], judged)
 
 
 def crowded(gopat, choose: random.Random) -> Setting:
@@ -375,8 +378,8 @@ def long_ladder() -> str:
     """A ladder that goes over a board of 25 rows."""
     stones_at = {"X": ["C3", "D3", "E3", "C4", "D5"], "O": ["D4"]}
     marks = {vertex: mark for mark, vertices in stones_at.items() for vertex in vertices}
-    lines = [f"{row:2} " + " ".join(marks.get(f"{column}{row}", ".") for column in gtp.COLUMNS) for row in range(25, 0, -1)]
-    return "\n".join(lines)
+    rows_of = ([marks.get(f"{column}{row}", ".") for column in gtp.COLUMNS] for row in range(25, 0, -1))
+    return "\n".join(f"{25 - number:2} {' '.join(row)}" for number, row in enumerate(rows_of))
 
 
 def tried_browsers(trial: Trial) -> None:
@@ -424,12 +427,13 @@ def tried_looks(trial: Trial) -> None:
             person.paste(long_ladder())
             person.read()
             person.click_on(25, "D4")
-            trial.compare(f"a click at {width} points", person.read()["heading"], "White's string at D4, with 1 liberty")
+            heading = person.read()["heading"]
+            trial.compare(f"a click at {width} points", heading, "White's string at D4, with 1 liberty")
             wide = value("document.documentElement.scrollWidth")
             trial.compare(f"the width at {width} points, {scheme}", wide <= width, True)
     trial.compare("controls without a name", value(UNNAMED), [])
-    others = value("performance.getEntriesByType('resource').map((one) => one.name).filter((one) => !/^blob:/.test(one))")
-    trial.compare("other files", others, [])
+    loaded = value("performance.getEntriesByType('resource').map((one) => one.name)")
+    trial.compare("other files", [one for one in loaded if not one.startswith(("blob:", "data:"))], [])
     person.browser.screen(1200, 1000)
 
 
@@ -437,7 +441,7 @@ def picture(chromium: str, out: str) -> int:
     """Writes the page as a picture."""
     with Browser(chromium) as browser:
         person = Person(browser)
-        browser.screen(1000, 690)
+        browser.screen(1000, 765)
         person.open()
         person.choose("example", "four stones in a corner")
         person.read()
@@ -450,8 +454,9 @@ def picture(chromium: str, out: str) -> int:
 
 
 def library(folder: pathlib.Path):
-    """The Python door over the library as it is made now."""
-    os.environ["GOPAT_LIBRARY"] = str(try_doors.shared_library(folder))
+    """The Python door over the library that GOPAT_LIBRARY names, else over the one that is made now."""
+    if "GOPAT_LIBRARY" not in os.environ:
+        os.environ["GOPAT_LIBRARY"] = str(try_doors.shared_library(folder))
     sys.path.insert(0, "python")
     import gopat
 

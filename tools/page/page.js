@@ -39,16 +39,17 @@ class Stopped extends Error {}
 class Reader {
   constructor(module) {
     this.module = module;
+    this.waiting = new Map();
+    this.asked = 0;
     this.script = URL.createObjectURL(new Blob([id("worker").textContent], { type: "text/javascript" }));
     this.start();
   }
 
   start() {
-    this.waiting = new Map();
-    this.asked = 0;
-    this.worker = new Worker(this.script);
-    this.worker.onmessage = ({ data }) => this.settle(data);
-    this.worker.onerror = (event) => this.fail(new Error(event.message || "the worker did not start"));
+    const worker = new Worker(this.script);
+    worker.onmessage = ({ data }) => this.worker === worker && this.settle(data);
+    worker.onerror = (event) => this.worker === worker && this.fail(event.message || "the worker did not start");
+    this.worker = worker;
     this.ready = this.send({ module: this.module });
     this.ready.catch(() => {});
   }
@@ -68,8 +69,9 @@ class Reader {
     else resolve(reply);
   }
 
+  /** Tells all that wait for a reply why none comes. */
   fail(why) {
-    this.waiting.forEach(({ reject }) => reject(why));
+    this.waiting.forEach(({ reject }) => reject(why instanceof Error ? why : new Error(why)));
     this.waiting.clear();
   }
 

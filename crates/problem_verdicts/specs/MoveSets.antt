@@ -1,6 +1,5 @@
 -- Moves of one side: the pass, and points at which it plays.
-use Rattle.std.specs.Prelude.{◌≡◌, ℕ, ◌+◌, Bool, true, false, ◌&&◌, ◌||◌, not, Option, Some, None, if◌then◌else◌}
-use Rattle.std.specs.Prelude.{nat_eq}
+use Rattle.std.specs.Prelude.{◌≡◌, ℕ, ◌+◌, Bool, true, false, ◌&&◌, ◌||◌, ◌==◌, not, Option, Some, None, if◌then◌else◌}
 use Rattle.std.specs.FinSet as set
 use Rattle.problem_verdicts.specs.declared.moves.Moves.{Moves}
 
@@ -15,7 +14,7 @@ count_of m = set.len m.points + (if m.pass then 1 else 0)
 -- the point is the one of the move, which is no pass
 abbrev pub is_some_of : Option ℕ → ℕ → Bool
 is_some_of None p = false
-is_some_of (Some q) p = nat_eq p q
+is_some_of (Some q) p = p == q
 
 -- each of these moves is one of those: the pass, if it is one of these, and each point
 pub record AreAmong (these those : Moves) : Type 0 where

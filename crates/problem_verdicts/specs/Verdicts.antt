@@ -1,5 +1,5 @@
 -- What an author is told of a question: what he expects of it is compared with what a reading finds.
-use Rattle.std.specs.Prelude.{◌≡◌, ℕ, Bool, true, false, ◌&&◌, ◌||◌, not, ◌==◌, Option, Some, None, is_some}
+use Rattle.std.specs.Prelude.{ℕ, Bool, true, false, ◌&&◌, ◌||◌, not, ◌==◌, Option, Some, None, is_some}
 use Rattle.std.specs.Prelude.{if◌then◌else◌}
 use Rattle.problem_verdicts.specs.declared.moves.Moves.{Moves}
 use Rattle.problem_verdicts.specs.declared.expected.Expected.{Expected}

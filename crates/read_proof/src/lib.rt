@@ -11,7 +11,7 @@
 mod beside;
 mod candidates;
 mod checker;
-mod children;
+pub mod children;
 pub mod codes;
 mod further;
 pub mod laws;

@@ -2,11 +2,11 @@
 mod all_moves;
 mod candidates;
 mod connections;
+mod connections_kept;
 mod depths;
 mod first_proofs;
 mod further;
 mod kept_answers;
-mod kept_connections;
 mod nodes;
 mod proofs;
 mod readings;

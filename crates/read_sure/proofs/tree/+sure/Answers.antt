@@ -55,7 +55,7 @@ first_sure-succeeds-requires g t c κs within =
     let i = c.plays.invariant in
     let on = point_after i.stays c.in-Some.p
     (c.tried_points-tried.ensures.on_board c.in-Some.p c.in-Some.ensures.some.2) in
-    let target = point_after i.stays c.args.node.target c.requires.target in
+    let target = point_after i.stays c.args.node.turn.target c.requires.target in
     search rules
 
 -- it does not succeed, and none before it did

@@ -11,13 +11,13 @@ use Rattle.read_sure.proofs.tree.is_barred.Goals as goal
 pub returns-then-not-node-clause-over : goal.returns-then-not-node-clause-over
 returns-then-not-node-clause-over g c = λ pos a.
     not_barred c.args.node (after pos c.args.board.now.moves)
-    (not-true c.args.node.attacker_to_play c.if-not-node.true)
+    (not-true c.args.node.turn.attacker_to_play c.if-not-node.true)
 
 -- it is the attacker's
 pub returns-clause-over : goal.returns-clause-over
 returns-clause-over g c = λ pos a.
     let here = after pos c.args.board.now.moves in
     c.has_many.ensures ∙ barred_by c.args.node here c.count.result
-    (not-false c.args.node.attacker_to_play c.if-not-node.false)
-    (c.count.ensures.value ∙ its_count pos.size here c.args.node.target c.liberties.result
+    (not-false c.args.node.turn.attacker_to_play c.if-not-node.false)
+    (c.count.ensures.value ∙ its_count pos.size here c.args.node.turn.target c.liberties.result
     (size-after pos c.args.board.now.moves) (c.liberties.ensures.over pos a))

@@ -14,10 +14,10 @@ returns-in_err-play_node-in-Some c =
     let ts = tokens_from c.args.text.now c.in-Some.node in
     fault_answered c.from_residual.result
     (after_nodes c.args.pos (first_alone (nodes_in (tokens_from c.args.text.now c.args.start))))
-    c.in_err-play_node.field-0.0 c.from_residual.ensures.1
+    c.in_err-play_node-in-Some.field-0.0 c.from_residual.ensures.1
     (first_stop c.args.pos (nodes_in (tokens_from c.args.text.now c.args.start)) (nodes_in ts) (properties_in ts)
-    (uses_at c.args.text.now c.in-Some.node) c.in_err-play_node.field-0.0 c.in-Some.ensures.nodes (uses_of_node ts)
-    c.in_err-play_node.ensures)
+    (uses_at c.args.text.now c.in-Some.node) c.in_err-play_node-in-Some.field-0.0 c.in-Some.ensures.nodes (uses_of_node ts)
+    c.in_err-play_node-in-Some.ensures)
 
 -- a node that is gone through
 pub returns-in_ok-play_node-in-Some : goal.returns-in_ok-play_node-in-Some
@@ -25,7 +25,7 @@ returns-in_ok-play_node-in-Some c =
     let ts = tokens_from c.args.text.now c.in-Some.node in
     first_step c.args.pos (nodes_in (tokens_from c.args.text.now c.args.start)) (nodes_in ts) (properties_in ts)
     (uses_at c.args.text.now c.in-Some.node) c.play_node.new.pos c.in-Some.ensures.nodes (uses_of_node ts)
-    c.in_ok-play_node.ensures
+    c.in_ok-play_node-in-Some.ensures
 
 -- no node
 pub returns-in-None : goal.returns-in-None

@@ -1,0 +1,2 @@
+pub mod MoveSetLemmas
+pub mod VerdictLemmas

@@ -1,0 +1,4 @@
+pub mod AlikeLemmas
+pub mod GuardLemmas
+pub mod SeenLemmas
+pub mod TreeLemmas

@@ -1,0 +1,185 @@
+-- The recursion, by the zones of plays and replies.
+use Rattle.std.proofs.Common.{◌≡◌, ◌∙◌, ◌*◌, ◌<◌, ℕ, true, refl, sym}
+use Rattle.std.proofs.Common.{ap, subst, arith, inl, inr, rules}
+use Rattle.std.specs.FinSet as set
+use Rattle.std.specs.Ordering.{nat_cmp}
+use Rattle.std.proofs.lemmas.Bool.{both_ways, cases_eq, cases_lt, eq-eqb, eqb-true}
+use Rattle.go_rules.specs.declared.Cell.TheVariants.{Empty}
+use Rattle.go_rules.specs.Strings.{same_cell}
+use Rattle.go_rules.proofs.Cells.{eq_is_same_cell}
+use Rattle.sure_rules.proofs.SureLemmas.{sure-no_plies}
+use Rattle.sure_rules.proofs.ZoneLemmas.{zone_captured}
+use Rattle.read_zones.proofs.GuardLemmas.{in_either, in_first, in_second}
+use Rattle.read_zones.proofs.TreeLemmas.{some_shown, each_shown, agree_less, agree_self, attacker_has}
+use Rattle.read_zones.proofs.TreeLemmas.{attacker_none, attacker_barred, defender_passes, defender_replies, defender_has}
+use Rattle.read_zones.proofs.TreeLemmas.{child_size, none_left}
+use Rattle.read_rules.specs.GameTree.{child_of, some_child, each_child}
+use Rattle.read_rules.proofs.CandidateLaws.{candidate_on}
+use Rattle.sure_rules.specs.SureTree.{surely_wins}
+use Rattle.read_zones.proofs.tree.+zones.Goals as goal
+
+-- a play that captures
+pub play_zone-returns-clause-zone : goal.play_zone-returns-clause-zone
+play_zone-returns-clause-zone t c =
+    some_shown c.args.plies c.args.node c.args.p c.args.position.now c.in_ok-next.new c.in_ok-next.next
+    (set.contains c.in_ok-after.after) (set.contains c.play_shown.result) c.requires.on_board
+    (sym c.child_of.ensures.value ∙ c.in_ok-next.was) c.in_ok-after.ensures.zone c.play_shown.ensures.shown
+
+-- the child's zone is on its board, which has the same size
+pub play_zone-play_shown-requires-clause-points : goal.play_zone-play_shown-requires-clause-points
+play_zone-play_shown-requires-clause-points t c = λ q inside.
+    subst (λ s. q < s * s) (child_size c.args.node c.args.position.now c.args.p c.in_ok-next.next c.in_ok-next.new
+    (sym c.child_of.ensures.value ∙ c.in_ok-next.was)) (c.in_ok-after.ensures.on_board q inside)
+
+-- the same of a reply
+pub reply_zone-play_shown-requires-clause-points : goal.reply_zone-play_shown-requires-clause-points
+reply_zone-play_shown-requires-clause-points t c = λ q inside.
+    subst (λ s. q < s * s) (child_size c.args.node c.args.position.now c.args.p c.in-Some.child.0 c.in-Some.child.1
+    (sym c.child_of.ensures.value ∙ c.in-Some.is)) (c.in_ok-after-in-Some.ensures.on_board q inside)
+
+-- no point is asked for
+pub reply_zone-play_shown-requires-in-None-clause-points : goal.reply_zone-play_shown-requires-in-None-clause-points
+reply_zone-play_shown-requires-in-None-clause-points t c = λ q inside. absurd (both_ways (set.contains c.new.result q)
+    (ap (λ s. set.contains s q) c.new.ensures ∙ set.contains-empty nat_cmp q) inside)
+
+-- a reply that fails
+pub reply_zone-returns-in_ok-after-in-Some-clause-zone : goal.reply_zone-returns-in_ok-after-in-Some-clause-zone
+reply_zone-returns-in_ok-after-in-Some-clause-zone t c =
+    each_shown c.args.plies c.args.node c.args.p c.args.position.now c.in-Some.child.1 c.in-Some.child.0
+    (set.contains c.in_ok-after-in-Some.after) (set.contains c.play_shown.result) c.requires.on_board
+    (sym c.child_of.ensures.value ∙ c.in-Some.is) c.in_ok-after-in-Some.ensures.zone c.play_shown.ensures.shown
+
+-- the candidate is on the board
+pub attacker_zone-returns-in-Some-play_zone-clause-zone : goal.attacker_zone-returns-in-Some-play_zone-clause-zone
+attacker_zone-returns-in-Some-play_zone-clause-zone t c =
+    attacker_has c.args.plies c.args.node c.args.position.now (set.contains c.in_ok-shown.shown.points)
+    (set.contains c.in_ok-shown.shown.zone) (set.contains c.in-Some-play_zone.zone) (set.contains c.join.new.self)
+    c.in-Some.p c.requires.turn c.in-Some.ensures.some.2 c.in_ok-shown.ensures.shown c.in-Some-play_zone.ensures.zone
+    (λ q. in_first c.in_ok-shown.shown.zone c.in-Some-play_zone.zone c.join.new.self q c.join.ensures)
+    (λ q. in_second c.in_ok-shown.shown.zone c.in-Some-play_zone.zone c.join.new.self q c.join.ensures)
+
+-- a target that is captured
+pub zone_of-returns-then-plies-eq0-clause-zone : goal.zone_of-returns-then-plies-eq0-clause-zone
+zone_of-returns-then-plies-eq0-clause-zone t c =
+    sure-no_plies c.args.plies c.args.node c.args.position.now
+    (ap (λ k. same_cell k Empty) (sym c.cell.ensures) ∙ sym (eq_is_same_cell c.cell.result Empty) ∙ sym c.eq.ensures
+    ∙ c.if-eq.false) c.if-plies-eq0.true
+
+-- the target has too many liberties
+pub attacker_zone-returns-in_err-shown-clause-zone : goal.attacker_zone-returns-in_err-shown-clause-zone
+attacker_zone-returns-in_err-shown-clause-zone t c =
+    let none = attacker_barred c.args.plies c.args.node c.args.position.now c.requires.turn c.requires.stands
+    c.in_err-shown.ensures.shown in
+    search rules
+
+-- the candidate is on the board
+pub attacker_zone-play_zone-requires : goal.attacker_zone-play_zone-requires
+attacker_zone-play_zone-requires t c =
+    let on = candidate_on c.args.node.turn c.args.position.now c.in-Some.p
+    (sym ((c.in_ok-shown.ensures.shown c.args.position.now c.size.ensures.position
+    (agree_self c.args.position.now)).1 c.in-Some.p) ∙ c.in-Some.ensures.some.2) in
+    search rules
+
+-- both zones are on the board
+pub attacker_zone-returns-in-Some-play_zone-clause-on_board : goal.attacker_zone-returns-in-Some-play_zone-clause-on_board
+attacker_zone-returns-in-Some-play_zone-clause-on_board t c = λ q inside.
+    elim (in_either c.in_ok-shown.shown.zone c.in-Some-play_zone.zone c.join.new.self q c.join.ensures inside) [
+      | inl first ↦ c.in_ok-shown.ensures.on_board q first
+      | inr second ↦ c.in-Some-play_zone.ensures.on_board q second
+    ]
+
+-- no candidate captures
+pub attacker_zone-returns-clause-zone : goal.attacker_zone-returns-clause-zone
+attacker_zone-returns-clause-zone t c =
+    let points = set.contains c.in_ok-shown.shown.points in
+    attacker_none c.args.plies c.args.node c.args.position.now points c.requires.turn c.requires.stands
+    (c.in_ok-shown.ensures.shown c.args.position.now c.size.ensures.position (agree_self c.args.position.now)).1
+    (λ q. none_left points (λ r. some_child (surely_wins c.args.plies) (child_of c.args.node c.args.position.now r))
+    c.plays.from c.plays.invariant c.in_default.ensures.none q)
+
+-- the pass holds
+pub defender_zone-returns-in_err-zone-clause-zone : goal.defender_zone-returns-in_err-zone-clause-zone
+defender_zone-returns-in_err-zone-clause-zone t c =
+    let holds = rw c.passed-new.ensures at c.in_err-zone.ensures.zone in
+    let none = defender_passes c.args.plies c.args.node c.args.position.now c.requires.turn c.requires.stands holds in
+    search rules
+
+-- a reply holds
+pub defender_zone-returns-in_err-reply_zone-clause-zone : goal.defender_zone-returns-in_err-reply_zone-clause-zone
+defender_zone-returns-in_err-reply_zone-clause-zone t c =
+    let none = defender_replies c.args.plies c.args.node c.args.position.now c.in-Some.p c.requires.turn
+    c.requires.stands (c.replies_shown-replies.ensures.on_board c.in-Some.p c.in-Some.ensures.some.2)
+    c.in_err-reply_zone.ensures.zone in
+    search rules
+
+-- the zone of the pass and the looks for replies
+pub defender_zone-replies-init : goal.defender_zone-replies-init
+defender_zone-replies-init t c = record {
+  larger = λ q inside. inside;
+  on_board = λ q inside. elim (in_either c.in_ok-zone.zone c.replies_shown-replies.result.zone c.join.new.self q
+      c.join.ensures inside) [
+        | inl first ↦ (rw c.passed-new.ensures at c.in_ok-zone.ensures.on_board) q first
+        | inr second ↦ c.replies_shown-replies.ensures.zone q second
+      ];
+  fails = λ p low. absurd (omega (arith, low));
+}
+
+-- one more reply fails
+pub defender_zone-replies-preserved : goal.defender_zone-replies-preserved
+defender_zone-replies-preserved t c =
+    let i = c.replies.invariant in
+    let first : (q : ℕ) → set.contains c.replies.zone q ≡ true → set.contains c.join-in-Some.new.self q ≡ true = λ q.
+    in_first c.replies.zone c.in_ok-reply_zone.field-0 c.join-in-Some.new.self q
+    c.join-in-Some.ensures in
+    let second : (q : ℕ) → set.contains c.in_ok-reply_zone.field-0 q ≡ true
+    → set.contains c.join-in-Some.new.self q ≡ true = λ q. in_second c.replies.zone c.in_ok-reply_zone.field-0 c.join-in-Some.new.self q
+    c.join-in-Some.ensures in
+    record {
+      larger = λ q inside. first q (i.larger q inside);
+      on_board = λ q inside. elim (in_either c.replies.zone c.in_ok-reply_zone.field-0 c.join-in-Some.new.self q
+          c.join-in-Some.ensures inside) [
+            | inl old ↦ i.on_board q old
+            | inr new ↦ c.in_ok-reply_zone.ensures.on_board q new
+          ];
+      fails = λ p low inside here sound same. elim (cases_eq p c.in-Some.p) [
+        | inl e ↦ subst (λ (r : ℕ). each_child (surely_wins c.args.plies) (child_of c.args.node here r) ≡ true) (sym e)
+            (c.in_ok-reply_zone.ensures.zone here sound (agree_less second same))
+        | inr ne ↦ elim (cases_lt p c.replies.from) [
+          | inl less ↦ i.fails p less inside here sound (agree_less first same)
+          | inr more ↦ absurd (both_ways (set.contains c.replies_shown-replies.result.points p)
+              (c.in-Some.ensures.some.3 p more (omega (arith, low, ne))) inside)
+        ]
+      ];
+    }
+
+-- every reply that is read fails
+pub defender_zone-returns-clause-zone : goal.defender_zone-returns-clause-zone
+defender_zone-returns-clause-zone t c =
+    let i = c.replies.invariant in
+    defender_has c.args.plies c.args.node c.args.position.now (set.contains c.in_ok-zone.zone)
+    (set.contains c.replies_shown-replies.result.points) (set.contains c.replies_shown-replies.result.zone)
+    (set.contains c.replies.zone) c.requires.turn c.size.ensures.position
+    (rw c.passed-new.ensures at c.in_ok-zone.ensures.zone)
+    (rw c.passed-new.ensures at c.in_ok-zone.ensures.on_board) c.replies_shown-replies.ensures.shown
+    (λ q inside. i.larger q (in_first c.in_ok-zone.zone c.replies_shown-replies.result.zone c.join.new.self q
+    c.join.ensures inside))
+    (λ q inside. i.larger q (in_second c.in_ok-zone.zone c.replies_shown-replies.result.zone c.join.new.self q
+    c.join.ensures inside))
+    (λ p read. elim (cases_lt p c.replies.from) [
+      | inl less ↦ i.fails p less read
+      | inr more ↦ absurd (both_ways (set.contains c.replies_shown-replies.result.points p)
+          (c.in_default.ensures.none p more) read)
+    ])
+
+-- the target is gone
+pub zone_of-returns-then-eq-clause-zone : goal.zone_of-returns-then-eq-clause-zone
+zone_of-returns-then-eq-clause-zone t c =
+    zone_captured c.args.plies c.args.node c.args.position.now (set.contains c.one_point.result)
+    (ap (λ k. same_cell k Empty) (sym c.cell.ensures) ∙ sym (eq_is_same_cell c.cell.result Empty) ∙ sym c.eq.ensures
+    ∙ c.if-eq.true) (c.one_point.ensures c.args.node.turn.target ∙ eq-eqb c.args.node.turn.target c.args.node.turn.target refl)
+
+-- its point is on the board
+pub zone_of-returns-then-eq-clause-on_board : goal.zone_of-returns-then-eq-clause-on_board
+zone_of-returns-then-eq-clause-on_board t c = λ q inside.
+    subst (λ p. p < c.args.position.now.size * c.args.position.now.size)
+    (sym (eqb-true q c.args.node.turn.target (sym (c.one_point.ensures q) ∙ inside))) c.requires.target

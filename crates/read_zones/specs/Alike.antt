@@ -1,0 +1,27 @@
+-- Positions that look the same at some points, and the replies that a capture needs read.
+use Rattle.std.specs.Prelude.{◌≡◌, ℕ, Bool, true, Option, Some, None}
+use Rattle.go_rules.specs.declared.Cell.TheVariants.{Empty}
+use Rattle.go_rules.specs.declared.Colour.{Colour}
+use Rattle.go_rules.specs.Strings.{cell_at}
+use Rattle.go_rules.specs.Position.{BoardState, other, stone_of, is_banned}
+use Rattle.go_rules.specs.Rules.{IsOnlyLiberty}
+use Rattle.read_rules.specs.declared.node.Node.{Node}
+use Rattle.read_rules.specs.Turns.{mover_of}
+
+-- at the points of the set both positions have the same cells and the same plays that the ban forbids
+pub record AreAlike (Z : ℕ → Bool) (a b : BoardState) : Type 0 where
+  pub cells : (q : ℕ) → Z q ≡ true → cell_at a.cells q ≡ cell_at b.cells q
+  pub bans : (q : ℕ) (c : Colour) → Z q ≡ true → is_banned a.ban c q ≡ is_banned b.ban c q
+
+-- among the replies are each empty point of the set, and the only liberty of each attacker's string with a stone in it
+pub record IsGuarded (node : Node) (Z : ℕ → Bool) (here : BoardState) (replies : ℕ → Bool) : Type 0 where
+  pub empty_points : (q : ℕ) → Z q ≡ true → cell_at here.cells q ≡ Empty → replies q ≡ true
+  pub last_liberties : (q p : ℕ) → Z q ≡ true → cell_at here.cells q ≡ stone_of (other (mover_of node.turn))
+      → IsOnlyLiberty here.size here.cells q p → replies p ≡ true
+
+-- both plays cannot be made; or both can, lead to one node, and to positions of one size that are alike at the points
+abbrev pub AreAlikeChildren : (ℕ → Bool) → Option (Node × BoardState) → Option (Node × BoardState) → Type 0
+AreAlikeChildren Z None None = Unit {0}
+AreAlikeChildren Z (Some a) (Some b) = (a.0 ≡ b.0) × (a.1.size ≡ b.1.size) × AreAlike Z a.1 b.1
+AreAlikeChildren Z None (Some b) = ⊥
+AreAlikeChildren Z (Some a) None = ⊥

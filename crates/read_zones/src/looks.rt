@@ -1,0 +1,147 @@
+//! What is looked at to show a play, the attacker's candidates, or that no reply but those that are read captures.
+
+ghost use Rattle.std.specs.Prelude.{◌≡◌, ℕ, ◌+◌, ◌*◌, ◌<◌, ◌≤◌, ◌&&◌, ◌||◌, ◌==◌, nat_lt, true, length, []};
+ghost use Rattle.std.specs.FinSet as set;
+ghost use Rattle.go_rules.specs.Position.{BoardState};
+ghost use Rattle.go_base.specs.Facts.{Agrees, Grows};
+ghost use Rattle.trial_board.specs.Trials.{Stays, most_moves, after};
+ghost use Rattle.read_rules.specs.GameTree.{child_of};
+ghost use Rattle.read_rules.specs.GoodMoves.{is_barred};
+ghost use Rattle.read_rules.specs.Trees.{most_narrow};
+ghost use Rattle.read_tree.specs.Walk.{IsPointOf, OnEachAgreeing};
+ghost use Rattle.go_base.specs.Views.{alone};
+ghost use Rattle.go_rules.specs.Board.{largest_points};
+ghost use Rattle.read_zones.specs.Alike.{AreAlike, AreAlikeChildren, IsGuarded};
+
+use go_base::{Cell, Colour, Look, Point, PointSet};
+use read_rules::{Node, Tree};
+use read_tree::nodes::make_at;
+use trial_board::Trial;
+
+/// How many liberties a target may have, if no wide ply is left, that the attacker still plays at.
+fn most_narrow(tree: Tree) -> u16
+    ensures { result ≡ most_narrow tree }
+{
+    match tree {
+        Tree::Stated => 2,
+        Tree::Wider => 3,
+    }
+}
+
+/// Whether so many liberties are more than the attacker may play at in the tree.
+fn has_many(tree: Tree, liberties: u16, wide: u8) -> bool
+    ensures { result ≡ (nat_lt 4 liberties || ((wide == 0) && nat_lt (most_narrow tree) liberties)) }
+{
+    liberties > 4 || (wide == 0 && liberties > most_narrow(tree))
+}
+
+/// Whether it is the attacker's turn, and the target has more liberties than he may play at.
+pub fn is_barred<L: Look>(board: &mut Trial<L>, node: Node) -> bool
+    requires target { IsPointOf L.shows board.old node.turn.target }
+    ensures stays { Stays L.shows L.seen board.old board.new }
+    ensures over { OnEachAgreeing L.seen board.old board.new (λ here. result ≡ is_barred node here) }
+{
+    if !node.turn.attacker_to_play {
+        return false;
+    }
+    has_many(
+        node.turn.tree,
+        board.liberties(node.turn.target).count(),
+        node.turn.wide,
+    )
+}
+
+/// Looks at the cells and the bans of these points, after the moves that stand.
+fn look_at<L: Look>(board: &mut Trial<L>, points: &PointSet)
+    requires on_board { (q : ℕ) → set.contains points.now q ≡ true → IsPointOf L.shows board.old q }
+    ensures stays { Stays L.shows L.seen board.old board.new }
+    ensures alike { (a b : BoardState) → Agrees (L.seen board.new.look) a → Agrees (L.seen board.new.look) b
+        → AreAlike (set.contains points.now) (after a board.old.moves) (after b board.old.moves) }
+{
+    let mut from = 0;
+    'points: while let Some(q) = points.first_from(from) {
+        board.cell(q);
+        board.bans(Colour::Black, q);
+        board.bans(Colour::White, q);
+        from = q + 1;
+    }
+}
+
+/// Looks at the mover's play at p, on the position without trial moves, and at these points after it. If the play cannot
+/// be made, at what shows that.
+pub fn look_at_play<L: Look>(board: &mut Trial<L>, node: Node, p: Point, points: &PointSet)
+    requires untried { board.old.moves ≡ [] }
+    requires on_board { IsPointOf L.shows board.old p }
+    requires points { (q : ℕ) → set.contains points.now q ≡ true → IsPointOf L.shows board.old q }
+    ensures shown { L.shows board.new.look ≡ L.shows board.old.look }
+    ensures grows { Grows (L.seen board.old.look) (L.seen board.new.look) }
+    ensures alike { (a b : BoardState) → Agrees (L.seen board.new.look) a → Agrees (L.seen board.new.look) b
+        → AreAlikeChildren (set.contains points.now) (child_of node a p) (child_of node b p) }
+{
+    match make_at(board, node, p) {
+        Some(_next) => look_at(board, points),
+        None => (),
+    }
+}
+
+/// A set of one point.
+pub fn one_point(p: Point) -> PointSet
+    requires { p < largest_points }
+    ensures { (q : ℕ) → set.contains result q ≡ (q == p) }
+{
+    let mut points = PointSet::new();
+    points.add(p);
+    points
+}
+
+/// The liberty, if it is the only one.
+fn last_of(liberties: &PointSet) -> PointSet
+    ensures last { (l : ℕ) → set.contains liberties.now l ≡ true
+        → ((k : ℕ) → set.contains liberties.now k ≡ true → k ≡ l) → set.contains result l ≡ true }
+    ensures within { (l : ℕ) → set.contains result l ≡ true → set.contains liberties.now l ≡ true }
+{
+    match liberties.first_from(0) {
+        Some(l) => match liberties.first_from(l + 1) {
+            Some(_) => PointSet::new(),
+            None => one_point(l),
+        },
+        None => PointSet::new(),
+    }
+}
+
+/// The replies that have to be read for one point of a zone: the point if it is empty, and if it holds a stone of the
+/// attacker the only liberty of its string.
+fn replies_for<L: Look>(board: &mut Trial<L>, node: Node, q: Point) -> PointSet
+    requires on_board { IsPointOf L.shows board.old q }
+    ensures stays { Stays L.shows L.seen board.old board.new }
+    ensures on_board { (p : ℕ) → set.contains result p ≡ true → IsPointOf L.shows board.old p }
+    ensures over { OnEachAgreeing L.seen board.old board.new (λ here.
+        IsGuarded node (alone q) here (set.contains result)) }
+{
+    let cell = board.cell(q);
+    if cell == Cell::Empty {
+        return one_point(q);
+    }
+    if cell != node.mover().other().cell() {
+        return PointSet::new();
+    }
+    last_of(&board.liberties(q))
+}
+
+/// The replies that have to be read for a zone of the defender's pass: its empty points, and the only liberties of the
+/// attacker's strings that have a stone in it.
+pub fn replies_to_read<L: Look>(board: &mut Trial<L>, node: Node, zone: &PointSet) -> PointSet
+    requires on_board { (q : ℕ) → set.contains zone.now q ≡ true → IsPointOf L.shows board.old q }
+    ensures stays { Stays L.shows L.seen board.old board.new }
+    ensures on_board { (p : ℕ) → set.contains result p ≡ true → IsPointOf L.shows board.old p }
+    ensures over { OnEachAgreeing L.seen board.old board.new (λ here.
+        IsGuarded node (set.contains zone.now) here (set.contains result)) }
+{
+    let mut replies = PointSet::new();
+    let mut from = 0;
+    'points: while let Some(q) = zone.first_from(from) {
+        replies.join(&replies_for(board, node, q));
+        from = q + 1;
+    }
+    replies
+}

@@ -1,0 +1,94 @@
+//! What a look at a position shows, with the points on which it rests.
+
+ghost use Rattle.std.specs.Prelude.{◌≡◌, ℕ, ◌*◌, ◌<◌, true, false, MatchOption, IfSome};
+ghost use Rattle.std.specs.FinSet as set;
+ghost use Rattle.go_rules.specs.Position.{BoardState, IsPosition};
+ghost use Rattle.go_base.specs.Facts.{Agrees};
+ghost use Rattle.go_base.specs.AmongFacts.{told};
+ghost use Rattle.go_base.specs.Watches.{shown_by, facts_of};
+ghost use Rattle.read_rules.specs.ActiveArea.{AgreeOn};
+ghost use Rattle.read_rules.specs.Candidates.{is_candidate};
+ghost use Rattle.read_rules.specs.GameTree.{child_of};
+ghost use Rattle.sure_rules.specs.Nodes.{is_attackers, has_too_many};
+ghost use Rattle.sure_rules.specs.Zones.{points_of, WhereverAgrees};
+ghost use Rattle.read_zones.specs.Alike.{AreAlikeChildren, IsGuarded};
+
+use crate::looks::{is_barred, look_at_play, replies_to_read};
+use go_base::{Point, PointSet, Position, Watch};
+use read_moves::candidates;
+use read_rules::Node;
+use trial_board::Trial;
+
+/// Points that a look told, and the points on which they rest.
+#[derive(Drop)]
+pub struct Shown {
+    /// The points.
+    pub points: PointSet,
+    /// On every position that agrees here they are the same.
+    pub zone: PointSet,
+}
+
+/// The points that were asked for. What was told is so on every position that agrees on them.
+fn points_seen<'a>(board: Trial<Watch<'a>>) -> PointSet
+    ensures on_board { (p : ℕ) → set.contains result p ≡ true
+        → p < (shown_by board.entry.look).size * (shown_by board.entry.look).size }
+    ensures zone { (here : BoardState) → IsPosition here
+        → AgreeOn (points_of (set.contains result)) (shown_by board.entry.look) here → Agrees (told (facts_of board.entry.look)) here }
+{
+    let look = board.finish();
+    let facts = look.facts();
+    facts.points()
+}
+
+/// The attacker's candidates; none if the target has too many liberties for him.
+pub fn candidates_shown(position: &Position, node: Node) -> Option<Shown>
+    requires target { node.turn.target < position.now.size * position.now.size }
+    requires turn { is_attackers node ≡ true }
+    ensures shown { MatchOption result (has_too_many node position.now ≡ true)
+        (λ shown. WhereverAgrees position.now (set.contains shown.zone) (λ here.
+        (has_too_many node here ≡ false)
+        × ((p : ℕ) → set.contains shown.points p ≡ is_candidate node.turn here p))) }
+    ensures on_board { IfSome result (λ shown. (q : ℕ) → set.contains shown.zone q ≡ true
+        → q < position.now.size * position.now.size) }
+{
+    let mut board = Trial::new(Watch::new(position));
+    if is_barred(&mut board, node) {
+        let _look = board.finish();
+        return None;
+    }
+    let points = candidates(&mut board, node.turn);
+    Some(Shown {
+        points,
+        zone: points_seen(board),
+    })
+}
+
+/// The replies that have to be read for a zone of the defender's pass.
+pub fn replies_shown(position: &Position, node: Node, zone: &PointSet) -> Shown
+    requires on_board { (q : ℕ) → set.contains zone.now q ≡ true → q < position.now.size * position.now.size }
+    ensures on_board { (p : ℕ) → set.contains result.points p ≡ true → p < position.now.size * position.now.size }
+    ensures shown { WhereverAgrees position.now (set.contains result.zone) (λ here.
+        IsGuarded node (set.contains zone.now) here (set.contains result.points)) }
+    ensures zone { (q : ℕ) → set.contains result.zone q ≡ true → q < position.now.size * position.now.size }
+{
+    let mut board = Trial::new(Watch::new(position));
+    let points = replies_to_read(&mut board, node, zone);
+    Shown {
+        points,
+        zone: points_seen(board),
+    }
+}
+
+/// The points on which it rests that the mover's play at p leads to such a position, alike at these points, or that it
+/// cannot be made.
+pub fn play_shown(position: &Position, node: Node, p: Point, points: &PointSet) -> PointSet
+    requires on_board { p < position.now.size * position.now.size }
+    requires points { (q : ℕ) → set.contains points.now q ≡ true → q < position.now.size * position.now.size }
+    ensures on_board { (q : ℕ) → set.contains result q ≡ true → q < position.now.size * position.now.size }
+    ensures shown { WhereverAgrees position.now (set.contains result) (λ here.
+        AreAlikeChildren (set.contains points.now) (child_of node position.now p) (child_of node here p)) }
+{
+    let mut board = Trial::new(Watch::new(position));
+    look_at_play(&mut board, node, p, points);
+    points_seen(board)
+}

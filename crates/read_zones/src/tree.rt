@@ -1,0 +1,126 @@
+//! Whether a string is surely captured at a node, and the points on which that rests.
+
+ghost use Rattle.std.specs.Prelude.{◌≡◌, ℕ, ◌+◌, ◌*◌, ◌<◌, true, false, MatchOption, IsTrue, IfSome};
+ghost use Rattle.std.specs.FinSet as set;
+ghost use Rattle.go_rules.specs.Position.{BoardState};
+ghost use Rattle.read_rules.specs.GameTree.{child_of, some_child, each_child};
+ghost use Rattle.sure_rules.specs.Nodes.{is_attackers, is_gone};
+ghost use Rattle.sure_rules.specs.SureTree.{surely_wins};
+ghost use Rattle.sure_rules.specs.Zones.{IsZone, WhereverAgrees};
+
+use crate::looks::one_point;
+use crate::seen::{candidates_shown, play_shown, replies_shown};
+use go_base::{Cell, Point, PointSet, Position};
+use read_proof::children::{child_of, passed};
+use read_rules::Node;
+
+/// The zone that shows that the attacker's play at p captures, with `plies` plies left after it; none if it does not.
+#[cycle(zones)]
+fn play_zone(position: &Position, node: Node, p: Point, plies: u8) -> Option<PointSet>
+    requires target { node.turn.target < position.now.size * position.now.size }
+    requires on_board { p < position.now.size * position.now.size }
+    ensures zone { MatchOption result
+        (some_child (surely_wins plies) (child_of node position.now p) ≡ false)
+        (λ zone. WhereverAgrees position.now (set.contains zone) (λ here.
+        IsTrue (some_child (surely_wins plies) (child_of node here p)))) }
+    ensures on_board { IfSome result (λ zone. (q : ℕ) → set.contains zone q ≡ true
+        → q < position.now.size * position.now.size) }
+{
+    let (next, new) = child_of(position, node, p)?;
+    let after = zone_of(&new, next, plies)?;
+    Some(play_shown(position, node, p, &after))
+}
+
+/// The zone that shows that the defender's reply at p fails, with `plies` plies left after it; none if it holds.
+#[cycle(zones)]
+fn reply_zone(position: &Position, node: Node, p: Point, plies: u8) -> Option<PointSet>
+    requires target { node.turn.target < position.now.size * position.now.size }
+    requires on_board { p < position.now.size * position.now.size }
+    ensures zone { MatchOption result
+        (each_child (surely_wins plies) (child_of node position.now p) ≡ false)
+        (λ zone. WhereverAgrees position.now (set.contains zone) (λ here.
+        IsTrue (each_child (surely_wins plies) (child_of node here p)))) }
+    ensures on_board { IfSome result (λ zone. (q : ℕ) → set.contains zone q ≡ true
+        → q < position.now.size * position.now.size) }
+{
+    match child_of(position, node, p) {
+        Some(child) => {
+            let after = zone_of(&child.1, child.0, plies)?;
+            Some(play_shown(position, node, p, &after))
+        }
+        None => Some(play_shown(position, node, p, &PointSet::new())),
+    }
+}
+
+/// The zone at the attacker's turn, with `plies` plies left after his move.
+#[cycle(zones)]
+fn attacker_zone(position: &Position, node: Node, plies: u8) -> Option<PointSet>
+    requires target { node.turn.target < position.now.size * position.now.size }
+    requires turn { is_attackers node ≡ true }
+    requires stands { is_gone node position.now ≡ false }
+    ensures zone { MatchOption result (surely_wins (plies + 1) node position.now ≡ false)
+        (λ zone. IsZone (plies + 1) node position.now (set.contains zone)) }
+    ensures on_board { IfSome result (λ zone. (q : ℕ) → set.contains zone q ≡ true
+        → q < position.now.size * position.now.size) }
+{
+    let _ = position.size();
+    let shown = candidates_shown(position, node)?;
+    let mut from = 0;
+    'plays: while let Some(p) = shown.points.first_from(from) {
+        if let Some(zone) = play_zone(position, node, p, plies) {
+            let mut all = shown.zone;
+            all.join(&zone);
+            return Some(all);
+        }
+        from = p + 1;
+    }
+    None
+}
+
+/// The zone at the defender's turn, with `plies` plies left after his move.
+#[cycle(zones)]
+fn defender_zone(position: &Position, node: Node, plies: u8) -> Option<PointSet>
+    requires target { node.turn.target < position.now.size * position.now.size }
+    requires turn { is_attackers node ≡ false }
+    requires stands { is_gone node position.now ≡ false }
+    ensures zone { MatchOption result (surely_wins (plies + 1) node position.now ≡ false)
+        (λ zone. IsZone (plies + 1) node position.now (set.contains zone)) }
+    ensures on_board { IfSome result (λ zone. (q : ℕ) → set.contains zone q ≡ true
+        → q < position.now.size * position.now.size) }
+{
+    let _ = position.size();
+    let (next, new) = passed(position, node);
+    let mut zone = zone_of(&new, next, plies)?;
+    let replies = replies_shown(position, node, &zone);
+    zone.join(&replies.zone);
+    let mut from = 0;
+    'replies: while let Some(p) = replies.points.first_from(from) {
+        zone.join(&reply_zone(position, node, p, plies)?);
+        from = p + 1;
+    }
+    Some(zone)
+}
+
+/// The points on which it rests that the target is surely captured at the node, with `plies` plies left; none exactly if
+/// it is not. On every position that agrees on them it is surely captured too.
+#[cycle(zones)]
+pub fn zone_of(position: &Position, node: Node, plies: u8) -> Option<PointSet>
+    requires target { node.turn.target < position.now.size * position.now.size }
+    ensures zone { MatchOption result (surely_wins plies node position.now ≡ false)
+        (λ zone. IsZone plies node position.now (set.contains zone)) }
+    ensures on_board { IfSome result (λ zone. (q : ℕ) → set.contains zone q ≡ true
+        → q < position.now.size * position.now.size) }
+{
+    let _ = position.size().points();
+    if position.cell(node.turn.target) == Cell::Empty {
+        return Some(one_point(node.turn.target));
+    }
+    if plies == 0 {
+        return None;
+    }
+    if node.turn.attacker_to_play {
+        attacker_zone(position, node, plies - 1)
+    } else {
+        defender_zone(position, node, plies - 1)
+    }
+}
