@@ -54,12 +54,9 @@ static ROWS: [Row; 6] = [
 fn a_front_ends_before_the_next_move(rt: HostRuntime) {
     for (name, record, most, text, moves) in &ROWS {
         let cut = cut_record(rt.alloc(), record, *most).ok();
-        assert_eq!(rt;
-            cut.as_ref()
-                .map(|cut| (cut.text.as_slice() == *text, cut.moves)),
-            Some((true, *moves)),
-            "{}",
-            name
-        );
+        let found = cut
+            .as_ref()
+            .map(|cut| (cut.text.as_slice() == *text, cut.moves));
+        assert!(rt; found == Some((true, *moves)), "{name}");
     }
 }

@@ -342,11 +342,7 @@ fn answer_to(alloc: Global, row: &Row) -> Option<(Option<Reason>, (u64, u64))> {
 #[test]
 fn the_first_part_that_fails_is_told(rt: HostRuntime) {
     for row in &ROWS {
-        assert_eq!(rt;
-            answer_to(rt.alloc(), row),
-            Some((row.want, row.calls)),
-            "{}",
-            row.name
-        );
+        let answer = answer_to(rt.alloc(), row);
+        assert!(rt; answer == Some((row.want, row.calls)), "{}", row.name);
     }
 }

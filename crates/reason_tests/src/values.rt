@@ -230,12 +230,8 @@ fn values(alloc: Global, text: &str) -> Option<Vec<Option<i64>>> {
 fn each_part_that_is_needed_has_its_value(rt: HostRuntime) {
     for row in &ROWS {
         let found = values(rt.alloc(), row.text);
-        assert_eq!(rt;
-            found.as_ref().map(|found| found.as_slice() == row.want),
-            Some(true),
-            "{}",
-            row.name
-        );
+        let is_right = found.as_ref().map(|found| found.as_slice() == row.want);
+        assert!(rt; is_right == Some(true), "{}", row.name);
     }
 }
 
@@ -276,7 +272,7 @@ fn function_called(alloc: Global, text: &str) -> Option<Function> {
 fn a_function_has_the_name_by_which_it_is_called(rt: HostRuntime) {
     for (name, call) in &CALLS {
         let function = function_called(rt.alloc(), call);
-        assert_eq!(rt; function.map(function_name), Some(*name));
+        assert!(rt; function.map(function_name) == Some(*name), "{name}");
     }
 }
 
@@ -320,11 +316,9 @@ fn put_again(alloc: Global, text: &str) -> Option<String> {
 fn an_expression_is_put_as_a_text_that_spells_it(rt: HostRuntime) {
     for (name, text) in &TEXTS {
         let put = put_again(rt.alloc(), text);
-        assert_eq!(rt;
-            put.as_ref().map(|put| put.as_str()),
-            Some(*text),
-            "{}",
-            name
+        assert!(rt;
+            put.as_ref().map(|put| put.as_str()) == Some(*text),
+            "{name}"
         );
     }
 }
