@@ -2,3 +2,5 @@ pub mod AlikeLemmas
 pub mod GuardLemmas
 pub mod SeenLemmas
 pub mod TreeLemmas
+pub mod UnreadLemmas
+pub mod AnswerLemmas
