@@ -1,5 +1,5 @@
 //! Sure answers on small positions, beside those of the tree. Both are from a second plain program, which tries every
-//! move by the definition alone.
+//! move by the definition alone, as one of the two readers does; the other reads by zones, and can read deeper.
 
 ghost use Rattle.std.specs.Prelude.{◌≡◌, ◌≢◌, ◌*◌, ◌<◌, IfSome};
 ghost use Rattle.go_rules.specs.Strings.{cell_at};
@@ -8,7 +8,6 @@ use go_base::{Cell, Colour, Point, Position, Size, Watch};
 use read_rules::Kind::{self, Attack, Defend};
 use read_rules::Tree::{self, Stated, Wider};
 use read_rules::{Answer, Depths, Spot};
-use read_sure::{sure_attack, sure_defend};
 use read_tree::{attack, defend};
 use vertices::vertex_named;
 
@@ -250,6 +249,76 @@ static ROWS: [Row; 16] = [
     },
 ];
 
+/// Rows that are too deep to try every reply. Their codes are from a second plain program that finds zones by another
+/// rule, and so is each move, by its answers after every play.
+static DEEP_ROWS: [Row; 5] = [
+    Row {
+        name: "a net holds for nine plies",
+        size: 9,
+        black: "D6",
+        white: "C6 D7 E7 C5",
+        kind: Attack,
+        target: "D6",
+        depths: (9, 2),
+        tree: Stated,
+        code: 3,
+        sure: 3,
+        at: "E5",
+    },
+    Row {
+        name: "behind the net black is surely not to be saved",
+        size: 9,
+        black: "D6",
+        white: "C6 D7 E7 C5 E5",
+        kind: Defend,
+        target: "D6",
+        depths: (8, 2),
+        tree: Stated,
+        code: 0,
+        sure: 0,
+        at: "",
+    },
+    Row {
+        name: "black saves his stone from afar, where the tree wants a liberty",
+        size: 9,
+        black: "C3",
+        white: "C2 B3 D2 B4",
+        kind: Defend,
+        target: "C3",
+        depths: (6, 2),
+        tree: Stated,
+        code: 3,
+        sure: 3,
+        at: "C5",
+    },
+    Row {
+        name: "three liberties are too many for the stated tree",
+        size: 9,
+        black: "E5",
+        white: "E6 D5 F3 D3 H5",
+        kind: Attack,
+        target: "E5",
+        depths: (7, 2),
+        tree: Stated,
+        code: 0,
+        sure: 0,
+        at: "",
+    },
+    Row {
+        name: "the wider tree captures there",
+        size: 9,
+        black: "E5",
+        white: "E6 D5 F3 D3 H5",
+        kind: Attack,
+        target: "E5",
+        depths: (7, 2),
+        tree: Wider,
+        code: 3,
+        sure: 3,
+        at: "F5",
+    },
+];
+
 /// The point of a vertex.
 fn vertex(size: Size, name: &str) -> Option<Point>
     ensures { IfSome result (λ p. p < size * size) }
@@ -298,39 +367,83 @@ fn spot(size: Size, name: &str) -> Option<Spot> {
     Some(Spot::At(vertex(size, name)?))
 }
 
-/// The code of the reading of a row, and the sure answer.
-fn answers(row: &Row, position: &Position) -> Option<(u8, Answer)> {
+/// The target and the depths of a row.
+fn asked(row: &Row, position: &Position) -> Option<(Point, Depths)>
+    ensures on_board { IfSome result (λ asked. asked.0 < position.now.size * position.now.size) }
+    ensures stone { IfSome result (λ asked. cell_at position.now.cells asked.0 ≢ Cell.Empty) }
+{
     let target = stone(position, row.target)?;
     let (plies, wide) = row.depths;
     let depths = Depths::new(plies, wide)?.in_tree(row.tree);
-    let (told, sure) = match row.kind {
-        Kind::Attack => (
-            attack(Watch::new(position), target, depths).answer,
-            sure_attack(Watch::new(position), target, depths).answer,
-        ),
-        Kind::Defend => (
-            defend(Watch::new(position), target, depths).answer,
-            sure_defend(Watch::new(position), target, depths).answer,
-        ),
-    };
-    Some((told.code, sure))
+    Some((target, depths))
 }
 
-/// Whether the row's question has its two answers.
+/// The answer that a row wants.
+fn wanted(row: &Row, size: Size) -> Answer {
+    Answer {
+        code: row.sure,
+        at: spot(size, row.at),
+    }
+}
+
+/// Whether the reading in the tree has the row's code.
+fn is_told(row: &Row, position: &Position) -> Option<bool> {
+    let (target, depths) = asked(row, position)?;
+    let told = match row.kind {
+        Kind::Attack => attack(Watch::new(position), target, depths).answer,
+        Kind::Defend => defend(Watch::new(position), target, depths).answer,
+    };
+    Some(told.code == row.code)
+}
+
+/// Whether the row's sure answer is found by trying every reply.
+fn is_found_by_every_reply(row: &Row, position: &Position) -> Option<bool> {
+    let (target, depths) = asked(row, position)?;
+    let sure = match row.kind {
+        Kind::Attack => read_sure::sure_attack(Watch::new(position), target, depths).answer,
+        Kind::Defend => read_sure::sure_defend(Watch::new(position), target, depths).answer,
+    };
+    Some(sure == wanted(row, position.size()))
+}
+
+/// Whether the row's sure answer is found by zones.
+fn is_found_by_zones(row: &Row, position: &Position) -> Option<bool> {
+    let (target, depths) = asked(row, position)?;
+    let sure = match row.kind {
+        Kind::Attack => read_zones::sure_attack(position, target, depths),
+        Kind::Defend => read_zones::sure_defend(position, target, depths),
+    };
+    Some(sure == wanted(row, position.size()))
+}
+
+/// Whether the row's question has its two answers, and the sure one is found in both ways.
 fn is_right(row: &Row) -> Option<bool> {
     let position = position(row)?;
-    let (code, sure) = answers(row, &position)?;
-    let want = Answer {
-        code: row.sure,
-        at: spot(position.size(), row.at),
-    };
-    Some(code == row.code && sure == want)
+    Some(
+        is_told(row, &position)?
+            && is_found_by_every_reply(row, &position)?
+            && is_found_by_zones(row, &position)?,
+    )
+}
+
+/// Whether the deep row's question has its two answers, the sure one by zones.
+fn is_right_deep(row: &Row) -> Option<bool> {
+    let position = position(row)?;
+    Some(is_told(row, &position)? && is_found_by_zones(row, &position)?)
 }
 
 #[test]
 fn sure_answers_stand_beside_those_of_the_tree(rt: HostRuntime) {
     for row in &ROWS {
         let right = is_right(row);
+        assert!(rt; right == Some(true), "{}", row.name);
+    }
+}
+
+#[test]
+fn zones_answer_where_every_reply_is_too_much(rt: HostRuntime) {
+    for row in &DEEP_ROWS {
+        let right = is_right_deep(row);
         assert!(rt; right == Some(true), "{}", row.name);
     }
 }
