@@ -48,18 +48,20 @@ pub(crate) fn print_moves(
     quote: &str,
     separator: &str,
 ) -> Result<(), AllocError> {
-    let mut before = "";
+    let mut is_first = true;
     if moves.pass {
         write!(page, "{quote}PASS{quote}")?;
-        before = separator;
+        is_first = false;
     }
     for p in 0..size.points() {
         if moves.points.has(p) {
-            page.push_str(before)?;
+            if !is_first {
+                page.push_str(separator)?;
+            }
             page.push_str(quote)?;
             print_bytes(page, vertex_text(size, p).as_slice())?;
             page.push_str(quote)?;
-            before = separator;
+            is_first = false;
         }
     }
     Ok(())
