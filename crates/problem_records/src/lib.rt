@@ -3,7 +3,7 @@
 //!
 //! A line `gopat:` in the comment of the first node says it; a record without one has one marked stone, the player to
 //! move, and right moves. What a record lacks is told, and nothing is guessed. The position has the clause of
-//! `sgf_read`; no clause says how the question and the answers are found in the record.
+//! `sgf_read`; how the question and the answers are found in the record is shown by tests.
 #![tactic(auto)]
 
 mod first;

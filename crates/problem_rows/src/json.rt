@@ -1,0 +1,116 @@
+//! The line of a record as an object of JSON.
+
+use crate::page::{kind_word, print_bytes, print_moves, verdict_words};
+use crate::row::{Asked, Row};
+use problem_verdicts::{Tree, Verdict};
+use std::alloc::AllocError;
+use std::fmt::Display;
+use vertices::vertex_text;
+
+/// Prints a text between quotes, with what JSON does not take in it as escapes.
+fn print_text(page: &mut String, text: &str) -> Result<(), AllocError> {
+    page.push_str("\"")?;
+    for letter in text.chars() {
+        match letter {
+            '"' => page.push_str("\\\"")?,
+            '\\' => page.push_str("\\\\")?,
+            control if control < ' ' => write!(page, "\\u{:04x}", control as u32)?,
+            other => page.push(other)?,
+        }
+    }
+    page.push_str("\"")
+}
+
+/// The word of a tree.
+fn tree_word(tree: Tree) -> &'static str {
+    match tree {
+        Tree::Stated => "stated",
+        Tree::Wider => "wider",
+    }
+}
+
+/// Prints a member whose value may be none.
+fn print_number(page: &mut String, name: &str, value: Option<u8>) -> Result<(), AllocError> {
+    match value {
+        Some(value) => write!(page, ",\"{name}\":{value}"),
+        None => write!(page, ",\"{name}\":null"),
+    }
+}
+
+/// Prints the members of a question.
+fn print_question(page: &mut String, asked: &Asked) -> Result<(), AllocError> {
+    let problem = &asked.problem;
+    write!(
+        page,
+        ",\"kind\":\"{}\",\"target\":\"",
+        kind_word(problem.kind)
+    )?;
+    let size = problem.position.size();
+    print_bytes(page, vertex_text(size, problem.target).as_slice())?;
+    write!(
+        page,
+        "\",\"plies\":{},\"wide\":{},\"tree\":\"{}\"",
+        problem.depths.plies,
+        problem.depths.wide,
+        tree_word(problem.depths.tree)
+    )
+}
+
+/// Prints the members of what is found.
+fn print_found(page: &mut String, asked: &Asked) -> Result<(), AllocError> {
+    let found = &asked.judged.found;
+    print_number(page, "code", Some(found.code))?;
+    page.push_str(",\"moves\":[")?;
+    print_moves(page, &found.moves, asked.problem.position.size(), "\"", ",")?;
+    page.push_str("]")?;
+    print_number(page, "fewest", found.fewest)
+}
+
+/// Prints the member of the verdict.
+fn print_verdict(page: &mut String, verdict: Verdict) -> Result<(), AllocError> {
+    write!(page, ",\"verdict\":\"{}\"", verdict_words(verdict))
+}
+
+/// Prints the member of the proof, if it is asked for.
+fn print_proof(page: &mut String, asked: &Asked) -> Result<(), AllocError> {
+    match &asked.proof {
+        Some(Some(text)) => {
+            page.push_str(",\"proof\":\"")?;
+            print_bytes(page, text.as_slice())?;
+            page.push_str("\"")
+        }
+        Some(None) => page.push_str(",\"proof\":null"),
+        None => Ok(()),
+    }
+}
+
+/// Prints the members of a record that asks a question.
+fn print_asked(page: &mut String, asked: &Asked) -> Result<(), AllocError> {
+    print_question(page, asked)?;
+    print_found(page, asked)?;
+    print_verdict(page, asked.judged.verdict)?;
+    if asked.judged.verdict == Verdict::NotTold {
+        page.push_str(",\"why\":\"no answer\"")?;
+    }
+    print_proof(page, asked)
+}
+
+/// Prints the members of a record that asks no question.
+fn print_unasked<D: Display>(page: &mut String, why: &D) -> Result<(), AllocError> {
+    page.push_str(",\"kind\":null,\"target\":null,\"plies\":null,\"wide\":null,\"tree\":null")?;
+    page.push_str(",\"code\":null,\"moves\":null,\"fewest\":null")?;
+    print_verdict(page, Verdict::NotTold)?;
+    write!(page, ",\"why\":\"{why}\"")
+}
+
+/// Prints the object of the record of this name.
+pub fn print_object(page: &mut String, name: &str, row: &Row) -> Result<(), AllocError> {
+    page.push_str("{\"record\":")?;
+    print_text(page, name)?;
+    match row {
+        Row::Asked(asked) => print_asked(page, asked)?,
+        Row::Lacks(lack) => print_unasked(page, lack)?,
+        Row::NotLoaded => print_unasked(page, &"cannot load file")?,
+    }
+    page.push_str("}\n")
+}

@@ -1,0 +1,93 @@
+//! What is told of a record.
+
+use go_base::{Bytes, NoMemory};
+use problem_records::{Lack, Problem, ProblemError, problem_of};
+use problem_verdicts::{Depths, Judged, Verdict, judge};
+use std::alloc::Global;
+use write_proof::{ProofError, first_proof};
+
+/// What a record that asks a question comes to.
+#[derive(Drop)]
+pub struct Asked {
+    /// What it asks.
+    pub problem: Problem,
+    /// What is found, and the verdict.
+    pub judged: Judged,
+    /// The first proof behind the code, if it is asked for; `None` in it if the proof is too long.
+    pub proof: Option<Option<Bytes>>,
+}
+
+/// What is told of a record.
+#[derive(Drop)]
+pub enum Row {
+    /// It asks a question.
+    Asked(Asked),
+    /// It lacks something.
+    Lacks(Lack),
+    /// It cannot be loaded.
+    NotLoaded,
+}
+
+/// The first proof behind the code of a problem's question; `None` if it is too long.
+fn proof_of(alloc: Global, problem: &Problem) -> Result<Option<Bytes>, NoMemory> {
+    match first_proof(
+        alloc,
+        &problem.position,
+        problem.kind,
+        problem.target,
+        problem.depths,
+    ) {
+        Ok(proof) => Ok(Some(proof.text)),
+        Err(ProofError::TooLong) => Ok(None),
+        Err(ProofError::NoMemory) => Err(NoMemory),
+    }
+}
+
+/// What a problem comes to, with its proof if it is asked for.
+fn asked_of(alloc: Global, problem: Problem, proves: bool) -> Result<Asked, NoMemory> {
+    let judged = judge(
+        &problem.position,
+        problem.kind,
+        problem.target,
+        problem.depths,
+        &problem.expected,
+    );
+    let proof = if proves {
+        Some(proof_of(alloc, &problem)?)
+    } else {
+        None
+    };
+    Ok(Asked {
+        problem,
+        judged,
+        proof,
+    })
+}
+
+/// What is told of the record with this text, whose question has these depths if the record tells none; with the proof
+/// behind the code, if it is asked for. Takes memory.
+pub fn row_of(alloc: Global, text: &[u8], depths: Depths, proves: bool) -> Result<Row, NoMemory> {
+    match problem_of(alloc, text, depths) {
+        Ok(problem) => Ok(Row::Asked(asked_of(alloc, problem, proves)?)),
+        Err(ProblemError::Lacks(lack)) => Ok(Row::Lacks(lack)),
+        Err(ProblemError::NoMemory) => Err(NoMemory),
+    }
+}
+
+impl Row {
+    /// The verdict on the record.
+    pub fn verdict(&self) -> Verdict {
+        match self {
+            Row::Asked(asked) => asked.judged.verdict,
+            Row::Lacks(_) | Row::NotLoaded => Verdict::NotTold,
+        }
+    }
+
+    /// Whether exactly one move attains the code.
+    pub fn has_one_answer(&self) -> bool {
+        match self {
+            Row::Asked(asked) => asked.judged.found.moves.count() == 1,
+            Row::Lacks(_) | Row::NotLoaded => false,
+        }
+    }
+}
