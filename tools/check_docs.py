@@ -2,23 +2,23 @@
 
 usage: python3 tools/check_docs.py [--map | FILE ...]
 
-Without files these are README.md and docs/FORMATS.md, docs/USING.md, docs/AUTHORS.md, docs/LIBRARY.md and docs/DOORS.md,
-in this order, and the manual page docs/gopat.1, in which `man` may find nothing to warn of; and the map of docs/ARCHITECTURE.md
-is compared with crates.txt, tools/README.md with the scripts, and the tables of messages of docs/AUTHORS.md with the
-texts of the checker. It runs at the top of a fresh clone: README's commands prove and build the program, docs/USING.md
-says what has to stand beside the clone, and docs/AUTHORS.md wants the checker that `rt run` makes in
-crates/pattern_check. `python3 tools/check_docs.py --map` compares the map, the scripts and the messages alone, and needs
-no program.
+Without files these are README.md and docs/FORMATS.md, docs/USING.md, docs/AUTHORS.md, docs/LIBRARY.md and
+docs/DOORS.md, in this order, and the manual page docs/gopat.1, in which `man` may find nothing to warn of; and the map
+of docs/ARCHITECTURE.md is compared with crates.txt, tools/README.md with the scripts, and the tables of messages of
+docs/AUTHORS.md with the texts of the checker. It runs at the top of a fresh clone: README's commands prove and build
+the program, docs/USING.md says what has to stand beside the clone, and docs/AUTHORS.md wants the checker that `rt run`
+makes in crates/pattern_check. `python3 tools/check_docs.py --map` compares the map, the scripts and the messages alone,
+and needs no program.
 
 A command is a line `$ ..` of a block that is set off by three backticks; it goes on over lines that end in a backslash.
 All commands of a document run in one shell, one after another, with nothing to read. The lines below a command, up to
 the next one or the end of the block, are its standard output; blank lines at the end do not count. A line `..` alone
 stands for lines that are left out. A block that is named `rust PATH`, or `c`, `python` or `go` and a path, is a part of
-the file of this path, with the same use of `..`. In the table of kinds of docs/FORMATS.md each example is a text as printf takes it, and the program's note
-has to be the one beside it. A block under a line `<!-- not run: WHY -->` is passed over and told, and so is one under
-`<!-- needs: NAME .. -->` if a name is neither a program on the path nor a file. A cell of messages is texts of the
-checker, one behind the other with `; ` between them, in which `..` stands for a value; each text of the checker stands
-in one of them.
+the file of this path, with the same use of `..`. In the table of kinds of docs/FORMATS.md each example is a text as
+printf takes it, and the program's note has to be the one beside it. A block under a line `<!-- not run: WHY -->` is
+passed over and told, and so is one under `<!-- needs: NAME .. -->` if a name is neither a program on the path nor a
+file. A cell of messages is texts of the checker, one behind the other with `; ` between them, in which `..` stands for
+a value; each text of the checker stands in one of them.
 
 In the map each crate of crates.txt has a row, under the heading under which it stands in crates.txt. Its column
 `stands on` names crates that it uses, and each crate that it uses is named or stands below one that is.
