@@ -1,9 +1,10 @@
-"""Times the `connect` and `disconnect` questions of GNU Go's own regression suite by gopat, in the positions of its game
-records, and the same questions again beside kept `attack` questions; and says how often gopat's answer is that of the suite.
+"""Times the `connect` and `disconnect` questions of GNU Go's own regression suite by gopat, in the positions of its
+game records, and the same questions again beside kept `attack` questions; and says how often gopat's answer is that of
+the suite.
 
 usage: python3 tools/time_links.py GOPAT GNUGO REGRESSION [PLIES ..]
 
-REGRESSION is the folder with *.tst in GNU Go's source; GNUGO sets the positions up. The plies are 6, 10, 20 and 200 where
+REGRESSION is the folder with *.tst in GNU Go's source; GNUGO sets the positions up. The plies are 6, 10, 20 and 200 if
 none are given. A question's time is that of its line's way to gopat and back, on the clock, and the shortest of three
 counts. That of a kept one is the processor's, over 10,000 repeats of each question, without the session that asks once.
 """

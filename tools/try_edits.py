@@ -3,9 +3,10 @@
 usage: python3 tools/try_edits.py [CRATE...]
 
 Without a name the edits of all crates are tried, which takes an hour or more. Run it at the top of a clone. It works on
-a copy beside the clone, in which the edits of more-edits/ stand in place of those of must-fail/, and runs `rt must-fail`
-there for one crate after the other. What is proved in the clone is taken along, so it pays to have proved the crate
-before. Prints a line for each edit. The status is 1 if an edit was not refused, or only for a name that it took away.
+a copy beside the clone, in which the edits of more-edits/ stand in place of those of must-fail/, and runs
+`rt must-fail` there for one crate after the other. What is proved in the clone is taken along, so it pays to have
+proved the crate before. Prints a line for each edit. The status is 1 if an edit was not refused, or only for a name
+that it took away.
 """
 
 import pathlib
