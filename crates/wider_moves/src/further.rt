@@ -9,6 +9,7 @@ ghost use Rattle.trial_board.specs.Trials.{Stays, after};
 ghost use Rattle.wider_rules.specs.Further.{is_further_always, is_further_wide, is_further};
 ghost use Rattle.wider_rules.specs.FurtherAreas.{third_area, fourth_area, near_further};
 
+use crate::approach::approach;
 use crate::last::last_liberties;
 use crate::sets::{cover, linked_strings, net, weak_enemies};
 use go_base::Look;
@@ -88,7 +89,7 @@ fn always_for_defender<L: Look>(
     found
 }
 
-/// Beside, Join and Cover, the defender's of a wide ply, by the target's liberties.
+/// Beside, Join, Cover and Approach, the defender's of a wide ply, by the target's liberties.
 fn wide_for_defender<L: Look>(board: &mut Trial<L>, target: Point, liberties: &PointSet) -> PointSet
     requires on_board { target < (L.shows board.old.look).size * (L.shows board.old.look).size }
     requires liberties { (pos : BoardState) → Agrees (L.seen board.old.look) pos
@@ -98,7 +99,7 @@ fn wide_for_defender<L: Look>(board: &mut Trial<L>, target: Point, liberties: &P
         → set.contains result p ≡ is_further_wide false pos.size (after pos board.old.moves).cells target p }
     ensures near { (pos : BoardState) → Agrees (L.seen board.new.look) pos
         → AddsIn (L.seen board.old.look) (L.seen board.new.look)
-        (third_area pos.size (after pos board.old.moves).cells target) }
+        (fourth_area pos.size (after pos board.old.moves).cells target) }
 {
     let linked = linked_strings(board, target, FEW_OF_LINKED, liberties);
     let weak = weak_enemies(board, target, FEW_OF_DEFENDER);
@@ -106,6 +107,8 @@ fn wide_for_defender<L: Look>(board: &mut Trial<L>, target: Point, liberties: &P
     found.join(&linked.liberties);
     let covers = cover(board, target);
     found.join(&covers);
+    let near = approach(board, target);
+    found.join(&near);
     found
 }
 
@@ -150,7 +153,7 @@ fn of_a_wide_ply<L: Look>(
         ≡ is_further_wide attacker_to_play pos.size (after pos board.old.moves).cells target p }
     ensures near { (pos : BoardState) → Agrees (L.seen board.new.look) pos
         → AddsIn (L.seen board.old.look) (L.seen board.new.look)
-        (third_area pos.size (after pos board.old.moves).cells target) }
+        (near_further attacker_to_play pos.size (after pos board.old.moves).cells target) }
 {
     if attacker_to_play {
         wide_for_attacker(board, target, liberties)
@@ -161,7 +164,7 @@ fn of_a_wide_ply<L: Look>(
 
 /// The further candidates of a target. In every ply these are, at the attacker's turn, Beside by strings with at most two
 /// liberties and Rescue, and at the defender's turn Save and Cut. Where a wide ply is left there are also, at the
-/// attacker's turn, Net and Link, and at the defender's Beside by strings with at most four, Join and Cover.
+/// attacker's turn, Net and Link, and at the defender's Beside by strings with at most four, Join, Cover and Approach.
 ///
 /// The caller gives the target's liberties. The trial moves stay as they were, no play is tried, and it takes no
 /// memory. The choice of these points is this project's own.

@@ -103,7 +103,7 @@ module _ (s : ℕ) (cells : List Cell) (p : ℕ) (stones : sets.FinSet nat_cmp) 
       (from_none most s cells q)))
 
 -- a point next to another at which a cell stands is on the board
-next_on : (s : ℕ) (cells : List Cell) (cell : Cell) (l r : ℕ) → holds_next s cells cell l r ≡ true
+pub next_on : (s : ℕ) (cells : List Cell) (cell : Cell) (l r : ℕ) → holds_next s cells cell l r ≡ true
     → ltb r (s * s) ≡ true
 unfolding holds_next
 next_on s cells cell l r h = (and_parts _ _ (and_parts _ _ h).0).0

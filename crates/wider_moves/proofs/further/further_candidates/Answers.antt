@@ -1,10 +1,8 @@
 -- The further candidates of every ply were gathered, and where a wide ply is left those of a wide ply.
 use Rattle.std.proofs.Common.{sym, ap, ◌∙◌}
-use Rattle.go_base.specs.Facts.{agrees_before, AddsIn-trans, AddsIn-mono}
-use Rattle.trial_board.proofs.WalkLemmas.{on_agreed}
+use Rattle.go_base.specs.Facts.{agrees_before, AddsIn-trans}
 use Rattle.trial_board.specs.Trials.{after}
 use Rattle.wider_rules.specs.Further.{is_further}
-use Rattle.wider_rules.proofs.FurtherPlaces.{third_near}
 use Rattle.wider_rules.proofs.SetLemmas.{further_joined, further_alone}
 use Rattle.wider_moves.proofs.further.further_candidates.Goals as goal
 
@@ -38,10 +36,5 @@ pub returns-then-wide-clause-near : goal.returns-then-wide-clause-near
 returns-then-wide-clause-near g c = λ pos a.
     let first = c.of_every_ply-found in
     let more = c.of_a_wide_ply-more in
-    let here = after pos c.args.board.now.moves in
-    let a1 = agrees_before more.ensures.stays.grows a in
-    let a0 = agrees_before first.ensures.stays.grows a1 in
-    let on = on_agreed _ _ (g.met.L.Look.sized c.args.board.now.look) a0 c.requires.on_board in
-    AddsIn-trans (first.ensures.near pos a1)
-    (AddsIn-mono (rw first.ensures.stays.moves at (more.ensures.near pos a))
-    (third_near pos.size here.cells c.args.target on c.args.attacker_to_play))
+    AddsIn-trans (first.ensures.near pos (agrees_before more.ensures.stays.grows a))
+    (rw first.ensures.stays.moves at (more.ensures.near pos a))
