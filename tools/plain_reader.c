@@ -95,10 +95,10 @@ static void add_liberties(const Position *pos, const char *stones, int least, in
   }
 }
 
-/* the empty neighbours of the target's liberties, where it has at least so many and at most so many */
-static void add_empty_beside(const Position *pos, int target, int least, int most, char *is) {
+/* the empty neighbours of the liberties of the string of q, where it has at least so many and at most so many */
+static void add_empty_beside(const Position *pos, int q, int least, int most, char *is) {
   char in[POINTS], free[POINTS], empty[POINTS];
-  int count = string_of(pos, target, in, free);
+  int count = string_of(pos, q, in, free);
   stones_beside(pos, EMPTY, free, empty);
   for (int p = 0; p < points; p++) if (least <= count && count <= most && empty[p]) is[p] = 1;
 }
@@ -143,8 +143,8 @@ static void add_beside(const Position *pos, int target, int most, char *is) {
   add_liberties(pos, enemy, 0, most, is);
 }
 
-/* Rescue: the one liberty of a string of the target's colour, another than the target's, that has exactly one and is
- * next to an enemy string with at most two liberties that is next to the target's */
+/* Rescue, and Save: the one liberty of a string of the target's colour, another than the target's, that has exactly one
+ * and is next to an enemy string with at most two liberties that is next to the target's */
 static void add_rescue(const Position *pos, int target, char *is) {
   char own[POINTS], free[POINTS], enemy[POINTS], ally[POINTS];
   enemies_beside(pos, target, enemy);
@@ -158,25 +158,26 @@ static void add_rescue(const Position *pos, int target, char *is) {
 }
 
 /* a stone of a linked string: one of the target's colour, another than the target's, that is next to a liberty of the
- * target and has at most four liberties */
-static void linked(const Position *pos, int target, char *is) {
+ * target and has at most so many liberties */
+static void linked(const Position *pos, int target, int most, char *is) {
   char own[POINTS], free[POINTS];
   string_of(pos, target, own, free);
   stones_beside(pos, pos->cell[target], free, is);
-  for (int q = 0; q < points; q++) if (is[q] && (own[q] || liberties(pos, q) > 4)) is[q] = 0;
+  for (int q = 0; q < points; q++) if (is[q] && (own[q] || liberties(pos, q) > most)) is[q] = 0;
 }
 
-/* Join: a liberty of a linked string */
-static void add_join(const Position *pos, int target, char *is) {
+/* Join, and Link: a liberty of a linked string with at most so many liberties */
+static void add_join(const Position *pos, int target, int most, char *is) {
   char friend[POINTS];
-  linked(pos, target, friend);
+  linked(pos, target, most, friend);
   add_liberties(pos, friend, 0, POINTS, is);
 }
 
-/* Cut: the one liberty of an enemy string that has exactly one and is next to a linked string */
+/* Cut: the one liberty of an enemy string that has exactly one and is next to a linked string with at most four
+ * liberties */
 static void add_cut(const Position *pos, int target, char *is) {
   char friend[POINTS], enemy[POINTS];
-  linked(pos, target, friend);
+  linked(pos, target, 4, friend);
   for (int q = 0; q < points; q++) {
     if (!friend[q]) continue;
     enemies_beside(pos, q, enemy);
@@ -184,25 +185,46 @@ static void add_cut(const Position *pos, int target, char *is) {
   }
 }
 
+/* Cover: an empty neighbour of a liberty of an enemy string that is next to the target's and has two or three */
+static void add_cover(const Position *pos, int target, char *is) {
+  char enemy[POINTS];
+  enemies_beside(pos, target, enemy);
+  for (int q = 0; q < points; q++) if (enemy[q]) add_empty_beside(pos, q, 2, 3, is);
+}
+
+/* the further candidates of every ply */
+static void further_always(const Node *node, const Position *pos, char *is) {
+  if (node->attacks) {
+    add_beside(pos, node->target, 2, is);
+    add_rescue(pos, node->target, is);
+  } else {
+    add_rescue(pos, node->target, is);
+    add_cut(pos, node->target, is);
+  }
+}
+
+/* the further candidates of a wide ply alone */
+static void further_wide(const Node *node, const Position *pos, char *is) {
+  if (node->attacks) {
+    add_net(pos, node->target, is);
+    add_join(pos, node->target, 2, is);
+  } else {
+    add_beside(pos, node->target, 4, is);
+    add_join(pos, node->target, 4, is);
+    add_cover(pos, node->target, is);
+  }
+}
+
 /* the candidates at the node */
 static void candidates(const Node *node, const Position *pos, char *is) {
-  int target = node->target;
   memset(is, 0, POINTS);
-  add_own(pos, target, is);
-  add_captures(pos, target, is);
+  add_own(pos, node->target, is);
+  add_captures(pos, node->target, is);
+  if (wider) further_always(node, pos, is);
   if (node->wide == 0) return;
-  add_second(pos, target, is);
-  add_backfilling(pos, target, is);
-  if (!wider) return;
-  if (node->attacks) {
-    add_net(pos, target, is);
-    add_beside(pos, target, 2, is);
-    add_rescue(pos, target, is);
-  } else {
-    add_beside(pos, target, 4, is);
-    add_join(pos, target, is);
-    add_cut(pos, target, is);
-  }
+  add_second(pos, node->target, is);
+  add_backfilling(pos, node->target, is);
+  if (wider) further_wide(node, pos, is);
 }
 
 /* where the mover's play at p leads; 0 where it cannot be played */
@@ -235,7 +257,7 @@ static int attacker_wins(int n, const Node *node, const Position *pos) {
   if (n == 0) return 0;
   if (node->attacks) {
     int count = liberties(pos, node->target);
-    if (count > 4 || (node->wide == 0 && count > (wider ? 3 : 2))) return 0;
+    if (count > 4 || (!wider && node->wide == 0 && count > 2)) return 0;
   } else {
     pass(node, pos, &next, &new);
     if (!attacker_wins(n - 1, &next, &new)) return 0;
