@@ -1,5 +1,8 @@
 //! Which of two game trees is read.
 
+ghost use Rattle.std.specs.Prelude.{◌≡◌};
+ghost use Rattle.read_rules.specs.Trees.{is_wider};
+
 /// Which moves a reading tries, and how many liberties a target may have that is still played at.
 #[derive(Clone, Copy, Debug, PartialEq, Eq, Hash)]
 pub enum Tree {
@@ -10,4 +13,16 @@ pub enum Tree {
     /// The larger tree. It tries the further candidates too, some of them in every ply and some only where a wide ply is
     /// left. A target with more than four liberties stands, wide ply or not.
     Wider,
+}
+
+impl Tree {
+    /// Whether the tree tries the further candidates.
+    pub fn is_wider(self) -> bool
+        ensures { result ≡ is_wider self }
+    {
+        match self {
+            Tree::Stated => false,
+            Tree::Wider => true,
+        }
+    }
 }

@@ -1,4 +1,4 @@
--- What was gathered are the wide candidates of the stated tree, on every position that agrees with what was seen.
+-- What was gathered are the wide candidates by the liberties, on every position that agrees with what was seen.
 use Rattle.std.proofs.Common.{◌≡◌, ◌<◌, ◌*◌, ℕ, true, ap, sym, subst, ◌∙◌}
 use Rattle.std.specs.FinSet as set
 use Rattle.go_rules.specs.Position.{BoardState}
@@ -9,9 +9,9 @@ use Rattle.trial_board.proofs.AfterLemmas.{size-after}
 use Rattle.read_rules.specs.Candidates.{attacker_of}
 use Rattle.wider_moves.proofs.NearLemmas.{liberty_on}
 use Rattle.read_moves.proofs.CandidateLemmas.{stated_found, near_self, near_liberties, near_plays}
-use Rattle.read_moves.proofs.stages.stated_wide_candidates.Given.{Over}
-use Rattle.read_moves.proofs.stages.stated_wide_candidates.Goals as goal
-use Rattle.read_moves.proofs.stages.stated_wide_candidates.Goals.{After-new-found}
+use Rattle.read_moves.proofs.stages.wide_by_liberties.Given.{Over}
+use Rattle.read_moves.proofs.stages.wide_by_liberties.Goals as goal
+use Rattle.read_moves.proofs.stages.wide_by_liberties.Goals.{After-new-found}
 
 -- the liberties are on the board
 inside : (g : Over) (c : After-new-found g) (l : ℕ) → set.contains c.args.liberties.now l ≡ true
