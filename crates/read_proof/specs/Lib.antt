@@ -1,4 +1,5 @@
 pub mod Beside
+pub mod Loose
 pub mod Tokens
 pub mod Proves
 pub mod ProofOf

@@ -8,13 +8,12 @@ ghost use Rattle.go_rules.specs.Strings.{liberty_points};
 ghost use Rattle.go_base.specs.Surroundings.{is_only_liberty, is_last_liberty_of_enemy};
 ghost use Rattle.read_rules.specs.Candidates.{attacker_of, is_empty_beside, is_left, is_candidate};
 ghost use Rattle.read_rules.specs.Stages.{is_wide_by_liberties, is_later_candidate};
-ghost use Rattle.read_rules.specs.Trees.{is_wider};
 
 use crate::beside::{add_where, beside};
 use crate::further::further_candidates;
 use go_base::surroundings::{Surroundings, surroundings_of};
 use go_base::{Cell, Colour, Point, PointSet, Position};
-use read_rules::{Tree, Turn};
+use read_rules::Turn;
 
 /// How many liberties a string in atari has.
 const IN_ATARI: u16 = 1;
@@ -120,16 +119,6 @@ fn later_in_both_trees(pos: &Position, turn: Turn, liberties: &PointSet) -> Poin
     PointSet::new()
 }
 
-/// Whether the tree tries the further candidates.
-fn is_wider(tree: Tree) -> bool
-    ensures { result ≡ is_wider tree }
-{
-    match tree {
-        Tree::Stated => false,
-        Tree::Wider => true,
-    }
-}
-
 /// The later candidates at the turn: all but the target's liberties, which are handed in, and the last liberties of the
 /// enemy strings next to it.
 fn later_candidates(pos: &Position, turn: Turn, liberties: &PointSet) -> PointSet
@@ -138,7 +127,7 @@ fn later_candidates(pos: &Position, turn: Turn, liberties: &PointSet) -> PointSe
     ensures { (p : ℕ) → set.contains result p ≡ is_later_candidate turn pos.now p }
 {
     let mut found = later_in_both_trees(pos, turn, liberties);
-    if is_wider(turn.tree) {
+    if turn.tree.is_wider() {
         let wide = turn.wide > 0;
         found.join(&further_candidates(pos, wide, turn.attacker_to_play, turn.target, liberties));
     }

@@ -5,13 +5,14 @@ ghost use Rattle.std.specs.Prelude.{◌≡◌, ℕ, ◌*◌, ◌<◌, ◌==◌, 
 ghost use Rattle.std.specs.FinSet as set;
 ghost use Rattle.go_rules.specs.Below.{any_below};
 ghost use Rattle.go_rules.specs.Board.{largest_points};
-ghost use Rattle.go_rules.specs.Strings.{liberties, liberty_points, string_at};
+ghost use Rattle.go_rules.specs.Strings.{liberty_points, string_at};
 ghost use Rattle.go_base.specs.Floods.{enemy_points};
 ghost use Rattle.go_base.specs.Surroundings.{is_only_liberty};
 ghost use Rattle.wider_rules.specs.Further.{netted, is_net, is_beside, is_ally, is_rescue, is_join, is_cutter, is_cut};
 ghost use Rattle.wider_rules.specs.Further.{is_covered_liberty, is_cover};
 ghost use Rattle.wider_rules.specs.Further.{is_further_always, is_further_wide, is_further};
 ghost use Rattle.wider_rules.specs.Strings.{is_few_liberty, is_few_enemy, is_near_friend};
+ghost use Rattle.read_proof.specs.Loose.{is_loose};
 
 use crate::beside::beside;
 use go_base::flood::{Found, flood};
@@ -207,22 +208,29 @@ fn cut(pos: &Position, target: Point, liberties: &PointSet) -> PointSet
     last_liberties(pos, &cutters(pos, target, liberties))
 }
 
+/// Whether q is in the set and its string has more than one liberty.
+fn is_loose(pos: &Position, points: &PointSet, q: Point) -> bool
+    requires { q < pos.now.size * pos.now.size }
+    ensures { result ≡ is_loose pos.now.size pos.now.cells (set.contains points.now) q }
+{
+    points.has(q) && pos.liberties(q) > IN_ATARI
+}
+
 /// Adds q if it is in the set and its string has more than one liberty.
 fn add_if_loose(pos: &Position, points: &PointSet, q: Point, found: &mut PointSet)
     requires on_board { q < pos.now.size * pos.now.size }
     requires small { q < largest_points }
-    ensures { (r : ℕ) → set.contains found.new r ≡ (set.contains found.old r || ((r == q)
-        && (set.contains points.now q && nat_lt IN_ATARI (liberties pos.now.size pos.now.cells q)))) }
+    ensures { (r : ℕ) → set.contains found.new r ≡ (set.contains found.old r
+        || ((r == q) && is_loose pos.now.size pos.now.cells (set.contains points.now) q)) }
 {
-    if points.has(q) && pos.liberties(q) > IN_ATARI {
+    if is_loose(pos, points, q) {
         found.add(q);
     }
 }
 
 /// The stones of the set whose strings have more than one liberty.
 fn loose(pos: &Position, points: &PointSet) -> PointSet
-    ensures { (q : ℕ) → set.contains result q ≡ (nat_lt q (pos.now.size * pos.now.size)
-        && (set.contains points.now q && nat_lt IN_ATARI (liberties pos.now.size pos.now.cells q))) }
+    ensures { (q : ℕ) → set.contains result q ≡ is_loose pos.now.size pos.now.cells (set.contains points.now) q }
 {
     let mut found = PointSet::new();
     for q in 0..pos.size().points() {

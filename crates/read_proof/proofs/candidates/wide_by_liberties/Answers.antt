@@ -5,7 +5,7 @@ use Rattle.go_rules.specs.Below.{any_below}
 use Rattle.read_rules.specs.Candidates.{attacker_of, is_empty_beside}
 use Rattle.read_rules.specs.Candidates.{is_left}
 use Rattle.read_rules.proofs.StageLemmas.{wide_is}
-use Rattle.read_proof.proofs.candidates.stated_candidates.Goals as goal
+use Rattle.read_proof.proofs.candidates.wide_by_liberties.Goals as goal
 
 -- the points beside few liberties and what the attacker's plays leave were gathered
 pub returns : goal.returns
