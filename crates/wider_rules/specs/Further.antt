@@ -25,7 +25,11 @@ few_of_linked = 4
 abbrev pub few_of_parted : ℕ
 few_of_parted = 2
 
--- how many liberties an enemy string next to the target's may have around which the defender tries a net
+-- how many liberties at least an enemy string next to the target's has around which the defender tries a net
+abbrev pub least_of_covered : ℕ
+least_of_covered = 2
+
+-- and how many it may have
 abbrev pub few_of_covered : ℕ
 few_of_covered = 3
 
@@ -91,7 +95,9 @@ is_cut s cells target p = any_below (s * s) (λ r. is_cutter s cells target r &&
 
 -- q is an enemy stone of the target's next to the target's string, and the string of q has two or three liberties
 unfoldable pub is_covered : ℕ → List Cell → ℕ → ℕ → Bool
-is_covered s cells target q = is_weak_enemy few_of_covered s cells target q && nat_lt 1 (liberties s cells q)
+is_covered s cells target q =
+    (is_enemy (cell_at cells target) (cell_at cells q) && is_beside_string s cells target q)
+    && (nat_le least_of_covered (liberties s cells q) && nat_le (liberties s cells q) few_of_covered)
 
 -- l is a liberty of an enemy string next to the target's that has two or three
 unfoldable pub is_covered_liberty : ℕ → List Cell → ℕ → ℕ → Bool
