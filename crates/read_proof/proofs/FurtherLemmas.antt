@@ -1,27 +1,20 @@
 -- What the search for further candidates finds here, in the words of the one on a trial board, whose lemmas it cites.
-use Rattle.std.proofs.Common.{◌≡◌, ◌∙◌, ℕ, ◌*◌, ◌≤◌, ◌&&◌, ◌||◌, Bool, true, false, cond, eqb, leb, ltb, List}
+use Rattle.std.proofs.Common.{◌≡◌, ◌∙◌, ℕ, ◌*◌, ◌&&◌, ◌||◌, Bool, true, false, eqb, leb, ltb, List}
 use Rattle.std.proofs.Common.{refl, sym, ap, arith}
-use Rattle.std.proofs.lemmas.Bool.{and_parts, and_from, eqb-true, eq-eqb, leb-true, le-leb, lt-ltb, ltb-true}
+use Rattle.std.proofs.lemmas.Bool.{and_parts, and_from, eqb-true, eq-eqb, leb-true, le-leb}
 use Rattle.std.specs.Ordering.{nat_cmp}
 use Rattle.std.specs.FinSet as sets
 use Rattle.go_rules.specs.declared.Cell.{Cell}
-use Rattle.go_rules.specs.declared.Cell.TheVariants.{Empty}
 use Rattle.go_rules.specs.Below.{any_below}
 use Rattle.go_rules.specs.Board.{are_neighbours}
 use Rattle.go_rules.specs.Strings.{cell_at, same_cell, is_liberty, liberties}
-use Rattle.go_rules.specs.BesideStrings.{is_enemy, is_beside_string}
-use Rattle.go_rules.proofs.Counts.{any_below_gives, any_below_from, any_below_false, any_below_same, count_below_less}
-use Rattle.go_rules.proofs.Paths.{IsLiberty-from_test}
+use Rattle.go_rules.proofs.Counts.{any_below_false, any_below_same}
 use Rattle.go_rules.proofs.Tests.{same_tests, and-false, or-false, or_comm}
-use Rattle.go_base.specs.Floods.{enemy_points}
 use Rattle.go_base.specs.Surroundings.{is_only_liberty}
-use Rattle.wider_rules.specs.Further.{is_net, is_weak_enemy, is_beside, is_rescue, is_join, is_cut, is_covered}
-use Rattle.wider_rules.specs.Further.{is_covered_liberty, is_cover}
+use Rattle.wider_rules.specs.Further.{is_net, is_beside, is_rescue, is_join, is_cut, is_cover}
 use Rattle.wider_rules.specs.Further.{is_further_always, is_further_wide, is_further}
 use Rattle.wider_rules.specs.Strings.{holds_next, is_few_liberty}
-use Rattle.wider_rules.proofs.StringLemmas.{has_enemy}
 use Rattle.read_proof.specs.Beside.{stands_beside}
-use Rattle.read_proof.specs.Loose.{is_loose}
 
 -- a test of the point alone may stand before a test of some number, or in it
 any_outer : (n : ℕ) (on : Bool) (a b : ℕ → Bool)
@@ -36,88 +29,26 @@ unfolding stands_beside holds_next
 beside_next s cells cell S p =
     any_outer (s * s) (ltb p (s * s) && same_cell (cell_at cells p) cell) S (λ l. are_neighbours s l p)
 
--- a string with a liberty and at most one has one
-only_by_few : (s : ℕ) (cells : List Cell) (r p : ℕ) → is_few_liberty 1 s cells r p ≡ is_only_liberty s cells r p
-unfolding is_few_liberty is_only_liberty liberties
-only_by_few s cells r p = same_tests _ _
+-- a string with at least one liberty and at most one has one
+only_between : (s : ℕ) (cells : List Cell) (r p : ℕ) → is_few_liberty 1 1 s cells r p ≡ is_only_liberty s cells r p
+unfolding is_few_liberty is_only_liberty
+only_between s cells r p = ap (λ b. b && is_liberty s cells r p) (same_tests _ _
     (λ h.
-    let both = and_parts (leb (liberties s cells r) 1) (is_liberty s cells r p) h in
-    let few = leb-true (liberties s cells r) 1 both.0 in
-    let some = count_below_less (s * s) (λ q. false) (is_liberty s cells r) (λ k on i. absurd (let w = i in cc)) p
-    (IsLiberty-from_test s cells r p both.1).on_board refl both.1 in
-    and_from _ _ (eq-eqb (liberties s cells r) 1 (omega (arith, few, some))) both.1)
+    let both = and_parts (leb 1 (liberties s cells r)) (leb (liberties s cells r) 1) h in
+    let some = leb-true 1 (liberties s cells r) both.0 in
+    let few = leb-true (liberties s cells r) 1 both.1 in
+    eq-eqb (liberties s cells r) 1 (omega (arith, few, some)))
     (λ h.
-    let both = and_parts (eqb (liberties s cells r) 1) (is_liberty s cells r p) h in
-    let one = eqb-true (liberties s cells r) 1 both.0 in
-    and_from _ _ (le-leb (liberties s cells r) 1 (omega (arith, one))) both.1)
+    let one = eqb-true (liberties s cells r) 1 h in
+    and_from _ _ (le-leb 1 (liberties s cells r) (omega (arith, one)))
+    (le-leb (liberties s cells r) 1 (omega (arith, one)))))
 
--- the liberties of strings with at most one are their last liberties
+-- the liberties of strings with just one are their last liberties
 pub lasts : (s : ℕ) (cells : List Cell) (points : sets.FinSet nat_cmp) (p : ℕ)
-    → any_below (s * s) (λ r. sets.contains points r && is_few_liberty 1 s cells r p)
+    → any_below (s * s) (λ r. sets.contains points r && is_few_liberty 1 1 s cells r p)
     ≡ any_below (s * s) (λ r. sets.contains points r && is_only_liberty s cells r p)
 lasts s cells points p = any_below_same (s * s) _ _
-    (λ r on. ap (λ b. sets.contains points r && b) (only_by_few s cells r p))
-
--- The stones of a set whose strings have more than one liberty.
-module _ (s : ℕ) (cells : List Cell) (S : ℕ → Bool) where
-  -- on the board they are told by the set and by their liberties
-  pub loose_on : (q : ℕ) → q < s * s → (S q && ltb 1 (liberties s cells q)) ≡ is_loose s cells S q
-  unfolding is_loose
-  loose_on q on = ap (λ b. b && (S q && ltb 1 (liberties s cells q))) (sym (lt-ltb q (s * s) on))
-
-  -- they are on the board
-  pub loose_on_board : (q : ℕ) → is_loose s cells S q ≡ true → q < s * s
-  unfolding is_loose
-  loose_on_board q h = ltb-true q (s * s) (and_parts _ _ h).0
-
-  -- going over the points of the board finds them all
-  pub loose_found : (n q : ℕ) → s * s ≤ n → any_below n (λ k. eqb q k && is_loose s cells S k) ≡ is_loose s cells S q
-  loose_found n q all = same_tests _ _
-      (λ h.
-      let k = any_below_gives n _ h in
-      let parts = and_parts _ _ k.2 in
-      ap (is_loose s cells S) (eqb-true q k.0 parts.0) ∙ parts.1)
-      (λ h.
-      let on = loose_on_board q h in
-      any_below_from n _ q (omega (arith, on, all)) (and_from _ _ (eq-eqb q q refl) h))
-
--- an enemy out of atari whose string has few liberties is a covered stone
-covered_order : (beside enemy out few its : Bool)
-    → (((beside && enemy) && out) && (few && its)) ≡ ((((enemy && beside) && few) && out) && its)
-covered_order true true true few its = refl
-covered_order true true false true its = refl
-covered_order true true false false its = refl
-covered_order true false out few its = refl
-covered_order false true out few its = refl
-covered_order false false out few its = refl
-
--- What is found for Cover.
-module _ (s : ℕ) (cells : List Cell) (target : ℕ) where
-  -- the liberties of those enemies next to the target that have two or three
-  pub covered_by_loose : (l : ℕ) (foes out : sets.FinSet nat_cmp) → foes ≡ enemy_points s cells target
-      → ((q : ℕ) → sets.contains out q ≡ is_loose s cells (sets.contains foes) q)
-      → any_below (s * s) (λ q. sets.contains out q && is_few_liberty 3 s cells q l)
-      ≡ is_covered_liberty s cells target l
-  unfolding is_covered_liberty is_covered is_weak_enemy is_few_liberty
-  covered_by_loose l foes out e is = any_below_same (s * s) _ _ (λ q on.
-      let beside = is_beside_string s cells target q in
-      let enemy = is_enemy (cell_at cells target) (cell_at cells q) in
-      let more = ltb 1 (liberties s cells q) in
-      let few = leb (liberties s cells q) 3 in
-      let its = is_liberty s cells q l in
-      ap (λ b. b && (few && its))
-      (is q ∙ sym (loose_on s cells (sets.contains foes) q on)
-      ∙ ap (λ b. b && more) (has_enemy s cells target q foes e ∙ ap (λ b. b && (beside && enemy)) (lt-ltb q (s * s) on)))
-      ∙ covered_order beside enemy more few its)
-
-  -- the empty points beside these are Cover
-  pub cover_is : (p : ℕ) (libs : sets.FinSet nat_cmp)
-      → ((l : ℕ) → sets.contains libs l ≡ is_covered_liberty s cells target l)
-      → stands_beside s cells Empty (sets.contains libs) p ≡ is_cover s cells target p
-  unfolding stands_beside is_cover
-  cover_is p libs are =
-      ap (λ b. (ltb p (s * s) && same_cell (cell_at cells p) Empty) && b)
-      (any_below_same (s * s) _ _ (λ l on. ap (λ b. b && are_neighbours s l p) (are l)))
+    (λ r on. ap (λ b. sets.contains points r && b) (only_between s cells r p))
 
 -- two tests joined are two others if each is
 either : {a b x y : Bool} → a ≡ x → b ≡ y → (a || b) ≡ (x || y)

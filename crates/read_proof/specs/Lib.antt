@@ -1,5 +1,4 @@
 pub mod Beside
-pub mod Loose
 pub mod Tokens
 pub mod Proves
 pub mod ProofOf

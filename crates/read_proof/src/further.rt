@@ -4,7 +4,6 @@
 ghost use Rattle.std.specs.Prelude.{◌≡◌, ℕ, ◌*◌, ◌<◌, ◌==◌, ◌&&◌, ◌||◌, true, false, IsTrue, nat_le, nat_lt};
 ghost use Rattle.std.specs.FinSet as set;
 ghost use Rattle.go_rules.specs.Below.{any_below};
-ghost use Rattle.go_rules.specs.Board.{largest_points};
 ghost use Rattle.go_rules.specs.Strings.{liberty_points, string_at};
 ghost use Rattle.go_base.specs.Floods.{enemy_points};
 ghost use Rattle.go_base.specs.Surroundings.{is_only_liberty};
@@ -12,7 +11,6 @@ ghost use Rattle.wider_rules.specs.Further.{netted, is_net, is_beside, is_ally, 
 ghost use Rattle.wider_rules.specs.Further.{is_covered_liberty, is_cover};
 ghost use Rattle.wider_rules.specs.Further.{is_further_always, is_further_wide, is_further};
 ghost use Rattle.wider_rules.specs.Strings.{is_few_liberty, is_few_enemy, is_near_friend};
-ghost use Rattle.read_proof.specs.Loose.{is_loose};
 
 use crate::beside::beside;
 use go_base::flood::{Found, flood};
@@ -36,6 +34,9 @@ const FEW_OF_LINKED: u16 = 4;
 /// How many liberties a linked string may have that the attacker keeps from the target.
 const FEW_OF_PARTED: u16 = 2;
 
+/// How many liberties at least an enemy string next to the target's has around which the defender tries a net.
+const LEAST_OF_COVERED: u16 = 2;
+
 /// How many liberties an enemy string next to the target's may have around which the defender tries a net.
 const FEW_OF_COVERED: u16 = 3;
 
@@ -46,11 +47,11 @@ fn is_netted(liberties: u16) -> bool
     liberties == NETTED
 }
 
-/// Whether so many liberties are at most that many.
-fn are_few(liberties: u16, most: u16) -> bool
-    ensures { result ≡ nat_le liberties most }
+/// Whether so many liberties are no fewer than `least` and no more than `most`.
+fn are_between(least: u16, most: u16, liberties: u16) -> bool
+    ensures { result ≡ (nat_le least liberties && nat_le liberties most) }
 {
-    liberties <= most
+    least <= liberties && liberties <= most
 }
 
 /// What stands around strings.
@@ -72,35 +73,35 @@ fn string_of(pos: &Position, p: Point) -> Found
     flood(&mut pos.board(), p)
 }
 
-/// Adds what stands around the string of q where it has at most so many liberties, and tells its stones.
-fn add_string(pos: &Position, most: u16, q: Point, found: &mut Around) -> PointSet
+/// Adds what stands around the string of q if it has at least and at most so many liberties, and tells its stones.
+fn add_string(pos: &Position, least: u16, most: u16, q: Point, found: &mut Around) -> PointSet
     requires { q < pos.now.size * pos.now.size }
     ensures stones { result ≡ string_at pos.now.size pos.now.cells q }
     ensures liberties { (p : ℕ) → set.contains found.new.liberties p ≡ (set.contains found.old.liberties p
-        || is_few_liberty most pos.now.size pos.now.cells q p) }
+        || is_few_liberty least most pos.now.size pos.now.cells q p) }
     ensures enemies { (r : ℕ) → set.contains found.new.enemies r ≡ (set.contains found.old.enemies r
-        || is_few_enemy most pos.now.size pos.now.cells q r) }
+        || is_few_enemy least most pos.now.size pos.now.cells q r) }
 {
     let Found {
         stones,
         liberties,
         enemies,
     } = string_of(pos, q);
-    if are_few(liberties.count(), most) {
+    if are_between(least, most, liberties.count()) {
         found.liberties.join(&liberties);
         found.enemies.join(&enemies);
     }
     stones
 }
 
-/// The liberties of those strings of the points that have at most so many, and the enemy stones next to these strings.
-/// Each string is found once: its stones are taken off the points that are left.
-fn around_strings(pos: &Position, most: u16, points: &PointSet) -> Around
+/// The liberties of those strings of the points that have at least and at most so many, and the enemy stones next to
+/// these strings. Each string is found once: its stones are taken off the points that are left.
+fn around_strings(pos: &Position, least: u16, most: u16, points: &PointSet) -> Around
     requires { (q : ℕ) → IsTrue (set.contains points.now q) → q < pos.now.size * pos.now.size }
     ensures liberties { (p : ℕ) → set.contains result.liberties p ≡ any_below (pos.now.size * pos.now.size)
-        (λ q. set.contains points.now q && is_few_liberty most pos.now.size pos.now.cells q p) }
+        (λ q. set.contains points.now q && is_few_liberty least most pos.now.size pos.now.cells q p) }
     ensures enemies { (r : ℕ) → set.contains result.enemies r ≡ any_below (pos.now.size * pos.now.size)
-        (λ q. set.contains points.now q && is_few_enemy most pos.now.size pos.now.cells q r) }
+        (λ q. set.contains points.now q && is_few_enemy least most pos.now.size pos.now.cells q r) }
 {
     let mut found = Around {
         liberties: PointSet::new(),
@@ -109,7 +110,7 @@ fn around_strings(pos: &Position, most: u16, points: &PointSet) -> Around
     let mut rest = points.copied();
     let mut next = 0;
     while let Some(q) = rest.first_from(next) {
-        let stones = add_string(pos, most, q, &mut found);
+        let stones = add_string(pos, least, most, q, &mut found);
         rest = rest.difference(&stones);
         next = q + 1;
     }
@@ -122,11 +123,7 @@ fn last_liberties(pos: &Position, points: &PointSet) -> PointSet
     ensures { (p : ℕ) → set.contains result p ≡ any_below (pos.now.size * pos.now.size)
         (λ r. set.contains points.now r && is_only_liberty pos.now.size pos.now.cells r p) }
 {
-    let Around {
-        liberties,
-        enemies: _,
-    } = around_strings(pos, IN_ATARI, points);
-    liberties
+    around_strings(pos, IN_ATARI, IN_ATARI, points).liberties
 }
 
 /// The points of Net: the empty neighbours of the target's liberties, which are handed in, if these are three.
@@ -154,7 +151,7 @@ fn weak_enemies(pos: &Position, target: Point, most: u16) -> Around
         liberties: _,
         enemies,
     } = string_of(pos, target);
-    let weak = around_strings(pos, most, &enemies);
+    let weak = around_strings(pos, 0, most, &enemies);
     Around {
         liberties: weak.liberties,
         enemies: weak.enemies.difference(&stones),
@@ -186,7 +183,7 @@ fn linked_liberties(pos: &Position, target: Point, most: u16, liberties: &PointS
     requires liberties { liberties.now ≡ liberty_points pos.now.size pos.now.cells target }
     ensures { (p : ℕ) → set.contains result p ≡ is_join most pos.now.size pos.now.cells target p }
 {
-    around_strings(pos, most, &near_friends(pos, target, liberties)).liberties
+    around_strings(pos, 0, most, &near_friends(pos, target, liberties)).liberties
 }
 
 /// The enemy stones next to a linked string; the target's liberties are handed in.
@@ -196,7 +193,7 @@ fn cutters(pos: &Position, target: Point, liberties: &PointSet) -> PointSet
     ensures { (r : ℕ) → set.contains result r
         ≡ (nat_lt r (pos.now.size * pos.now.size) && is_cutter pos.now.size pos.now.cells target r) }
 {
-    around_strings(pos, FEW_OF_LINKED, &near_friends(pos, target, liberties)).enemies
+    around_strings(pos, 0, FEW_OF_LINKED, &near_friends(pos, target, liberties)).enemies
 }
 
 /// The points of Cut: the last liberties of enemy strings next to a linked string; the target's liberties are handed in.
@@ -206,37 +203,6 @@ fn cut(pos: &Position, target: Point, liberties: &PointSet) -> PointSet
     ensures { (p : ℕ) → set.contains result p ≡ is_cut pos.now.size pos.now.cells target p }
 {
     last_liberties(pos, &cutters(pos, target, liberties))
-}
-
-/// Whether q is in the set and its string has more than one liberty.
-fn is_loose(pos: &Position, points: &PointSet, q: Point) -> bool
-    requires { q < pos.now.size * pos.now.size }
-    ensures { result ≡ is_loose pos.now.size pos.now.cells (set.contains points.now) q }
-{
-    points.has(q) && pos.liberties(q) > IN_ATARI
-}
-
-/// Adds q if it is in the set and its string has more than one liberty.
-fn add_if_loose(pos: &Position, points: &PointSet, q: Point, found: &mut PointSet)
-    requires on_board { q < pos.now.size * pos.now.size }
-    requires small { q < largest_points }
-    ensures { (r : ℕ) → set.contains found.new r ≡ (set.contains found.old r
-        || ((r == q) && is_loose pos.now.size pos.now.cells (set.contains points.now) q)) }
-{
-    if is_loose(pos, points, q) {
-        found.add(q);
-    }
-}
-
-/// The stones of the set whose strings have more than one liberty.
-fn loose(pos: &Position, points: &PointSet) -> PointSet
-    ensures { (q : ℕ) → set.contains result q ≡ is_loose pos.now.size pos.now.cells (set.contains points.now) q }
-{
-    let mut found = PointSet::new();
-    for q in 0..pos.size().points() {
-        add_if_loose(pos, points, q, &mut found);
-    }
-    found
 }
 
 /// The liberties of the enemy strings next to the target that have two or three.
@@ -249,7 +215,7 @@ fn covered_liberties(pos: &Position, target: Point) -> PointSet
         liberties: _,
         enemies,
     } = string_of(pos, target);
-    around_strings(pos, FEW_OF_COVERED, &loose(pos, &enemies)).liberties
+    around_strings(pos, LEAST_OF_COVERED, FEW_OF_COVERED, &enemies).liberties
 }
 
 /// The points of Cover: the empty neighbours of the liberties of the enemy strings next to the target that have two or
@@ -278,7 +244,12 @@ fn always(pos: &Position, attacker_to_play: bool, target: Point, liberties: &Poi
 }
 
 /// The further candidates of a wide ply alone: for the attacker Net and Link, for the defender Beside, Join and Cover.
-fn wide_alone(pos: &Position, attacker_to_play: bool, target: Point, liberties: &PointSet) -> PointSet
+fn wide_alone(
+    pos: &Position,
+    attacker_to_play: bool,
+    target: Point,
+    liberties: &PointSet,
+) -> PointSet
     requires on_board { target < pos.now.size * pos.now.size }
     requires liberties { liberties.now ≡ liberty_points pos.now.size pos.now.cells target }
     ensures { (p : ℕ) → set.contains result p

@@ -1,44 +1,43 @@
 -- What stands around a string with few liberties came, and nothing of one with many.
 use Rattle.std.proofs.Common.{sym, ◌∙◌}
-use Rattle.std.proofs.lemmas.Bool.{leb-true, leb-false}
 use Rattle.wider_rules.proofs.StringLemmas.{few_liberties, many_liberties, few_enemies, many_enemies}
 use Rattle.read_proof.proofs.further.add_string.Goals as goal
 
 -- its liberties came
-pub returns-then-are_few-clause-liberties : goal.returns-then-are_few-clause-liberties
-returns-then-are_few-clause-liberties c = λ p.
+pub returns-then-are_between-clause-liberties : goal.returns-then-are_between-clause-liberties
+returns-then-are_between-clause-liberties c = λ p.
     let pos = c.args.pos.now in
     let its = c.string_of-stones in
-    few_liberties c.args.most pos.size pos.cells c.args.q c.count.result p its.result.liberties
+    few_liberties c.args.least c.args.most pos.size pos.cells c.args.q c.count.result p its.result.liberties
     c.args.found.now.liberties c.join.new.self its.ensures.liberties c.count.ensures.value
-    (leb-true c.count.result c.args.most (sym c.are_few.ensures ∙ c.if-are_few.true)) c.join.ensures
+    (sym c.are_between.ensures ∙ c.if-are_between.true) c.join.ensures
 
 -- and the enemies next to it
-pub returns-then-are_few-clause-enemies : goal.returns-then-are_few-clause-enemies
-returns-then-are_few-clause-enemies c = λ r.
+pub returns-then-are_between-clause-enemies : goal.returns-then-are_between-clause-enemies
+returns-then-are_between-clause-enemies c = λ r.
     let pos = c.args.pos.now in
     let its = c.string_of-stones in
-    few_enemies c.args.most pos.size pos.cells c.args.q c.count.result r its.result.liberties
-    c.args.found.now.enemies c.join-then-are_few.new.self its.ensures.liberties c.count.ensures.value
-    its.result.enemies (leb-true c.count.result c.args.most (sym c.are_few.ensures ∙ c.if-are_few.true))
-    its.ensures.enemies c.join-then-are_few.ensures
+    few_enemies c.args.least c.args.most pos.size pos.cells c.args.q c.count.result r its.result.liberties
+    c.args.found.now.enemies c.join-then-are_between.new.self its.ensures.liberties c.count.ensures.value
+    its.result.enemies (sym c.are_between.ensures ∙ c.if-are_between.true)
+    its.ensures.enemies c.join-then-are_between.ensures
 
 -- none of many liberties came
-pub returns-else-are_few-clause-liberties : goal.returns-else-are_few-clause-liberties
-returns-else-are_few-clause-liberties c = λ p.
+pub returns-else-are_between-clause-liberties : goal.returns-else-are_between-clause-liberties
+returns-else-are_between-clause-liberties c = λ p.
     let pos = c.args.pos.now in
     let its = c.string_of-stones in
     let old = c.args.found.now.liberties in
-    many_liberties c.args.most pos.size pos.cells c.args.q c.count.result p its.result.liberties old old
+    many_liberties c.args.least c.args.most pos.size pos.cells c.args.q c.count.result p its.result.liberties old old
     its.ensures.liberties c.count.ensures.value
-    (leb-false c.count.result c.args.most (sym c.are_few.ensures ∙ c.if-are_few.false))
+    (sym c.are_between.ensures ∙ c.if-are_between.false)
 
 -- nor an enemy next to it
-pub returns-else-are_few-clause-enemies : goal.returns-else-are_few-clause-enemies
-returns-else-are_few-clause-enemies c = λ r.
+pub returns-else-are_between-clause-enemies : goal.returns-else-are_between-clause-enemies
+returns-else-are_between-clause-enemies c = λ r.
     let pos = c.args.pos.now in
     let its = c.string_of-stones in
     let old = c.args.found.now.enemies in
-    many_enemies c.args.most pos.size pos.cells c.args.q c.count.result r its.result.liberties old old
+    many_enemies c.args.least c.args.most pos.size pos.cells c.args.q c.count.result r its.result.liberties old old
     its.ensures.liberties c.count.ensures.value
-    (leb-false c.count.result c.args.most (sym c.are_few.ensures ∙ c.if-are_few.false))
+    (sym c.are_between.ensures ∙ c.if-are_between.false)

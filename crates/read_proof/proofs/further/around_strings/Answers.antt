@@ -12,9 +12,9 @@ loop-q-init c =
     let points = c.args.points.now in
     let all = c.copied-rest in
     record {
-      liberties = Gathers-none (is_few_liberty c.args.most pos.size pos.cells) points all.result c.new.result
+      liberties = Gathers-none (is_few_liberty c.args.least c.args.most pos.size pos.cells) points all.result c.new.result
           all.ensures c.new.ensures;
-      enemies = Gathers-none (is_few_enemy c.args.most pos.size pos.cells) points all.result c.new-2.result
+      enemies = Gathers-none (is_few_enemy c.args.least c.args.most pos.size pos.cells) points all.result c.new-2.result
           all.ensures c.new-2.ensures;
     }
 
@@ -25,7 +25,7 @@ loop-q-preserved c =
     let first = c.in-Some.ensures.some in
     let its = c.add_string-stones in
     let old = c.loop-q.found in
-    let one : AddsAround c.args.most c.args.pos.now.size c.args.pos.now.cells q its.result old.liberties
+    let one : AddsAround c.args.least c.args.most c.args.pos.now.size c.args.pos.now.cells q its.result old.liberties
     its.new.found.liberties old.enemies its.new.found.enemies =
     record { its = its.ensures.stones; liberties = its.ensures.liberties; enemies = its.ensures.enemies } in
     GathersAround-next (c.requires q (c.loop-q.invariant.liberties.within q first.2)) c.loop-q.invariant first.0
@@ -35,12 +35,12 @@ loop-q-preserved c =
 pub returns-clause-liberties : goal.returns-clause-liberties
 returns-clause-liberties c =
     let pos = c.args.pos.now in
-    Gathers-all (is_few_liberty c.args.most pos.size pos.cells) c.args.points.now c.loop-q.next (pos.size * pos.size)
+    Gathers-all (is_few_liberty c.args.least c.args.most pos.size pos.cells) c.args.points.now c.loop-q.next (pos.size * pos.size)
     c.loop-q.rest c.loop-q.found.liberties c.loop-q.invariant.liberties c.in_default.ensures.none c.requires
 
 -- and the enemies
 pub returns-clause-enemies : goal.returns-clause-enemies
 returns-clause-enemies c =
     let pos = c.args.pos.now in
-    Gathers-all (is_few_enemy c.args.most pos.size pos.cells) c.args.points.now c.loop-q.next (pos.size * pos.size)
+    Gathers-all (is_few_enemy c.args.least c.args.most pos.size pos.cells) c.args.points.now c.loop-q.next (pos.size * pos.size)
     c.loop-q.rest c.loop-q.found.enemies c.loop-q.invariant.enemies c.in_default.ensures.none c.requires

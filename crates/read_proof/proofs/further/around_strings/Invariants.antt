@@ -6,7 +6,7 @@ use Rattle.read_proof.proofs.further.around_strings.Given as goal
 -- what stands around the strings of the points came, but for the points that are left from the next one on
 abbrev pub invariant-loop-q : goal.invariant-loop-q
 invariant-loop-q l =
-    GathersAround l.most l.pos.size l.pos.cells l.points l.rest l.next l.found.liberties l.found.enemies
+    GathersAround l.least l.most l.pos.size l.pos.cells l.points l.rest l.next l.found.liberties l.found.enemies
 
 -- how many points are left
 abbrev pub decreases-loop-q : goal.decreases-loop-q
