@@ -1,4 +1,4 @@
-use Rattle.std.proofs.Common.{ap, ◌∙◌, sym, ◌&&◌}
+use Rattle.std.proofs.Common.{ap, ltb, ◌∙◌, sym, ◌&&◌}
 use Rattle.std.specs.FinSet as set
 use Rattle.wider_rules.specs.Further.{is_further}
 use Rattle.go_rules.proofs.Tests.{or-false}
@@ -14,7 +14,7 @@ returns-then-is_wider c = λ p.
     joined c.later_in_both_trees-found.result c.further_candidates.result c.join.new.self p c.join.ensures
     ∙ later_further turn pos p _ _ (c.later_in_both_trees-found.ensures p)
     (c.further_candidates.ensures p
-    ∙ ap (λ b. b && is_further c.further_candidates.args.wide turn.attacker_to_play pos.size pos.cells turn.target p)
+    ∙ ap (λ b. b && is_further (ltb 0 turn.wide) turn.attacker_to_play pos.size pos.cells turn.target p)
     (sym c.if-is_wider.true ∙ c.is_wider.ensures))
 
 -- in the stated tree nothing more is

@@ -14,6 +14,6 @@ returns-then-attacker_to_play c = λ p.
 -- the defender's
 pub returns : goal.returns
 returns c = λ p.
-    joined c.rescue-found.result c.cut.result c.join.new.self p c.join.ensures
+    joined c.rescue-found.result c.cut.result c.join-2.new.self p c.join-2.ensures
     ∙ defender_always c.args.pos.now.size c.args.pos.now.cells c.args.target p c.args.attacker_to_play _ _
     c.if-attacker_to_play.false (c.rescue-found.ensures p) (c.cut.ensures p)

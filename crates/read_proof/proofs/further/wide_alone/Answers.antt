@@ -1,6 +1,6 @@
-use Rattle.std.proofs.Common.{◌∙◌}
+use Rattle.std.proofs.Common.{ap, ◌∙◌, ◌||◌}
+use Rattle.std.specs.FinSet as set
 use Rattle.wider_rules.proofs.StringLemmas.{joined}
-use Rattle.wider_rules.proofs.SetLemmas.{joined_twice}
 use Rattle.read_proof.proofs.FurtherLemmas.{attacker_wide, defender_wide}
 use Rattle.read_proof.proofs.further.wide_alone.Goals as goal
 
@@ -15,8 +15,10 @@ returns-then-attacker_to_play c = λ p.
 -- at the defender's Beside, Join and Cover
 pub returns : goal.returns
 returns c = λ p.
-    joined_twice c.weak_enemies-found.result.liberties c.linked_liberties.result c.cover.result c.join.new.self
-    c.join-2.new.self p c.join.ensures c.join-2.ensures
+    let weak = c.weak_enemies-found in
+    let joins = c.linked_liberties-2 in
+    joined c.join-2.new.self c.cover.result c.join-3.new.self p c.join-3.ensures
+    ∙ ap (λ b. b || set.contains c.cover.result p)
+    (joined weak.result.liberties joins.result c.join-2.new.self p c.join-2.ensures)
     ∙ defender_wide c.args.pos.now.size c.args.pos.now.cells c.args.target p c.args.attacker_to_play _ _ _
-    c.if-attacker_to_play.false (c.weak_enemies-found.ensures.liberties p) (c.linked_liberties.ensures p)
-    (c.cover.ensures p)
+    c.if-attacker_to_play.false (weak.ensures.liberties p) (joins.ensures p) (c.cover.ensures p)
