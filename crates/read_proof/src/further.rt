@@ -7,8 +7,8 @@ ghost use Rattle.go_rules.specs.Below.{any_below};
 ghost use Rattle.go_rules.specs.Strings.{liberty_points, string_at};
 ghost use Rattle.go_base.specs.Floods.{enemy_points};
 ghost use Rattle.go_base.specs.Surroundings.{is_only_liberty};
-ghost use Rattle.wider_rules.specs.Further.{netted, is_net, is_beside, is_ally, is_rescue, is_join, is_cutter, is_cut};
-ghost use Rattle.wider_rules.specs.Further.{is_covered_liberty, is_cover};
+ghost use Rattle.wider_rules.specs.Further.{netted, few_of_linked, is_net, is_beside, is_ally, is_rescue, is_join};
+ghost use Rattle.wider_rules.specs.Further.{is_cutter, is_cut, is_covered_liberty, is_cover};
 ghost use Rattle.wider_rules.specs.Further.{is_further_always, is_further_wide, is_further};
 ghost use Rattle.wider_rules.specs.Strings.{is_few_liberty, is_few_enemy, is_near_friend};
 

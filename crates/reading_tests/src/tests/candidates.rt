@@ -114,8 +114,20 @@ fn candidates_of(position: &Position, which: &Which, target: Point) -> PointSet
     let found = match which {
         Which::All(wide) => candidates(&mut board, attackers_turn(target, *wide)),
         Which::Wide => later_candidates(&mut board, attackers_turn(target, 1), &liberties),
-        Which::OfAttacker(wide) => further_candidates(&mut board, target, true, *wide > 0, &liberties),
-        Which::OfDefender(wide) => further_candidates(&mut board, target, false, *wide > 0, &liberties),
+        Which::OfAttacker(wide) => further_candidates(
+            &mut board,
+            target,
+            true,
+            *wide > 0,
+            &liberties,
+        ),
+        Which::OfDefender(wide) => further_candidates(
+            &mut board,
+            target,
+            false,
+            *wide > 0,
+            &liberties,
+        ),
     };
     board.finish();
     found
