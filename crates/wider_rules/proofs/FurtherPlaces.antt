@@ -108,6 +108,12 @@ module _ (s : ℕ) (cells : List Cell) (target : ℕ) (on : target < s * s) wher
   pub third_fourth : (p : ℕ) → third_area s cells target p ≡ true → fourth_area s cells target p ≡ true
   third_fourth p h = close_again s cells (second_area s cells target) p h
 
+  -- what is in the third area is near
+  pub third_near : (attacker : Bool) (p : ℕ) → third_area s cells target p ≡ true
+      → near_further attacker s cells target p ≡ true
+  third_near true p h = h
+  third_near false p h = third_fourth p h
+
   -- a further candidate lies near
   further_in : (wide attacker : Bool) (p : ℕ) → IsFurther wide attacker s cells target p
       → near_further attacker s cells target p ≡ true

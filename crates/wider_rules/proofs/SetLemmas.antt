@@ -201,17 +201,17 @@ module _ (s : ℕ) (cells : List Cell) (target : ℕ) where
     join_is most = most_liberties_of s cells p friends (is_near_friend s cells target) is most
 
     -- the enemies next to them may cut
-    pub cutter_is : any_below (s * s) (λ q. sets.contains friends q && is_few_enemy 0 4 s cells q p)
-        ≡ (ltb p (s * s) && is_cutter s cells target p)
+    pub cutter_is : (most : ℕ) → any_below (s * s) (λ q. sets.contains friends q && is_few_enemy 0 most s cells q p)
+        ≡ (ltb p (s * s) && is_cutter most s cells target p)
     unfolding is_cutter is_linked is_near_friend
-    cutter_is = most_enemies_of s cells p friends (is_near_friend s cells target) is 4
+    cutter_is most = most_enemies_of s cells p friends (is_near_friend s cells target) is most
 
   -- the last liberties of those that may cut are Cut
   pub cut_is : (p : ℕ) (cutters : sets.FinSet nat_cmp)
-      → ((r : ℕ) → sets.contains cutters r ≡ (ltb r (s * s) && is_cutter s cells target r))
+      → ((r : ℕ) → sets.contains cutters r ≡ (ltb r (s * s) && is_cutter 4 s cells target r))
       → any_below (s * s) (λ r. sets.contains cutters r && is_only_liberty s cells r p) ≡ is_cut s cells target p
   unfolding is_cut
-  cut_is p cutters is = last_of s cells p cutters (is_cutter s cells target) is
+  cut_is p cutters is = last_of s cells p cutters (is_cutter 4 s cells target) is
 
   -- the liberties of the enemies next to the target that have two or three are what Cover goes by
   pub covered_is : (l : ℕ) (foes : sets.FinSet nat_cmp) → foes ≡ enemy_points s cells target
@@ -258,7 +258,7 @@ module _ (s : ℕ) (cells : List Cell) (target p : ℕ) where
   pub defender_always : (allies saves cutters cuts new : sets.FinSet nat_cmp) → new ≡ sets.union saves cuts
       → ((r : ℕ) → sets.contains allies r ≡ (ltb r (s * s) && is_ally 2 s cells target r))
       → sets.contains saves p ≡ any_below (s * s) (λ r. sets.contains allies r && is_only_liberty s cells r p)
-      → ((r : ℕ) → sets.contains cutters r ≡ (ltb r (s * s) && is_cutter s cells target r))
+      → ((r : ℕ) → sets.contains cutters r ≡ (ltb r (s * s) && is_cutter 4 s cells target r))
       → sets.contains cuts p ≡ any_below (s * s) (λ r. sets.contains cutters r && is_only_liberty s cells r p)
       → sets.contains new p ≡ is_further_always false s cells target p
   unfolding is_further_always

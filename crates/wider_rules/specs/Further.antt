@@ -83,15 +83,15 @@ unfoldable pub is_join : ℕ → ℕ → List Cell → ℕ → ℕ → Bool
 is_join most s cells target p =
     any_below (s * s) (λ q. is_linked most s cells target q && is_liberty s cells q p)
 
--- r is an enemy stone next to a linked string with at most four liberties
-unfoldable pub is_cutter : ℕ → List Cell → ℕ → ℕ → Bool
-is_cutter s cells target r =
-    any_below (s * s) (λ q. is_linked few_of_linked s cells target q
+-- r is an enemy stone next to a linked string with at most so many liberties
+unfoldable pub is_cutter : ℕ → ℕ → List Cell → ℕ → ℕ → Bool
+is_cutter most s cells target r =
+    any_below (s * s) (λ q. is_linked most s cells target q
     && (is_enemy (cell_at cells q) (cell_at cells r) && is_beside_string s cells q r))
 
 -- p is the one liberty of an enemy string next to a linked string with at most four liberties
 unfoldable pub is_cut : ℕ → List Cell → ℕ → ℕ → Bool
-is_cut s cells target p = any_below (s * s) (λ r. is_cutter s cells target r && is_only_liberty s cells r p)
+is_cut s cells target p = any_below (s * s) (λ r. is_cutter few_of_linked s cells target r && is_only_liberty s cells r p)
 
 -- q is an enemy stone of the target's next to the target's string, and the string of q has two or three liberties
 unfoldable pub is_covered : ℕ → List Cell → ℕ → ℕ → Bool
