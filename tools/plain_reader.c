@@ -193,6 +193,36 @@ static void add_cover(const Position *pos, int target, char *is) {
   for (int p = 0; p < points; p++) if (empty[p]) is[p] = 1;
 }
 
+/* whether a stone of the colour at the empty point l would take nothing and have at most one liberty, or none */
+static int is_cramped(const Position *pos, int colour, int l) {
+  char in[POINTS], free[POINTS], reached[POINTS] = {0};
+  int side[4], sides = neighbours(l, side), count = 0;
+  for (int i = 0; i < sides; i++) {
+    int q = side[i];
+    if (pos->cell[q] == EMPTY) reached[q] = 1;
+    else if (pos->cell[q] == colour) {
+      string_of(pos, q, in, free);
+      for (int r = 0; r < points; r++) if (free[r] && r != l) reached[r] = 1;
+    } else if (liberties(pos, q) == 1) return 0;
+  }
+  for (int r = 0; r < points; r++) count += reached[r];
+  return count <= 1;
+}
+
+/* Approach: take a liberty of an enemy string that is next to the target's string and has at most two, where a stone of
+ * the target's colour would be cramped; a liberty of an enemy string next to that liberty that has at most two */
+static void add_approach(const Position *pos, int target, char *is) {
+  char beside[POINTS] = {0}, enemy[POINTS], alone[POINTS];
+  add_beside(pos, target, 2, beside);
+  for (int l = 0; l < points; l++) {
+    if (!beside[l] || !is_cramped(pos, pos->cell[target], l)) continue;
+    memset(alone, 0, POINTS);
+    alone[l] = 1;
+    stones_beside(pos, 3 - pos->cell[target], alone, enemy);
+    add_liberties(pos, enemy, 0, 2, is);
+  }
+}
+
 /* what the wider tree tries besides: in every ply, and where a wide ply is left */
 static void further(const Node *node, const Position *pos, char *is) {
   int target = node->target;
@@ -208,6 +238,7 @@ static void further(const Node *node, const Position *pos, char *is) {
     add_beside(pos, target, 4, is);
     add_join(pos, target, 4, is);
     add_cover(pos, target, is);
+    add_approach(pos, target, is);
   }
 }
 

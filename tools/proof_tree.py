@@ -70,9 +70,14 @@ def all_liberties(strings: Iterable[String], most: int, least: int = 0) -> set[i
     return {point for string in strings if least <= len(string.liberties) <= most for point in string.liberties}
 
 
+def last_liberties_of(size: int, cells: bytes, points: set[int], colour: int) -> set[int]:
+    """The one liberty of each string of a colour next to these points that has exactly one."""
+    return all_liberties(strings_beside(size, cells, points, colour), 1)
+
+
 def last_liberties(size: int, cells: bytes, stones: set[int]) -> set[int]:
     """The one liberty of each enemy string next to these stones that has exactly one."""
-    return all_liberties(strings_beside(size, cells, stones, other(cells[min(stones)])), 1)
+    return last_liberties_of(size, cells, stones, other(cells[min(stones)]))
 
 
 def empty_beside(size: int, cells: bytes, points: set[int]) -> set[int]:
@@ -119,6 +124,7 @@ def further(position: Position, target: int, is_attackers: bool, is_wide: bool) 
     if is_wide:
         found |= all_liberties(beside, 4) | all_liberties(friends, 4)
         found |= empty_beside(size, cells, all_liberties(beside, 3, least=2))
+        found |= approach(size, cells, cells[target], all_liberties(beside, 2))
     return found
 
 
@@ -150,6 +156,24 @@ def linked(size: int, cells: bytes, string: String) -> Iterator[String]:
 def cut(size: int, cells: bytes, friends: list[String]) -> set[int]:
     """The last liberties of enemy strings next to one of these linked strings."""
     return all_liberties((enemy for friend in friends for enemy in enemies_beside(size, cells, friend)), 1)
+
+
+def is_cramped(size: int, cells: bytes, colour: int, point: int) -> bool:
+    """Whether a stone of the colour at an empty point would take nothing and have at most one liberty, or none."""
+    if point in last_liberties_of(size, cells, {point}, other(colour)):
+        return False
+    reached = empty_beside(size, cells, {point})
+    reached |= {free for friend in strings_beside(size, cells, {point}, colour) for free in friend.liberties}
+    return len(reached - {point}) <= 1
+
+
+def approach(size: int, cells: bytes, colour: int, liberties: set[int]) -> set[int]:
+    """The liberties of enemy strings with at most two next to one of these liberties where a stone would be cramped."""
+    found: set[int] = set()
+    for liberty in liberties:
+        if is_cramped(size, cells, colour, liberty):
+            found |= all_liberties(strings_beside(size, cells, {liberty}, other(colour)), 2)
+    return found
 
 
 def next_node(node: Node, position: Position, attacker_ko: int, defender_ko: int) -> Node:

@@ -51,6 +51,15 @@ function statedPoints({ board, target, defender, wide }) {
   return found;
 }
 
+/** Whether a stone of the colour at an empty point would take nothing and have at most one liberty, or none. */
+function isCramped(board, colour, point) {
+  if (stringsBeside(board, [point], other(colour)).some((enemy) => enemy.liberties.size === 1)) return false;
+  const friends = stringsBeside(board, [point], colour);
+  const reached = new Set([...emptyBeside(board, [point]), ...friends.flatMap((friend) => [...friend.liberties])]);
+  reached.delete(point);
+  return reached.size <= 1;
+}
+
 /** The points that the wider tree tries besides at a node. */
 function furtherPoints({ board, target, defender, isAttackers, wide }) {
   const attacker = other(defender);
@@ -71,7 +80,9 @@ function furtherPoints({ board, target, defender, isAttackers, wide }) {
   found.push(...libertiesOf(friends.flatMap((friend) => stringsBeside(board, friend.stones, attacker)), 1));
   if (wide === 0) return found;
   found.push(...libertiesOf(enemies, 4), ...libertiesOf(friends, 4));
-  return [...found, ...emptyBeside(board, new Set(libertiesOf(enemies, 3, 2)))];
+  found.push(...emptyBeside(board, new Set(libertiesOf(enemies, 3, 2))));
+  const cramped = libertiesOf(weak, 2).filter((point) => isCramped(board, defender, point));
+  return [...found, ...cramped.flatMap((point) => libertiesOf(stringsBeside(board, [point], attacker), 2))];
 }
 
 /** The points that are tried at a node, in reading order. */
