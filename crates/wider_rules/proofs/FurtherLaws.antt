@@ -3,7 +3,8 @@ use Rattle.std.proofs.Common.{◌≡◌, ℕ, ◌*◌, ◌<◌, ◌&&◌, ◌||�
 use Rattle.std.proofs.lemmas.Bool.{cases_Bool, both_ways, and_parts, and_from, or_cases, or_left, or_right}
 use Rattle.std.proofs.lemmas.Bool.{not-true, not_from_false, lt-ltb, ltb-true, le-leb, leb-true, eqb-true, eq-eqb}
 use Rattle.go_rules.specs.declared.Cell.{Cell}
-use Rattle.go_rules.specs.Strings.{cell_at, is_in_string, liberties, IsInString, IsLiberty}
+use Rattle.go_rules.specs.declared.Cell.TheVariants.{Empty, Black, White}
+use Rattle.go_rules.specs.Strings.{cell_at, is_stone, is_in_string, liberties, IsInString, IsLiberty}
 use Rattle.go_rules.specs.BesideStrings.{is_enemy, is_beside_string}
 use Rattle.go_rules.proofs.Counts.{any_below_gives, any_below_from}
 use Rattle.go_rules.proofs.Paths.{same_cell-true, same_cell-from, IsInString-from_test, is_is_in_string-from_fact}
@@ -12,10 +13,13 @@ use Rattle.go_rules.proofs.StringMembers.{is_in_string_on}
 use Rattle.go_base.specs.Surroundings.{is_only_liberty}
 use Rattle.wider_rules.specs.Further.{is_net, is_weak_enemy, is_beside, is_ally, is_rescue, is_linked, is_join}
 use Rattle.wider_rules.specs.Further.{is_cutter, is_cut, is_covered, is_covered_liberty, is_cover}
+use Rattle.wider_rules.specs.Further.{is_in_the_way, is_approach}
 use Rattle.wider_rules.specs.Further.{is_further_always, is_further_wide, is_further}
 use Rattle.wider_rules.specs.FurtherInWords.{IsNetAt, IsEnemyBeside, IsWeakEnemy, IsLastAt, IsAlly, IsLinkedAt}
 use Rattle.wider_rules.specs.FurtherInWords.{IsCoveredAt, IsFurther, strengthens, rescues, saves, cuts, nets, links}
-use Rattle.wider_rules.specs.FurtherInWords.{presses, joins, covers}
+use Rattle.wider_rules.specs.FurtherInWords.{IsApproachAt, presses, joins, covers, approaches}
+use Rattle.wider_rules.specs.Strings.{holds_next}
+use Rattle.wider_rules.specs.Cramped.{foe_of}
 
 -- an enemy next to a string, by the tests
 pub enemy_gives : (s : ℕ) (cells : List Cell) (p q : ℕ) → q < s * s
@@ -52,6 +56,22 @@ unfolding is_only_liberty
 last_from s cells r p on w =
     and_from _ _ (eq-eqb (liberties s cells r) 1 w.in_atari) (is_liberty-from_fact s cells r p on w.last)
 
+-- the stone of the other colour is an enemy of a stone
+foe_is_enemy : (own there : Cell) → is_stone own ≡ true → there ≡ foe_of own → is_enemy own there ≡ true
+foe_is_enemy Black there stone e = rw e refl
+foe_is_enemy White there stone e = rw e refl
+foe_is_enemy Empty there stone e = absurd (both_ways false refl stone)
+
+-- and an enemy is the stone of the other colour
+enemy_is_foe : (own there : Cell) → is_enemy own there ≡ true → there ≡ foe_of own
+enemy_is_foe Black White e = refl
+enemy_is_foe White Black e = refl
+enemy_is_foe Empty there e = absurd (both_ways false refl e)
+enemy_is_foe Black Black e = absurd (both_ways false refl e)
+enemy_is_foe Black Empty e = absurd (both_ways false refl e)
+enemy_is_foe White White e = absurd (both_ways false refl e)
+enemy_is_foe White Empty e = absurd (both_ways false refl e)
+
 -- the further candidates of a target
 module _ (s : ℕ) (cells : List Cell) (target : ℕ) where
   -- a weak enemy by the test is one in words
@@ -61,6 +81,10 @@ module _ (s : ℕ) (cells : List Cell) (target : ℕ) where
   weak_gives most q on h =
       let both = and_parts _ _ h in
       record { enemy = enemy_gives s cells target q on both.0; few = leb-true (liberties s cells q) most both.1 }
+
+  -- the target of a weak enemy is a stone
+  target_stone : {most : ℕ} (q : ℕ) → IsWeakEnemy most s cells target q → is_stone (cell_at cells target) ≡ true
+  target_stone q w = w.enemy.beside.1.stone
 
   -- a point of Net by the test is one in words
   pub net_gives : (p : ℕ) → is_net s cells target p ≡ true → (l : ℕ) × IsNetAt s cells target l p
@@ -290,6 +314,51 @@ module _ (s : ℕ) (cells : List Cell) (target : ℕ) where
       (is_liberty-from_fact s cells q l on_q w.liberty)))
       w.beside))
 
+  -- a point of Approach by the test is one in words
+  pub approach_gives : (p : ℕ) → is_approach s cells target p ≡ true
+      → (q : ℕ) × (l : ℕ) × (r : ℕ) × IsApproachAt s cells target q l r p
+  unfolding is_approach is_in_the_way holds_next
+  approach_gives p h =
+      let r = any_below_gives (s * s) _ h in
+      let both = and_parts _ _ r.2 in
+      let few = and_parts _ _ both.0 in
+      let l = any_below_gives (s * s) _ few.0 in
+      let parts = and_parts _ _ l.2 in
+      let near = and_parts _ _ parts.1 in
+      let next = and_parts _ _ near.1 in
+      let q = beside_gives 2 l.0 parts.0 in (
+        q.0,
+        l.0,
+        r.0,
+        record {
+          weak = q.1;
+          liberty = q.2;
+          cramped = near.0;
+          on_board = r.1;
+          enemy = foe_is_enemy (cell_at cells target) (cell_at cells r.0) (target_stone q.0 q.1)
+              (same_cell-true _ _ (and_parts _ _ next.0).1);
+          beside = next.1;
+          few = leb-true (liberties s cells r.0) 2 few.1;
+          its = IsLiberty-from_test s cells r.0 p both.1;
+        },
+      )
+
+  -- a point of Approach in words is one by the test
+  pub approach_from : (q l r p : ℕ) → target < s * s → IsApproachAt s cells target q l r p
+      → is_approach s cells target p ≡ true
+  unfolding is_approach is_in_the_way holds_next
+  approach_from q l r p on w =
+      any_below_from (s * s) _ r w.on_board
+      (and_from _ _
+      (and_from _ _
+      (any_below_from (s * s) _ l w.liberty.on_board
+      (and_from _ _ (beside_from 2 q l on w.weak w.liberty)
+      (and_from _ _ w.cramped
+      (and_from _ _ (and_from _ _ (lt-ltb r (s * s) w.on_board)
+      (same_cell-from _ _ (enemy_is_foe (cell_at cells target) (cell_at cells r) w.enemy))) w.beside))))
+      (le-leb (liberties s cells r) 2 w.few))
+      (is_liberty-from_fact s cells r p w.on_board w.its))
+
   -- a further candidate of every ply by the test is one in words
   always_gives : (wide attacker : Bool) (p : ℕ) → target < s * s → is_further_always attacker s cells target p ≡ true
       → IsFurther wide attacker s cells target p
@@ -312,12 +381,17 @@ module _ (s : ℕ) (cells : List Cell) (target : ℕ) where
     | inr link ↦ let w = join_gives 2 p on link in links left refl w.0 w.1 w.2 w.3
   ]
   wide_gives wide false p on left h =
-      elim (or_cases (is_beside 4 s cells target p || is_join 4 s cells target p) (is_cover s cells target p) h) [
-        | inr cover ↦ let w = cover_gives p cover in covers left refl w.0 w.1 w.2
-        | inl first ↦ elim (or_cases (is_beside 4 s cells target p) (is_join 4 s cells target p) first) [
-          | inl beside ↦ let w = beside_gives 4 p beside in presses left refl w.0 w.1 w.2
-          | inr join ↦ let w = join_gives 4 p on join in joins left refl w.0 w.1 w.2 w.3
-        ]
+      elim (or_cases ((is_beside 4 s cells target p || is_join 4 s cells target p) || is_cover s cells target p)
+      (is_approach s cells target p) h) [
+        | inr near ↦ let w = approach_gives p near in approaches left refl w.0 w.1 w.2 w.3
+        | inl most ↦ elim (or_cases (is_beside 4 s cells target p || is_join 4 s cells target p)
+            (is_cover s cells target p) most) [
+              | inr cover ↦ let w = cover_gives p cover in covers left refl w.0 w.1 w.2
+              | inl first ↦ elim (or_cases (is_beside 4 s cells target p) (is_join 4 s cells target p) first) [
+                | inl beside ↦ let w = beside_gives 4 p beside in presses left refl w.0 w.1 w.2
+                | inr join ↦ let w = join_gives 4 p on join in joins left refl w.0 w.1 w.2 w.3
+              ]
+            ]
       ]
 
   -- a further candidate by the test is one in words
@@ -360,8 +434,10 @@ module _ (s : ℕ) (cells : List Cell) (target : ℕ) where
   further_from wide attacker p on (links left turn l q linked lib) =
       by_wide wide attacker p left (rw turn (or_right _ _ (join_from 2 l q p on linked lib)))
   further_from wide attacker p on (presses left turn q weak lib) =
-      by_wide wide attacker p left (rw turn (or_left _ _ (or_left _ _ (beside_from 4 q p on weak lib))))
+      by_wide wide attacker p left (rw turn (or_left _ _ (or_left _ _ (or_left _ _ (beside_from 4 q p on weak lib)))))
   further_from wide attacker p on (joins left turn l q linked lib) =
-      by_wide wide attacker p left (rw turn (or_left _ _ (or_right _ _ (join_from 4 l q p on linked lib))))
+      by_wide wide attacker p left (rw turn (or_left _ _ (or_left _ _ (or_right _ _ (join_from 4 l q p on linked lib)))))
   further_from wide attacker p on (covers left turn q l w) =
-      by_wide wide attacker p left (rw turn (or_right _ _ (cover_from q l p on w)))
+      by_wide wide attacker p left (rw turn (or_left _ _ (or_right _ _ (cover_from q l p on w))))
+  further_from wide attacker p on (approaches left turn q l r w) =
+      by_wide wide attacker p left (rw turn (or_right _ _ (approach_from q l r p on w)))

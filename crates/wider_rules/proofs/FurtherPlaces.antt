@@ -12,7 +12,7 @@ use Rattle.go_base.proofs.PointNeighbourhoods.{whole_self, whole_string, close_n
 use Rattle.wider_rules.specs.Further.{is_further}
 use Rattle.wider_rules.specs.FurtherInWords.{IsNetAt, IsEnemyBeside, IsWeakEnemy, IsLastAt, IsAlly, IsLinkedAt}
 use Rattle.wider_rules.specs.FurtherInWords.{IsCoveredAt, IsFurther, strengthens, rescues, saves, cuts, nets, links}
-use Rattle.wider_rules.specs.FurtherInWords.{presses, joins, covers}
+use Rattle.wider_rules.specs.FurtherInWords.{IsApproachAt, presses, joins, covers, approaches}
 use Rattle.wider_rules.specs.FurtherAreas.{first_area, second_area, third_area, fourth_area, near_further}
 use Rattle.wider_rules.proofs.FurtherLaws.{further_gives}
 
@@ -100,6 +100,13 @@ module _ (s : ℕ) (cells : List Cell) (target : ℕ) (on : target < s * s) wher
       liberty_close s cells (third_area s cells target) r p enemy.on_board
       (enemy_close s cells (second_area s cells target) q r linked.on_board (linked_second 4 l q linked) enemy) last.last
 
+  -- and so does Approach
+  pub approach_fourth : (q l r p : ℕ) → IsApproachAt s cells target q l r p → fourth_area s cells target p ≡ true
+  approach_fourth q l r p w =
+      liberty_close s cells (third_area s cells target) r p w.on_board
+      (side_close s cells (second_area s cells target) l r w.liberty.on_board (beside_second 2 q l w.weak w.liberty)
+      w.on_board w.beside) w.its
+
   -- what is in the second area is in the third
   pub second_third : (p : ℕ) → second_area s cells target p ≡ true → third_area s cells target p ≡ true
   second_third p h = close_again s cells (first_area s cells target) p h
@@ -128,6 +135,7 @@ module _ (s : ℕ) (cells : List Cell) (target : ℕ) (on : target < s * s) wher
   further_in wide attacker p (joins left turn l q linked lib) =
       rw turn (third_fourth p (join_third 4 l q p linked lib))
   further_in wide attacker p (covers left turn q l w) = rw turn (third_fourth p (cover_third q l p w))
+  further_in wide attacker p (approaches left turn q l r w) = rw turn (approach_fourth q l r p w)
 
   -- and so by the test
   pub further_near : (wide attacker : Bool) (p : ℕ) → is_further wide attacker s cells target p ≡ true
@@ -147,6 +155,7 @@ module _ (wide attacker : Bool) (s : ℕ) (cells : List Cell) (target p : ℕ) w
   empty_in (presses left turn q weak lib) = (lib.on_board, lib.is_empty)
   empty_in (joins left turn l q linked lib) = (lib.on_board, lib.is_empty)
   empty_in (covers left turn q l w) = (w.on_board, w.is_empty)
+  empty_in (approaches left turn q l r w) = (w.its.on_board, w.its.is_empty)
 
   -- and so by the test
   pub further_empty : target < s * s → is_further wide attacker s cells target p ≡ true
@@ -164,6 +173,7 @@ module _ (wide attacker : Bool) (s : ℕ) (cells : List Cell) (target p : ℕ) w
   stone_in (presses left turn q weak lib) = weak.enemy.beside.1.stone
   stone_in (joins left turn l q linked lib) = linked.liberty.beside.1.stone
   stone_in (covers left turn q l w) = w.weak.enemy.beside.1.stone
+  stone_in (approaches left turn q l r w) = w.weak.enemy.beside.1.stone
 
   -- an empty point has no further candidates
   pub further_of_none : target < s * s → cell_at cells target ≡ Empty

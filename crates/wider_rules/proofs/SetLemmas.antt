@@ -1,7 +1,7 @@
 -- What was gathered is the sets of the rules.
 use Rattle.std.proofs.Common.{◌≡◌, ℕ, ◌*◌, ◌<◌, ◌&&◌, ◌||◌, Bool, true, false, not, leb, ltb, List}
 use Rattle.std.proofs.Common.{refl, sym, ap, inl, inr, ◌∙◌}
-use Rattle.std.proofs.lemmas.Bool.{cases_Bool, both_ways, or_cases, or_left, and_parts, lt-ltb, eqb-true, eq-eqb}
+use Rattle.std.proofs.lemmas.Bool.{cases_Bool, both_ways, or_cases, or_left, and_parts, and_from, lt-ltb, eqb-true, eq-eqb}
 use Rattle.std.specs.Ordering.{nat_cmp}
 use Rattle.std.specs.Cmp.{nat_cmp_total}
 use Rattle.std.specs.FinSet as sets
@@ -11,12 +11,14 @@ use Rattle.go_rules.specs.Below.{any_below}
 use Rattle.go_rules.specs.Board.{are_neighbours}
 use Rattle.go_rules.specs.Strings.{cell_at, same_cell, is_in_string, string_at, is_liberty, liberties, liberty_points}
 use Rattle.go_rules.specs.BesideStrings.{is_enemy, is_beside_string}
-use Rattle.go_rules.proofs.Counts.{any_below_same, any_below_false}
+use Rattle.go_rules.proofs.Counts.{any_below_gives, any_below_same, any_below_false}
 use Rattle.go_rules.proofs.Tests.{same_tests}
 use Rattle.go_base.specs.Floods.{enemy_points}
 use Rattle.go_base.specs.Surroundings.{is_only_liberty}
 use Rattle.wider_rules.specs.Further.{is_net, is_weak_enemy, is_beside, is_ally, is_rescue, is_linked, is_join}
 use Rattle.wider_rules.specs.Further.{is_cutter, is_cut, is_covered, is_covered_liberty, is_cover}
+use Rattle.wider_rules.specs.Further.{is_in_the_way, is_approach}
+use Rattle.wider_rules.specs.Cramped.{foe_of, is_cramped}
 use Rattle.wider_rules.specs.Further.{is_further_always, is_further_wide, is_further}
 use Rattle.wider_rules.specs.Strings.{holds_next, has_between, is_few_liberty, is_few_enemy, is_near_friend}
 use Rattle.wider_rules.proofs.StringLemmas.{has_liberty, how_many, has_enemy, has_stone, joined, from_none}
@@ -99,6 +101,12 @@ module _ (s : ℕ) (cells : List Cell) (p : ℕ) (stones : sets.FinSet nat_cmp) 
       few_enemies_of 0 most ∙ ap (λ b. ltb p (s * s) && b) (any_below_same (s * s) _ _ (λ q on.
       ap (λ b. (test q && b) && (is_enemy (cell_at cells q) (cell_at cells p) && is_beside_string s cells q p))
       (from_none most s cells q)))
+
+-- a point next to another at which a cell stands is on the board
+next_on : (s : ℕ) (cells : List Cell) (cell : Cell) (l r : ℕ) → holds_next s cells cell l r ≡ true
+    → ltb r (s * s) ≡ true
+unfolding holds_next
+next_on s cells cell l r h = (and_parts _ _ (and_parts _ _ h).0).0
 
 -- What was gathered for a target.
 module _ (s : ℕ) (cells : List Cell) (target : ℕ) where
@@ -231,6 +239,30 @@ module _ (s : ℕ) (cells : List Cell) (target : ℕ) where
       ap (λ b. b && holds_next s cells Empty l p) (is l)
       ∙ and_first (is_covered_liberty s cells target l) place (are_neighbours s l p)) ∙ any_once (s * s) place _
 
+  -- the enemies next to cramped points of Beside are in the way
+  pub way_is : (r : ℕ) (beside found : sets.FinSet nat_cmp) → ((l : ℕ) → sets.contains beside l ≡ is_beside 2 s cells target l)
+      → sets.contains found r ≡ any_below (s * s) (λ l. sets.contains beside l
+      && (is_cramped s cells (cell_at cells target) l && holds_next s cells (foe_of (cell_at cells target)) l r))
+      → sets.contains found r ≡ (ltb r (s * s) && is_in_the_way s cells target r)
+  unfolding is_in_the_way
+  way_is r beside found is came =
+      let own = cell_at cells target in
+      let test = λ (l : ℕ). is_cramped s cells own l && holds_next s cells (foe_of own) l r in
+      let whole = any_below (s * s) (λ l. is_beside 2 s cells target l && test l) in
+      came ∙ any_below_same (s * s) _ _ (λ l on. ap (λ b. b && test l) (is l))
+      ∙ same_tests _ _
+      (λ h.
+      let l = any_below_gives (s * s) _ h in
+      and_from _ _ (next_on s cells (foe_of own) l.0 r (and_parts _ _ (and_parts _ _ l.2).1).1) h)
+      (λ h. (and_parts (ltb r (s * s)) whole h).1)
+
+  -- the liberties of those that have at most two are Approach
+  pub approach_is : (p : ℕ) (found : sets.FinSet nat_cmp)
+      → ((r : ℕ) → sets.contains found r ≡ (ltb r (s * s) && is_in_the_way s cells target r))
+      → any_below (s * s) (λ r. sets.contains found r && is_few_liberty 0 2 s cells r p) ≡ is_approach s cells target p
+  unfolding is_approach
+  approach_is p found is = most_liberties_of s cells p found (is_in_the_way s cells target) is 2
+
 -- What was joined of the sets of a target.
 module _ (s : ℕ) (cells : List Cell) (target p : ℕ) where
   -- Beside and Rescue are the attacker's of every ply
@@ -267,17 +299,20 @@ module _ (s : ℕ) (cells : List Cell) (target p : ℕ) where
       ∙ ap (λ y. y || sets.contains cuts p) (first ∙ rescue_is s cells target p allies allied)
       ∙ ap (λ y. is_rescue s cells target p || y) (last ∙ cut_is s cells target p cutters cutting)
 
-  -- Beside, Join and Cover are the defender's of a wide ply
-  pub defender_wide : (beside join cover mid new : sets.FinSet nat_cmp) → mid ≡ sets.union beside join
-      → new ≡ sets.union mid cover → sets.contains beside p ≡ is_beside 4 s cells target p
+  -- Beside, Join, Cover and Approach are the defender's of a wide ply
+  pub defender_wide : (beside join cover near mid more new : sets.FinSet nat_cmp) → mid ≡ sets.union beside join
+      → more ≡ sets.union mid cover → new ≡ sets.union more near → sets.contains beside p ≡ is_beside 4 s cells target p
       → sets.contains join p ≡ is_join 4 s cells target p → sets.contains cover p ≡ is_cover s cells target p
+      → sets.contains near p ≡ is_approach s cells target p
       → sets.contains new p ≡ is_further_wide false s cells target p
   unfolding is_further_wide
-  defender_wide beside join cover mid new e f besides joins covers =
-      joined mid cover new p f ∙ ap (λ y. y || sets.contains cover p) (joined beside join mid p e)
+  defender_wide beside join cover near mid more new e f g besides joins covers nears =
+      joined more near new p g ∙ ap (λ y. y || sets.contains near p)
+      (joined mid cover more p f ∙ ap (λ y. y || sets.contains cover p) (joined beside join mid p e)
       ∙ ap (λ y. (y || sets.contains join p) || sets.contains cover p) besides
       ∙ ap (λ y. (is_beside 4 s cells target p || y) || sets.contains cover p) joins
-      ∙ ap (λ y. (is_beside 4 s cells target p || is_join 4 s cells target p) || y) covers
+      ∙ ap (λ y. (is_beside 4 s cells target p || is_join 4 s cells target p) || y) covers)
+      ∙ ap (λ y. ((is_beside 4 s cells target p || is_join 4 s cells target p) || is_cover s cells target p) || y) nears
 
   -- those of every ply, joined with those of a wide ply where one is left, are the further candidates
   pub further_joined : (attacker : Bool) (always wide new : sets.FinSet nat_cmp) → new ≡ sets.union always wide

@@ -8,6 +8,8 @@ use Rattle.go_rules.specs.Below.{any_below}
 use Rattle.go_rules.specs.Strings.{cell_at, same_cell, is_in_string, is_liberty, liberties}
 use Rattle.go_rules.specs.BesideStrings.{is_enemy, is_beside_string}
 use Rattle.go_base.specs.Surroundings.{is_only_liberty}
+use Rattle.wider_rules.specs.Strings.{holds_next}
+use Rattle.wider_rules.specs.Cramped.{foe_of, is_cramped}
 
 -- how many liberties an enemy string next to the target's may have that the attacker strengthens
 abbrev pub few_of_attacker : ℕ
@@ -110,6 +112,19 @@ is_cover s cells target p =
     (nat_lt p (s * s) && same_cell (cell_at cells p) Empty)
     && any_below (s * s) (λ l. is_covered_liberty s cells target l && are_neighbours s l p)
 
+-- r is a stone of the other colour than the target's next to a point l at which a stone of the target's colour would be
+-- cramped, and l is a liberty of an enemy string next to the target's with at most two
+unfoldable pub is_in_the_way : ℕ → List Cell → ℕ → ℕ → Bool
+is_in_the_way s cells target r =
+    any_below (s * s) (λ l. is_beside few_of_attacker s cells target l
+    && (is_cramped s cells (cell_at cells target) l && holds_next s cells (foe_of (cell_at cells target)) l r))
+
+-- p is a liberty of the string of such a stone, which has at most two
+unfoldable pub is_approach : ℕ → List Cell → ℕ → ℕ → Bool
+is_approach s cells target p =
+    any_below (s * s) (λ r. (is_in_the_way s cells target r && nat_le (liberties s cells r) few_of_attacker)
+    && is_liberty s cells r p)
+
 -- p is a further candidate of every ply: for the attacker one of Beside or Rescue; for the defender one of Save, which
 -- is the points of Rescue, or of Cut
 unfoldable pub is_further_always : Bool → ℕ → List Cell → ℕ → ℕ → Bool
@@ -118,14 +133,14 @@ is_further_always attacker_to_play s cells target p =
     then (is_beside few_of_attacker s cells target p || is_rescue s cells target p)
     else (is_rescue s cells target p || is_cut s cells target p)
 
--- p is a further candidate of a wide ply alone: for the attacker one of Net or Link, for the defender one of Beside, Join
--- or Cover
+-- p is a further candidate of a wide ply alone: for the attacker one of Net or Link, for the defender one of Beside,
+-- Join, Cover or Approach
 unfoldable pub is_further_wide : Bool → ℕ → List Cell → ℕ → ℕ → Bool
 is_further_wide attacker_to_play s cells target p =
     if attacker_to_play
     then (is_net s cells target p || is_join few_of_parted s cells target p)
     else (is_beside few_of_defender s cells target p || is_join few_of_linked s cells target p
-    || is_cover s cells target p)
+    || is_cover s cells target p || is_approach s cells target p)
 
 -- p is a further candidate: one of every ply, or where a wide ply is left one of a wide ply
 unfoldable pub is_further : Bool → Bool → ℕ → List Cell → ℕ → ℕ → Bool

@@ -5,6 +5,7 @@ use Rattle.go_rules.specs.declared.Cell.TheVariants.{Empty}
 use Rattle.go_rules.specs.Board.{are_neighbours}
 use Rattle.go_rules.specs.Strings.{cell_at, liberties, IsInString, IsLiberty}
 use Rattle.go_rules.specs.BesideStrings.{is_enemy}
+use Rattle.wider_rules.specs.Cramped.{is_cramped}
 
 -- the target has exactly three liberties, l is one of them, and p is an empty neighbour of l
 pub record IsNetAt (s : ℕ) (cells : List Cell) (target l p : ℕ) : Type 0 where
@@ -58,6 +59,19 @@ pub record IsCoveredAt (s : ℕ) (cells : List Cell) (target q l p : ℕ) : Type
   pub is_empty : cell_at cells p ≡ Empty
   pub beside : are_neighbours s l p ≡ true
 
+-- q is an enemy next to the target's string, whose string has at most two liberties; l is one of these, and a stone of
+-- the target's colour at l would be cramped; r is an enemy of the target next to l, whose string has at most two
+-- liberties, and p is one of these
+pub record IsApproachAt (s : ℕ) (cells : List Cell) (target q l r p : ℕ) : Type 0 where
+  pub weak : IsWeakEnemy 2 s cells target q
+  pub liberty : IsLiberty s cells q l
+  pub cramped : is_cramped s cells (cell_at cells target) l ≡ true
+  pub on_board : r < s * s
+  pub enemy : is_enemy (cell_at cells target) (cell_at cells r) ≡ true
+  pub beside : are_neighbours s l r ≡ true
+  pub few : liberties s cells r ≤ 2
+  pub its : IsLiberty s cells r p
+
 -- p is a further candidate for the target, at the attacker's turn or the defender's, where a wide ply is left or not
 pub data IsFurther (wide attacker_to_play : Bool) (s : ℕ) (cells : List Cell) (target p : ℕ) : Type 0 where
   strengthens : attacker_to_play ≡ true → (q : ℕ) → IsWeakEnemy 2 s cells target q → IsLiberty s cells q p
@@ -77,4 +91,6 @@ pub data IsFurther (wide attacker_to_play : Bool) (s : ℕ) (cells : List Cell) 
   joins : wide ≡ true → attacker_to_play ≡ false → (l q : ℕ) → IsLinkedAt 4 s cells target l q
       → IsLiberty s cells q p → IsFurther wide attacker_to_play s cells target p
   covers : wide ≡ true → attacker_to_play ≡ false → (q l : ℕ) → IsCoveredAt s cells target q l p
+      → IsFurther wide attacker_to_play s cells target p
+  approaches : wide ≡ true → attacker_to_play ≡ false → (q l r : ℕ) → IsApproachAt s cells target q l r p
       → IsFurther wide attacker_to_play s cells target p

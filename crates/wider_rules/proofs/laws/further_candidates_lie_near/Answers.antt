@@ -1,7 +1,7 @@
 use Rattle.wider_rules.proofs.FurtherLaws.{net_gives, beside_gives, rescue_gives, join_gives, cut_gives}
-use Rattle.wider_rules.proofs.FurtherLaws.{cover_gives}
+use Rattle.wider_rules.proofs.FurtherLaws.{cover_gives, approach_gives}
 use Rattle.wider_rules.proofs.FurtherPlaces.{net_second, beside_second, rescue_third, join_third, cut_fourth}
-use Rattle.wider_rules.proofs.FurtherPlaces.{cover_third, further_near}
+use Rattle.wider_rules.proofs.FurtherPlaces.{cover_third, approach_fourth, further_near}
 use Rattle.wider_rules.proofs.laws.further_candidates_lie_near.Goals as goal
 
 -- Net lies in the second area
@@ -39,6 +39,12 @@ pub returns-clause-cut : goal.returns-clause-cut
 returns-clause-cut c = λ s cells target p on h.
     let w = cut_gives s cells target p on h in
     cut_fourth s cells target on w.0 w.1 w.2 p w.3 w.4 w.5
+
+-- and Approach
+pub returns-clause-approach : goal.returns-clause-approach
+returns-clause-approach c = λ s cells target p on h.
+    let w = approach_gives s cells target p h in
+    approach_fourth s cells target on w.0 w.1 w.2 p w.3
 
 -- each further candidate lies near
 pub returns-clause-further : goal.returns-clause-further

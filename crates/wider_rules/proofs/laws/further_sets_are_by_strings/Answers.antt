@@ -1,6 +1,6 @@
 use Rattle.wider_rules.proofs.FurtherLaws.{net_gives, beside_gives, rescue_gives, linked_gives, join_gives, cut_gives}
 use Rattle.wider_rules.proofs.FurtherLaws.{net_from, beside_from, rescue_from, linked_from, join_from, cut_from}
-use Rattle.wider_rules.proofs.FurtherLaws.{cover_gives, cover_from}
+use Rattle.wider_rules.proofs.FurtherLaws.{cover_gives, cover_from, approach_gives, approach_from}
 use Rattle.wider_rules.proofs.laws.further_sets_are_by_strings.Goals as goal
 
 -- Net by the test and in words are one
@@ -37,3 +37,8 @@ returns-clause-cut c = λ s cells target p on.
 pub returns-clause-cover : goal.returns-clause-cover
 returns-clause-cover c = λ s cells target p on.
     (cover_gives s cells target p, λ w. cover_from s cells target w.0 w.1 p on w.2)
+
+-- and Approach
+pub returns-clause-approach : goal.returns-clause-approach
+returns-clause-approach c = λ s cells target p on.
+    (approach_gives s cells target p, λ w. approach_from s cells target w.0 w.1 w.2 p on w.3)
