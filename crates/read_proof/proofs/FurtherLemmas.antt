@@ -11,7 +11,7 @@ use Rattle.go_rules.specs.Strings.{cell_at, same_cell, is_liberty, liberties}
 use Rattle.go_rules.proofs.Counts.{any_below_false, any_below_same}
 use Rattle.go_rules.proofs.Tests.{same_tests, and-false, or-false, or_comm}
 use Rattle.go_base.specs.Surroundings.{is_only_liberty}
-use Rattle.wider_rules.specs.Further.{is_net, is_beside, is_rescue, is_join, is_cut, is_cover}
+use Rattle.wider_rules.specs.Further.{is_net, is_beside, is_rescue, is_join, is_cut, is_cover, is_approach}
 use Rattle.wider_rules.specs.Further.{is_further_always, is_further_wide, is_further}
 use Rattle.wider_rules.specs.Strings.{holds_next, is_few_liberty}
 use Rattle.read_proof.specs.Beside.{stands_beside}
@@ -80,13 +80,13 @@ module _ (s : ℕ) (cells : List Cell) (target p : ℕ) where
   attacker_wide true net link t e f = either e f
   attacker_wide false net link t e f = absurd (let w = t in cc)
 
-  -- the defender's are Beside, Join and Cover
-  pub defender_wide : (turn beside join cover : Bool) → turn ≡ false → beside ≡ is_beside 4 s cells target p
-      → join ≡ is_join 4 s cells target p → cover ≡ is_cover s cells target p
-      → ((beside || join) || cover) ≡ is_further_wide turn s cells target p
+  -- the defender's are Beside, Join, Cover and Approach
+  pub defender_wide : (turn beside join cover near : Bool) → turn ≡ false → beside ≡ is_beside 4 s cells target p
+      → join ≡ is_join 4 s cells target p → cover ≡ is_cover s cells target p → near ≡ is_approach s cells target p
+      → (((beside || join) || cover) || near) ≡ is_further_wide turn s cells target p
   unfolding is_further_wide
-  defender_wide true beside join cover t e f g = absurd (let w = t in cc)
-  defender_wide false beside join cover t e f g = either (either e f) g
+  defender_wide true beside join cover near t e f g h = absurd (let w = t in cc)
+  defender_wide false beside join cover near t e f g h = either (either (either e f) g) h
 
   -- the further candidates are those of every ply and, with a wide ply, those of one alone
   pub further_with_wide : (wide turn always alone : Bool) → wide ≡ true

@@ -1,23 +1,19 @@
 //! The further candidates of a target, which the wider tree tries, found on a position: some in every ply, and some only
 //! if a wide ply is left.
 
-ghost use Rattle.std.specs.Prelude.{◌≡◌, ℕ, ◌*◌, ◌<◌, ◌==◌, ◌&&◌, ◌||◌, true, false, IsTrue, nat_le, nat_lt};
+ghost use Rattle.std.specs.Prelude.{◌≡◌, ℕ, ◌*◌, ◌<◌, ◌==◌, ◌&&◌, IsTrue, nat_lt};
 ghost use Rattle.std.specs.FinSet as set;
-ghost use Rattle.go_rules.specs.Below.{any_below};
-ghost use Rattle.go_rules.specs.Strings.{liberty_points, string_at};
-ghost use Rattle.go_base.specs.Floods.{enemy_points};
-ghost use Rattle.go_base.specs.Surroundings.{is_only_liberty};
+ghost use Rattle.go_rules.specs.Strings.{liberty_points};
 ghost use Rattle.wider_rules.specs.Further.{netted, few_of_linked, is_net, is_beside, is_ally, is_rescue, is_join};
 ghost use Rattle.wider_rules.specs.Further.{is_cutter, is_cut, is_covered_liberty, is_cover};
 ghost use Rattle.wider_rules.specs.Further.{is_further_always, is_further_wide, is_further};
-ghost use Rattle.wider_rules.specs.Strings.{is_few_liberty, is_few_enemy, is_near_friend};
+ghost use Rattle.wider_rules.specs.Strings.{is_near_friend};
 
+use crate::approach::approach;
 use crate::beside::beside;
-use go_base::flood::{Found, flood};
+use crate::strings::{Around, around_strings, last_liberties, string_of};
+use go_base::flood::Found;
 use go_base::{Cell, Point, PointSet, Position};
-
-/// How many liberties a string in atari has.
-const IN_ATARI: u16 = 1;
 
 /// How many liberties a target has around which the attacker tries a net.
 const NETTED: u16 = 3;
@@ -45,85 +41,6 @@ fn is_netted(liberties: u16) -> bool
     ensures { result ≡ (liberties == netted) }
 {
     liberties == NETTED
-}
-
-/// Whether so many liberties are no fewer than `least` and no more than `most`.
-fn are_between(least: u16, most: u16, liberties: u16) -> bool
-    ensures { result ≡ (nat_le least liberties && nat_le liberties most) }
-{
-    least <= liberties && liberties <= most
-}
-
-/// What stands around strings.
-#[derive(Drop)]
-struct Around {
-    /// Their liberties.
-    liberties: PointSet,
-    /// The enemy stones next to them.
-    enemies: PointSet,
-}
-
-/// The string of p, its liberties and the enemy stones next to it.
-fn string_of(pos: &Position, p: Point) -> Found
-    requires { p < pos.now.size * pos.now.size }
-    ensures stones { result.stones ≡ string_at pos.now.size pos.now.cells p }
-    ensures liberties { result.liberties ≡ liberty_points pos.now.size pos.now.cells p }
-    ensures enemies { result.enemies ≡ enemy_points pos.now.size pos.now.cells p }
-{
-    flood(&mut pos.board(), p)
-}
-
-/// Adds what stands around the string of q if it has at least and at most so many liberties, and tells its stones.
-fn add_string(pos: &Position, least: u16, most: u16, q: Point, found: &mut Around) -> PointSet
-    requires { q < pos.now.size * pos.now.size }
-    ensures stones { result ≡ string_at pos.now.size pos.now.cells q }
-    ensures liberties { (p : ℕ) → set.contains found.new.liberties p ≡ (set.contains found.old.liberties p
-        || is_few_liberty least most pos.now.size pos.now.cells q p) }
-    ensures enemies { (r : ℕ) → set.contains found.new.enemies r ≡ (set.contains found.old.enemies r
-        || is_few_enemy least most pos.now.size pos.now.cells q r) }
-{
-    let Found {
-        stones,
-        liberties,
-        enemies,
-    } = string_of(pos, q);
-    if are_between(least, most, liberties.count()) {
-        found.liberties.join(&liberties);
-        found.enemies.join(&enemies);
-    }
-    stones
-}
-
-/// The liberties of those strings of the points that have at least and at most so many, and the enemy stones next to
-/// these strings. Each string is found once: its stones are taken off the points that are left.
-fn around_strings(pos: &Position, least: u16, most: u16, points: &PointSet) -> Around
-    requires { (q : ℕ) → IsTrue (set.contains points.now q) → q < pos.now.size * pos.now.size }
-    ensures liberties { (p : ℕ) → set.contains result.liberties p ≡ any_below (pos.now.size * pos.now.size)
-        (λ q. set.contains points.now q && is_few_liberty least most pos.now.size pos.now.cells q p) }
-    ensures enemies { (r : ℕ) → set.contains result.enemies r ≡ any_below (pos.now.size * pos.now.size)
-        (λ q. set.contains points.now q && is_few_enemy least most pos.now.size pos.now.cells q r) }
-{
-    let mut found = Around {
-        liberties: PointSet::new(),
-        enemies: PointSet::new(),
-    };
-    let mut rest = points.copied();
-    let mut next = 0;
-    while let Some(q) = rest.first_from(next) {
-        let stones = add_string(pos, least, most, q, &mut found);
-        rest = rest.difference(&stones);
-        next = q + 1;
-    }
-    found
-}
-
-/// The points that are the one liberty of the string of a stone of the set.
-fn last_liberties(pos: &Position, points: &PointSet) -> PointSet
-    requires { (q : ℕ) → IsTrue (set.contains points.now q) → q < pos.now.size * pos.now.size }
-    ensures { (p : ℕ) → set.contains result p ≡ any_below (pos.now.size * pos.now.size)
-        (λ r. set.contains points.now r && is_only_liberty pos.now.size pos.now.cells r p) }
-{
-    around_strings(pos, IN_ATARI, IN_ATARI, points).liberties
 }
 
 /// The points of Net: the empty neighbours of the target's liberties, which are handed in, if these are three.
@@ -243,7 +160,8 @@ fn always(pos: &Position, attacker_to_play: bool, target: Point, liberties: &Poi
     found
 }
 
-/// The further candidates of a wide ply alone: for the attacker Net and Link, for the defender Beside, Join and Cover.
+/// The further candidates of a wide ply alone: for the attacker Net and Link, for the defender Beside, Join, Cover and
+/// Approach.
 fn wide_alone(
     pos: &Position,
     attacker_to_play: bool,
@@ -263,6 +181,11 @@ fn wide_alone(
     let mut found = weak_enemies(pos, target, FEW_OF_DEFENDER).liberties;
     found.join(&linked_liberties(pos, target, FEW_OF_LINKED, liberties));
     found.join(&cover(pos, target));
+    found.join(&approach(
+        pos,
+        target,
+        &weak_enemies(pos, target, FEW_OF_ATTACKER).liberties,
+    ));
     found
 }
 

@@ -3,7 +3,7 @@ use Rattle.std.proofs.Common.{◌*◌}
 use Rattle.wider_rules.specs.Strings.{is_few_liberty, is_few_enemy}
 use Rattle.wider_rules.proofs.GatherLemmas.{Gathers-none, Gathers-all}
 use Rattle.wider_rules.proofs.StringLemmas.{AddsAround, GathersAround-next}
-use Rattle.read_proof.proofs.further.around_strings.Goals as goal
+use Rattle.read_proof.proofs.strings.around_strings.Goals as goal
 
 -- nothing came, and all points are left
 pub loop-q-init : goal.loop-q-init

@@ -1,7 +1,7 @@
 use Rattle.std.specs.Prelude.{◌-◌}
 use Rattle.go_rules.specs.Board.{largest_points}
 use Rattle.wider_rules.proofs.StringLemmas.{GathersAround}
-use Rattle.read_proof.proofs.further.around_strings.Given as goal
+use Rattle.read_proof.proofs.strings.around_strings.Given as goal
 
 -- what stands around the strings of the points came, but for the points that are left from the next one on
 abbrev pub invariant-loop-q : goal.invariant-loop-q

@@ -2,7 +2,7 @@ use Rattle.std.proofs.Common.{ap, ◌∙◌}
 use Rattle.go_rules.specs.Strings.{liberty_points, string_at}
 use Rattle.go_base.specs.Floods.{enemy_points}
 use Rattle.go_base.proofs.HeldBoards.{whole_after}
-use Rattle.read_proof.proofs.further.string_of.Goals as goal
+use Rattle.read_proof.proofs.strings.string_of.Goals as goal
 
 -- a search over the position's board finds the stones of its string
 pub returns-clause-stones : goal.returns-clause-stones

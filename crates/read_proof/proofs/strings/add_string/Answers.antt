@@ -1,7 +1,7 @@
 -- What stands around a string with few liberties came, and nothing of one with many.
 use Rattle.std.proofs.Common.{sym, ◌∙◌}
 use Rattle.wider_rules.proofs.StringLemmas.{few_liberties, many_liberties, few_enemies, many_enemies}
-use Rattle.read_proof.proofs.further.add_string.Goals as goal
+use Rattle.read_proof.proofs.strings.add_string.Goals as goal
 
 -- its liberties came
 pub returns-then-are_between-clause-liberties : goal.returns-then-are_between-clause-liberties

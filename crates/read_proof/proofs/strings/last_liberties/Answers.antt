@@ -1,6 +1,6 @@
 use Rattle.std.proofs.Common.{◌∙◌}
 use Rattle.read_proof.proofs.FurtherLemmas.{lasts}
-use Rattle.read_proof.proofs.further.last_liberties.Goals as goal
+use Rattle.read_proof.proofs.strings.last_liberties.Goals as goal
 
 -- the liberty of a string with just one is its last
 pub returns : goal.returns
