@@ -4,8 +4,8 @@ use Rattle.std.proofs.lemmas.Bool.{and_parts, or_cases, ltb-true}
 use Rattle.go_rules.specs.declared.Cell.{Cell}
 use Rattle.go_rules.proofs.Counts.{any_below_gives}
 use Rattle.go_rules.proofs.Paths.{IsLiberty-from_test}
-use Rattle.wider_rules.specs.Further.{is_net, is_beside, is_rescue, is_join, is_cut, is_cover, is_further}
-use Rattle.wider_rules.specs.Further.{is_further_always, is_further_wide}
+use Rattle.wider_rules.specs.Further.{is_net, is_beside, is_rescue, is_join, is_cut, is_cover, is_approach}
+use Rattle.wider_rules.specs.Further.{is_further_always, is_further_wide, is_further}
 use Rattle.wider_rules.proofs.FurtherLaws.{net_gives, beside_gives, last_gives}
 
 -- The sets of one target.
@@ -40,6 +40,12 @@ module _ (s : ℕ) (cells : List Cell) (target p : ℕ) where
   unfolding is_cover
   cover_on h = ltb-true p (s * s) (and_parts _ _ (and_parts _ _ h).0).0
 
+  -- and one of Approach
+  approach_on : is_approach s cells target p ≡ true → p < s * s
+  unfolding is_approach
+  approach_on h =
+      let r = any_below_gives (s * s) _ h in (IsLiberty-from_test s cells r.0 p (and_parts _ _ r.2).1).on_board
+
   -- so is each further candidate of every ply
   always_on : (attacker : Bool) → is_further_always attacker s cells target p ≡ true → p < s * s
   unfolding is_further_always
@@ -59,13 +65,17 @@ module _ (s : ℕ) (cells : List Cell) (target p : ℕ) where
     | inl net ↦ net_on net
     | inr link ↦ join_on 2 link
   ]
-  wide_on false h =
-      elim (or_cases (is_beside 4 s cells target p || is_join 4 s cells target p) (is_cover s cells target p) h) [
-        | inr cover ↦ cover_on cover
-        | inl first ↦ elim (or_cases (is_beside 4 s cells target p) (is_join 4 s cells target p) first) [
-          | inl beside ↦ beside_on 4 beside
-          | inr join ↦ join_on 4 join
-        ]
+  wide_on false h = elim (or_cases (is_beside 4 s cells target p || is_join 4 s cells target p
+      || is_cover s cells target p) (is_approach s cells target p) h) [
+        | inr approach ↦ approach_on approach
+        | inl nearer ↦
+            elim (or_cases (is_beside 4 s cells target p || is_join 4 s cells target p) (is_cover s cells target p) nearer) [
+              | inr cover ↦ cover_on cover
+              | inl first ↦ elim (or_cases (is_beside 4 s cells target p) (is_join 4 s cells target p) first) [
+                | inl beside ↦ beside_on 4 beside
+                | inr join ↦ join_on 4 join
+              ]
+            ]
       ]
 
   -- and so each further candidate
