@@ -108,7 +108,7 @@ fn cutters(pos: &Position, target: Point, liberties: &PointSet) -> PointSet
     requires on_board { target < pos.now.size * pos.now.size }
     requires liberties { liberties.now ≡ liberty_points pos.now.size pos.now.cells target }
     ensures { (r : ℕ) → set.contains result r
-        ≡ (nat_lt r (pos.now.size * pos.now.size) && is_cutter pos.now.size pos.now.cells target r) }
+        ≡ (nat_lt r (pos.now.size * pos.now.size) && is_cutter few_of_linked pos.now.size pos.now.cells target r) }
 {
     around_strings(pos, 0, FEW_OF_LINKED, &near_friends(pos, target, liberties)).enemies
 }

@@ -14,4 +14,4 @@ around_strings-requires c = λ q h.
 pub returns : goal.returns
 returns c = λ r.
     c.around_strings.ensures.enemies r
-    ∙ cutter_is c.args.pos.now.size c.args.pos.now.cells c.args.target r c.near_friends.result c.near_friends.ensures
+    ∙ cutter_is c.args.pos.now.size c.args.pos.now.cells c.args.target r c.near_friends.result c.near_friends.ensures 4
