@@ -3,7 +3,7 @@
 use super::candidates::{Row, Which, check_table};
 
 /// Targets with their further candidates: each set with a position that has it, and with one that does not.
-static FURTHER: [Row; 37] = [
+static FURTHER: [Row; 40] = [
     Row {
         name: "no candidate of an empty point at the attacker's turn",
         stones: (5, "", ""),
@@ -262,6 +262,27 @@ static FURTHER: [Row; 37] = [
         target: "A1",
         which: Which::OfDefender(0),
         points: "",
+    },
+    Row {
+        name: "Approach at B3, since black would be cramped at C2 and at C1 beside the two stones",
+        stones: (5, "C5 A4 C4 A3 D3 E3 A2 A1 D1", "D5 E4 C3 B2 D2 E2 B1"),
+        target: "D1",
+        which: Which::OfDefender(1),
+        points: "D4 B3 C2 C1 E1",
+    },
+    Row {
+        name: "no approach at B3 if the stone B2 is not there",
+        stones: (5, "C5 A4 C4 A3 D3 E3 A2 A1 D1", "D5 E4 C3 D2 E2 B1"),
+        target: "D1",
+        which: Which::OfDefender(1),
+        points: "D4 B2 C2 C1 E1",
+    },
+    Row {
+        name: "no approach if no wide ply is left",
+        stones: (5, "C5 A4 C4 A3 D3 E3 A2 A1 D1", "D5 E4 C3 B2 D2 E2 B1"),
+        target: "D1",
+        which: Which::OfDefender(0),
+        points: "D4",
     },
 ];
 

@@ -19,7 +19,7 @@ struct Readings {
 const LONG_LADDER: Stones = (19, "D16", "C16 D17 E17");
 
 /// Readings by what they show.
-static READINGS: [Readings; 37] = [
+static READINGS: [Readings; 38] = [
     Readings {
         name: "a stone in atari is captured",
         stones: IN_ATARI,
@@ -257,6 +257,14 @@ static READINGS: [Readings; 37] = [
         name: "the defender covers the liberties of weak attackers",
         stones: (5, "A5 C4 E2", "D5 D4 B3"),
         rows: &[((Attack, "D4", 8, 2), Wider, 0, "")],
+    },
+    Readings {
+        name: "the defender approaches a point at which he would be cramped",
+        stones: (5, "C5 A4 C4 A3 D3 E3 A2 A1 D1", "D5 E4 C3 B2 D2 E2 B1"),
+        rows: &[
+            ((Defend, "D1", 4, 1), Wider, 3, "B3"),
+            ((Defend, "D1", 4, 1), Stated, 0, ""),
+        ],
     },
 ];
 

@@ -36,7 +36,7 @@ pub(super) const FOUR_LIBERTIES: &[u8] = b"\
 
 /// Texts in both trees. Where one ply is left and one wide ply, any candidate of the defender's proves that the
 /// attacker does not win, and `*` is followed by a dot for each candidate of the attacker's.
-static IN_BOTH_TREES: [Texts; 22] = [
+static IN_BOTH_TREES: [Texts; 24] = [
     Texts {
         name: "the defender has the liberties of stones beside the target",
         stones: (5, "B2 B3", "C2"),
@@ -128,6 +128,20 @@ static IN_BOTH_TREES: [Texts; 22] = [
         question: (Defend, "A1", 1, 1),
         code: 3,
         rows: &[("a neighbour of the liberty B2", b"N B3 .", NEITHER)],
+    },
+    Texts {
+        name: "the defender approaches a point at which he would be cramped",
+        stones: (5, "C5 A4 C4 A3 D3 E3 A2 A1 D1", "D5 E4 C3 B2 D2 E2 B1"),
+        question: (Defend, "D1", 4, 1),
+        code: 3,
+        rows: &[("the approach at B3", b"N B3 * . . C2 . C2 .", WIDER)],
+    },
+    Texts {
+        name: "the defender does not approach where nothing is in the way",
+        stones: (5, "C5 A4 C4 A3 D3 E3 A2 A1 D1", "D5 E4 C3 D2 E2 B1"),
+        question: (Defend, "D1", 1, 1),
+        code: 3,
+        rows: &[("B3, which is no candidate", b"N B3 .", NEITHER)],
     },
     Texts {
         name: "the attacker has a net around three liberties",
