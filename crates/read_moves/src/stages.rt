@@ -52,11 +52,7 @@ fn attacker_of(cell: Cell) -> Colour
 
 /// The wide candidates by the target's liberties, at either side's turn: the empty neighbours of the liberties, if there
 /// are at most two of these, and the one liberty that a stone of the attacker on one of them would have.
-fn wide_by_liberties<L: Look>(
-    board: &mut Trial<L>,
-    target: Point,
-    liberties: &PointSet,
-) -> PointSet
+fn wide_by_liberties<L: Look>(board: &mut Trial<L>, target: Point, liberties: &PointSet) -> PointSet
     requires on_board { target < (L.shows board.old.look).size * (L.shows board.old.look).size }
     requires liberties { (pos : BoardState) → Agrees (L.seen board.old.look) pos
         → liberties.now ≡ liberty_points pos.size (after pos board.old.moves).cells target }
