@@ -95,10 +95,10 @@ static void add_liberties(const Position *pos, const char *stones, int least, in
   }
 }
 
-/* the empty neighbours of the liberties of the string of q, where it has at least so many and at most so many */
-static void add_empty_beside(const Position *pos, int q, int least, int most, char *is) {
+/* the empty neighbours of the target's liberties, where it has at least so many and at most so many */
+static void add_empty_beside(const Position *pos, int target, int least, int most, char *is) {
   char in[POINTS], free[POINTS], empty[POINTS];
-  int count = string_of(pos, q, in, free);
+  int count = string_of(pos, target, in, free);
   stones_beside(pos, EMPTY, free, empty);
   for (int p = 0; p < points; p++) if (least <= count && count <= most && empty[p]) is[p] = 1;
 }
@@ -143,8 +143,8 @@ static void add_beside(const Position *pos, int target, int most, char *is) {
   add_liberties(pos, enemy, 0, most, is);
 }
 
-/* Rescue, and Save: the one liberty of a string of the target's colour, another than the target's, that has exactly one
- * and is next to an enemy string with at most two liberties that is next to the target's */
+/* Rescue, and Save for the defender: the one liberty of a string of the target's colour, another than the target's,
+ * that has exactly one and is next to an enemy string with at most two liberties that is next to the target's */
 static void add_rescue(const Position *pos, int target, char *is) {
   char own[POINTS], free[POINTS], enemy[POINTS], ally[POINTS];
   enemies_beside(pos, target, enemy);
@@ -166,15 +166,14 @@ static void linked(const Position *pos, int target, int most, char *is) {
   for (int q = 0; q < points; q++) if (is[q] && (own[q] || liberties(pos, q) > most)) is[q] = 0;
 }
 
-/* Join, and Link: a liberty of a linked string with at most so many liberties */
+/* Join, and Link for the attacker: a liberty of a linked string that has at most so many */
 static void add_join(const Position *pos, int target, int most, char *is) {
   char friend[POINTS];
   linked(pos, target, most, friend);
   add_liberties(pos, friend, 0, POINTS, is);
 }
 
-/* Cut: the one liberty of an enemy string that has exactly one and is next to a linked string with at most four
- * liberties */
+/* Cut: the one liberty of an enemy string that has exactly one and is next to a linked string with at most four */
 static void add_cut(const Position *pos, int target, char *is) {
   char friend[POINTS], enemy[POINTS];
   linked(pos, target, 4, friend);
@@ -185,46 +184,75 @@ static void add_cut(const Position *pos, int target, char *is) {
   }
 }
 
-/* Cover: an empty neighbour of a liberty of an enemy string that is next to the target's and has two or three */
+/* Cover: an empty neighbour of a liberty of an enemy string that is next to the target's string and has two or three */
 static void add_cover(const Position *pos, int target, char *is) {
-  char enemy[POINTS];
+  char enemy[POINTS], free[POINTS] = {0}, empty[POINTS];
   enemies_beside(pos, target, enemy);
-  for (int q = 0; q < points; q++) if (enemy[q]) add_empty_beside(pos, q, 2, 3, is);
+  add_liberties(pos, enemy, 2, 3, free);
+  stones_beside(pos, EMPTY, free, empty);
+  for (int p = 0; p < points; p++) if (empty[p]) is[p] = 1;
 }
 
-/* the further candidates of every ply */
-static void further_always(const Node *node, const Position *pos, char *is) {
-  if (node->attacks) {
-    add_beside(pos, node->target, 2, is);
-    add_rescue(pos, node->target, is);
-  } else {
-    add_rescue(pos, node->target, is);
-    add_cut(pos, node->target, is);
+/* whether a stone of the colour at the empty point l would take nothing and have at most one liberty, or none */
+static int is_cramped(const Position *pos, int colour, int l) {
+  char in[POINTS], free[POINTS], reached[POINTS] = {0};
+  int side[4], sides = neighbours(l, side), count = 0;
+  for (int i = 0; i < sides; i++) {
+    int q = side[i];
+    if (pos->cell[q] == EMPTY) reached[q] = 1;
+    else if (pos->cell[q] == colour) {
+      string_of(pos, q, in, free);
+      for (int r = 0; r < points; r++) if (free[r] && r != l) reached[r] = 1;
+    } else if (liberties(pos, q) == 1) return 0;
+  }
+  for (int r = 0; r < points; r++) count += reached[r];
+  return count <= 1;
+}
+
+/* Approach: take a liberty of an enemy string that is next to the target's string and has at most two, where a stone of
+ * the target's colour would be cramped; a liberty of an enemy string next to that liberty that has at most two */
+static void add_approach(const Position *pos, int target, char *is) {
+  char beside[POINTS] = {0}, enemy[POINTS], alone[POINTS];
+  add_beside(pos, target, 2, beside);
+  for (int l = 0; l < points; l++) {
+    if (!beside[l] || !is_cramped(pos, pos->cell[target], l)) continue;
+    memset(alone, 0, POINTS);
+    alone[l] = 1;
+    stones_beside(pos, 3 - pos->cell[target], alone, enemy);
+    add_liberties(pos, enemy, 0, 2, is);
   }
 }
 
-/* the further candidates of a wide ply alone */
-static void further_wide(const Node *node, const Position *pos, char *is) {
+/* what the wider tree tries besides: in every ply, and where a wide ply is left */
+static void further(const Node *node, const Position *pos, char *is) {
+  int target = node->target;
+  add_rescue(pos, target, is);
   if (node->attacks) {
-    add_net(pos, node->target, is);
-    add_join(pos, node->target, 2, is);
+    add_beside(pos, target, 2, is);
+    if (node->wide == 0) return;
+    add_net(pos, target, is);
+    add_join(pos, target, 2, is);
   } else {
-    add_beside(pos, node->target, 4, is);
-    add_join(pos, node->target, 4, is);
-    add_cover(pos, node->target, is);
+    add_cut(pos, target, is);
+    if (node->wide == 0) return;
+    add_beside(pos, target, 4, is);
+    add_join(pos, target, 4, is);
+    add_cover(pos, target, is);
+    add_approach(pos, target, is);
   }
 }
 
 /* the candidates at the node */
 static void candidates(const Node *node, const Position *pos, char *is) {
+  int target = node->target;
   memset(is, 0, POINTS);
-  add_own(pos, node->target, is);
-  add_captures(pos, node->target, is);
-  if (wider) further_always(node, pos, is);
-  if (node->wide == 0) return;
-  add_second(pos, node->target, is);
-  add_backfilling(pos, node->target, is);
-  if (wider) further_wide(node, pos, is);
+  add_own(pos, target, is);
+  add_captures(pos, target, is);
+  if (node->wide > 0) {
+    add_second(pos, target, is);
+    add_backfilling(pos, target, is);
+  }
+  if (wider) further(node, pos, is);
 }
 
 /* where the mover's play at p leads; 0 where it cannot be played */
