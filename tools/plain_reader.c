@@ -143,8 +143,8 @@ static void add_beside(const Position *pos, int target, int most, char *is) {
   add_liberties(pos, enemy, 0, most, is);
 }
 
-/* Rescue: the one liberty of a string of the target's colour, another than the target's, that has exactly one and is
- * next to an enemy string with at most two liberties that is next to the target's */
+/* Rescue, and Save for the defender: the one liberty of a string of the target's colour, another than the target's,
+ * that has exactly one and is next to an enemy string with at most two liberties that is next to the target's */
 static void add_rescue(const Position *pos, int target, char *is) {
   char own[POINTS], free[POINTS], enemy[POINTS], ally[POINTS];
   enemies_beside(pos, target, enemy);
@@ -158,29 +158,87 @@ static void add_rescue(const Position *pos, int target, char *is) {
 }
 
 /* a stone of a linked string: one of the target's colour, another than the target's, that is next to a liberty of the
- * target and has at most four liberties */
-static void linked(const Position *pos, int target, char *is) {
+ * target and has at most so many liberties */
+static void linked(const Position *pos, int target, int most, char *is) {
   char own[POINTS], free[POINTS];
   string_of(pos, target, own, free);
   stones_beside(pos, pos->cell[target], free, is);
-  for (int q = 0; q < points; q++) if (is[q] && (own[q] || liberties(pos, q) > 4)) is[q] = 0;
+  for (int q = 0; q < points; q++) if (is[q] && (own[q] || liberties(pos, q) > most)) is[q] = 0;
 }
 
-/* Join: a liberty of a linked string */
-static void add_join(const Position *pos, int target, char *is) {
+/* Join, and Link for the attacker: a liberty of a linked string that has at most so many */
+static void add_join(const Position *pos, int target, int most, char *is) {
   char friend[POINTS];
-  linked(pos, target, friend);
+  linked(pos, target, most, friend);
   add_liberties(pos, friend, 0, POINTS, is);
 }
 
-/* Cut: the one liberty of an enemy string that has exactly one and is next to a linked string */
+/* Cut: the one liberty of an enemy string that has exactly one and is next to a linked string with at most four */
 static void add_cut(const Position *pos, int target, char *is) {
   char friend[POINTS], enemy[POINTS];
-  linked(pos, target, friend);
+  linked(pos, target, 4, friend);
   for (int q = 0; q < points; q++) {
     if (!friend[q]) continue;
     enemies_beside(pos, q, enemy);
     add_liberties(pos, enemy, 1, 1, is);
+  }
+}
+
+/* Cover: an empty neighbour of a liberty of an enemy string that is next to the target's string and has two or three */
+static void add_cover(const Position *pos, int target, char *is) {
+  char enemy[POINTS], free[POINTS] = {0}, empty[POINTS];
+  enemies_beside(pos, target, enemy);
+  add_liberties(pos, enemy, 2, 3, free);
+  stones_beside(pos, EMPTY, free, empty);
+  for (int p = 0; p < points; p++) if (empty[p]) is[p] = 1;
+}
+
+/* whether a stone of the colour at the empty point l would take nothing and have at most one liberty, or none */
+static int is_cramped(const Position *pos, int colour, int l) {
+  char in[POINTS], free[POINTS], reached[POINTS] = {0};
+  int side[4], sides = neighbours(l, side), count = 0;
+  for (int i = 0; i < sides; i++) {
+    int q = side[i];
+    if (pos->cell[q] == EMPTY) reached[q] = 1;
+    else if (pos->cell[q] == colour) {
+      string_of(pos, q, in, free);
+      for (int r = 0; r < points; r++) if (free[r] && r != l) reached[r] = 1;
+    } else if (liberties(pos, q) == 1) return 0;
+  }
+  for (int r = 0; r < points; r++) count += reached[r];
+  return count <= 1;
+}
+
+/* Approach: take a liberty of an enemy string that is next to the target's string and has at most two, where a stone of
+ * the target's colour would be cramped; a liberty of an enemy string next to that liberty that has at most two */
+static void add_approach(const Position *pos, int target, char *is) {
+  char beside[POINTS] = {0}, enemy[POINTS], alone[POINTS];
+  add_beside(pos, target, 2, beside);
+  for (int l = 0; l < points; l++) {
+    if (!beside[l] || !is_cramped(pos, pos->cell[target], l)) continue;
+    memset(alone, 0, POINTS);
+    alone[l] = 1;
+    stones_beside(pos, 3 - pos->cell[target], alone, enemy);
+    add_liberties(pos, enemy, 0, 2, is);
+  }
+}
+
+/* what the wider tree tries besides: in every ply, and where a wide ply is left */
+static void further(const Node *node, const Position *pos, char *is) {
+  int target = node->target;
+  add_rescue(pos, target, is);
+  if (node->attacks) {
+    add_beside(pos, target, 2, is);
+    if (node->wide == 0) return;
+    add_net(pos, target, is);
+    add_join(pos, target, 2, is);
+  } else {
+    add_cut(pos, target, is);
+    if (node->wide == 0) return;
+    add_beside(pos, target, 4, is);
+    add_join(pos, target, 4, is);
+    add_cover(pos, target, is);
+    add_approach(pos, target, is);
   }
 }
 
@@ -190,19 +248,11 @@ static void candidates(const Node *node, const Position *pos, char *is) {
   memset(is, 0, POINTS);
   add_own(pos, target, is);
   add_captures(pos, target, is);
-  if (node->wide == 0) return;
-  add_second(pos, target, is);
-  add_backfilling(pos, target, is);
-  if (!wider) return;
-  if (node->attacks) {
-    add_net(pos, target, is);
-    add_beside(pos, target, 2, is);
-    add_rescue(pos, target, is);
-  } else {
-    add_beside(pos, target, 4, is);
-    add_join(pos, target, is);
-    add_cut(pos, target, is);
+  if (node->wide > 0) {
+    add_second(pos, target, is);
+    add_backfilling(pos, target, is);
   }
+  if (wider) further(node, pos, is);
 }
 
 /* where the mover's play at p leads; 0 where it cannot be played */
@@ -235,7 +285,7 @@ static int attacker_wins(int n, const Node *node, const Position *pos) {
   if (n == 0) return 0;
   if (node->attacks) {
     int count = liberties(pos, node->target);
-    if (count > 4 || (node->wide == 0 && count > (wider ? 3 : 2))) return 0;
+    if (count > 4 || (!wider && node->wide == 0 && count > 2)) return 0;
   } else {
     pass(node, pos, &next, &new);
     if (!attacker_wins(n - 1, &next, &new)) return 0;

@@ -41,9 +41,9 @@ class Node(NamedTuple):
 
     def candidates(self) -> list[int]:
         found = candidates(self.position, self.target, self.wide > 0)
-        if self.wide == 0 or not self.is_wider:
+        if not self.is_wider:
             return found
-        return sorted({*found, *further(self.position, self.target, self.is_attackers)})
+        return sorted({*found, *further(self.position, self.target, self.is_attackers, self.wide > 0)})
 
     def is_captured(self) -> bool:
         return self.position.cells[self.target] == EMPTY
@@ -65,14 +65,19 @@ def strings_beside(size: int, cells: bytes, points: set[int], colour: int) -> It
         yield string
 
 
-def all_liberties(strings: Iterable[String], most: int) -> set[int]:
-    """The liberties of those of these strings that have at most so many."""
-    return {point for string in strings if len(string.liberties) <= most for point in string.liberties}
+def all_liberties(strings: Iterable[String], most: int, least: int = 0) -> set[int]:
+    """The liberties of those of these strings that have at least and at most so many."""
+    return {point for string in strings if least <= len(string.liberties) <= most for point in string.liberties}
+
+
+def last_liberties_of(size: int, cells: bytes, points: set[int], colour: int) -> set[int]:
+    """The one liberty of each string of a colour next to these points that has exactly one."""
+    return all_liberties(strings_beside(size, cells, points, colour), 1)
 
 
 def last_liberties(size: int, cells: bytes, stones: set[int]) -> set[int]:
     """The one liberty of each enemy string next to these stones that has exactly one."""
-    return all_liberties(strings_beside(size, cells, stones, other(cells[min(stones)])), 1)
+    return last_liberties_of(size, cells, stones, other(cells[min(stones)]))
 
 
 def empty_beside(size: int, cells: bytes, points: set[int]) -> set[int]:
@@ -103,16 +108,24 @@ def candidates(position: Position, target: int, is_wide: bool) -> list[int]:
 
 
 @functools.lru_cache(KEPT)
-def further(position: Position, target: int, is_attackers: bool) -> set[int]:
-    """What the wider tree tries besides, where the target stands and a wide ply is left."""
+def further(position: Position, target: int, is_attackers: bool, is_wide: bool) -> set[int]:
+    """What the wider tree tries besides, where the target stands and a wide ply is left or not."""
     size, cells = position.size, position.cells
     string = String(*string_at(size, cells, target))
+    beside = list(enemies_beside(size, cells, string))
+    found = rescue(size, cells, string, beside)
     if is_attackers:
-        beside = [one for one in enemies_beside(size, cells, string) if len(one.liberties) <= 2]
-        return net(size, cells, string) | all_liberties(beside, 2) | rescue(size, cells, string, beside)
-    friends = list(linked(size, cells, string))
-    beside = enemies_beside(size, cells, string)
-    return all_liberties(beside, 4) | all_liberties(friends, 4) | cut(size, cells, friends)
+        found |= all_liberties(beside, 2)
+        if is_wide:
+            found |= net(size, cells, string) | all_liberties(linked(size, cells, string), 2)
+        return found
+    friends = [friend for friend in linked(size, cells, string) if len(friend.liberties) <= 4]
+    found |= cut(size, cells, friends)
+    if is_wide:
+        found |= all_liberties(beside, 4) | all_liberties(friends, 4)
+        found |= empty_beside(size, cells, all_liberties(beside, 3, least=2))
+        found |= approach(size, cells, cells[target], all_liberties(beside, 2))
+    return found
 
 
 def enemies_beside(size: int, cells: bytes, string: String) -> Iterator[String]:
@@ -126,21 +139,41 @@ def net(size: int, cells: bytes, string: String) -> set[int]:
 
 
 def rescue(size: int, cells: bytes, string: String, beside: list[String]) -> set[int]:
-    """The last liberties of strings of the target's colour, but for its own, that are next to one of these enemies."""
-    allies = [ally for enemy in beside for ally in enemies_beside(size, cells, enemy) if ally.stones != string.stones]
+    """The last liberties of strings of the target's colour, but for its own, that are next to one of these enemies with
+    at most two liberties."""
+    weak = [enemy for enemy in beside if len(enemy.liberties) <= 2]
+    allies = [ally for enemy in weak for ally in enemies_beside(size, cells, enemy) if ally.stones != string.stones]
     return all_liberties(allies, 1)
 
 
 def linked(size: int, cells: bytes, string: String) -> Iterator[String]:
-    """The strings of the target's colour, but for its own, next to its liberties, that have at most four liberties."""
+    """The strings of the target's colour, but for its own, next to its liberties."""
     for friend in strings_beside(size, cells, string.liberties, cells[min(string.stones)]):
-        if friend.stones != string.stones and len(friend.liberties) <= 4:
+        if friend.stones != string.stones:
             yield friend
 
 
 def cut(size: int, cells: bytes, friends: list[String]) -> set[int]:
     """The last liberties of enemy strings next to one of these linked strings."""
     return all_liberties((enemy for friend in friends for enemy in enemies_beside(size, cells, friend)), 1)
+
+
+def is_cramped(size: int, cells: bytes, colour: int, point: int) -> bool:
+    """Whether a stone of the colour at an empty point would take nothing and have at most one liberty, or none."""
+    if point in last_liberties_of(size, cells, {point}, other(colour)):
+        return False
+    reached = empty_beside(size, cells, {point})
+    reached |= {free for friend in strings_beside(size, cells, {point}, colour) for free in friend.liberties}
+    return len(reached - {point}) <= 1
+
+
+def approach(size: int, cells: bytes, colour: int, liberties: set[int]) -> set[int]:
+    """The liberties of enemy strings with at most two next to one of these liberties where a stone would be cramped."""
+    found: set[int] = set()
+    for liberty in liberties:
+        if is_cramped(size, cells, colour, liberty):
+            found |= all_liberties(strings_beside(size, cells, {liberty}, other(colour)), 2)
+    return found
 
 
 def next_node(node: Node, position: Position, attacker_ko: int, defender_ko: int) -> Node:
@@ -202,7 +235,7 @@ def has_too_many(node: Node) -> bool:
 
 def is_out_of_reach(node: Node, liberties: int) -> bool:
     """Whether the attacker may not play at a target with so many liberties."""
-    return liberties > 4 or (node.wide == 0 and liberties > (3 if node.is_wider else 2))
+    return liberties > 4 or (node.wide == 0 and not node.is_wider and liberties > 2)
 
 
 def is_settled(node: Node, claim: str) -> bool:
@@ -329,7 +362,7 @@ def reason(node: Node) -> str:
         return f"{head}; with {counted(node.plies, 'ply')} left the attacker {plays}."
     if liberties > 4:
         return f"{head}; against more than 4 the attacker tries nothing."
-    return f"{head}; with no wide ply left the attacker tries nothing against more than {3 if node.is_wider else 2}."
+    return f"{head}; with no wide ply left the attacker tries nothing against more than 2."
 
 
 def claim_in_words(kind: str, part: Part) -> str:

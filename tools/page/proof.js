@@ -5,9 +5,10 @@
 // A node is { board, target, defender, isAttackers, plies, wide, isWider, attackerKo, defenderKo }. A step is the word
 // at a node and the steps behind it: { word, isAttackers, reason, behind: [{ point, step }] }.
 
-/** The points of these strings' liberties, of each string that has at most so many. */
-function libertiesOf(strings, most) {
-  return strings.filter((string) => string.liberties.size <= most).flatMap((string) => [...string.liberties]);
+/** The points of these strings' liberties, of each string that has at most and at least so many. */
+function libertiesOf(strings, most, least = 0) {
+  const isFew = ({ liberties }) => least <= liberties.size && liberties.size <= most;
+  return strings.filter(isFew).flatMap((string) => [...string.liberties]);
 }
 
 /** The strings of a colour that are next to these points. */
@@ -50,27 +51,43 @@ function statedPoints({ board, target, defender, wide }) {
   return found;
 }
 
-/** The points that the wider tree tries besides at a node with a wide ply left. */
-function furtherPoints({ board, target, defender, isAttackers }) {
+/** Whether a stone of the colour at an empty point would take nothing and have at most one liberty, or none. */
+function isCramped(board, colour, point) {
+  if (stringsBeside(board, [point], other(colour)).some((enemy) => enemy.liberties.size === 1)) return false;
+  const friends = stringsBeside(board, [point], colour);
+  const reached = new Set([...emptyBeside(board, [point]), ...friends.flatMap((friend) => [...friend.liberties])]);
+  reached.delete(point);
+  return reached.size <= 1;
+}
+
+/** The points that the wider tree tries besides at a node. */
+function furtherPoints({ board, target, defender, isAttackers, wide }) {
   const attacker = other(defender);
   const string = stringAt(board.size, board.cells, target);
   const enemies = stringsBeside(board, string.stones, attacker);
   const isOwn = (ally) => ally.stones.has(target);
+  const weak = enemies.filter((enemy) => enemy.liberties.size <= 2);
+  const allies = weak.flatMap((enemy) => stringsBeside(board, enemy.stones, defender)).filter((one) => !isOwn(one));
+  const linked = stringsBeside(board, string.liberties, defender).filter((friend) => !isOwn(friend));
+  const found = libertiesOf(allies, 1);
   if (isAttackers) {
-    const weak = enemies.filter((enemy) => enemy.liberties.size <= 2);
-    const allies = weak.flatMap((enemy) => stringsBeside(board, enemy.stones, defender)).filter((one) => !isOwn(one));
-    const net = string.liberties.size === 3 ? emptyBeside(board, string.liberties) : [];
-    return [...net, ...libertiesOf(weak, 2), ...libertiesOf(allies, 1)];
+    found.push(...libertiesOf(weak, 2));
+    if (wide === 0) return found;
+    if (string.liberties.size === 3) found.push(...emptyBeside(board, string.liberties));
+    return [...found, ...libertiesOf(linked, 2)];
   }
-  const near = stringsBeside(board, string.liberties, defender);
-  const friends = near.filter((friend) => !isOwn(friend) && friend.liberties.size <= 4);
-  const cutting = friends.flatMap((friend) => stringsBeside(board, friend.stones, attacker));
-  return [...libertiesOf(enemies, 4), ...libertiesOf(friends, 4), ...libertiesOf(cutting, 1)];
+  const friends = linked.filter((friend) => friend.liberties.size <= 4);
+  found.push(...libertiesOf(friends.flatMap((friend) => stringsBeside(board, friend.stones, attacker)), 1));
+  if (wide === 0) return found;
+  found.push(...libertiesOf(enemies, 4), ...libertiesOf(friends, 4));
+  found.push(...emptyBeside(board, new Set(libertiesOf(enemies, 3, 2))));
+  const cramped = libertiesOf(weak, 2).filter((point) => isCramped(board, defender, point));
+  return [...found, ...cramped.flatMap((point) => libertiesOf(stringsBeside(board, [point], attacker), 2))];
 }
 
 /** The points that are tried at a node, in reading order. */
 function candidates(node) {
-  const further = node.isWider && node.wide > 0 ? furtherPoints(node) : [];
+  const further = node.isWider ? furtherPoints(node) : [];
   return [...new Set([...statedPoints(node), ...further])].sort((a, b) => a - b);
 }
 
@@ -115,7 +132,7 @@ function reasonAt(node) {
   const left = counted(node.plies, "ply", "plies");
   if (liberties > plays) return `${head}; with ${left} left the attacker can play ${counted(plays, "move", "moves")}.`;
   if (liberties > 4) return `${head}; against more than 4 the attacker tries nothing.`;
-  return `${head}; with no wide ply left the attacker tries nothing against more than ${node.isWider ? 3 : 2}.`;
+  return `${head}; with no wide ply left the attacker tries nothing against more than 2.`;
 }
 
 /** Words that are followed one after another. */

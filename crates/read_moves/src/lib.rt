@@ -12,4 +12,4 @@ pub mod stages;
 
 pub use moves::{add_sides, empty_sides};
 pub use read_rules::Depths;
-pub use stages::{candidates, wide_candidates};
+pub use stages::{candidates, later_candidates};

@@ -1,4 +1,5 @@
-//! The candidates of a target by stages: those that every reading tries, and those of a wide ply.
+//! The candidates of a target by stages: its liberties and the last liberties of enemy strings next to it, and the later
+//! candidates.
 
 ghost use Rattle.std.specs.Prelude.{◌≡◌, ℕ, ◌*◌, ◌<◌, ◌&&◌, ◌||◌, IsTrue, nat_lt};
 ghost use Rattle.std.specs.FinSet as set;
@@ -9,7 +10,7 @@ ghost use Rattle.go_base.specs.Facts.{Agrees, AddsIn};
 ghost use Rattle.go_base.specs.Views.{neighbours_of};
 ghost use Rattle.trial_board.specs.Trials.{Stays, after};
 ghost use Rattle.read_rules.specs.Candidates.{attacker_of, is_empty_beside, is_candidate, near_candidates};
-ghost use Rattle.read_rules.specs.Stages.{is_wide_by_liberties, is_wide_candidate};
+ghost use Rattle.read_rules.specs.Stages.{is_wide_by_liberties, is_later_candidate};
 
 use crate::moves::add_backfilling;
 use go_base::points::PointSet;
@@ -49,13 +50,9 @@ fn attacker_of(cell: Cell) -> Colour
     }
 }
 
-/// The wide candidates of the stated tree, at either side's turn: the empty neighbours of the target's liberties, if
-/// there are at most two of these, and the one liberty that a stone of the attacker on one of its liberties would have.
-fn stated_wide_candidates<L: Look>(
-    board: &mut Trial<L>,
-    target: Point,
-    liberties: &PointSet,
-) -> PointSet
+/// The wide candidates by the target's liberties, at either side's turn: the empty neighbours of the liberties, if there
+/// are at most two of these, and the one liberty that a stone of the attacker on one of them would have.
+fn wide_by_liberties<L: Look>(board: &mut Trial<L>, target: Point, liberties: &PointSet) -> PointSet
     requires on_board { target < (L.shows board.old.look).size * (L.shows board.old.look).size }
     requires liberties { (pos : BoardState) → Agrees (L.seen board.old.look) pos
         → liberties.now ≡ liberty_points pos.size (after pos board.old.moves).cells target }
@@ -73,8 +70,34 @@ fn stated_wide_candidates<L: Look>(
     found
 }
 
-/// The wide candidates of the wider tree at the turn: those of the stated one, and the further candidates.
-fn wider_wide_candidates<L: Look>(
+/// The later candidates of the stated tree at the turn: where a wide ply is left, the wide candidates by the target's
+/// liberties.
+fn stated_later_candidates<L: Look>(
+    board: &mut Trial<L>,
+    turn: Turn,
+    liberties: &PointSet,
+) -> PointSet
+    requires on_board { turn.target < (L.shows board.old.look).size * (L.shows board.old.look).size }
+    requires liberties { (pos : BoardState) → Agrees (L.seen board.old.look) pos
+        → liberties.now ≡ liberty_points pos.size (after pos board.old.moves).cells turn.target }
+    ensures stays { Stays L.shows L.seen board.old board.new }
+    ensures over { (pos : BoardState) → Agrees (L.seen board.new.look) pos → (p : ℕ)
+        → set.contains result p
+        ≡ (nat_lt 0 turn.wide && is_wide_by_liberties (after pos board.old.moves) turn.target p) }
+    ensures near { (pos : BoardState) → Agrees (L.seen board.new.look) pos
+        → AddsIn (L.seen board.old.look) (L.seen board.new.look)
+        (near_candidates pos.size (after pos board.old.moves).cells turn.target) }
+{
+    if turn.wide > 0 {
+        wide_by_liberties(board, turn.target, liberties)
+    } else {
+        PointSet::new()
+    }
+}
+
+/// The later candidates of the wider tree at the turn: those of the stated one, and the further candidates, of which
+/// some are tried only where a wide ply is left.
+fn wider_later_candidates<L: Look>(
     board: &mut Trial<L>,
     turn: Turn,
     liberties: &PointSet,
@@ -85,42 +108,43 @@ fn wider_wide_candidates<L: Look>(
         → liberties.now ≡ liberty_points pos.size (after pos board.old.moves).cells turn.target }
     ensures stays { Stays L.shows L.seen board.old board.new }
     ensures over { (pos : BoardState) → Agrees (L.seen board.new.look) pos → (p : ℕ)
-        → set.contains result p ≡ is_wide_candidate turn (after pos board.old.moves) p }
+        → set.contains result p ≡ is_later_candidate turn (after pos board.old.moves) p }
     ensures near { (pos : BoardState) → Agrees (L.seen board.new.look) pos
         → AddsIn (L.seen board.old.look) (L.seen board.new.look)
         (near_candidates pos.size (after pos board.old.moves).cells turn.target) }
 {
-    let mut found = stated_wide_candidates(board, turn.target, liberties);
-    let further = further_candidates(board, turn.target, turn.attacker_to_play, liberties);
+    let mut found = stated_later_candidates(board, turn, liberties);
+    let wide = turn.wide > 0;
+    let further = further_candidates(board, turn.target, turn.attacker_to_play, wide, liberties);
     found.join(&further);
     found
 }
 
-/// The candidates that are tried only where a wide ply is left: the empty neighbours of the target's liberties, if
-/// there are at most two of these, and the one liberty that a stone of the attacker on one of its liberties would have;
-/// in the wider tree also the further candidates of whose turn it is.
+/// The candidates that are tried last at the turn. Where a wide ply is left they are the empty neighbours of the target's
+/// liberties, if there are at most two of these, and the one liberty that a stone of the attacker on one of its liberties
+/// would have. In the wider tree they are also the further candidates of whose turn it is.
 ///
 /// The caller gives the target's liberties. The trial moves stay as they were, and no play is tried. After GNU Go
 /// Manual, "Tactical reading"; the choice of these points is this project's own.
-pub fn wide_candidates<L: Look>(board: &mut Trial<L>, turn: Turn, liberties: &PointSet) -> PointSet
+pub fn later_candidates<L: Look>(board: &mut Trial<L>, turn: Turn, liberties: &PointSet) -> PointSet
     requires on_board { turn.target < (L.shows board.old.look).size * (L.shows board.old.look).size }
     requires liberties { (pos : BoardState) → Agrees (L.seen board.old.look) pos
         → liberties.now ≡ liberty_points pos.size (after pos board.old.moves).cells turn.target }
     ensures stays { Stays L.shows L.seen board.old board.new }
     ensures over { (pos : BoardState) → Agrees (L.seen board.new.look) pos → (p : ℕ)
-        → set.contains result p ≡ is_wide_candidate turn (after pos board.old.moves) p }
+        → set.contains result p ≡ is_later_candidate turn (after pos board.old.moves) p }
     ensures near { (pos : BoardState) → Agrees (L.seen board.new.look) pos
         → AddsIn (L.seen board.old.look) (L.seen board.new.look)
         (near_candidates pos.size (after pos board.old.moves).cells turn.target) }
 {
     match turn.tree {
-        Tree::Stated => stated_wide_candidates(board, turn.target, liberties),
-        Tree::Wider => wider_wide_candidates(board, turn, liberties),
+        Tree::Stated => stated_later_candidates(board, turn, liberties),
+        Tree::Wider => wider_later_candidates(board, turn, liberties),
     }
 }
 
-/// The points that a reading tries at a turn: the liberties of the target, and the last liberty of each enemy string next
-/// to it; where a wide ply is left, also the `wide_candidates` of whose turn it is.
+/// The points that a reading tries at a turn: the liberties of the target, the last liberty of each enemy string next to
+/// it, and the `later_candidates`.
 ///
 /// The trial moves stay as they were. After GNU Go Manual, "Tactical reading"; the choice of these points is this
 /// project's own.
@@ -141,8 +165,8 @@ pub fn candidates<L: Look>(board: &mut Trial<L>, turn: Turn) -> PointSet
     } = board.surroundings(turn.target);
     let mut found = last_liberties;
     found.join(&liberties);
-    if turn.wide > 0 {
-        found.join(&wide_candidates(board, turn, &liberties));
+    if turn.has_later_candidates() {
+        found.join(&later_candidates(board, turn, &liberties));
     }
     found
 }

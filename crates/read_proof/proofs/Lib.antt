@@ -2,6 +2,7 @@ pub mod SoundLemmas
 pub mod CodeLemmas
 pub mod FoundLemmas
 pub mod FurtherLemmas
+pub mod ApproachLemmas
 pub mod ChildLemmas
 pub mod StepLemmas
 pub mod PrintLemmas

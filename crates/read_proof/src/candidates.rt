@@ -7,14 +7,13 @@ ghost use Rattle.go_rules.specs.Board.{largest_points};
 ghost use Rattle.go_rules.specs.Strings.{liberty_points};
 ghost use Rattle.go_base.specs.Surroundings.{is_only_liberty, is_last_liberty_of_enemy};
 ghost use Rattle.read_rules.specs.Candidates.{attacker_of, is_empty_beside, is_left, is_candidate};
-ghost use Rattle.read_rules.specs.Stages.{is_wide_by_liberties, is_wide_candidate};
-ghost use Rattle.read_rules.specs.Trees.{is_wider};
+ghost use Rattle.read_rules.specs.Stages.{is_wide_by_liberties, is_later_candidate};
 
 use crate::beside::{add_where, beside};
 use crate::further::further_candidates;
 use go_base::surroundings::{Surroundings, surroundings_of};
 use go_base::{Cell, Colour, Point, PointSet, Position};
-use read_rules::{Tree, Turn};
+use read_rules::Turn;
 
 /// How many liberties a string in atari has.
 const IN_ATARI: u16 = 1;
@@ -95,9 +94,9 @@ fn attacker_of(cell: Cell) -> Colour
     }
 }
 
-/// The candidates that the stated tree tries only where a wide ply is left, at either turn; the target's liberties are
-/// handed in.
-fn stated_candidates(pos: &Position, target: Point, liberties: &PointSet) -> PointSet
+/// The wide candidates by the target's liberties, which are handed in: the empty neighbours of at most two liberties, and
+/// the backfilling moves.
+fn wide_by_liberties(pos: &Position, target: Point, liberties: &PointSet) -> PointSet
     requires on_board { target < pos.now.size * pos.now.size }
     requires liberties { liberties.now ≡ liberty_points pos.now.size pos.now.cells target }
     ensures { (p : ℕ) → set.contains result p ≡ is_wide_by_liberties pos.now target p }
@@ -107,25 +106,30 @@ fn stated_candidates(pos: &Position, target: Point, liberties: &PointSet) -> Poi
     found
 }
 
-/// Whether the tree tries the further candidates where a wide ply is left.
-fn is_wider(tree: Tree) -> bool
-    ensures { result ≡ is_wider tree }
-{
-    match tree {
-        Tree::Stated => false,
-        Tree::Wider => true,
-    }
-}
-
-/// The candidates at the turn that are tried only where a wide ply is left; the target's liberties are handed in.
-fn wide_candidates(pos: &Position, turn: Turn, liberties: &PointSet) -> PointSet
+/// The later candidates of both trees: if a wide ply is left, the wide candidates by the target's liberties, which are
+/// handed in.
+fn later_in_both_trees(pos: &Position, turn: Turn, liberties: &PointSet) -> PointSet
     requires on_board { turn.target < pos.now.size * pos.now.size }
     requires liberties { liberties.now ≡ liberty_points pos.now.size pos.now.cells turn.target }
-    ensures { (p : ℕ) → set.contains result p ≡ is_wide_candidate turn pos.now p }
+    ensures { (p : ℕ) → set.contains result p ≡ (nat_lt 0 turn.wide && is_wide_by_liberties pos.now turn.target p) }
 {
-    let mut found = stated_candidates(pos, turn.target, liberties);
-    if is_wider(turn.tree) {
-        found.join(&further_candidates(pos, turn.attacker_to_play, turn.target, liberties));
+    if turn.wide > 0 {
+        return wide_by_liberties(pos, turn.target, liberties);
+    }
+    PointSet::new()
+}
+
+/// The later candidates at the turn: all but the target's liberties, which are handed in, and the last liberties of the
+/// enemy strings next to it.
+fn later_candidates(pos: &Position, turn: Turn, liberties: &PointSet) -> PointSet
+    requires on_board { turn.target < pos.now.size * pos.now.size }
+    requires liberties { liberties.now ≡ liberty_points pos.now.size pos.now.cells turn.target }
+    ensures { (p : ℕ) → set.contains result p ≡ is_later_candidate turn pos.now p }
+{
+    let mut found = later_in_both_trees(pos, turn, liberties);
+    if turn.tree.is_wider() {
+        let wide = turn.wide > 0;
+        found.join(&further_candidates(pos, wide, turn.attacker_to_play, turn.target, liberties));
     }
     found
 }
@@ -141,9 +145,7 @@ pub fn candidates(pos: &Position, turn: Turn) -> PointSet
         last_liberties: mut found,
     } = surroundings(pos, turn.target);
     found.join(&liberties);
-    if turn.wide > 0 {
-        found.join(&wide_candidates(pos, turn, &liberties));
-    }
+    found.join(&later_candidates(pos, turn, &liberties));
     found
 }
 

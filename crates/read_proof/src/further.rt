@@ -1,20 +1,19 @@
-//! The further candidates of a target, which the wider tree tries where a wide ply is left, found on a position.
+//! The further candidates of a target, which the wider tree tries, found on a position: some in every ply, and some only
+//! if a wide ply is left.
 
-ghost use Rattle.std.specs.Prelude.{◌≡◌, ℕ, ◌*◌, ◌<◌, ◌==◌, ◌&&◌, ◌||◌, true, false, IsTrue, nat_le, nat_lt};
+ghost use Rattle.std.specs.Prelude.{◌≡◌, ℕ, ◌*◌, ◌<◌, ◌==◌, ◌&&◌, IsTrue, nat_lt};
 ghost use Rattle.std.specs.FinSet as set;
-ghost use Rattle.go_rules.specs.Below.{any_below};
-ghost use Rattle.go_rules.specs.Strings.{liberty_points, string_at};
-ghost use Rattle.go_base.specs.Floods.{enemy_points};
-ghost use Rattle.go_base.specs.Surroundings.{is_only_liberty};
-ghost use Rattle.wider_rules.specs.Further.{netted, is_net, is_beside, is_ally, is_join, is_cutter, is_further};
-ghost use Rattle.wider_rules.specs.Strings.{is_few_liberty, is_few_enemy, is_near_friend};
+ghost use Rattle.go_rules.specs.Strings.{liberty_points};
+ghost use Rattle.wider_rules.specs.Further.{netted, few_of_linked, is_net, is_beside, is_ally, is_rescue, is_join};
+ghost use Rattle.wider_rules.specs.Further.{is_cutter, is_cut, is_covered_liberty, is_cover};
+ghost use Rattle.wider_rules.specs.Further.{is_further_always, is_further_wide, is_further};
+ghost use Rattle.wider_rules.specs.Strings.{is_near_friend};
 
+use crate::approach::approach;
 use crate::beside::beside;
-use go_base::flood::{Found, flood};
+use crate::strings::{Around, around_strings, last_liberties, string_of};
+use go_base::flood::Found;
 use go_base::{Cell, Point, PointSet, Position};
-
-/// How many liberties a string in atari has.
-const IN_ATARI: u16 = 1;
 
 /// How many liberties a target has around which the attacker tries a net.
 const NETTED: u16 = 3;
@@ -25,8 +24,17 @@ const FEW_OF_ATTACKER: u16 = 2;
 /// How many liberties an enemy string next to the target's may have that the defender presses.
 const FEW_OF_DEFENDER: u16 = 4;
 
-/// How many liberties a linked string may have.
+/// How many liberties a linked string may have that the defender joins.
 const FEW_OF_LINKED: u16 = 4;
+
+/// How many liberties a linked string may have that the attacker keeps from the target.
+const FEW_OF_PARTED: u16 = 2;
+
+/// How many liberties at least an enemy string next to the target's has around which the defender tries a net.
+const LEAST_OF_COVERED: u16 = 2;
+
+/// How many liberties an enemy string next to the target's may have around which the defender tries a net.
+const FEW_OF_COVERED: u16 = 3;
 
 /// Whether the attacker tries a net around a target with so many liberties.
 fn is_netted(liberties: u16) -> bool
@@ -35,90 +43,7 @@ fn is_netted(liberties: u16) -> bool
     liberties == NETTED
 }
 
-/// Whether so many liberties are at most that many.
-fn are_few(liberties: u16, most: u16) -> bool
-    ensures { result ≡ nat_le liberties most }
-{
-    liberties <= most
-}
-
-/// What stands around strings.
-#[derive(Drop)]
-struct Around {
-    /// Their liberties.
-    liberties: PointSet,
-    /// The enemy stones next to them.
-    enemies: PointSet,
-}
-
-/// The string of p, its liberties and the enemy stones next to it.
-fn string_of(pos: &Position, p: Point) -> Found
-    requires { p < pos.now.size * pos.now.size }
-    ensures stones { result.stones ≡ string_at pos.now.size pos.now.cells p }
-    ensures liberties { result.liberties ≡ liberty_points pos.now.size pos.now.cells p }
-    ensures enemies { result.enemies ≡ enemy_points pos.now.size pos.now.cells p }
-{
-    flood(&mut pos.board(), p)
-}
-
-/// Adds what stands around the string of q where it has at most so many liberties, and tells its stones.
-fn add_string(pos: &Position, most: u16, q: Point, found: &mut Around) -> PointSet
-    requires { q < pos.now.size * pos.now.size }
-    ensures stones { result ≡ string_at pos.now.size pos.now.cells q }
-    ensures liberties { (p : ℕ) → set.contains found.new.liberties p ≡ (set.contains found.old.liberties p
-        || is_few_liberty most pos.now.size pos.now.cells q p) }
-    ensures enemies { (r : ℕ) → set.contains found.new.enemies r ≡ (set.contains found.old.enemies r
-        || is_few_enemy most pos.now.size pos.now.cells q r) }
-{
-    let Found {
-        stones,
-        liberties,
-        enemies,
-    } = string_of(pos, q);
-    if are_few(liberties.count(), most) {
-        found.liberties.join(&liberties);
-        found.enemies.join(&enemies);
-    }
-    stones
-}
-
-/// The liberties of those strings of the points that have at most so many, and the enemy stones next to these strings.
-/// Each string is found once: its stones are taken off the points that are left.
-fn around_strings(pos: &Position, most: u16, points: &PointSet) -> Around
-    requires { (q : ℕ) → IsTrue (set.contains points.now q) → q < pos.now.size * pos.now.size }
-    ensures liberties { (p : ℕ) → set.contains result.liberties p ≡ any_below (pos.now.size * pos.now.size)
-        (λ q. set.contains points.now q && is_few_liberty most pos.now.size pos.now.cells q p) }
-    ensures enemies { (r : ℕ) → set.contains result.enemies r ≡ any_below (pos.now.size * pos.now.size)
-        (λ q. set.contains points.now q && is_few_enemy most pos.now.size pos.now.cells q r) }
-{
-    let mut found = Around {
-        liberties: PointSet::new(),
-        enemies: PointSet::new(),
-    };
-    let mut rest = points.copied();
-    let mut next = 0;
-    while let Some(q) = rest.first_from(next) {
-        let stones = add_string(pos, most, q, &mut found);
-        rest = rest.difference(&stones);
-        next = q + 1;
-    }
-    found
-}
-
-/// The points that are the one liberty of the string of a stone of the set.
-fn last_liberties(pos: &Position, points: &PointSet) -> PointSet
-    requires { (q : ℕ) → IsTrue (set.contains points.now q) → q < pos.now.size * pos.now.size }
-    ensures { (p : ℕ) → set.contains result p ≡ any_below (pos.now.size * pos.now.size)
-        (λ r. set.contains points.now r && is_only_liberty pos.now.size pos.now.cells r p) }
-{
-    let Around {
-        liberties,
-        enemies: _,
-    } = around_strings(pos, IN_ATARI, points);
-    liberties
-}
-
-/// The points of Net: the empty neighbours of the target's liberties, which are handed in, where these are three.
+/// The points of Net: the empty neighbours of the target's liberties, which are handed in, if these are three.
 fn net(pos: &Position, liberties: &PointSet) -> PointSet
     ensures { (target p : ℕ) → liberties.now ≡ liberty_points pos.now.size pos.now.cells target
         → set.contains result p ≡ is_net pos.now.size pos.now.cells target p }
@@ -143,11 +68,19 @@ fn weak_enemies(pos: &Position, target: Point, most: u16) -> Around
         liberties: _,
         enemies,
     } = string_of(pos, target);
-    let weak = around_strings(pos, most, &enemies);
+    let weak = around_strings(pos, 0, most, &enemies);
     Around {
         liberties: weak.liberties,
         enemies: weak.enemies.difference(&stones),
     }
+}
+
+/// The points of Rescue: the last liberties of strings of the target's colour that are next to a weak enemy string.
+fn rescue(pos: &Position, target: Point) -> PointSet
+    requires { target < pos.now.size * pos.now.size }
+    ensures { (p : ℕ) → set.contains result p ≡ is_rescue pos.now.size pos.now.cells target p }
+{
+    last_liberties(pos, &weak_enemies(pos, target, FEW_OF_ATTACKER).enemies)
 }
 
 /// The stones of the target's colour next to its liberties, which are handed in, that are not of its string.
@@ -160,46 +93,76 @@ fn near_friends(pos: &Position, target: Point, liberties: &PointSet) -> PointSet
     beside(pos, pos.cell(target), liberties).difference(&pos.string(target))
 }
 
-/// The liberties of the linked strings, which are the points of Join, and the enemy stones next to these strings; the
-/// target's liberties are handed in.
-fn linked_strings(pos: &Position, target: Point, liberties: &PointSet) -> Around
+/// The liberties of the linked strings that have at most so many, which are the points of Join and of Link; the target's
+/// liberties are handed in.
+fn linked_liberties(pos: &Position, target: Point, most: u16, liberties: &PointSet) -> PointSet
     requires on_board { target < pos.now.size * pos.now.size }
     requires liberties { liberties.now ≡ liberty_points pos.now.size pos.now.cells target }
-    ensures liberties { (p : ℕ) → set.contains result.liberties p ≡ is_join pos.now.size pos.now.cells target p }
-    ensures enemies { (r : ℕ) → set.contains result.enemies r
-        ≡ (nat_lt r (pos.now.size * pos.now.size) && is_cutter pos.now.size pos.now.cells target r) }
+    ensures { (p : ℕ) → set.contains result p ≡ is_join most pos.now.size pos.now.cells target p }
 {
-    around_strings(pos, FEW_OF_LINKED, &near_friends(pos, target, liberties))
+    around_strings(pos, 0, most, &near_friends(pos, target, liberties)).liberties
 }
 
-/// The further candidates at the attacker's turn: Net, Beside and Rescue.
-fn for_attacker(pos: &Position, target: Point, liberties: &PointSet) -> PointSet
+/// The enemy stones next to a linked string; the target's liberties are handed in.
+fn cutters(pos: &Position, target: Point, liberties: &PointSet) -> PointSet
     requires on_board { target < pos.now.size * pos.now.size }
     requires liberties { liberties.now ≡ liberty_points pos.now.size pos.now.cells target }
-    ensures { (p : ℕ) → set.contains result p ≡ is_further true pos.now.size pos.now.cells target p }
+    ensures { (r : ℕ) → set.contains result r
+        ≡ (nat_lt r (pos.now.size * pos.now.size) && is_cutter few_of_linked pos.now.size pos.now.cells target r) }
 {
-    let weak = weak_enemies(pos, target, FEW_OF_ATTACKER);
-    let mut found = net(pos, liberties);
-    found.join(&weak.liberties);
-    found.join(&last_liberties(pos, &weak.enemies));
+    around_strings(pos, 0, FEW_OF_LINKED, &near_friends(pos, target, liberties)).enemies
+}
+
+/// The points of Cut: the last liberties of enemy strings next to a linked string; the target's liberties are handed in.
+fn cut(pos: &Position, target: Point, liberties: &PointSet) -> PointSet
+    requires on_board { target < pos.now.size * pos.now.size }
+    requires liberties { liberties.now ≡ liberty_points pos.now.size pos.now.cells target }
+    ensures { (p : ℕ) → set.contains result p ≡ is_cut pos.now.size pos.now.cells target p }
+{
+    last_liberties(pos, &cutters(pos, target, liberties))
+}
+
+/// The liberties of the enemy strings next to the target that have two or three.
+fn covered_liberties(pos: &Position, target: Point) -> PointSet
+    requires { target < pos.now.size * pos.now.size }
+    ensures { (l : ℕ) → set.contains result l ≡ is_covered_liberty pos.now.size pos.now.cells target l }
+{
+    let Found {
+        stones: _,
+        liberties: _,
+        enemies,
+    } = string_of(pos, target);
+    around_strings(pos, LEAST_OF_COVERED, FEW_OF_COVERED, &enemies).liberties
+}
+
+/// The points of Cover: the empty neighbours of the liberties of the enemy strings next to the target that have two or
+/// three.
+fn cover(pos: &Position, target: Point) -> PointSet
+    requires { target < pos.now.size * pos.now.size }
+    ensures { (p : ℕ) → set.contains result p ≡ is_cover pos.now.size pos.now.cells target p }
+{
+    beside(pos, Cell::Empty, &covered_liberties(pos, target))
+}
+
+/// The further candidates of every ply: for the attacker Beside and Rescue, for the defender Save and Cut.
+fn always(pos: &Position, attacker_to_play: bool, target: Point, liberties: &PointSet) -> PointSet
+    requires on_board { target < pos.now.size * pos.now.size }
+    requires liberties { liberties.now ≡ liberty_points pos.now.size pos.now.cells target }
+    ensures { (p : ℕ) → set.contains result p
+        ≡ is_further_always attacker_to_play pos.now.size pos.now.cells target p }
+{
+    let mut found = rescue(pos, target);
+    if attacker_to_play {
+        found.join(&weak_enemies(pos, target, FEW_OF_ATTACKER).liberties);
+        return found;
+    }
+    found.join(&cut(pos, target, liberties));
     found
 }
 
-/// The further candidates at the defender's turn: Beside, Join and Cut.
-fn for_defender(pos: &Position, target: Point, liberties: &PointSet) -> PointSet
-    requires on_board { target < pos.now.size * pos.now.size }
-    requires liberties { liberties.now ≡ liberty_points pos.now.size pos.now.cells target }
-    ensures { (p : ℕ) → set.contains result p ≡ is_further false pos.now.size pos.now.cells target p }
-{
-    let linked = linked_strings(pos, target, liberties);
-    let mut found = weak_enemies(pos, target, FEW_OF_DEFENDER).liberties;
-    found.join(&linked.liberties);
-    found.join(&last_liberties(pos, &linked.enemies));
-    found
-}
-
-/// The further candidates of the target, at the attacker's turn or the defender's; its liberties are handed in.
-pub(crate) fn further_candidates(
+/// The further candidates of a wide ply alone: for the attacker Net and Link, for the defender Beside, Join, Cover and
+/// Approach.
+fn wide_alone(
     pos: &Position,
     attacker_to_play: bool,
     target: Point,
@@ -207,11 +170,42 @@ pub(crate) fn further_candidates(
 ) -> PointSet
     requires on_board { target < pos.now.size * pos.now.size }
     requires liberties { liberties.now ≡ liberty_points pos.now.size pos.now.cells target }
-    ensures { (p : ℕ) → set.contains result p ≡ is_further attacker_to_play pos.now.size pos.now.cells target p }
+    ensures { (p : ℕ) → set.contains result p
+        ≡ is_further_wide attacker_to_play pos.now.size pos.now.cells target p }
 {
     if attacker_to_play {
-        for_attacker(pos, target, liberties)
-    } else {
-        for_defender(pos, target, liberties)
+        let mut found = net(pos, liberties);
+        found.join(&linked_liberties(pos, target, FEW_OF_PARTED, liberties));
+        return found;
     }
+    let mut found = weak_enemies(pos, target, FEW_OF_DEFENDER).liberties;
+    found.join(&linked_liberties(pos, target, FEW_OF_LINKED, liberties));
+    found.join(&cover(pos, target));
+    found.join(&approach(
+        pos,
+        target,
+        &weak_enemies(pos, target, FEW_OF_ATTACKER).liberties,
+    ));
+    found
+}
+
+/// The further candidates of the target, if a wide ply is left or not, at the attacker's turn or the defender's; its
+/// liberties are handed in.
+pub(crate) fn further_candidates(
+    pos: &Position,
+    wide: bool,
+    attacker_to_play: bool,
+    target: Point,
+    liberties: &PointSet,
+) -> PointSet
+    requires on_board { target < pos.now.size * pos.now.size }
+    requires liberties { liberties.now ≡ liberty_points pos.now.size pos.now.cells target }
+    ensures { (p : ℕ) → set.contains result p
+        ≡ is_further wide attacker_to_play pos.now.size pos.now.cells target p }
+{
+    let mut found = always(pos, attacker_to_play, target, liberties);
+    if wide {
+        found.join(&wide_alone(pos, attacker_to_play, target, liberties));
+    }
+    found
 }

@@ -8,6 +8,7 @@
 //! word by word.
 #![tactic(auto)]
 
+mod approach;
 mod beside;
 mod candidates;
 mod checker;
@@ -16,6 +17,7 @@ pub mod codes;
 mod further;
 pub mod laws;
 mod settled;
+mod strings;
 mod token;
 mod walk;
 

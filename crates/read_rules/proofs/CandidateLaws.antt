@@ -172,20 +172,17 @@ by_four pos target k p =
 -- how p is a candidate at the turn, by the test
 data ByTest (turn : Turn) (pos : BoardState) (p : ℕ) : Type 0 where
   of_four : by_four pos turn.target turn.wide p ≡ true → ByTest turn pos p
-  of_further : 0 < turn.wide → turn.tree ≡ Wider → is_further turn.attacker_to_play pos.size pos.cells turn.target p ≡ true
-      → ByTest turn pos p
+  of_further : turn.tree ≡ Wider
+      → is_further (ltb 0 turn.wide) turn.attacker_to_play pos.size pos.cells turn.target p ≡ true → ByTest turn pos p
 
 -- a candidate is of one of the four sets, or a further candidate
 by_test : (turn : Turn) (pos : BoardState) (p : ℕ)
     → is_candidate turn pos p ≡ true → ByTest turn pos p
 unfolding is_candidate
 by_test turn pos p h = elim (or_cases (by_four pos turn.target turn.wide p)
-    (ltb 0 turn.wide && (is_wider turn.tree && is_further turn.attacker_to_play pos.size pos.cells turn.target p)) h) [
+    (is_wider turn.tree && is_further (ltb 0 turn.wide) turn.attacker_to_play pos.size pos.cells turn.target p) h) [
       | inl four ↦ of_four four
-      | inr further ↦
-          let parts = and_parts _ _ further in
-          let both = and_parts _ _ parts.1 in
-          of_further (ltb-true 0 turn.wide parts.0) (wider_gives turn.tree both.0) both.1
+      | inr further ↦ let both = and_parts _ _ further in of_further (wider_gives turn.tree both.0) both.1
     ]
 
 -- a wide move by the test is one by the rules
@@ -229,7 +226,8 @@ pub candidate_gives : (turn : Turn) (pos : BoardState) (p : ℕ)
     → IsCandidate turn pos p
 candidate_gives turn pos p on h = elim (by_test turn pos p h) [
   | of_four four ↦ four_gives turn pos p four
-  | of_further some is further ↦ goes_further is some (further_gives pos.size pos.cells turn.target turn.attacker_to_play p on further)
+  | of_further is further ↦ goes_further is
+      (further_gives pos.size pos.cells turn.target (ltb 0 turn.wide) turn.attacker_to_play p on further)
 ]
 
 -- a candidate by the rules is one by the test
@@ -248,9 +246,9 @@ candidate_from turn pos p on (takes q taken) =
     or_left _ _ (or_left _ _ (or_right _ _ (takes_from pos.size pos.cells turn.target q p on taken)))
 candidate_from turn pos p on (backfills some l w) =
     or_left _ _ (or_right _ _ (and_from _ _ (lt-ltb 0 turn.wide some) (backfills_from pos turn.target l p on w)))
-candidate_from turn pos p on (goes_further is some further) =
-    or_right _ _ (and_from _ _ (lt-ltb 0 turn.wide some)
-    (and_from _ _ (ap is_wider is) (further_from pos.size pos.cells turn.target turn.attacker_to_play p on further)))
+candidate_from turn pos p on (goes_further is further) =
+    or_right _ _ (and_from _ _ (ap is_wider is)
+    (further_from pos.size pos.cells turn.target (ltb 0 turn.wide) turn.attacker_to_play p on further))
 
 -- the turn in the stated tree
 abbrev stated : Turn → Turn
@@ -266,12 +264,13 @@ stated turn = record {
 pub candidate_on : (turn : Turn) (pos : BoardState) (p : ℕ)
     → is_candidate turn pos p ≡ true → p < pos.size * pos.size
 candidate_on turn pos p h = elim (by_test turn pos p h) [
-  | of_further some is further ↦ further_on pos.size pos.cells turn.target p turn.attacker_to_play further
+  | of_further is further ↦
+      further_on pos.size pos.cells turn.target p (ltb 0 turn.wide) turn.attacker_to_play further
   | of_four four ↦ elim (four_gives (stated turn) pos p four) [
     | fills lib ↦ lib.on_board
     | looks_wide some few l lib near ↦ near.on_board
     | takes q taken ↦ taken.last.on_board
     | backfills some l w ↦ backfilled_on pos turn.target l p w
-    | goes_further is some further ↦ absurd (let w = is in cc)
+    | goes_further is further ↦ absurd (let w = is in cc)
   ]
 ]

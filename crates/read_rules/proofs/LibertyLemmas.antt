@@ -25,7 +25,7 @@ use Rattle.read_rules.specs.GameTree.{is_captured, has_many_liberties, allowance
 use Rattle.read_rules.specs.Rules.{IsChild, HasManyLiberties}
 use Rattle.read_rules.specs.declared.tree.Tree.{Tree}
 use Rattle.read_rules.specs.declared.tree.Tree.TheVariants.{Stated, Wider}
-use Rattle.read_rules.specs.Trees.{most_narrow}
+use Rattle.read_rules.specs.Trees.{most_narrow, most_few}
 use Rattle.read_rules.specs.Bound.{most_by_wide, outlasts, IsTooWide, over_four, few_left, none_left, IsTooMany, outlasts_at}
 use Rattle.read_rules.proofs.WinLemmas.{wins-no_plies}
 use Rattle.read_rules.proofs.RuleLemmas.{many_from, many_gives, attacker_gives, defender_gives}
@@ -199,16 +199,18 @@ module _ (tree : Tree) where
     | inr x ↦ to_defender n (k - 1) m (inr (by (eqb k 0) (ltb k 3) refl refl x))
   ]
     where
-      one_less : (b : ℕ) → b + 1 < l → b < m
-      one_less b x = omega (arith, x, le)
+      -- the play takes one liberty, and so many are left as are too many without wide plies
+      one_less : (t : Tree) → most_few t < l → most_narrow t < m
+      one_less Stated x = omega (arith, x, le)
+      one_less Wider x = absurd (few x)
 
-      by : (z w : Bool) → eqb k 0 ≡ z → ltb k 3 ≡ w → cond z (most_narrow tree) (cond w (most_narrow tree + 1) 4) < l
+      by : (z w : Bool) → eqb k 0 ≡ z → ltb k 3 ≡ w → cond z (most_narrow tree) (cond w (most_few tree) 4) < l
           → most_by_wide tree (k - 1 - 1) < m
       by true w ez ew x = absurd (few_narrow (eqb-true k 0 ez) x)
       by false true ez ew x =
           let small = ltb-true k 3 ew in
           let none : k - 1 - 1 ≡ 0 = omega (arith, small) in
-          subst (λ j. most_by_wide tree j < m) (sym none) (one_less (most_narrow tree) x)
+          subst (λ j. most_by_wide tree j < m) (sym none) (one_less tree x)
       by false false ez ew x = absurd (few x)
 
 -- The target outlasts at a node where it does at each child that an attacker's play, or the defender's pass, leads to.
@@ -283,15 +285,20 @@ bounded (suc n) node pos on h =
           (ap (λ b. outlasts node.turn.tree b (suc n) node.turn.wide (liberties pos.size pos.cells node.turn.target)) (sym f) ∙ h)
     ]
 
--- a target that is still played at without wide plies has fewer than five liberties
-narrow_few : (tree : Tree) (l : ℕ) → 4 < l → most_narrow tree + 1 < l
-narrow_few Stated l x = omega (arith, x)
-narrow_few Wider l x = omega (arith, x)
+-- more than four are more than the attacker may play at without wide plies
+over_narrowest : (tree : Tree) (l : ℕ) → 4 < l → most_narrow tree < l
+over_narrowest Stated l x = omega (arith, x)
+over_narrowest Wider l x = x
 
--- and fewer than that with none left
-narrow_fewer : (tree : Tree) (l : ℕ) → 4 < l → most_narrow tree < l
-narrow_fewer Stated l x = omega (arith, x)
-narrow_fewer Wider l x = omega (arith, x)
+-- and more than can be captured where one or two are left
+over_fewest : (tree : Tree) (l : ℕ) → 4 < l → most_few tree < l
+over_fewest Stated l x = omega (arith, x)
+over_fewest Wider l x = x
+
+-- more than can be captured where one or two wide plies are left are more than he may play at without wide plies
+few_over_narrow : (tree : Tree) (l : ℕ) → most_few tree < l → most_narrow tree < l
+few_over_narrow Stated l x = omega (arith, x)
+few_over_narrow Wider l x = x
 
 -- The bound of one tree, by what the wide plies allow.
 module _ (tree : Tree) where
@@ -299,28 +306,25 @@ module _ (tree : Tree) where
   over_all : (k l : ℕ) → 4 < l → most_by_wide tree k < l
   over_all k l x = by (eqb k 0) (ltb k 3)
     where
-      by : (z w : Bool) → cond z (most_narrow tree) (cond w (most_narrow tree + 1) 4) < l
-      by true w = narrow_fewer tree l x
-      by false true = narrow_few tree l x
+      by : (z w : Bool) → cond z (most_narrow tree) (cond w (most_few tree) 4) < l
+      by true w = over_narrowest tree l x
+      by false true = over_fewest tree l x
       by false false = x
 
   -- more than a target may have without wide plies are too many where none is left
   over_narrow : (k l : ℕ) → k ≡ 0 → most_narrow tree < l → most_by_wide tree k < l
   over_narrow k l none x = by (eqb k 0) (ltb k 3) (eq-eqb k 0 none)
     where
-      by : (z w : Bool) → z ≡ true → cond z (most_narrow tree) (cond w (most_narrow tree + 1) 4) < l
+      by : (z w : Bool) → z ≡ true → cond z (most_narrow tree) (cond w (most_few tree) 4) < l
       by true w e = x
       by false w e = cc
 
-  -- and one more than that where at most two are left
-  over_few : (k l : ℕ) → k < 3 → most_narrow tree + 1 < l → most_by_wide tree k < l
+  -- more than can be captured where one or two are left are too many where at most two are left
+  over_few : (k l : ℕ) → k < 3 → most_few tree < l → most_by_wide tree k < l
   over_few k l few x = by (eqb k 0) (ltb k 3) (lt-ltb k 3 few)
     where
-      less : (b : ℕ) → b + 1 < l → b < l
-      less b y = omega (arith, y)
-
-      by : (z w : Bool) → w ≡ true → cond z (most_narrow tree) (cond w (most_narrow tree + 1) 4) < l
-      by true w e = less (most_narrow tree) x
+      by : (z w : Bool) → w ≡ true → cond z (most_narrow tree) (cond w (most_few tree) 4) < l
+      by true w e = few_over_narrow tree l x
       by false true e = x
       by false false e = cc
 
@@ -328,7 +332,7 @@ module _ (tree : Tree) where
   wide_gives : (k l : ℕ) → most_by_wide tree k < l → IsTooWide tree k l
   wide_gives k l h = by (eqb k 0) (ltb k 3) refl refl h
     where
-      by : (z w : Bool) → eqb k 0 ≡ z → ltb k 3 ≡ w → cond z (most_narrow tree) (cond w (most_narrow tree + 1) 4) < l
+      by : (z w : Bool) → eqb k 0 ≡ z → ltb k 3 ≡ w → cond z (most_narrow tree) (cond w (most_few tree) 4) < l
           → IsTooWide tree k l
       by true w ez ew x = none_left (eqb-true k 0 ez) x
       by false true ez ew x = few_left (ltb-true k 3 ew) x

@@ -16,60 +16,87 @@ use Rattle.go_rules.proofs.Tests.{same_tests}
 use Rattle.go_base.specs.Surroundings.{is_last_liberty_of_enemy}
 use Rattle.go_base.proofs.LastLiberties.{contains-liberty_points}
 use Rattle.go_base.proofs.Liberties.{len-liberty_points}
-use Rattle.wider_rules.specs.Further.{is_further}
+use Rattle.wider_rules.specs.Further.{is_further_always, is_further_wide, is_further}
 use Rattle.read_rules.specs.declared.turn.Turn.{Turn}
-use Rattle.read_rules.specs.declared.tree.Tree.TheVariants.{Stated}
+use Rattle.read_rules.specs.declared.tree.Tree.TheVariants.{Stated, Wider}
 use Rattle.read_rules.specs.Trees.{is_wider}
 use Rattle.read_rules.specs.Candidates.{attacker_of, is_empty_beside, leaves_only, is_backfilling, is_candidate}
 use Rattle.read_rules.specs.Candidates.{is_left}
-use Rattle.read_rules.specs.Stages.{is_wide_by_liberties, is_wide_candidate}
+use Rattle.read_rules.specs.Stages.{is_wide_by_liberties, is_later_candidate, has_later_candidates}
 
 -- nothing more is the same
 or_false : (a : Bool) → a ≡ (a || false)
 or_false true = refl
 or_false false = refl
 
--- a liberty, a neighbour with a wide ply, a last liberty, a backfilling move or a further candidate with a wide ply:
--- the three with a wide ply come last
-wide_last : (l w f e t b x : Bool)
-    → ((((l || ((w && f) && e)) || t) || (w && b)) || (w && x)) ≡ ((l || t) || (w && (((f && e) || b) || x)))
-wide_last true w f e t b x = refl
-wide_last false false f e true b x = refl
-wide_last false false f e false b x = refl
-wide_last false true false e true b x = refl
-wide_last false true false e false b x = refl
-wide_last false true true true true b x = refl
-wide_last false true true true false b x = refl
-wide_last false true true false true b x = refl
-wide_last false true true false false b x = refl
+-- a liberty, a neighbour with a wide ply, a last liberty, a backfilling move with a wide ply, or a further candidate: the
+-- two with a wide ply and the further candidate come last
+later_last : (l w f e t b x : Bool)
+    → ((((l || ((w && f) && e)) || t) || (w && b)) || x) ≡ ((l || t) || ((w && ((f && e) || b)) || x))
+later_last true w f e t b x = refl
+later_last false false f e true b x = refl
+later_last false false f e false b x = refl
+later_last false true false e true b x = refl
+later_last false true false e false b x = refl
+later_last false true true true true b x = refl
+later_last false true true true false b x = refl
+later_last false true true false true b x = refl
+later_last false true true false false b x = refl
 
--- the candidates are the liberties, the last liberties of enemy strings, and where a wide ply is left the wide
--- candidates
+-- the candidates are the liberties, the last liberties of enemy strings, and the later candidates
 pub candidate_stages : (turn : Turn) (here : BoardState) (p : ℕ) → is_candidate turn here p
     ≡ ((is_liberty here.size here.cells turn.target p || is_last_liberty_of_enemy here.size here.cells turn.target p)
-    || (ltb 0 turn.wide && is_wide_candidate turn here p))
-unfolding is_candidate is_wide_candidate is_wide_by_liberties
-candidate_stages turn here p = wide_last (is_liberty here.size here.cells turn.target p) (ltb 0 turn.wide)
+    || is_later_candidate turn here p)
+unfolding is_candidate is_later_candidate is_wide_by_liberties
+candidate_stages turn here p = later_last (is_liberty here.size here.cells turn.target p) (ltb 0 turn.wide)
     (ltb (liberties here.size here.cells turn.target) 3)
     (is_empty_beside here.size here.cells (is_liberty here.size here.cells turn.target) p)
     (is_last_liberty_of_enemy here.size here.cells turn.target p) (is_backfilling here turn.target p)
-    (is_wider turn.tree && is_further turn.attacker_to_play here.size here.cells turn.target p)
+    (is_wider turn.tree && is_further (ltb 0 turn.wide) turn.attacker_to_play here.size here.cells turn.target p)
 
--- in the wider tree the wide candidates are those by the liberties and the further candidates
-pub wide_further : (turn : Turn) (here : BoardState) (p : ℕ) (wide further : Bool)
-    → wide ≡ is_wide_by_liberties here turn.target p
-    → further ≡ (is_wider turn.tree && is_further turn.attacker_to_play here.size here.cells turn.target p)
-    → (wide || further) ≡ is_wide_candidate turn here p
-unfolding is_wide_candidate
-wide_further turn here p wide further ew ef =
-    ap (λ y. y || further) ew ∙ ap (λ y. is_wide_by_liberties here turn.target p || y) ef
+-- the later candidates are those by the target's liberties with a wide ply, and in the wider tree the further candidates
+pub later_further : (turn : Turn) (here : BoardState) (p : ℕ) (wide further : Bool)
+    → wide ≡ (ltb 0 turn.wide && is_wide_by_liberties here turn.target p)
+    → further ≡ (is_wider turn.tree
+    && is_further (ltb 0 turn.wide) turn.attacker_to_play here.size here.cells turn.target p)
+    → (wide || further) ≡ is_later_candidate turn here p
+unfolding is_later_candidate
+later_further turn here p wide further ew ef =
+    ap (λ y. y || further) ew ∙ ap (λ y. (ltb 0 turn.wide && is_wide_by_liberties here turn.target p) || y) ef
 
--- and in the stated tree they are those by the liberties
-pub wide_stated : (turn : Turn) (here : BoardState) (p : ℕ) (wide : Bool) → turn.tree ≡ Stated
-    → wide ≡ is_wide_by_liberties here turn.target p → wide ≡ is_wide_candidate turn here p
-wide_stated turn here p wide is ew =
-    or_false wide ∙ wide_further turn here p wide false ew
-    (sym (ap (λ tree. is_wider tree && is_further turn.attacker_to_play here.size here.cells turn.target p) is))
+-- in the stated tree the later candidates are those by the target's liberties with a wide ply
+pub later_stated : (turn : Turn) (here : BoardState) (p : ℕ) (wide : Bool) → turn.tree ≡ Stated
+    → wide ≡ (ltb 0 turn.wide && is_wide_by_liberties here turn.target p) → wide ≡ is_later_candidate turn here p
+later_stated turn here p wide is ew =
+    or_false wide ∙ later_further turn here p wide false ew
+    (sym (ap (λ tree. is_wider tree
+    && is_further (ltb 0 turn.wide) turn.attacker_to_play here.size here.cells turn.target p) is))
+
+-- if there may be no later candidates at the turn, no point is one
+pub later_none : (turn : Turn) (here : BoardState) (p : ℕ) → has_later_candidates turn ≡ false
+    → is_later_candidate turn here p ≡ false
+unfolding is_later_candidate
+later_none turn here p none =
+    neither (ltb 0 turn.wide) (is_wider turn.tree) (is_wide_by_liberties here turn.target p)
+    (is_further (ltb 0 turn.wide) turn.attacker_to_play here.size here.cells turn.target p) none
+  where
+    neither : (w d b x : Bool) → (w || d) ≡ false → ((w && b) || (d && x)) ≡ false
+    neither true d b x h = cc
+    neither false true b x h = cc
+    neither false false b x h = refl
+
+-- without wide plies the later candidates of the wider tree are the further candidates of every ply
+pub later_narrow : (turn : Turn) (here : BoardState) (p : ℕ) → turn.tree ≡ Wider → turn.wide ≡ 0
+    → is_later_candidate turn here p ≡ is_further_always turn.attacker_to_play here.size here.cells turn.target p
+unfolding is_later_candidate is_further
+later_narrow turn here p is none =
+    let attacker = turn.attacker_to_play in
+    let always = is_further_always attacker here.size here.cells turn.target p in
+    let of_wide = is_further_wide attacker here.size here.cells turn.target p in
+    let by_liberties = is_wide_by_liberties here turn.target p in
+    ap (λ tree. (ltb 0 turn.wide && by_liberties) || (is_wider tree && (always || (ltb 0 turn.wide && of_wide)))) is
+    ∙ ap (λ k. (ltb 0 k && by_liberties) || (always || (ltb 0 k && of_wide))) none
+    ∙ sym (or_false always)
 
 -- which empty points are beside points of a set depends on the set's members alone
 empty_beside_same : (s : ℕ) (cells : List Cell) (S T : ℕ → Bool) (q : ℕ) → ((l : ℕ) → S l ≡ T l)
@@ -141,14 +168,14 @@ module _ (here : BoardState) (target p : ℕ) (libs : sets.FinSet nat_cmp)
 module _ (turn : Turn) (here : BoardState) (p : ℕ) (libs last : sets.FinSet nat_cmp)
     (el : libs ≡ liberty_points here.size here.cells turn.target)
     (et : sets.contains last p ≡ is_last_liberty_of_enemy here.size here.cells turn.target p) where
-  -- with what is wide where a wide ply is left, these are the candidates
-  in_stages : (wide : Bool) → wide ≡ (ltb 0 turn.wide && is_wide_candidate turn here p)
-      → ((sets.contains last p || sets.contains libs p) || wide) ≡ is_candidate turn here p
-  in_stages wide is =
-      ap (λ y. (y || sets.contains libs p) || wide) et
-      ∙ ap (λ y. (is_last_liberty_of_enemy here.size here.cells turn.target p || y) || wide)
+  -- with the later candidates these are the candidates
+  in_stages : (later : Bool) → later ≡ is_later_candidate turn here p
+      → ((sets.contains last p || sets.contains libs p) || later) ≡ is_candidate turn here p
+  in_stages later is =
+      ap (λ y. (y || sets.contains libs p) || later) et
+      ∙ ap (λ y. (is_last_liberty_of_enemy here.size here.cells turn.target p || y) || later)
       (has_liberty here.size here.cells turn.target p libs el)
-      ∙ turned (is_last_liberty_of_enemy here.size here.cells turn.target p) (is_liberty here.size here.cells turn.target p) wide
+      ∙ turned (is_last_liberty_of_enemy here.size here.cells turn.target p) (is_liberty here.size here.cells turn.target p) later
       ∙ ap (λ y. (is_liberty here.size here.cells turn.target p
       || is_last_liberty_of_enemy here.size here.cells turn.target p) || y) is
       ∙ sym (candidate_stages turn here p)
@@ -159,15 +186,15 @@ module _ (turn : Turn) (here : BoardState) (p : ℕ) (libs last : sets.FinSet na
       turned false true w = refl
       turned false false w = refl
 
-  -- where no wide ply is left these are the candidates
-  pub candidate_plain : (x : Bool) → ltb 0 turn.wide ≡ false → x ≡ (sets.contains last p || sets.contains libs p)
+  -- if there may be no later candidates, these are the candidates
+  pub candidate_plain : (x : Bool) → has_later_candidates turn ≡ false
+      → x ≡ (sets.contains last p || sets.contains libs p)
       → x ≡ is_candidate turn here p
   candidate_plain x none ex =
       ex ∙ or_false (sets.contains last p || sets.contains libs p)
-      ∙ in_stages false (sym (ap (λ b. b && is_wide_candidate turn here p) none))
+      ∙ in_stages false (sym (later_none turn here p none))
 
-  -- where one is left, these with the wide candidates
-  pub candidate_wide : (x wide : Bool) → ltb 0 turn.wide ≡ true → wide ≡ is_wide_candidate turn here p
-      → x ≡ ((sets.contains last p || sets.contains libs p) || wide) → x ≡ is_candidate turn here p
-  candidate_wide x wide some is ex =
-      ex ∙ in_stages wide (is ∙ sym (ap (λ b. b && is_wide_candidate turn here p) some))
+  -- together with the later candidates they are the candidates
+  pub candidate_later : (x later : Bool) → later ≡ is_later_candidate turn here p
+      → x ≡ ((sets.contains last p || sets.contains libs p) || later) → x ≡ is_candidate turn here p
+  candidate_later x later is ex = ex ∙ in_stages later is

@@ -3,13 +3,13 @@
 use Rattle.std.specs.Prelude.{◌≡◌, ◌⊎◌, ℕ, ◌+◌, ◌-◌, ◌/◌, ◌<◌, Bool, true, false, ◌||◌, ◌==◌, nat_lt, if◌then◌else◌}
 use Rattle.read_rules.specs.declared.tree.Tree.{Tree}
 use Rattle.read_rules.specs.declared.turn.Turn.{Turn}
-use Rattle.read_rules.specs.Trees.{most_narrow}
+use Rattle.read_rules.specs.Trees.{most_narrow, most_few}
 
--- how many liberties a target may have that is captured with so many wide plies left: the attacker plays at one with at
--- most 4, or 2 where no wide ply is left, in the wider tree 3, and two plies later two wide plies are gone and one
--- liberty at most
+-- how many liberties a target may have that is captured with so many wide plies left: in the wider tree 4. In the stated
+-- tree the attacker plays at one with at most 4, or 2 where no wide ply is left, and two plies later two wide plies are
+-- gone and one liberty at most
 abbrev pub most_by_wide : Tree → ℕ → ℕ
-most_by_wide tree k = if k == 0 then most_narrow tree else if nat_lt k 3 then most_narrow tree + 1 else 4
+most_by_wide tree k = if k == 0 then most_narrow tree else if nat_lt k 3 then most_few tree else 4
 
 -- with n plies and k wide plies left in the tree, at the attacker's turn or not, this many liberties are too many: they
 -- are more than half of the plies, rounded up at the attacker's turn and down at the defender's; or the wide plies do
@@ -25,11 +25,11 @@ outlasts_at turn n l = outlasts turn.tree turn.attacker_to_play n turn.wide l
 
 -- The same in words.
 
--- so many liberties are more than the attacker can play at with k wide plies left: more than 4; or with at most two
--- wide plies more than 3, in the wider tree than 4; or with none more than 2, in the wider tree than 3
+-- so many liberties are more than the attacker can play at with k wide plies left: more than 4; or in the stated tree
+-- with at most two wide plies more than 3, or with none more than 2
 pub data IsTooWide (tree : Tree) (k l : ℕ) : Type 0 where
   over_four : 4 < l → IsTooWide tree k l
-  few_left : k < 3 → most_narrow tree + 1 < l → IsTooWide tree k l
+  few_left : k < 3 → most_few tree < l → IsTooWide tree k l
   none_left : k ≡ 0 → most_narrow tree < l → IsTooWide tree k l
 
 -- with n plies and k wide plies left in the tree, at the attacker's turn or not, so many liberties are too many: they

@@ -56,7 +56,7 @@ is_backfilling pos target p =
 
 -- p is a candidate at the turn: it is a liberty of the target; or, where a wide ply is left and the target has at most
 -- two, an empty neighbour of one; or the one liberty of an enemy string next to it; or, where a wide ply is left, a
--- backfilling move; or, where one is left and the tree is the wider one, a further candidate of whose turn it is
+-- backfilling move; or, in the wider tree, a further candidate of whose turn it is
 unfoldable pub is_candidate : Turn → BoardState → ℕ → Bool
 is_candidate turn pos p =
     is_liberty pos.size pos.cells turn.target p
@@ -64,8 +64,8 @@ is_candidate turn pos p =
     && is_empty_beside pos.size pos.cells (is_liberty pos.size pos.cells turn.target) p)
     || is_last_liberty_of_enemy pos.size pos.cells turn.target p
     || (nat_lt 0 turn.wide && is_backfilling pos turn.target p)
-    || (nat_lt 0 turn.wide && (is_wider turn.tree
-    && is_further turn.attacker_to_play pos.size pos.cells turn.target p))
+    || (is_wider turn.tree
+    && is_further (nat_lt 0 turn.wide) turn.attacker_to_play pos.size pos.cells turn.target p)
 
 -- the candidates at the turn in reading order
 abbrev pub candidates_of : Turn → BoardState → List ℕ
@@ -112,5 +112,5 @@ pub data IsCandidate (turn : Turn) (pos : BoardState) (p : ℕ) : Type 0 where
       → IsCandidate turn pos p
   takes : (q : ℕ) → IsTakenAt pos.size pos.cells turn.target q p → IsCandidate turn pos p
   backfills : 0 < turn.wide → (l : ℕ) → IsBackfilledAt pos turn.target l p → IsCandidate turn pos p
-  goes_further : turn.tree ≡ Wider → 0 < turn.wide
-      → IsFurther turn.attacker_to_play pos.size pos.cells turn.target p → IsCandidate turn pos p
+  goes_further : turn.tree ≡ Wider
+      → IsFurther (nat_lt 0 turn.wide) turn.attacker_to_play pos.size pos.cells turn.target p → IsCandidate turn pos p

@@ -1,4 +1,5 @@
--- The candidates by stages: those that are tried only where a wide ply is left stand for themselves.
+-- The candidates by stages: the liberties of the target and the last liberties of enemy strings next to it come first,
+-- and the later candidates stand here.
 use Rattle.std.specs.Prelude.{ℕ, ◌&&◌, ◌||◌, Bool, nat_lt}
 use Rattle.go_rules.specs.Strings.{is_liberty, liberties}
 use Rattle.go_rules.specs.Position.{BoardState}
@@ -14,8 +15,14 @@ is_wide_by_liberties pos target p =
     && is_empty_beside pos.size pos.cells (is_liberty pos.size pos.cells target) p)
     || is_backfilling pos target p
 
--- p is a wide candidate by the target's liberties; or, in the wider tree, a further candidate of whose turn it is
-unfoldable pub is_wide_candidate : Turn → BoardState → ℕ → Bool
-is_wide_candidate turn pos p =
-    is_wide_by_liberties pos turn.target p
-    || (is_wider turn.tree && is_further turn.attacker_to_play pos.size pos.cells turn.target p)
+-- p is a later candidate: where a wide ply is left, a wide candidate by the target's liberties; or, in the wider tree, a
+-- further candidate of whose turn it is
+unfoldable pub is_later_candidate : Turn → BoardState → ℕ → Bool
+is_later_candidate turn pos p =
+    (nat_lt 0 turn.wide && is_wide_by_liberties pos turn.target p)
+    || (is_wider turn.tree
+    && is_further (nat_lt 0 turn.wide) turn.attacker_to_play pos.size pos.cells turn.target p)
+
+-- there may be later candidates at the turn: a wide ply is left, or the tree is the wider one
+abbrev pub has_later_candidates : Turn → Bool
+has_later_candidates turn = nat_lt 0 turn.wide || is_wider turn.tree

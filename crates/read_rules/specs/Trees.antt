@@ -3,7 +3,7 @@ use Rattle.std.specs.Prelude.{ℕ, Bool, true, false}
 use Rattle.read_rules.specs.declared.tree.Tree.{Tree}
 use Rattle.read_rules.specs.declared.tree.Tree.TheVariants.{Stated, Wider}
 
--- the tree tries the further candidates where a wide ply is left
+-- the tree tries the further candidates
 abbrev pub is_wider : Tree → Bool
 is_wider Stated = false
 is_wider Wider = true
@@ -11,7 +11,12 @@ is_wider Wider = true
 -- how many liberties a target may have, where no wide ply is left, that the attacker still plays at
 abbrev pub most_narrow : Tree → ℕ
 most_narrow Stated = 2
-most_narrow Wider = 3
+most_narrow Wider = 4
+
+-- how many liberties a target may have, where one or two wide plies are left, that can be captured
+abbrev pub most_few : Tree → ℕ
+most_few Stated = 3
+most_few Wider = 4
 
 -- how many steps from the string of its target the reading of one node looks: a candidate of the stated tree is at most
 -- three steps away, one of the wider tree four, and a play at it looks two steps further

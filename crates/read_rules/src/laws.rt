@@ -7,11 +7,12 @@ ghost use Rattle.go_rules.specs.Position.{BoardState};
 ghost use Rattle.go_rules.specs.Play.{play_free};
 ghost use Rattle.go_rules.specs.Strings.{cell_at, is_liberty, liberties};
 ghost use Rattle.go_base.specs.Surroundings.{is_last_liberty_of_enemy};
+ghost use Rattle.wider_rules.specs.Further.{is_further_always};
 ghost use Rattle.read_rules.specs.ActiveArea.{InActiveArea, IsNodeOf};
 ghost use Rattle.read_rules.specs.AreaInWords.{IsFirstOf, IsNextOf, IsLookedAt};
 ghost use Rattle.read_rules.specs.Bound.{outlasts, IsTooMany};
 ghost use Rattle.read_rules.specs.Candidates.{is_candidate, IsCandidate};
-ghost use Rattle.read_rules.specs.Stages.{is_wide_candidate};
+ghost use Rattle.read_rules.specs.Stages.{is_later_candidate, has_later_candidates};
 ghost use Rattle.read_rules.specs.declared.node.Node.{Node};
 ghost use Rattle.read_rules.specs.declared.tree.Tree.{Tree};
 ghost use Rattle.read_rules.specs.declared.turn.Turn.{Turn};
@@ -28,8 +29,7 @@ use go_base::Cell;
 
 /// A candidate is a liberty of the target; an empty neighbour of one, where the target has few and a wide ply is left;
 /// the last liberty of an enemy string next to the target; or, where a wide ply is left, the one liberty that a stone
-/// of the attacker on a liberty of the target would have; or, in the wider tree and where a wide ply is left, a further
-/// candidate at this turn.
+/// of the attacker on a liberty of the target would have; or, in the wider tree, a further candidate at this turn.
 pub fn candidates_are_by_strings()
     ensures candidate { (turn : Turn) (pos : BoardState) (p : ℕ) → turn.target < pos.size * pos.size →
         IsTrue (is_candidate turn pos p) ↔ IsCandidate turn pos p }
@@ -37,12 +37,18 @@ pub fn candidates_are_by_strings()
         → p < pos.size * pos.size }
 {}
 
-/// A candidate is a liberty of the target, the last liberty of an enemy string next to it, or, where a wide ply is
-/// left, a wide candidate of the tree.
+/// A candidate is a liberty of the target, the last liberty of an enemy string next to it, or a later candidate at the
+/// turn. In the stated tree there are later candidates only if a wide ply is left; if none is left in the wider tree, they
+/// are the further candidates of every ply.
 pub fn candidates_come_in_stages()
-    ensures { (turn : Turn) (pos : BoardState) (p : ℕ) → is_candidate turn pos p
+    ensures stages { (turn : Turn) (pos : BoardState) (p : ℕ) → is_candidate turn pos p
         ≡ (is_liberty pos.size pos.cells turn.target p || is_last_liberty_of_enemy pos.size pos.cells turn.target p
-        || (nat_lt 0 turn.wide && is_wide_candidate turn pos p)) }
+        || is_later_candidate turn pos p) }
+    ensures none_later { (turn : Turn) (pos : BoardState) (p : ℕ) → has_later_candidates turn ≡ false
+        → is_later_candidate turn pos p ≡ false }
+    ensures narrow { (turn : Turn) (pos : BoardState) (p : ℕ) → turn.tree ≡ Tree.Wider → turn.wide ≡ 0
+        → is_later_candidate turn pos p
+        ≡ is_further_always turn.attacker_to_play pos.size pos.cells turn.target p }
 {}
 
 /// Where a node is captured, where its target has too many liberties, and which children it has.
@@ -111,8 +117,8 @@ pub fn answers_are_by_codes()
 {}
 
 /// A string with more liberties than half of the plies, rounded up at the attacker's turn and down at the defender's,
-/// than 4, or without wide plies than 2, in the wider tree than 3, is not captured, since a play takes away one liberty
-/// at most; nor is one that the attacker may not play at.
+/// or than 4, or in the stated tree without wide plies than 2, is not captured, since a play takes away one liberty at
+/// most; nor is one that the attacker may not play at.
 pub fn many_liberties_stand()
     ensures one_liberty { (pos : BoardState) (c : Colour) (p : ℕ) (new : BoardState) (t : ℕ) → t < pos.size * pos.size
         → play_free pos c p ≡ Ok new →

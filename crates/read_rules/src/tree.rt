@@ -1,5 +1,8 @@
 //! Which of two game trees is read.
 
+ghost use Rattle.std.specs.Prelude.{◌≡◌};
+ghost use Rattle.read_rules.specs.Trees.{is_wider};
+
 /// Which moves a reading tries, and how many liberties a target may have that is still played at.
 #[derive(Clone, Copy, Debug, PartialEq, Eq, Hash)]
 pub enum Tree {
@@ -7,7 +10,19 @@ pub enum Tree {
     /// and where a wide ply is left the empty neighbours of at most two liberties and backfilling moves. Where no wide
     /// ply is left, a target with more than two liberties stands.
     Stated,
-    /// The larger tree. Where a wide ply is left it tries the further candidates too; where none is left, a target with
-    /// more than three liberties stands.
+    /// The larger tree. It tries the further candidates too, some of them in every ply and some only where a wide ply is
+    /// left. A target with more than four liberties stands, wide ply or not.
     Wider,
+}
+
+impl Tree {
+    /// Whether the tree tries the further candidates.
+    pub fn is_wider(self) -> bool
+        ensures { result ≡ is_wider self }
+    {
+        match self {
+            Tree::Stated => false,
+            Tree::Wider => true,
+        }
+    }
 }

@@ -1,6 +1,7 @@
 //! Whose turn it is at a node of the game tree, under whatever ko allowances.
 
 ghost use Rattle.std.specs.Prelude.{◌≡◌};
+ghost use Rattle.read_rules.specs.Stages.{has_later_candidates};
 ghost use Rattle.read_rules.specs.Turns.{mover_of, next_turn};
 
 use crate::tree::Tree;
@@ -44,5 +45,12 @@ impl Turn {
             attacker_to_play: !self.attacker_to_play,
             wide: self.wide.saturating_sub(1),
         }
+    }
+
+    /// Whether there may be later candidates at the turn: a wide ply is left, or the tree is the wider one.
+    pub fn has_later_candidates(self) -> bool
+        ensures { result ≡ has_later_candidates self }
+    {
+        self.wide > 0 || self.tree.is_wider()
     }
 }

@@ -1,5 +1,5 @@
 -- Stages of candidates: the liberties of the target, and then the others.
-use Rattle.std.proofs.Common.{◌≡◌, ℕ, ◌-◌, ◌*◌, ◌<◌, ◌≤◌, Bool, true, false, not, ◌&&◌, ◌||◌, ltb, List, Option}
+use Rattle.std.proofs.Common.{◌≡◌, ℕ, ◌-◌, ◌*◌, ◌<◌, ◌≤◌, Bool, true, false, not, ◌&&◌, ◌||◌, List, Option}
 use Rattle.std.proofs.Common.{Some, None, is_some, refl, sym, ap, subst, ◌∙◌, arith, inl, inr}
 use Rattle.std.proofs.lemmas.Bool.{cases_Bool, both_ways, and_parts, and_from, or_left, or_right}
 use Rattle.std.specs.Ordering.{nat_cmp}
@@ -24,9 +24,9 @@ use Rattle.read_rules.specs.declared.turn.Turn.{Turn}
 use Rattle.read_tree.specs.declared.allowances.Allowances.{Allowances}
 use Rattle.read_tree.specs.Allowances.{Ko, has, has_some, under, without, Tells}
 use Rattle.read_rules.specs.Bound.{outlasts}
-use Rattle.read_rules.specs.Stages.{is_wide_candidate}
+use Rattle.read_rules.specs.Stages.{is_later_candidate, has_later_candidates}
 use Rattle.go_base.specs.Surroundings.{is_last_liberty_of_enemy}
-use Rattle.read_rules.proofs.StageLemmas.{candidate_stages}
+use Rattle.read_rules.proofs.StageLemmas.{candidate_stages, later_none}
 use Rattle.read_tree.specs.Stages.{is_capture, is_other}
 use Rattle.read_tree.specs.Steps.{IsLeft, TellsBy, is_off_liberties}
 use Rattle.read_tree.proofs.AllowanceLemmas.{none_of, has-without, success_some, and_parts_not, and_false_right}
@@ -285,10 +285,10 @@ known_inside s cells t p known is has =
 
 -- The stages of the candidates off the liberties of the target.
 module _ (turn : Turn) (here : BoardState) (q : ℕ) where
-  -- a candidate is a liberty of the target, a last liberty of an enemy string, or one of the rest
+  -- a candidate is a liberty of the target, a last liberty of an enemy string, or a later candidate
   stages : is_candidate turn here q ≡ ((is_liberty here.size here.cells turn.target q
       || is_last_liberty_of_enemy here.size here.cells turn.target q)
-      || (ltb 0 turn.wide && is_wide_candidate turn here q))
+      || is_later_candidate turn here q)
   stages = candidate_stages turn here q
 
   -- a capture is a candidate
@@ -300,24 +300,19 @@ module _ (turn : Turn) (here : BoardState) (q : ℕ) where
   pub capture_is_off : is_capture here turn.target q ≡ true → is_off_liberties turn here q ≡ true
   capture_is_off h = and_from _ _ (capture_is_candidate h) (and_parts _ _ h).1
 
-  -- and so is another, where a wide ply is left
-  pub other_is_candidate : ltb 0 turn.wide ≡ true → is_other turn here q ≡ true
-      → is_candidate turn here q ≡ true
-  other_is_candidate some h = stages ∙ or_right (is_liberty here.size here.cells turn.target q
+  -- and so is another
+  pub other_is_candidate : is_other turn here q ≡ true → is_candidate turn here q ≡ true
+  other_is_candidate h = stages ∙ or_right (is_liberty here.size here.cells turn.target q
       || is_last_liberty_of_enemy here.size here.cells turn.target q) _
-      (and_from _ _ some (and_parts _ _ (and_parts _ _ h).0).0)
+      (and_parts _ _ (and_parts _ _ h).0).0
 
-  -- where a wide ply is left, the candidates off the liberties are the captures and the others
-  pub off_by_stages : ltb 0 turn.wide ≡ true
-      → is_off_liberties turn here q ≡ (is_capture here turn.target q || is_other turn here q)
-  off_by_stages some =
-      ap (λ b. b && not (is_liberty here.size here.cells turn.target q)) (stages
-      ∙ ap (λ b. (is_liberty here.size here.cells turn.target q
-      || is_last_liberty_of_enemy here.size here.cells turn.target q)
-      || (b && is_wide_candidate turn here q)) some)
+  -- the candidates off the liberties are the captures and the others
+  pub off_by_stages : is_off_liberties turn here q ≡ (is_capture here turn.target q || is_other turn here q)
+  off_by_stages =
+      ap (λ b. b && not (is_liberty here.size here.cells turn.target q)) stages
       ∙ split (is_liberty here.size here.cells turn.target q)
       (is_last_liberty_of_enemy here.size here.cells turn.target q)
-      (is_wide_candidate turn here q)
+      (is_later_candidate turn here q)
     where
       split : (l t w : Bool) → (((l || t) || w) && not l) ≡ ((t && not l) || ((w && not l) && not (t && not l)))
       split true true true = refl
@@ -328,13 +323,13 @@ module _ (turn : Turn) (here : BoardState) (q : ℕ) where
       split false false true = refl
       split false false false = refl
 
-  -- and where none is left, the captures alone
-  pub off_by_captures : ltb 0 turn.wide ≡ false → is_off_liberties turn here q ≡ is_capture here turn.target q
+  -- and if there are no later candidates, the captures alone
+  pub off_by_captures : has_later_candidates turn ≡ false
+      → is_off_liberties turn here q ≡ is_capture here turn.target q
   off_by_captures none =
       ap (λ b. b && not (is_liberty here.size here.cells turn.target q)) (stages
       ∙ ap (λ b. (is_liberty here.size here.cells turn.target q
-      || is_last_liberty_of_enemy here.size here.cells turn.target q)
-      || (b && is_wide_candidate turn here q)) none)
+      || is_last_liberty_of_enemy here.size here.cells turn.target q) || b) (later_none turn here q none))
       ∙ split (is_liberty here.size here.cells turn.target q)
       (is_last_liberty_of_enemy here.size here.cells turn.target q)
     where

@@ -3,7 +3,7 @@
 ghost use Rattle.std.specs.Prelude.{◌≡◌, ℕ, ◌-◌, ◌&&◌, ◌||◌, false, nat_lt};
 ghost use Rattle.std.specs.FinSet as set;
 ghost use Rattle.read_rules.specs.Bound.{most_by_wide, outlasts, outlasts_at};
-ghost use Rattle.read_rules.specs.Trees.{most_narrow};
+ghost use Rattle.read_rules.specs.Trees.{most_narrow, most_few};
 
 use go_base::points::PointSet;
 use read_rules::{Tree, Turn};
@@ -14,7 +14,17 @@ pub fn most_narrow(tree: Tree) -> u16
 {
     match tree {
         Tree::Stated => 2,
-        Tree::Wider => 3,
+        Tree::Wider => 4,
+    }
+}
+
+/// How many liberties a target may have, where one or two wide plies are left, that can be captured.
+fn most_few(tree: Tree) -> u16
+    ensures { result ≡ most_few tree }
+{
+    match tree {
+        Tree::Stated => 3,
+        Tree::Wider => 4,
     }
 }
 
@@ -25,7 +35,7 @@ fn most_by_wide(tree: Tree, wide: u8) -> u16
     if wide == 0 {
         most_narrow(tree)
     } else if wide < 3 {
-        most_narrow(tree) + 1
+        most_few(tree)
     } else {
         4
     }

@@ -1,5 +1,5 @@
 //! The candidates off the liberties of the target, by stages: the captures of enemy strings next to it, and the others,
-//! which are candidates only where a wide ply is left.
+//! which are the later candidates.
 
 ghost use Rattle.std.specs.Prelude.{◌≡◌, ℕ, ◌*◌, ◌<◌};
 ghost use Rattle.std.specs.FinSet as set;
@@ -9,12 +9,11 @@ ghost use Rattle.go_base.specs.Facts.{Agrees, AddsIn};
 ghost use Rattle.trial_board.specs.Overlays.{neighbourhood_twice};
 ghost use Rattle.trial_board.specs.Trials.{Stays, after};
 ghost use Rattle.read_rules.specs.Candidates.{near_candidates};
-ghost use Rattle.read_rules.specs.Stages.{is_wide_candidate};
 ghost use Rattle.read_tree.specs.Stages.{is_capture, is_other};
 
 use go_base::points::PointSet;
 use go_base::{Look, Point};
-use read_moves::wide_candidates;
+use read_moves::later_candidates;
 use read_rules::Turn;
 use trial_board::Trial;
 
@@ -33,23 +32,7 @@ pub fn captures_of<L: Look>(board: &mut Trial<L>, target: Point, known: &PointSe
     board.surroundings(target).last_liberties.difference(known)
 }
 
-/// The wide candidates at the turn, by the liberties of its target.
-fn wide_of<L: Look>(board: &mut Trial<L>, turn: Turn, known: &PointSet) -> PointSet
-    requires target { turn.target < (L.shows board.old.look).size * (L.shows board.old.look).size }
-    requires liberties { (pos : BoardState) → Agrees (L.seen board.old.look) pos
-        → known.now ≡ liberty_points pos.size (after pos board.old.moves).cells turn.target }
-    ensures stays { Stays L.shows L.seen board.old board.new }
-    ensures over { (pos : BoardState) → Agrees (L.seen board.new.look) pos → (p : ℕ)
-        → set.contains result p
-        ≡ is_wide_candidate turn (after pos board.old.moves) p }
-    ensures near { (pos : BoardState) → Agrees (L.seen board.new.look) pos
-        → AddsIn (L.seen board.old.look) (L.seen board.new.look)
-        (near_candidates pos.size (after pos board.old.moves).cells turn.target) }
-{
-    wide_candidates(board, turn, known)
-}
-
-/// The wide candidates at the turn that are neither liberties of the target nor captures, which both are known.
+/// The later candidates at the turn that are neither liberties of the target nor captures, which both are known.
 pub fn others_of<L: Look>(
     board: &mut Trial<L>,
     turn: Turn,
@@ -68,7 +51,7 @@ pub fn others_of<L: Look>(
         → AddsIn (L.seen board.old.look) (L.seen board.new.look)
         (near_candidates pos.size (after pos board.old.moves).cells turn.target) }
 {
-    wide_of(board, turn, known)
+    later_candidates(board, turn, known)
         .difference(known)
         .difference(captures)
 }

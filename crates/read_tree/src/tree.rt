@@ -202,7 +202,7 @@ fn some_of<L: Look>(
 
 /// Those of the asked under which a candidate off the liberties of the target gives the side to play its way, with
 /// `plies` plies left after it: none where such an attacker's play leaves too many liberties. The captures are found
-/// only here, and the wide candidates only where these leave something; they do not save a target in atari.
+/// only here, and the later candidates only where these leave something; they do not save a target in atari.
 #[cycle(read)]
 fn some_other<L: Look>(
     board: &mut Trial<L>,
@@ -224,7 +224,7 @@ fn some_other<L: Look>(
     }
     let captures = captures_of(board, turn.target, known);
     let good = some_of(board, turn, plies, asked, &captures, known, memory);
-    if turn.wide == 0 {
+    if !turn.has_later_candidates() {
         return good;
     }
     let missing = asked.without(good);

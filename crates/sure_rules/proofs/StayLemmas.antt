@@ -8,14 +8,14 @@ use Rattle.go_rules.specs.Strings.{liberties, is_liberty}
 use Rattle.go_rules.specs.Position.{BoardState, other}
 use Rattle.go_rules.specs.Play.{play, play_free, pass}
 use Rattle.go_base.specs.Surroundings.{is_last_liberty_of_enemy}
-use Rattle.wider_rules.specs.Further.{is_further}
+use Rattle.wider_rules.specs.Further.{is_further_always, is_further_wide, is_further}
 use Rattle.read_rules.specs.Candidates.{is_candidate}
 use Rattle.read_rules.specs.declared.node.Node.{Node}
 use Rattle.read_rules.specs.declared.turn.Turn.{Turn}
 use Rattle.read_rules.specs.declared.tree.Tree.{Tree}
 use Rattle.read_rules.specs.declared.tree.Tree.TheVariants.{Stated, Wider}
 use Rattle.read_rules.specs.Trees.{is_wider, most_narrow}
-use Rattle.read_rules.specs.Stages.{is_wide_by_liberties, is_wide_candidate}
+use Rattle.read_rules.specs.Stages.{is_wide_by_liberties, is_later_candidate}
 use Rattle.read_rules.proofs.StageLemmas.{candidate_stages}
 use Rattle.read_rules.specs.GameTree.{is_captured, has_many_liberties, allowance_of, next_node}
 use Rattle.read_rules.specs.Turns.{mover_of}
@@ -34,7 +34,7 @@ IsAsWide tree larger = (larger ≡ tree) ⊎ (larger ≡ Wider)
 most_as_wide : (tree larger : Tree) → IsAsWide tree larger → most_narrow tree ≤ most_narrow larger
 most_as_wide tree larger (inl e) = subst (λ t. most_narrow tree ≤ most_narrow t) (sym e) (omega arith)
 most_as_wide Stated larger (inr e) = subst (λ t. 2 ≤ most_narrow t) (sym e) (omega arith)
-most_as_wide Wider larger (inr e) = subst (λ t. 3 ≤ most_narrow t) (sym e) (omega arith)
+most_as_wide Wider larger (inr e) = subst (λ t. 4 ≤ most_narrow t) (sym e) (omega arith)
 
 -- with more wide plies, or in the wider tree, no target has too many liberties that had few enough
 few_stay : (small large : Turn) (pos : BoardState) → large.target ≡ small.target → IsAsWide small.tree large.tree
@@ -60,21 +60,46 @@ further_stay : (tree larger : Tree) (x : Bool) → IsAsWide tree larger → (is_
 further_stay tree larger x (inl e) h = ap (λ t. is_wider t && x) e ∙ h
 further_stay tree larger x (inr e) h = ap (λ t. is_wider t && x) e ∙ (and_parts (is_wider tree) x h).1
 
--- a wide candidate is one in the wider tree too
-wide_stays : (small large : Turn) (pos : BoardState) (p : ℕ) → large.target ≡ small.target
-    → large.attacker_to_play ≡ small.attacker_to_play → IsAsWide small.tree large.tree
-    → is_wide_candidate small pos p ≡ true → is_wide_candidate large pos p ≡ true
-unfolding is_wide_candidate
-wide_stays small large pos p same side as_wide h =
+-- where wide plies are left they are left with more
+more_wide : (few many : ℕ) → few ≤ many → ltb 0 few ≡ true → ltb 0 many ≡ true
+more_wide few many more h = lt-ltb 0 many (let some = ltb-true 0 few h in omega (arith, some, more))
+
+-- a further candidate is one where a wide ply is left too
+further_with_more : (few many side : Bool) (pos : BoardState) (target p : ℕ) → (few ≡ true → many ≡ true)
+    → is_further few side pos.size pos.cells target p ≡ true → is_further many side pos.size pos.cells target p ≡ true
+unfolding is_further
+further_with_more few many side pos target p more h =
+    let always = is_further_always side pos.size pos.cells target p in
+    let wide = is_further_wide side pos.size pos.cells target p in
+    elim (or_cases always (few && wide) h) [
+      | inl a ↦ or_left always (many && wide) a
+      | inr w ↦ let parts = and_parts few wide w in
+          or_right always (many && wide) (and_from many wide (more parts.0) parts.1)
+    ]
+
+-- a later candidate is one with more wide plies and in the wider tree too
+later_stays : (small large : Turn) (pos : BoardState) (p : ℕ) → large.target ≡ small.target
+    → large.attacker_to_play ≡ small.attacker_to_play → IsAsWide small.tree large.tree → small.wide ≤ large.wide
+    → is_later_candidate small pos p ≡ true → is_later_candidate large pos p ≡ true
+unfolding is_later_candidate
+later_stays small large pos p same side as_wide more h =
+    let less = ltb 0 small.wide in
+    let many = ltb 0 large.wide in
+    let still = more_wide small.wide large.wide more in
     let near : ℕ → Bool = λ t. is_wide_by_liberties pos t p in
-    let further : Bool → ℕ → Bool = λ b t. is_further b pos.size pos.cells t p in
-    let here = further small.attacker_to_play small.target in
-    ap (λ t. near t || (is_wider large.tree && further large.attacker_to_play t)) same
-    ∙ ap (λ b. near small.target || (is_wider large.tree && further b small.target)) side
-    ∙ elim (or_cases (near small.target) (is_wider small.tree && here) h) [
-      | inl n ↦ or_left (near small.target) (is_wider large.tree && here) n
-      | inr f ↦ or_right (near small.target) (is_wider large.tree && here)
-          (further_stay small.tree large.tree here as_wide f)
+    let further : Bool → Bool → ℕ → Bool = λ w b t. is_further w b pos.size pos.cells t p in
+    let here = further less small.attacker_to_play small.target in
+    let there = further many small.attacker_to_play small.target in
+    ap (λ t. (many && near t) || (is_wider large.tree && further many large.attacker_to_play t)) same
+    ∙ ap (λ b. (many && near small.target) || (is_wider large.tree && further many b small.target)) side
+    ∙ elim (or_cases (less && near small.target) (is_wider small.tree && here) h) [
+      | inl n ↦ let parts = and_parts less (near small.target) n in
+          or_left (many && near small.target) (is_wider large.tree && there)
+          (and_from many (near small.target) (still parts.0) parts.1)
+      | inr f ↦ let parts = and_parts (is_wider small.tree) here f in
+          or_right (many && near small.target) (is_wider large.tree && there)
+          (further_stay small.tree large.tree there as_wide (and_from (is_wider small.tree) there parts.0
+          (further_with_more less many small.attacker_to_play pos small.target p still parts.1)))
     ]
 
 -- a candidate is one with more wide plies and in the wider tree too
@@ -84,16 +109,13 @@ candidate_stays : (small large : Turn) (pos : BoardState) (p : ℕ) → large.ta
 candidate_stays small large pos p same side as_wide more h =
     let near : ℕ → Bool =
     λ t. is_liberty pos.size pos.cells t p || is_last_liberty_of_enemy pos.size pos.cells t p in
-    let less = ltb 0 small.wide && is_wide_candidate small pos p in
-    let wide = ltb 0 large.wide && is_wide_candidate large pos p in
+    let less = is_later_candidate small pos p in
+    let later = is_later_candidate large pos p in
     candidate_stages large pos p
-    ∙ ap (λ t. near t || wide) same
+    ∙ ap (λ t. near t || later) same
     ∙ elim (or_cases (near small.target) less (sym (candidate_stages small pos p) ∙ h)) [
-      | inl n ↦ or_left (near small.target) wide n
-      | inr w ↦ let parts = and_parts (ltb 0 small.wide) (is_wide_candidate small pos p) w in
-          or_right (near small.target) wide (and_from (ltb 0 large.wide) (is_wide_candidate large pos p)
-          (lt-ltb 0 large.wide (let some = ltb-true 0 small.wide parts.0 in omega (arith, some, more)))
-          (wide_stays small large pos p same side as_wide parts.1))
+      | inl n ↦ or_left (near small.target) later n
+      | inr l ↦ or_right (near small.target) later (later_stays small large pos p same side as_wide more l)
     ]
 
 -- of two choices by the same test the one is at most the other if each of its parts is

@@ -1,4 +1,5 @@
 pub mod AddLemmas
+pub mod ApproachLemmas
 pub mod SideLemmas
 pub mod LastLemmas
 pub mod NearLemmas

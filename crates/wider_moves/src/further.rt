@@ -1,4 +1,4 @@
-//! The further candidates of a target, by whose turn it is.
+//! The further candidates of a target, by whose turn it is and whether a wide ply is left.
 
 ghost use Rattle.std.specs.Prelude.{◌≡◌, ℕ, ◌*◌, ◌<◌, true, false};
 ghost use Rattle.std.specs.FinSet as set;
@@ -6,69 +6,114 @@ ghost use Rattle.go_rules.specs.Position.{BoardState};
 ghost use Rattle.go_rules.specs.Strings.{liberty_points};
 ghost use Rattle.go_base.specs.Facts.{Agrees, AddsIn};
 ghost use Rattle.trial_board.specs.Trials.{Stays, after};
-ghost use Rattle.wider_rules.specs.Further.{is_further};
-ghost use Rattle.wider_rules.specs.FurtherAreas.{near_further};
+ghost use Rattle.wider_rules.specs.Further.{is_further_always, is_further_wide, is_further};
+ghost use Rattle.wider_rules.specs.FurtherAreas.{third_area, fourth_area, near_further};
 
+use crate::approach::approach;
 use crate::last::last_liberties;
-use crate::sets::{linked_strings, net, weak_enemies};
+use crate::sets::{cover, linked_strings, net, weak_enemies};
 use go_base::Look;
 use go_base::points::PointSet;
 use go_base::size::Point;
 use trial_board::Trial;
 
-/// How many liberties an enemy string next to the target's may have that the attacker strengthens.
+/// How many liberties an enemy string next to the target's may have that the attacker strengthens, or that is next to a
+/// string in atari which either side may play for.
 const FEW_OF_ATTACKER: u16 = 2;
 
 /// How many liberties an enemy string next to the target's may have that the defender presses.
 const FEW_OF_DEFENDER: u16 = 4;
 
-/// Net, Beside and Rescue, by the target's liberties.
-fn for_attacker<L: Look>(board: &mut Trial<L>, target: Point, liberties: &PointSet) -> PointSet
+/// How many liberties a linked string may have that the attacker keeps from the target.
+const FEW_OF_PARTED: u16 = 2;
+
+/// How many liberties a linked string may have that the defender joins.
+const FEW_OF_LINKED: u16 = 4;
+
+/// Beside and Rescue, the attacker's of every ply.
+fn always_for_attacker<L: Look>(board: &mut Trial<L>, target: Point) -> PointSet
     requires on_board { target < (L.shows board.old.look).size * (L.shows board.old.look).size }
-    requires liberties { (pos : BoardState) → Agrees (L.seen board.old.look) pos
-        → liberties.now ≡ liberty_points pos.size (after pos board.old.moves).cells target }
     ensures stays { Stays L.shows L.seen board.old board.new }
     ensures over { (pos : BoardState) → Agrees (L.seen board.new.look) pos → (p : ℕ)
-        → set.contains result p ≡ is_further true pos.size (after pos board.old.moves).cells target p }
+        → set.contains result p ≡ is_further_always true pos.size (after pos board.old.moves).cells target p }
     ensures near { (pos : BoardState) → Agrees (L.seen board.new.look) pos
         → AddsIn (L.seen board.old.look) (L.seen board.new.look)
-        (near_further true pos.size (after pos board.old.moves).cells target) }
+        (third_area pos.size (after pos board.old.moves).cells target) }
 {
-    let mut found = net(board, liberties);
     let weak = weak_enemies(board, target, FEW_OF_ATTACKER);
-    found.join(&weak.liberties);
+    let mut found = weak.liberties;
     let rescues = last_liberties(board, &weak.allies);
     found.join(&rescues);
     found
 }
 
-/// Beside, Join and Cut, by the target's liberties.
-fn for_defender<L: Look>(board: &mut Trial<L>, target: Point, liberties: &PointSet) -> PointSet
+/// Net and Link, the attacker's of a wide ply, by the target's liberties.
+fn wide_for_attacker<L: Look>(board: &mut Trial<L>, target: Point, liberties: &PointSet) -> PointSet
     requires on_board { target < (L.shows board.old.look).size * (L.shows board.old.look).size }
     requires liberties { (pos : BoardState) → Agrees (L.seen board.old.look) pos
         → liberties.now ≡ liberty_points pos.size (after pos board.old.moves).cells target }
     ensures stays { Stays L.shows L.seen board.old board.new }
     ensures over { (pos : BoardState) → Agrees (L.seen board.new.look) pos → (p : ℕ)
-        → set.contains result p ≡ is_further false pos.size (after pos board.old.moves).cells target p }
+        → set.contains result p ≡ is_further_wide true pos.size (after pos board.old.moves).cells target p }
     ensures near { (pos : BoardState) → Agrees (L.seen board.new.look) pos
         → AddsIn (L.seen board.old.look) (L.seen board.new.look)
-        (near_further false pos.size (after pos board.old.moves).cells target) }
+        (third_area pos.size (after pos board.old.moves).cells target) }
 {
-    let linked = linked_strings(board, target, liberties);
-    let weak = weak_enemies(board, target, FEW_OF_DEFENDER);
-    let mut found = weak.liberties;
+    let mut found = net(board, liberties);
+    let linked = linked_strings(board, target, FEW_OF_PARTED, liberties);
     found.join(&linked.liberties);
+    found
+}
+
+/// Save and Cut, the defender's of every ply, by the target's liberties.
+fn always_for_defender<L: Look>(
+    board: &mut Trial<L>,
+    target: Point,
+    liberties: &PointSet,
+) -> PointSet
+    requires on_board { target < (L.shows board.old.look).size * (L.shows board.old.look).size }
+    requires liberties { (pos : BoardState) → Agrees (L.seen board.old.look) pos
+        → liberties.now ≡ liberty_points pos.size (after pos board.old.moves).cells target }
+    ensures stays { Stays L.shows L.seen board.old board.new }
+    ensures over { (pos : BoardState) → Agrees (L.seen board.new.look) pos → (p : ℕ)
+        → set.contains result p ≡ is_further_always false pos.size (after pos board.old.moves).cells target p }
+    ensures near { (pos : BoardState) → Agrees (L.seen board.new.look) pos
+        → AddsIn (L.seen board.old.look) (L.seen board.new.look)
+        (fourth_area pos.size (after pos board.old.moves).cells target) }
+{
+    let linked = linked_strings(board, target, FEW_OF_LINKED, liberties);
+    let weak = weak_enemies(board, target, FEW_OF_ATTACKER);
+    let mut found = last_liberties(board, &weak.allies);
     let cuts = last_liberties(board, &linked.enemies);
     found.join(&cuts);
     found
 }
 
-/// The further candidates of a target: at the attacker's turn Net, Beside and Rescue, at the defender's Beside, Join
-/// and Cut.
-///
-/// The caller gives the target's liberties. The trial moves stay as they were, no play is tried, and it takes no
-/// memory. The choice of these points is this project's own.
-pub fn further_candidates<L: Look>(
+/// Beside, Join, Cover and Approach, the defender's of a wide ply, by the target's liberties.
+fn wide_for_defender<L: Look>(board: &mut Trial<L>, target: Point, liberties: &PointSet) -> PointSet
+    requires on_board { target < (L.shows board.old.look).size * (L.shows board.old.look).size }
+    requires liberties { (pos : BoardState) → Agrees (L.seen board.old.look) pos
+        → liberties.now ≡ liberty_points pos.size (after pos board.old.moves).cells target }
+    ensures stays { Stays L.shows L.seen board.old board.new }
+    ensures over { (pos : BoardState) → Agrees (L.seen board.new.look) pos → (p : ℕ)
+        → set.contains result p ≡ is_further_wide false pos.size (after pos board.old.moves).cells target p }
+    ensures near { (pos : BoardState) → Agrees (L.seen board.new.look) pos
+        → AddsIn (L.seen board.old.look) (L.seen board.new.look)
+        (fourth_area pos.size (after pos board.old.moves).cells target) }
+{
+    let linked = linked_strings(board, target, FEW_OF_LINKED, liberties);
+    let weak = weak_enemies(board, target, FEW_OF_DEFENDER);
+    let mut found = weak.liberties;
+    found.join(&linked.liberties);
+    let covers = cover(board, target);
+    found.join(&covers);
+    let near = approach(board, target);
+    found.join(&near);
+    found
+}
+
+/// The further candidates of every ply, by whose turn it is and the target's liberties.
+fn of_every_ply<L: Look>(
     board: &mut Trial<L>,
     target: Point,
     attacker_to_play: bool,
@@ -80,14 +125,71 @@ pub fn further_candidates<L: Look>(
     ensures stays { Stays L.shows L.seen board.old board.new }
     ensures over { (pos : BoardState) → Agrees (L.seen board.new.look) pos → (p : ℕ)
         → set.contains result p
-        ≡ is_further attacker_to_play pos.size (after pos board.old.moves).cells target p }
+        ≡ is_further_always attacker_to_play pos.size (after pos board.old.moves).cells target p }
     ensures near { (pos : BoardState) → Agrees (L.seen board.new.look) pos
         → AddsIn (L.seen board.old.look) (L.seen board.new.look)
         (near_further attacker_to_play pos.size (after pos board.old.moves).cells target) }
 {
     if attacker_to_play {
-        for_attacker(board, target, liberties)
+        always_for_attacker(board, target)
     } else {
-        for_defender(board, target, liberties)
+        always_for_defender(board, target, liberties)
     }
+}
+
+/// The further candidates of a wide ply alone, by whose turn it is and the target's liberties.
+fn of_a_wide_ply<L: Look>(
+    board: &mut Trial<L>,
+    target: Point,
+    attacker_to_play: bool,
+    liberties: &PointSet,
+) -> PointSet
+    requires on_board { target < (L.shows board.old.look).size * (L.shows board.old.look).size }
+    requires liberties { (pos : BoardState) → Agrees (L.seen board.old.look) pos
+        → liberties.now ≡ liberty_points pos.size (after pos board.old.moves).cells target }
+    ensures stays { Stays L.shows L.seen board.old board.new }
+    ensures over { (pos : BoardState) → Agrees (L.seen board.new.look) pos → (p : ℕ)
+        → set.contains result p
+        ≡ is_further_wide attacker_to_play pos.size (after pos board.old.moves).cells target p }
+    ensures near { (pos : BoardState) → Agrees (L.seen board.new.look) pos
+        → AddsIn (L.seen board.old.look) (L.seen board.new.look)
+        (near_further attacker_to_play pos.size (after pos board.old.moves).cells target) }
+{
+    if attacker_to_play {
+        wide_for_attacker(board, target, liberties)
+    } else {
+        wide_for_defender(board, target, liberties)
+    }
+}
+
+/// The further candidates of a target. In every ply these are, at the attacker's turn, Beside by strings with at most two
+/// liberties and Rescue, and at the defender's turn Save and Cut. Where a wide ply is left there are also, at the
+/// attacker's turn, Net and Link, and at the defender's Beside by strings with at most four, Join, Cover and Approach.
+///
+/// The caller gives the target's liberties. The trial moves stay as they were, no play is tried, and it takes no
+/// memory. The choice of these points is this project's own.
+pub fn further_candidates<L: Look>(
+    board: &mut Trial<L>,
+    target: Point,
+    attacker_to_play: bool,
+    wide: bool,
+    liberties: &PointSet,
+) -> PointSet
+    requires on_board { target < (L.shows board.old.look).size * (L.shows board.old.look).size }
+    requires liberties { (pos : BoardState) → Agrees (L.seen board.old.look) pos
+        → liberties.now ≡ liberty_points pos.size (after pos board.old.moves).cells target }
+    ensures stays { Stays L.shows L.seen board.old board.new }
+    ensures over { (pos : BoardState) → Agrees (L.seen board.new.look) pos → (p : ℕ)
+        → set.contains result p
+        ≡ is_further wide attacker_to_play pos.size (after pos board.old.moves).cells target p }
+    ensures near { (pos : BoardState) → Agrees (L.seen board.new.look) pos
+        → AddsIn (L.seen board.old.look) (L.seen board.new.look)
+        (near_further attacker_to_play pos.size (after pos board.old.moves).cells target) }
+{
+    let mut found = of_every_ply(board, target, attacker_to_play, liberties);
+    if wide {
+        let more = of_a_wide_ply(board, target, attacker_to_play, liberties);
+        found.join(&more);
+    }
+    found
 }

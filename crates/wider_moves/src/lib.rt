@@ -5,6 +5,7 @@
 //! they were and takes no memory.
 #![tactic(auto)]
 
+mod approach;
 pub mod further;
 mod last;
 mod sets;

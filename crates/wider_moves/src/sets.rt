@@ -8,6 +8,7 @@ ghost use Rattle.go_rules.specs.Neighbourhood.{neighbourhood_of};
 ghost use Rattle.go_base.specs.Facts.{Agrees, AddsIn};
 ghost use Rattle.trial_board.specs.Trials.{Stays, after};
 ghost use Rattle.wider_rules.specs.Further.{is_net, is_beside, is_ally, is_join, is_cutter};
+ghost use Rattle.wider_rules.specs.Further.{is_covered_liberty, is_cover};
 ghost use Rattle.wider_rules.specs.FurtherAreas.{second_area, third_area};
 ghost use Rattle.wider_rules.specs.Strings.{is_near_friend};
 
@@ -22,8 +23,11 @@ use trial_board::Trial;
 /// How many liberties a target has around which the attacker tries a net.
 const NETTED: u16 = 3;
 
-/// How many liberties a linked string may have.
-const FEW_OF_LINKED: u16 = 4;
+/// How many liberties at least an enemy string has around which the defender tries a net.
+const LEAST_OF_COVERED: u16 = 2;
+
+/// And how many it may have.
+const FEW_OF_COVERED: u16 = 3;
 
 /// What stands around the enemy strings next to a target that have few liberties.
 #[derive(Drop)]
@@ -70,7 +74,7 @@ pub(crate) fn weak_enemies<L: Look>(board: &mut Trial<L>, target: Point, most: u
         liberties: _,
         enemies,
     } = board.string(target);
-    let weak = around_strings(board, most, &enemies);
+    let weak = around_strings(board, 0, most, &enemies);
     WeakEnemies {
         liberties: weak.liberties,
         allies: weak.enemies.difference(&stones),
@@ -100,10 +104,12 @@ fn near_friends<L: Look>(board: &mut Trial<L>, target: Point, liberties: &PointS
     friends.difference(&stones)
 }
 
-/// The liberties of the linked strings, which are the points of Join, and the enemy stones next to these strings.
+/// The liberties of the linked strings with at most so many, which are the points of Join and of Link, and the enemy
+/// stones next to these strings.
 pub(crate) fn linked_strings<L: Look>(
     board: &mut Trial<L>,
     target: Point,
+    most: u16,
     liberties: &PointSet,
 ) -> Around
     requires on_board { target < (L.shows board.old.look).size * (L.shows board.old.look).size }
@@ -111,14 +117,48 @@ pub(crate) fn linked_strings<L: Look>(
         → liberties.now ≡ liberty_points pos.size (after pos board.old.moves).cells target }
     ensures stays { Stays L.shows L.seen board.old board.new }
     ensures liberties { (pos : BoardState) → Agrees (L.seen board.new.look) pos → (p : ℕ)
-        → set.contains result.liberties p ≡ is_join pos.size (after pos board.old.moves).cells target p }
+        → set.contains result.liberties p ≡ is_join most pos.size (after pos board.old.moves).cells target p }
     ensures enemies { (pos : BoardState) → Agrees (L.seen board.new.look) pos → (r : ℕ)
-        → set.contains result.enemies r
-        ≡ (nat_lt r (pos.size * pos.size) && is_cutter pos.size (after pos board.old.moves).cells target r) }
+        → set.contains result.enemies r ≡ (nat_lt r (pos.size * pos.size)
+        && is_cutter most pos.size (after pos board.old.moves).cells target r) }
     ensures near { (pos : BoardState) → Agrees (L.seen board.new.look) pos
         → AddsIn (L.seen board.old.look) (L.seen board.new.look)
         (third_area pos.size (after pos board.old.moves).cells target) }
 {
     let friends = near_friends(board, target, liberties);
-    around_strings(board, FEW_OF_LINKED, &friends)
+    around_strings(board, 0, most, &friends)
+}
+
+/// The liberties of the enemy strings next to the target that have two or three.
+fn covered_liberties<L: Look>(board: &mut Trial<L>, target: Point) -> PointSet
+    requires { target < (L.shows board.old.look).size * (L.shows board.old.look).size }
+    ensures stays { Stays L.shows L.seen board.old board.new }
+    ensures over { (pos : BoardState) → Agrees (L.seen board.new.look) pos → (l : ℕ)
+        → set.contains result l ≡ is_covered_liberty pos.size (after pos board.old.moves).cells target l }
+    ensures near { (pos : BoardState) → Agrees (L.seen board.new.look) pos
+        → AddsIn (L.seen board.old.look) (L.seen board.new.look)
+        (second_area pos.size (after pos board.old.moves).cells target) }
+{
+    let Found {
+        stones: _,
+        liberties: _,
+        enemies,
+    } = board.string(target);
+    let covered = around_strings(board, LEAST_OF_COVERED, FEW_OF_COVERED, &enemies);
+    covered.liberties
+}
+
+/// The points of Cover: the empty neighbours of the liberties of the enemy strings next to the target that have two or
+/// three.
+pub(crate) fn cover<L: Look>(board: &mut Trial<L>, target: Point) -> PointSet
+    requires { target < (L.shows board.old.look).size * (L.shows board.old.look).size }
+    ensures stays { Stays L.shows L.seen board.old board.new }
+    ensures over { (pos : BoardState) → Agrees (L.seen board.new.look) pos → (p : ℕ)
+        → set.contains result p ≡ is_cover pos.size (after pos board.old.moves).cells target p }
+    ensures near { (pos : BoardState) → Agrees (L.seen board.new.look) pos
+        → AddsIn (L.seen board.old.look) (L.seen board.new.look)
+        (third_area pos.size (after pos board.old.moves).cells target) }
+{
+    let liberties = covered_liberties(board, target);
+    sides_of(board, Cell::Empty, &liberties)
 }

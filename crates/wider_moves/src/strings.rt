@@ -1,6 +1,6 @@
 //! What stands around strings with few liberties, each of which is searched once.
 
-ghost use Rattle.std.specs.Prelude.{◌≡◌, ℕ, ◌*◌, ◌<◌, ◌&&◌, ◌||◌, IsTrue};
+ghost use Rattle.std.specs.Prelude.{◌≡◌, ℕ, ◌*◌, ◌<◌, ◌&&◌, ◌||◌, IsTrue, nat_le};
 ghost use Rattle.std.specs.FinSet as set;
 ghost use Rattle.go_rules.specs.Below.{any_below};
 ghost use Rattle.go_rules.specs.Position.{BoardState};
@@ -26,18 +26,32 @@ pub(crate) struct Around {
     pub enemies: PointSet,
 }
 
-/// Adds what stands around the string of q if it has at most so many liberties, and tells its stones.
-fn add_string<L: Look>(board: &mut Trial<L>, most: u16, q: Point, found: &mut Around) -> PointSet
+/// Whether the number lies between the two others, which are let in.
+fn lies_between(least: u16, most: u16, n: u16) -> bool
+    ensures { result ≡ (nat_le least n && nat_le n most) }
+{
+    least <= n && n <= most
+}
+
+/// Adds what stands around the string of q if it has at least and at most so many liberties, and tells its stones.
+fn add_string<L: Look>(
+    board: &mut Trial<L>,
+    least: u16,
+    most: u16,
+    q: Point,
+    found: &mut Around,
+) -> PointSet
     requires { q < (L.shows board.old.look).size * (L.shows board.old.look).size }
     ensures stays { Stays L.shows L.seen board.old board.new }
     ensures stones { (pos : BoardState) → Agrees (L.seen board.new.look) pos
         → result ≡ string_at pos.size (after pos board.old.moves).cells q }
     ensures liberties { (pos : BoardState) → Agrees (L.seen board.new.look) pos → (p : ℕ)
         → set.contains found.new.liberties p
-        ≡ (set.contains found.old.liberties p || is_few_liberty most pos.size (after pos board.old.moves).cells q p) }
+        ≡ (set.contains found.old.liberties p || is_few_liberty least most pos.size
+        (after pos board.old.moves).cells q p) }
     ensures enemies { (pos : BoardState) → Agrees (L.seen board.new.look) pos → (r : ℕ)
         → set.contains found.new.enemies r
-        ≡ (set.contains found.old.enemies r || is_few_enemy most pos.size (after pos board.old.moves).cells q r) }
+        ≡ (set.contains found.old.enemies r || is_few_enemy least most pos.size (after pos board.old.moves).cells q r) }
     ensures near { (pos : BoardState) → Agrees (L.seen board.new.look) pos
         → AddsIn (L.seen board.old.look) (L.seen board.new.look)
         (neighbourhood_of pos.size (after pos board.old.moves).cells (alone q)) }
@@ -47,25 +61,32 @@ fn add_string<L: Look>(board: &mut Trial<L>, most: u16, q: Point, found: &mut Ar
         liberties,
         enemies,
     } = board.string(q);
-    if liberties.count() <= most {
+    if lies_between(least, most, liberties.count()) {
         found.liberties.join(&liberties);
         found.enemies.join(&enemies);
     }
     stones
 }
 
-/// The liberties of those strings of the points that have at most so many, and the enemy stones next to these strings.
-/// Each string is searched once: its stones are taken off the points that are left.
-pub(crate) fn around_strings<L: Look>(board: &mut Trial<L>, most: u16, points: &PointSet) -> Around
+/// The liberties of those strings of the points that have at least and at most so many, and the enemy stones next to
+/// these strings. Each string is searched once: its stones are taken off the points that are left.
+pub(crate) fn around_strings<L: Look>(
+    board: &mut Trial<L>,
+    least: u16,
+    most: u16,
+    points: &PointSet,
+) -> Around
     requires { (q : ℕ) → IsTrue (set.contains points.now q)
         → q < (L.shows board.old.look).size * (L.shows board.old.look).size }
     ensures stays { Stays L.shows L.seen board.old board.new }
     ensures liberties { (pos : BoardState) → Agrees (L.seen board.new.look) pos → (p : ℕ)
         → set.contains result.liberties p ≡ any_below (pos.size * pos.size)
-        (λ q. set.contains points.now q && is_few_liberty most pos.size (after pos board.old.moves).cells q p) }
+        (λ q. set.contains points.now q
+        && is_few_liberty least most pos.size (after pos board.old.moves).cells q p) }
     ensures enemies { (pos : BoardState) → Agrees (L.seen board.new.look) pos → (r : ℕ)
         → set.contains result.enemies r ≡ any_below (pos.size * pos.size)
-        (λ q. set.contains points.now q && is_few_enemy most pos.size (after pos board.old.moves).cells q r) }
+        (λ q. set.contains points.now q
+        && is_few_enemy least most pos.size (after pos board.old.moves).cells q r) }
     ensures near { (pos : BoardState) → Agrees (L.seen board.new.look) pos
         → AddsIn (L.seen board.old.look) (L.seen board.new.look)
         (neighbourhood_of pos.size (after pos board.old.moves).cells (set.contains points.now)) }
@@ -77,7 +98,7 @@ pub(crate) fn around_strings<L: Look>(board: &mut Trial<L>, most: u16, points: &
     let mut rest = points.copied();
     let mut next = 0;
     while let Some(q) = rest.first_from(next) {
-        let stones = add_string(board, most, q, &mut found);
+        let stones = add_string(board, least, most, q, &mut found);
         rest = rest.difference(&stones);
         next = q + 1;
     }

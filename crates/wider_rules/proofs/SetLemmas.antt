@@ -1,7 +1,7 @@
 -- What was gathered is the sets of the rules.
 use Rattle.std.proofs.Common.{◌≡◌, ℕ, ◌*◌, ◌<◌, ◌&&◌, ◌||◌, Bool, true, false, not, leb, ltb, List}
 use Rattle.std.proofs.Common.{refl, sym, ap, inl, inr, ◌∙◌}
-use Rattle.std.proofs.lemmas.Bool.{cases_Bool, and_parts, lt-ltb, eqb-true, eq-eqb}
+use Rattle.std.proofs.lemmas.Bool.{cases_Bool, both_ways, or_cases, or_left, and_parts, and_from, lt-ltb, eqb-true, eq-eqb}
 use Rattle.std.specs.Ordering.{nat_cmp}
 use Rattle.std.specs.Cmp.{nat_cmp_total}
 use Rattle.std.specs.FinSet as sets
@@ -11,13 +11,17 @@ use Rattle.go_rules.specs.Below.{any_below}
 use Rattle.go_rules.specs.Board.{are_neighbours}
 use Rattle.go_rules.specs.Strings.{cell_at, same_cell, is_in_string, string_at, is_liberty, liberties, liberty_points}
 use Rattle.go_rules.specs.BesideStrings.{is_enemy, is_beside_string}
-use Rattle.go_rules.proofs.Counts.{any_below_same, any_below_false}
+use Rattle.go_rules.proofs.Counts.{any_below_gives, any_below_same, any_below_false}
+use Rattle.go_rules.proofs.Tests.{same_tests}
 use Rattle.go_base.specs.Floods.{enemy_points}
 use Rattle.go_base.specs.Surroundings.{is_only_liberty}
 use Rattle.wider_rules.specs.Further.{is_net, is_weak_enemy, is_beside, is_ally, is_rescue, is_linked, is_join}
-use Rattle.wider_rules.specs.Further.{is_cutter, is_cut, is_further}
-use Rattle.wider_rules.specs.Strings.{holds_next, is_few_liberty, is_few_enemy, is_near_friend}
-use Rattle.wider_rules.proofs.StringLemmas.{has_liberty, how_many, has_enemy, has_stone, joined}
+use Rattle.wider_rules.specs.Further.{is_cutter, is_cut, is_covered, is_covered_liberty, is_cover}
+use Rattle.wider_rules.specs.Further.{is_in_the_way, is_approach}
+use Rattle.wider_rules.specs.Cramped.{foe_of, is_cramped}
+use Rattle.wider_rules.specs.Further.{is_further_always, is_further_wide, is_further}
+use Rattle.wider_rules.specs.Strings.{holds_next, has_between, is_few_liberty, is_few_enemy, is_near_friend}
+use Rattle.wider_rules.proofs.StringLemmas.{has_liberty, how_many, has_enemy, has_stone, joined, from_none}
 
 -- which of two tests comes first does not matter
 and_comm : (a b : Bool) → (a && b) ≡ (b && a)
@@ -58,26 +62,51 @@ module _ (s : ℕ) (cells : List Cell) (p : ℕ) (stones : sets.FinSet nat_cmp) 
   last_of = any_below_same (s * s) _ _ (λ q on. ap (λ b. b && is_only_liberty s cells q p) (members q on))
 
   -- the liberties of their strings that have few
-  few_liberties_of : (most : ℕ) → any_below (s * s) (λ q. sets.contains stones q && is_few_liberty most s cells q p)
-      ≡ any_below (s * s) (λ q. (test q && leb (liberties s cells q) most) && is_liberty s cells q p)
+  few_liberties_of : (least most : ℕ)
+      → any_below (s * s) (λ q. sets.contains stones q && is_few_liberty least most s cells q p)
+      ≡ any_below (s * s) (λ q. (test q && has_between least most s cells q) && is_liberty s cells q p)
   unfolding is_few_liberty
-  few_liberties_of most = any_below_same (s * s) _ _ (λ q on.
-      ap (λ b. b && is_few_liberty most s cells q p) (members q on)
-      ∙ and_assoc (test q) (leb (liberties s cells q) most) (is_liberty s cells q p))
+  few_liberties_of least most = any_below_same (s * s) _ _ (λ q on.
+      ap (λ b. b && is_few_liberty least most s cells q p) (members q on)
+      ∙ and_assoc (test q) (has_between least most s cells q) (is_liberty s cells q p))
 
   -- the enemies next to these
-  few_enemies_of : (most : ℕ) → any_below (s * s) (λ q. sets.contains stones q && is_few_enemy most s cells q p)
-      ≡ (ltb p (s * s) && any_below (s * s) (λ q. (test q && leb (liberties s cells q) most)
+  few_enemies_of : (least most : ℕ)
+      → any_below (s * s) (λ q. sets.contains stones q && is_few_enemy least most s cells q p)
+      ≡ (ltb p (s * s) && any_below (s * s) (λ q. (test q && has_between least most s cells q)
       && (is_enemy (cell_at cells q) (cell_at cells p) && is_beside_string s cells q p)))
   unfolding is_few_enemy
-  few_enemies_of most = any_below_same (s * s) _ _ (λ q on.
-      let few = leb (liberties s cells q) most in
+  few_enemies_of least most = any_below_same (s * s) _ _ (λ q on.
+      let few = has_between least most s cells q in
       let beside = is_beside_string s cells q p in
       let enemy = is_enemy (cell_at cells q) (cell_at cells p) in
-      ap (λ b. b && is_few_enemy most s cells q p) (members q on)
+      ap (λ b. b && is_few_enemy least most s cells q p) (members q on)
       ∙ and_assoc (test q) few (ltb p (s * s) && (beside && enemy))
       ∙ and_first (test q && few) (ltb p (s * s)) (beside && enemy)
       ∙ ap (λ x. ltb p (s * s) && ((test q && few) && x)) (and_comm beside enemy)) ∙ any_once (s * s) (ltb p (s * s)) _
+
+  -- the liberties of those that have at most so many
+  most_liberties_of : (most : ℕ)
+      → any_below (s * s) (λ q. sets.contains stones q && is_few_liberty 0 most s cells q p)
+      ≡ any_below (s * s) (λ q. (test q && leb (liberties s cells q) most) && is_liberty s cells q p)
+  most_liberties_of most = few_liberties_of 0 most ∙ any_below_same (s * s) _ _ (λ q on.
+      ap (λ b. (test q && b) && is_liberty s cells q p) (from_none most s cells q))
+
+  -- and the enemies next to these
+  most_enemies_of : (most : ℕ)
+      → any_below (s * s) (λ q. sets.contains stones q && is_few_enemy 0 most s cells q p)
+      ≡ (ltb p (s * s) && any_below (s * s) (λ q. (test q && leb (liberties s cells q) most)
+      && (is_enemy (cell_at cells q) (cell_at cells p) && is_beside_string s cells q p)))
+  most_enemies_of most =
+      few_enemies_of 0 most ∙ ap (λ b. ltb p (s * s) && b) (any_below_same (s * s) _ _ (λ q on.
+      ap (λ b. (test q && b) && (is_enemy (cell_at cells q) (cell_at cells p) && is_beside_string s cells q p))
+      (from_none most s cells q)))
+
+-- a point next to another at which a cell stands is on the board
+pub next_on : (s : ℕ) (cells : List Cell) (cell : Cell) (l r : ℕ) → holds_next s cells cell l r ≡ true
+    → ltb r (s * s) ≡ true
+unfolding holds_next
+next_on s cells cell l r h = (and_parts _ _ (and_parts _ _ h).0).0
 
 -- What was gathered for a target.
 module _ (s : ℕ) (cells : List Cell) (target : ℕ) where
@@ -126,15 +155,15 @@ module _ (s : ℕ) (cells : List Cell) (target : ℕ) where
 
   -- the liberties of those that have few are Beside
   pub beside_is : (most p : ℕ) (foes : sets.FinSet nat_cmp) → foes ≡ enemy_points s cells target
-      → any_below (s * s) (λ q. sets.contains foes q && is_few_liberty most s cells q p)
+      → any_below (s * s) (λ q. sets.contains foes q && is_few_liberty 0 most s cells q p)
       ≡ is_beside most s cells target p
   unfolding is_beside is_weak_enemy
-  beside_is most p foes e = few_liberties_of s cells p foes _ (foes_are foes e) most
+  beside_is most p foes e = most_liberties_of s cells p foes _ (foes_are foes e) most
 
   -- the enemies next to these that are not of the target's string are the allies
   pub ally_is : (most r : ℕ) (foes stones found allies : sets.FinSet nat_cmp) → target < s * s
       → foes ≡ enemy_points s cells target → stones ≡ string_at s cells target
-      → sets.contains found r ≡ any_below (s * s) (λ q. sets.contains foes q && is_few_enemy most s cells q r)
+      → sets.contains found r ≡ any_below (s * s) (λ q. sets.contains foes q && is_few_enemy 0 most s cells q r)
       → allies ≡ sets.difference found stones
       → sets.contains allies r ≡ (ltb r (s * s) && is_ally most s cells target r)
   unfolding is_ally is_weak_enemy
@@ -142,7 +171,7 @@ module _ (s : ℕ) (cells : List Cell) (target : ℕ) where
       let apart = not (is_in_string s cells target r) in
       left_of found stones allies r taken
       ∙ ap (λ b. sets.contains found r && not b) (has_stone s cells target r stones on its)
-      ∙ ap (λ b. b && apart) (came ∙ few_enemies_of s cells r foes _ (foes_are foes e) most)
+      ∙ ap (λ b. b && apart) (came ∙ most_enemies_of s cells r foes _ (foes_are foes e) most)
       ∙ sym (and_assoc (ltb r (s * s)) _ apart)
 
   -- the last liberties of the allies are Rescue
@@ -174,71 +203,133 @@ module _ (s : ℕ) (cells : List Cell) (target : ℕ) where
   module _ (p : ℕ) (friends : sets.FinSet nat_cmp)
       (is : (q : ℕ) → sets.contains friends q ≡ (ltb q (s * s) && is_near_friend s cells target q)) where
     -- their liberties are Join
-    pub join_is : any_below (s * s) (λ q. sets.contains friends q && is_few_liberty 4 s cells q p)
-        ≡ is_join s cells target p
+    pub join_is : (most : ℕ) → any_below (s * s) (λ q. sets.contains friends q && is_few_liberty 0 most s cells q p)
+        ≡ is_join most s cells target p
     unfolding is_join is_linked is_near_friend
-    join_is = few_liberties_of s cells p friends (is_near_friend s cells target) is 4
+    join_is most = most_liberties_of s cells p friends (is_near_friend s cells target) is most
 
     -- the enemies next to them may cut
-    pub cutter_is : any_below (s * s) (λ q. sets.contains friends q && is_few_enemy 4 s cells q p)
-        ≡ (ltb p (s * s) && is_cutter s cells target p)
+    pub cutter_is : (most : ℕ) → any_below (s * s) (λ q. sets.contains friends q && is_few_enemy 0 most s cells q p)
+        ≡ (ltb p (s * s) && is_cutter most s cells target p)
     unfolding is_cutter is_linked is_near_friend
-    cutter_is = few_enemies_of s cells p friends (is_near_friend s cells target) is 4
+    cutter_is most = most_enemies_of s cells p friends (is_near_friend s cells target) is most
 
   -- the last liberties of those that may cut are Cut
   pub cut_is : (p : ℕ) (cutters : sets.FinSet nat_cmp)
-      → ((r : ℕ) → sets.contains cutters r ≡ (ltb r (s * s) && is_cutter s cells target r))
+      → ((r : ℕ) → sets.contains cutters r ≡ (ltb r (s * s) && is_cutter 4 s cells target r))
       → any_below (s * s) (λ r. sets.contains cutters r && is_only_liberty s cells r p) ≡ is_cut s cells target p
   unfolding is_cut
-  cut_is p cutters is = last_of s cells p cutters (is_cutter s cells target) is
+  cut_is p cutters is = last_of s cells p cutters (is_cutter 4 s cells target) is
 
-  -- Net, Beside and Rescue are the attacker's
-  pub attacker_is : (p : ℕ) (x net beside rescue : Bool) → x ≡ ((net || beside) || rescue)
-      → net ≡ is_net s cells target p → beside ≡ is_beside 2 s cells target p → rescue ≡ is_rescue s cells target p
-      → x ≡ is_further true s cells target p
+  -- the liberties of the enemies next to the target that have two or three are what Cover goes by
+  pub covered_is : (l : ℕ) (foes : sets.FinSet nat_cmp) → foes ≡ enemy_points s cells target
+      → any_below (s * s) (λ q. sets.contains foes q && is_few_liberty 2 3 s cells q l)
+      ≡ is_covered_liberty s cells target l
+  unfolding is_covered_liberty is_covered
+  covered_is l foes e = few_liberties_of s cells l foes _ (foes_are foes e) 2 3
+
+  -- the empty neighbours of these are Cover
+  pub cover_is : (p : ℕ) (libs : sets.FinSet nat_cmp)
+      → ((l : ℕ) → sets.contains libs l ≡ is_covered_liberty s cells target l)
+      → any_below (s * s) (λ l. sets.contains libs l && holds_next s cells Empty l p) ≡ is_cover s cells target p
+  unfolding is_cover holds_next
+  cover_is p libs is =
+      let place = ltb p (s * s) && same_cell (cell_at cells p) Empty in
+      any_below_same (s * s) _ _ (λ l on.
+      ap (λ b. b && holds_next s cells Empty l p) (is l)
+      ∙ and_first (is_covered_liberty s cells target l) place (are_neighbours s l p)) ∙ any_once (s * s) place _
+
+  -- the enemies next to cramped points of Beside are in the way
+  pub way_is : (r : ℕ) (beside found : sets.FinSet nat_cmp) → ((l : ℕ) → sets.contains beside l ≡ is_beside 2 s cells target l)
+      → sets.contains found r ≡ any_below (s * s) (λ l. sets.contains beside l
+      && (is_cramped s cells (cell_at cells target) l && holds_next s cells (foe_of (cell_at cells target)) l r))
+      → sets.contains found r ≡ (ltb r (s * s) && is_in_the_way s cells target r)
+  unfolding is_in_the_way
+  way_is r beside found is came =
+      let own = cell_at cells target in
+      let test = λ (l : ℕ). is_cramped s cells own l && holds_next s cells (foe_of own) l r in
+      let whole = any_below (s * s) (λ l. is_beside 2 s cells target l && test l) in
+      came ∙ any_below_same (s * s) _ _ (λ l on. ap (λ b. b && test l) (is l))
+      ∙ same_tests _ _
+      (λ h.
+      let l = any_below_gives (s * s) _ h in
+      and_from _ _ (next_on s cells (foe_of own) l.0 r (and_parts _ _ (and_parts _ _ l.2).1).1) h)
+      (λ h. (and_parts (ltb r (s * s)) whole h).1)
+
+  -- the liberties of those that have at most two are Approach
+  pub approach_is : (p : ℕ) (found : sets.FinSet nat_cmp)
+      → ((r : ℕ) → sets.contains found r ≡ (ltb r (s * s) && is_in_the_way s cells target r))
+      → any_below (s * s) (λ r. sets.contains found r && is_few_liberty 0 2 s cells r p) ≡ is_approach s cells target p
+  unfolding is_approach
+  approach_is p found is = most_liberties_of s cells p found (is_in_the_way s cells target) is 2
+
+-- What was joined of the sets of a target.
+module _ (s : ℕ) (cells : List Cell) (target p : ℕ) where
+  -- Beside and Rescue are the attacker's of every ply
+  pub attacker_always : (beside allies rescues new : sets.FinSet nat_cmp) → new ≡ sets.union beside rescues
+      → sets.contains beside p ≡ is_beside 2 s cells target p
+      → ((r : ℕ) → sets.contains allies r ≡ (ltb r (s * s) && is_ally 2 s cells target r))
+      → sets.contains rescues p ≡ any_below (s * s) (λ r. sets.contains allies r && is_only_liberty s cells r p)
+      → sets.contains new p ≡ is_further_always true s cells target p
+  unfolding is_further_always
+  attacker_always beside allies rescues new e besides allied last =
+      joined beside rescues new p e
+      ∙ ap (λ y. y || sets.contains rescues p) besides
+      ∙ ap (λ y. is_beside 2 s cells target p || y) (last ∙ rescue_is s cells target p allies allied)
+
+  -- Net and Link are the attacker's of a wide ply
+  pub attacker_wide : (net link new : sets.FinSet nat_cmp) → new ≡ sets.union net link
+      → sets.contains net p ≡ is_net s cells target p → sets.contains link p ≡ is_join 2 s cells target p
+      → sets.contains new p ≡ is_further_wide true s cells target p
+  unfolding is_further_wide
+  attacker_wide net link new e nets links =
+      joined net link new p e ∙ ap (λ y. y || sets.contains link p) nets
+      ∙ ap (λ y. is_net s cells target p || y) links
+
+  -- Save and Cut are the defender's of every ply
+  pub defender_always : (allies saves cutters cuts new : sets.FinSet nat_cmp) → new ≡ sets.union saves cuts
+      → ((r : ℕ) → sets.contains allies r ≡ (ltb r (s * s) && is_ally 2 s cells target r))
+      → sets.contains saves p ≡ any_below (s * s) (λ r. sets.contains allies r && is_only_liberty s cells r p)
+      → ((r : ℕ) → sets.contains cutters r ≡ (ltb r (s * s) && is_cutter 4 s cells target r))
+      → sets.contains cuts p ≡ any_below (s * s) (λ r. sets.contains cutters r && is_only_liberty s cells r p)
+      → sets.contains new p ≡ is_further_always false s cells target p
+  unfolding is_further_always
+  defender_always allies saves cutters cuts new e allied first cutting last =
+      joined saves cuts new p e
+      ∙ ap (λ y. y || sets.contains cuts p) (first ∙ rescue_is s cells target p allies allied)
+      ∙ ap (λ y. is_rescue s cells target p || y) (last ∙ cut_is s cells target p cutters cutting)
+
+  -- Beside, Join, Cover and Approach are the defender's of a wide ply
+  pub defender_wide : (beside join cover near mid more new : sets.FinSet nat_cmp) → mid ≡ sets.union beside join
+      → more ≡ sets.union mid cover → new ≡ sets.union more near → sets.contains beside p ≡ is_beside 4 s cells target p
+      → sets.contains join p ≡ is_join 4 s cells target p → sets.contains cover p ≡ is_cover s cells target p
+      → sets.contains near p ≡ is_approach s cells target p
+      → sets.contains new p ≡ is_further_wide false s cells target p
+  unfolding is_further_wide
+  defender_wide beside join cover near mid more new e f g besides joins covers nears =
+      joined more near new p g ∙ ap (λ y. y || sets.contains near p)
+      (joined mid cover more p f ∙ ap (λ y. y || sets.contains cover p) (joined beside join mid p e)
+      ∙ ap (λ y. (y || sets.contains join p) || sets.contains cover p) besides
+      ∙ ap (λ y. (is_beside 4 s cells target p || y) || sets.contains cover p) joins
+      ∙ ap (λ y. (is_beside 4 s cells target p || is_join 4 s cells target p) || y) covers)
+      ∙ ap (λ y. ((is_beside 4 s cells target p || is_join 4 s cells target p) || is_cover s cells target p) || y) nears
+
+  -- those of every ply, joined with those of a wide ply where one is left, are the further candidates
+  pub further_joined : (attacker : Bool) (always wide new : sets.FinSet nat_cmp) → new ≡ sets.union always wide
+      → sets.contains always p ≡ is_further_always attacker s cells target p
+      → sets.contains wide p ≡ is_further_wide attacker s cells target p
+      → sets.contains new p ≡ is_further true attacker s cells target p
   unfolding is_further
-  attacker_is p x net beside rescue e nets besides rescues =
-      e ∙ ap (λ y. (y || beside) || rescue) nets
-      ∙ ap (λ y. (is_net s cells target p || y) || rescue) besides
-      ∙ ap (λ y. (is_net s cells target p || is_beside 2 s cells target p) || y) rescues
+  further_joined attacker always wide new e first later =
+      joined always wide new p e ∙ ap (λ y. y || sets.contains wide p) first
+      ∙ ap (λ y. is_further_always attacker s cells target p || y) later
 
-  -- Beside, Join and Cut are the defender's
-  pub defender_is : (p : ℕ) (x beside join cut : Bool) → x ≡ ((beside || join) || cut)
-      → beside ≡ is_beside 4 s cells target p → join ≡ is_join s cells target p → cut ≡ is_cut s cells target p
-      → x ≡ is_further false s cells target p
+  -- where none is left, those of every ply are
+  pub further_alone : (attacker x : Bool) → x ≡ is_further_always attacker s cells target p
+      → x ≡ is_further false attacker s cells target p
   unfolding is_further
-  defender_is p x beside join cut e besides joins cuts =
-      e ∙ ap (λ y. (y || join) || cut) besides
-      ∙ ap (λ y. (is_beside 4 s cells target p || y) || cut) joins
-      ∙ ap (λ y. (is_beside 4 s cells target p || is_join s cells target p) || y) cuts
-
--- what was joined twice to what was found first
-pub joined_twice : (first second third mid new : sets.FinSet nat_cmp) (p : ℕ) → mid ≡ sets.union first second
-    → new ≡ sets.union mid third
-    → sets.contains new p ≡ ((sets.contains first p || sets.contains second p) || sets.contains third p)
-joined_twice first second third mid new p e f =
-    joined mid third new p f ∙ ap (λ b. b || sets.contains third p) (joined first second mid p e)
-
--- Net, Beside and Rescue joined are the attacker's
-pub attacker_joined : (s : ℕ) (cells : List Cell) (target p : ℕ)
-    (net beside allies rescues mid new : sets.FinSet nat_cmp)
-    → mid ≡ sets.union net beside → new ≡ sets.union mid rescues → sets.contains net p ≡ is_net s cells target p
-    → sets.contains beside p ≡ is_beside 2 s cells target p
-    → ((r : ℕ) → sets.contains allies r ≡ (ltb r (s * s) && is_ally 2 s cells target r))
-    → sets.contains rescues p ≡ any_below (s * s) (λ r. sets.contains allies r && is_only_liberty s cells r p)
-    → sets.contains new p ≡ is_further true s cells target p
-attacker_joined s cells target p net beside allies rescues mid new e f nets besides allied last =
-    attacker_is s cells target p _ (sets.contains net p) (sets.contains beside p) (sets.contains rescues p)
-    (joined_twice net beside rescues mid new p e f) nets besides (last ∙ rescue_is s cells target p allies allied)
-
--- Beside, Join and Cut joined are the defender's
-pub defender_joined : (s : ℕ) (cells : List Cell) (target p : ℕ)
-    (beside join cutters cuts mid new : sets.FinSet nat_cmp)
-    → mid ≡ sets.union beside join → new ≡ sets.union mid cuts
-    → sets.contains beside p ≡ is_beside 4 s cells target p → sets.contains join p ≡ is_join s cells target p
-    → ((r : ℕ) → sets.contains cutters r ≡ (ltb r (s * s) && is_cutter s cells target r))
-    → sets.contains cuts p ≡ any_below (s * s) (λ r. sets.contains cutters r && is_only_liberty s cells r p)
-    → sets.contains new p ≡ is_further false s cells target p
-defender_joined s cells target p beside join cutters cuts mid new e f besides joins cutting last =
-    defender_is s cells target p _ (sets.contains beside p) (sets.contains join p) (sets.contains cuts p)
-    (joined_twice beside join cuts mid new p e f) besides joins (last ∙ cut_is s cells target p cutters cutting)
+  further_alone attacker x is =
+      is ∙ same_tests _ _ (λ h. or_left _ _ h) (λ h. elim (or_cases _ _ h) [ inl i ↦ i | inr j ↦ absurd (false_is_not j) ])
+    where
+      false_is_not : false ≡ true → ⊥
+      false_is_not e = both_ways false refl e

@@ -2,7 +2,7 @@
 use Rattle.std.proofs.Common.{◌≡◌, ℕ, ◌+◌, ◌*◌, ◌<◌, ◌≤◌, ◌&&◌, ◌||◌, Bool, true, false, not, leb, ltb, List, sym, ap}
 use Rattle.std.proofs.Common.{arith, inl, inr, ◌∙◌}
 use Rattle.std.proofs.lemmas.Bool.{cases_Bool, or_cases, or_left, both_ways, and_parts, and_from}
-use Rattle.std.proofs.lemmas.Bool.{le-leb, leb-true, leb-false, lt-ltb, eqb-true, eq-eqb, not_from_false}
+use Rattle.std.proofs.lemmas.Bool.{le-leb, lt-ltb, not_from_false}
 use Rattle.std.specs.Ordering.{nat_cmp}
 use Rattle.std.specs.Cmp.{nat_cmp_total}
 use Rattle.std.specs.FinSet as sets
@@ -18,9 +18,8 @@ use Rattle.go_rules.proofs.InWords.{string_onward, string_back_in_words, string_
 use Rattle.go_rules.proofs.StringMembers.{is_in_string_on}
 use Rattle.go_rules.proofs.Tests.{same_tests}
 use Rattle.go_base.specs.Floods.{enemy_points}
-use Rattle.go_base.specs.Surroundings.{is_only_liberty}
 use Rattle.go_base.proofs.LastLiberties.{contains-liberty_points}
-use Rattle.wider_rules.specs.Strings.{is_few_liberty, is_few_enemy}
+use Rattle.wider_rules.specs.Strings.{has_between, is_few_liberty, is_few_enemy}
 use Rattle.wider_rules.proofs.GatherLemmas.{Passes, Gathers, Gathers-next}
 
 -- the set of the liberties has the liberties
@@ -63,46 +62,52 @@ pub adds_nothing : (a b : Bool) → b ≡ false → a ≡ (a || b)
 adds_nothing a b e = same_tests _ _ (λ h. or_left _ _ h)
     (λ h. elim (or_cases _ _ h) [ inl i ↦ i | inr j ↦ absurd (both_ways b e j) ])
 
--- What a search of the string of q adds, where n of its liberties were counted.
-module _ (most s : ℕ) (cells : List Cell) (q n p : ℕ) (libs old new : sets.FinSet nat_cmp)
-    (whole : libs ≡ liberty_points s cells q) (count : n ≡ sets.len libs) where
-  -- the string has few liberties exactly if few were counted
-  few_by_count : leb (liberties s cells q) most ≡ leb n most
-  few_by_count = ap (λ k. leb k most) (sym (count ∙ how_many s cells q libs whole))
+-- each string has none at least
+pub from_none : (most s : ℕ) (cells : List Cell) (q : ℕ) → has_between 0 most s cells q ≡ leb (liberties s cells q) most
+from_none most s cells q = ap (λ b. b && leb (liberties s cells q) most) (le-leb 0 (liberties s cells q) (omega arith))
 
-  -- its liberties came where they are few
-  pub few_liberties : n ≤ most → new ≡ sets.union old libs
-      → sets.contains new p ≡ (sets.contains old p || is_few_liberty most s cells q p)
+-- What a search of the string of q adds, where n of its liberties were counted.
+module _ (least most s : ℕ) (cells : List Cell) (q n p : ℕ) (libs old new : sets.FinSet nat_cmp)
+    (whole : libs ≡ liberty_points s cells q) (count : n ≡ sets.len libs) where
+  -- the string has so many liberties exactly if so many were counted
+  few_by_count : has_between least most s cells q ≡ (leb least n && leb n most)
+  few_by_count = ap (λ k. leb least k && leb k most) (sym (count ∙ how_many s cells q libs whole))
+
+  -- its liberties came where they are so many
+  pub few_liberties : (leb least n && leb n most) ≡ true → new ≡ sets.union old libs
+      → sets.contains new p ≡ (sets.contains old p || is_few_liberty least most s cells q p)
   unfolding is_few_liberty
   few_liberties few e =
       joined old libs new p e
       ∙ ap (λ b. sets.contains old p || b)
       (has_liberty s cells q p libs whole
-      ∙ same_tests _ _ (λ h. and_from _ _ (few_by_count ∙ le-leb n most few) h) (λ h. (and_parts _ _ h).1))
+      ∙ same_tests _ _ (λ h. and_from _ _ (few_by_count ∙ few) h) (λ h. (and_parts _ _ h).1))
 
-  -- nothing came where they are many
-  pub many_liberties : most < n → sets.contains old p ≡ (sets.contains old p || is_few_liberty most s cells q p)
+  -- nothing came where they are not
+  pub many_liberties : (leb least n && leb n most) ≡ false
+      → sets.contains old p ≡ (sets.contains old p || is_few_liberty least most s cells q p)
   unfolding is_few_liberty
-  many_liberties many = adds_nothing _ _ (elim (cases_Bool (is_few_liberty most s cells q p)) [
-    | inl h ↦ let few = leb-true n most (sym few_by_count ∙ (and_parts _ _ h).0) in absurd (omega (arith, few, many))
+  many_liberties many = adds_nothing _ _ (elim (cases_Bool (is_few_liberty least most s cells q p)) [
+    | inl h ↦ absurd (both_ways (leb least n && leb n most) many (sym few_by_count ∙ (and_parts _ _ h).0))
     | inr fails ↦ fails
   ])
 
-  -- the enemies next to it came where they are few
-  pub few_enemies : (foes : sets.FinSet nat_cmp) → n ≤ most → foes ≡ enemy_points s cells q → new ≡ sets.union old foes
-      → sets.contains new p ≡ (sets.contains old p || is_few_enemy most s cells q p)
+  -- the enemies next to it came where its liberties are so many
+  pub few_enemies : (foes : sets.FinSet nat_cmp) → (leb least n && leb n most) ≡ true → foes ≡ enemy_points s cells q → new ≡ sets.union old foes
+      → sets.contains new p ≡ (sets.contains old p || is_few_enemy least most s cells q p)
   unfolding is_few_enemy
   few_enemies foes few its e =
       joined old foes new p e
       ∙ ap (λ b. sets.contains old p || b)
       (has_enemy s cells q p foes its
-      ∙ same_tests _ _ (λ h. and_from _ _ (few_by_count ∙ le-leb n most few) h) (λ h. (and_parts _ _ h).1))
+      ∙ same_tests _ _ (λ h. and_from _ _ (few_by_count ∙ few) h) (λ h. (and_parts _ _ h).1))
 
-  -- nothing came where they are many
-  pub many_enemies : most < n → sets.contains old p ≡ (sets.contains old p || is_few_enemy most s cells q p)
+  -- nothing came where they are not
+  pub many_enemies : (leb least n && leb n most) ≡ false
+      → sets.contains old p ≡ (sets.contains old p || is_few_enemy least most s cells q p)
   unfolding is_few_enemy
-  many_enemies many = adds_nothing _ _ (elim (cases_Bool (is_few_enemy most s cells q p)) [
-    | inl h ↦ let few = leb-true n most (sym few_by_count ∙ (and_parts _ _ h).0) in absurd (omega (arith, few, many))
+  many_enemies many = adds_nothing _ _ (elim (cases_Bool (is_few_enemy least most s cells q p)) [
+    | inl h ↦ absurd (both_ways (leb least n && leb n most) many (sym few_by_count ∙ (and_parts _ _ h).0))
     | inr fails ↦ fails
   ])
 
@@ -140,21 +145,23 @@ module _ (s : ℕ) (cells : List Cell) (p q : ℕ) (on : p < s * s) (same : is_i
       both.1)
 
   -- a liberty of the string of q, which has few, is one of that of p
-  pub liberty_onward : (most l : ℕ) → is_few_liberty most s cells q l ≡ true → is_few_liberty most s cells p l ≡ true
+  pub liberty_onward : (least most l : ℕ) → is_few_liberty least most s cells q l ≡ true
+      → is_few_liberty least most s cells p l ≡ true
   unfolding is_few_liberty
-  liberty_onward most l h =
+  liberty_onward least most l h =
       let both = and_parts _ _ h in
-      and_from _ _ (ap (λ k. leb k most) same_liberties ∙ both.0) (same_liberty l ∙ both.1)
+      and_from _ _ (ap (λ k. leb least k && leb k most) same_liberties ∙ both.0) (same_liberty l ∙ both.1)
 
   -- and so is an enemy next to it
-  pub enemy_onward : (most r : ℕ) → is_few_enemy most s cells q r ≡ true → is_few_enemy most s cells p r ≡ true
+  pub enemy_onward : (least most r : ℕ) → is_few_enemy least most s cells q r ≡ true
+      → is_few_enemy least most s cells p r ≡ true
   unfolding is_few_enemy
-  enemy_onward most r h =
+  enemy_onward least most r h =
       let both = and_parts _ _ h in
       let place = and_parts _ _ both.1 in
       let enemy = and_parts _ _ place.1 in
       let colour = string_of_one_colour s cells p q (IsInString-from_test s cells p q same) in
-      and_from _ _ (ap (λ k. leb k most) same_liberties ∙ both.0)
+      and_from _ _ (ap (λ k. leb least k && leb k most) same_liberties ∙ both.0)
       (and_from _ _ place.0
       (and_from _ _ (beside_onward r enemy.0) (ap (λ k. is_enemy k (cell_at cells r)) (sym colour) ∙ enemy.1)))
 
@@ -188,31 +195,31 @@ module _ (s : ℕ) (cells : List Cell) (p : ℕ) (left stones rest : sets.FinSet
       Gathers-next test points n p left rest old new up i here none (string_passes test shared)
 
 -- the stones of the string of q were told, and what stands around it came if it has few liberties
-pub record AddsAround (most s : ℕ) (cells : List Cell) (q : ℕ)
+pub record AddsAround (least most s : ℕ) (cells : List Cell) (q : ℕ)
     (stones libs more_libs foes more_foes : sets.FinSet nat_cmp) : Type 0 where
   pub its : stones ≡ string_at s cells q
-  pub liberties : (p : ℕ) → sets.contains more_libs p ≡ (sets.contains libs p || is_few_liberty most s cells q p)
-  pub enemies : (r : ℕ) → sets.contains more_foes r ≡ (sets.contains foes r || is_few_enemy most s cells q r)
+  pub liberties : (p : ℕ) → sets.contains more_libs p ≡ (sets.contains libs p || is_few_liberty least most s cells q p)
+  pub enemies : (r : ℕ) → sets.contains more_foes r ≡ (sets.contains foes r || is_few_enemy least most s cells q r)
 
 -- what stands around strings of few liberties came, but for those of the points that are left from n on
-pub record GathersAround (most s : ℕ) (cells : List Cell) (points left : sets.FinSet nat_cmp) (n : ℕ)
+pub record GathersAround (least most s : ℕ) (cells : List Cell) (points left : sets.FinSet nat_cmp) (n : ℕ)
     (libs foes : sets.FinSet nat_cmp) : Type 0 where
-  pub liberties : Gathers (is_few_liberty most s cells) points left n libs
-  pub enemies : Gathers (is_few_enemy most s cells) points left n foes
+  pub liberties : Gathers (is_few_liberty least most s cells) points left n libs
+  pub enemies : Gathers (is_few_enemy least most s cells) points left n foes
 
 -- what stands around the next string came, and its stones are taken off
-pub GathersAround-next : {most s : ℕ} {cells : List Cell} {points left rest : sets.FinSet nat_cmp} {n q : ℕ}
+pub GathersAround-next : {least most s : ℕ} {cells : List Cell} {points left rest : sets.FinSet nat_cmp} {n q : ℕ}
     {stones libs more_libs foes more_foes : sets.FinSet nat_cmp} → q < s * s
-    → GathersAround most s cells points left n libs foes → n ≤ q → sets.contains left q ≡ true
+    → GathersAround least most s cells points left n libs foes → n ≤ q → sets.contains left q ≡ true
     → ((k : ℕ) → n ≤ k → k < q → sets.contains left k ≡ false) → rest ≡ sets.difference left stones
-    → AddsAround most s cells q stones libs more_libs foes more_foes
-    → GathersAround most s cells points rest (q + 1) more_libs more_foes
-GathersAround-next {most} {s} {cells} {points} {left} {rest} {n} {q} {stones} {libs} {more_libs} {foes} {more_foes} on
-    i up here none taken one =
+    → AddsAround least most s cells q stones libs more_libs foes more_foes
+    → GathersAround least most s cells points rest (q + 1) more_libs more_foes
+GathersAround-next {least} {most} {s} {cells} {points} {left} {rest} {n} {q} {stones} {libs} {more_libs} {foes}
+    {more_foes} on i up here none taken one =
     let next = Gathers-string s cells q left stones rest on one.its taken points n up here none in
     record {
-      liberties = next (is_few_liberty most s cells) (λ x same. liberty_onward s cells q x on same most) libs more_libs
+      liberties = next (is_few_liberty least most s cells) (λ x same. liberty_onward s cells q x on same least most) libs more_libs
           i.liberties one.liberties;
-      enemies = next (is_few_enemy most s cells) (λ x same. enemy_onward s cells q x on same most) foes more_foes
+      enemies = next (is_few_enemy least most s cells) (λ x same. enemy_onward s cells q x on same least most) foes more_foes
           i.enemies one.enemies;
     }

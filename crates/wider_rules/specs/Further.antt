@@ -1,5 +1,5 @@
--- Five further sets of points that a reading with wider candidates may try, each as a test that computes. The laws of
--- laws.rt say the same of each in words.
+-- Further sets of points that a reading with wider candidates tries, each as a test that computes: some in every ply,
+-- and some only where a wide ply is left. The laws of laws.rt say the same of each in words.
 use Rattle.std.specs.Prelude.{ℕ, ◌*◌, ◌==◌, ◌&&◌, ◌||◌, Bool, not, nat_lt, nat_le, List, if◌then◌else◌}
 use Rattle.go_rules.specs.declared.Cell.{Cell}
 use Rattle.go_rules.specs.declared.Cell.TheVariants.{Empty}
@@ -8,6 +8,8 @@ use Rattle.go_rules.specs.Below.{any_below}
 use Rattle.go_rules.specs.Strings.{cell_at, same_cell, is_in_string, is_liberty, liberties}
 use Rattle.go_rules.specs.BesideStrings.{is_enemy, is_beside_string}
 use Rattle.go_base.specs.Surroundings.{is_only_liberty}
+use Rattle.wider_rules.specs.Strings.{holds_next}
+use Rattle.wider_rules.specs.Cramped.{foe_of, is_cramped}
 
 -- how many liberties an enemy string next to the target's may have that the attacker strengthens
 abbrev pub few_of_attacker : ℕ
@@ -17,9 +19,21 @@ few_of_attacker = 2
 abbrev pub few_of_defender : ℕ
 few_of_defender = 4
 
--- how many liberties a linked string may have
+-- how many liberties a linked string may have that the defender joins
 abbrev pub few_of_linked : ℕ
 few_of_linked = 4
+
+-- how many liberties a linked string may have that the attacker keeps from the target
+abbrev pub few_of_parted : ℕ
+few_of_parted = 2
+
+-- how many liberties at least an enemy string next to the target's has around which the defender tries a net
+abbrev pub least_of_covered : ℕ
+least_of_covered = 2
+
+-- and how many it may have
+abbrev pub few_of_covered : ℕ
+few_of_covered = 3
 
 -- how many liberties a target has around which the attacker tries a net
 abbrev pub netted : ℕ
@@ -57,31 +71,79 @@ is_rescue s cells target p =
     any_below (s * s) (λ r. is_ally few_of_attacker s cells target r && is_only_liberty s cells r p)
 
 -- q is a stone of the target's colour next to a liberty of the target; its string is another than the target's and has
--- at most four liberties
-unfoldable pub is_linked : ℕ → List Cell → ℕ → ℕ → Bool
-is_linked s cells target q =
+-- at most so many liberties
+unfoldable pub is_linked : ℕ → ℕ → List Cell → ℕ → ℕ → Bool
+is_linked most s cells target q =
     ((same_cell (cell_at cells q) (cell_at cells target)
     && any_below (s * s) (λ l. is_liberty s cells target l && are_neighbours s l q))
     && not (is_in_string s cells target q))
-    && nat_le (liberties s cells q) few_of_linked
+    && nat_le (liberties s cells q) most
 
--- p is a liberty of a linked string
-unfoldable pub is_join : ℕ → List Cell → ℕ → ℕ → Bool
-is_join s cells target p = any_below (s * s) (λ q. is_linked s cells target q && is_liberty s cells q p)
+-- p is a liberty of a linked string that has at most so many liberties: Join is this for the defender, and Link for the
+-- attacker
+unfoldable pub is_join : ℕ → ℕ → List Cell → ℕ → ℕ → Bool
+is_join most s cells target p =
+    any_below (s * s) (λ q. is_linked most s cells target q && is_liberty s cells q p)
 
--- r is an enemy stone next to a linked string
-unfoldable pub is_cutter : ℕ → List Cell → ℕ → ℕ → Bool
-is_cutter s cells target r =
-    any_below (s * s) (λ q. is_linked s cells target q
+-- r is an enemy stone next to a linked string with at most so many liberties
+unfoldable pub is_cutter : ℕ → ℕ → List Cell → ℕ → ℕ → Bool
+is_cutter most s cells target r =
+    any_below (s * s) (λ q. is_linked most s cells target q
     && (is_enemy (cell_at cells q) (cell_at cells r) && is_beside_string s cells q r))
 
--- p is the one liberty of an enemy string next to a linked string
+-- p is the one liberty of an enemy string next to a linked string with at most four liberties
 unfoldable pub is_cut : ℕ → List Cell → ℕ → ℕ → Bool
-is_cut s cells target p = any_below (s * s) (λ r. is_cutter s cells target r && is_only_liberty s cells r p)
+is_cut s cells target p = any_below (s * s) (λ r. is_cutter few_of_linked s cells target r && is_only_liberty s cells r p)
 
--- p is a further candidate: for the attacker one of Net, Beside or Rescue, for the defender one of Beside, Join or Cut
-unfoldable pub is_further : Bool → ℕ → List Cell → ℕ → ℕ → Bool
-is_further attacker_to_play s cells target p =
+-- q is an enemy stone of the target's next to the target's string, and the string of q has two or three liberties
+unfoldable pub is_covered : ℕ → List Cell → ℕ → ℕ → Bool
+is_covered s cells target q =
+    (is_enemy (cell_at cells target) (cell_at cells q) && is_beside_string s cells target q)
+    && (nat_le least_of_covered (liberties s cells q) && nat_le (liberties s cells q) few_of_covered)
+
+-- l is a liberty of an enemy string next to the target's that has two or three
+unfoldable pub is_covered_liberty : ℕ → List Cell → ℕ → ℕ → Bool
+is_covered_liberty s cells target l =
+    any_below (s * s) (λ q. is_covered s cells target q && is_liberty s cells q l)
+
+-- p is an empty neighbour of a liberty of an enemy string next to the target's that has two or three
+unfoldable pub is_cover : ℕ → List Cell → ℕ → ℕ → Bool
+is_cover s cells target p =
+    (nat_lt p (s * s) && same_cell (cell_at cells p) Empty)
+    && any_below (s * s) (λ l. is_covered_liberty s cells target l && are_neighbours s l p)
+
+-- r is a stone of the other colour than the target's next to a point l at which a stone of the target's colour would be
+-- cramped, and l is a liberty of an enemy string next to the target's with at most two
+unfoldable pub is_in_the_way : ℕ → List Cell → ℕ → ℕ → Bool
+is_in_the_way s cells target r =
+    any_below (s * s) (λ l. is_beside few_of_attacker s cells target l
+    && (is_cramped s cells (cell_at cells target) l && holds_next s cells (foe_of (cell_at cells target)) l r))
+
+-- p is a liberty of the string of such a stone, which has at most two
+unfoldable pub is_approach : ℕ → List Cell → ℕ → ℕ → Bool
+is_approach s cells target p =
+    any_below (s * s) (λ r. (is_in_the_way s cells target r && nat_le (liberties s cells r) few_of_attacker)
+    && is_liberty s cells r p)
+
+-- p is a further candidate of every ply: for the attacker one of Beside or Rescue; for the defender one of Save, which
+-- is the points of Rescue, or of Cut
+unfoldable pub is_further_always : Bool → ℕ → List Cell → ℕ → ℕ → Bool
+is_further_always attacker_to_play s cells target p =
     if attacker_to_play
-    then (is_net s cells target p || is_beside few_of_attacker s cells target p || is_rescue s cells target p)
-    else (is_beside few_of_defender s cells target p || is_join s cells target p || is_cut s cells target p)
+    then (is_beside few_of_attacker s cells target p || is_rescue s cells target p)
+    else (is_rescue s cells target p || is_cut s cells target p)
+
+-- p is a further candidate of a wide ply alone: for the attacker one of Net or Link, for the defender one of Beside,
+-- Join, Cover or Approach
+unfoldable pub is_further_wide : Bool → ℕ → List Cell → ℕ → ℕ → Bool
+is_further_wide attacker_to_play s cells target p =
+    if attacker_to_play
+    then (is_net s cells target p || is_join few_of_parted s cells target p)
+    else (is_beside few_of_defender s cells target p || is_join few_of_linked s cells target p
+    || is_cover s cells target p || is_approach s cells target p)
+
+-- p is a further candidate: one of every ply, or where a wide ply is left one of a wide ply
+unfoldable pub is_further : Bool → Bool → ℕ → List Cell → ℕ → ℕ → Bool
+is_further wide attacker_to_play s cells target p =
+    is_further_always attacker_to_play s cells target p
+    || (wide && is_further_wide attacker_to_play s cells target p)

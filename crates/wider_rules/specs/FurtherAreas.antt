@@ -13,11 +13,11 @@ first_area s cells target = neighbourhood_of s cells (alone target)
 abbrev pub second_area : ℕ → List Cell → ℕ → ℕ → Bool
 second_area s cells target = neighbourhood_of s cells (first_area s cells target)
 
--- p is in the neighbourhood of the second area: Rescue and Join lie here
+-- p is in the neighbourhood of the second area: Rescue, Join, Link and Cover lie here
 abbrev pub third_area : ℕ → List Cell → ℕ → ℕ → Bool
 third_area s cells target = neighbourhood_of s cells (second_area s cells target)
 
--- p is in the neighbourhood of the third area: Cut lies here
+-- p is in the neighbourhood of the third area: Cut and Approach lie here
 abbrev pub fourth_area : ℕ → List Cell → ℕ → ℕ → Bool
 fourth_area s cells target = neighbourhood_of s cells (third_area s cells target)
 

@@ -1,3 +1,4 @@
+pub mod Cramped
 pub mod Further
 pub mod FurtherInWords
 pub mod FurtherAreas

@@ -11,14 +11,18 @@ unfoldable pub holds_next : ℕ → List Cell → Cell → ℕ → ℕ → Bool
 holds_next s cells cell l p =
     (nat_lt p (s * s) && same_cell (cell_at cells p) cell) && are_neighbours s l p
 
--- p is a liberty of the string of q, which has at most so many
-unfoldable pub is_few_liberty : ℕ → ℕ → List Cell → ℕ → ℕ → Bool
-is_few_liberty most s cells q p = nat_le (liberties s cells q) most && is_liberty s cells q p
+-- the string of q has no fewer liberties than the one number and no more than the other
+abbrev pub has_between : ℕ → ℕ → ℕ → List Cell → ℕ → Bool
+has_between least most s cells q = nat_le least (liberties s cells q) && nat_le (liberties s cells q) most
 
--- r is an enemy stone on the board next to the string of q, which has at most so many liberties
-unfoldable pub is_few_enemy : ℕ → ℕ → List Cell → ℕ → ℕ → Bool
-is_few_enemy most s cells q r =
-    nat_le (liberties s cells q) most
+-- p is a liberty of the string of q, which has so many: no fewer than the one number, no more than the other
+unfoldable pub is_few_liberty : ℕ → ℕ → ℕ → List Cell → ℕ → ℕ → Bool
+is_few_liberty least most s cells q p = has_between least most s cells q && is_liberty s cells q p
+
+-- r is an enemy stone on the board next to the string of q, which has so many liberties
+unfoldable pub is_few_enemy : ℕ → ℕ → ℕ → List Cell → ℕ → ℕ → Bool
+is_few_enemy least most s cells q r =
+    has_between least most s cells q
     && (nat_lt r (s * s) && (is_beside_string s cells q r && is_enemy (cell_at cells q) (cell_at cells r)))
 
 -- q is a stone of the target's colour next to a liberty of the target, and its string is another than the target's

@@ -16,7 +16,7 @@ fn most_narrow(tree: Tree) -> u16
 {
     match tree {
         Tree::Stated => 2,
-        Tree::Wider => 3,
+        Tree::Wider => 4,
     }
 }
 

@@ -4,7 +4,7 @@ ghost use Rattle.std.specs.Prelude.{◌≡◌, ◌*◌, ◌<◌};
 
 use super::{IN_ATARI, Stones, position, vertex};
 use go_base::{Colour, Point, PointSet, Position, Size, Watch};
-use read_moves::{candidates, empty_sides, wide_candidates};
+use read_moves::{candidates, empty_sides, later_candidates};
 use read_rules::{Tree, Turn};
 use std::process::Abort;
 use trial_board::Trial;
@@ -16,10 +16,10 @@ pub(super) enum Which {
     All(u8),
     /// Those that the stated tree has for a wide ply alone, at the attacker's turn.
     Wide,
-    /// The further ones at the attacker's turn.
-    OfAttacker,
-    /// The further ones at the defender's turn.
-    OfDefender,
+    /// The further ones at the attacker's turn, with so many wide plies left.
+    OfAttacker(u8),
+    /// The further ones at the defender's turn, with so many wide plies left.
+    OfDefender(u8),
 }
 
 /// A target: what is special about it, the stones, its point, and the candidates that it has.
@@ -113,9 +113,21 @@ fn candidates_of(position: &Position, which: &Which, target: Point) -> PointSet
     let liberties = board.liberties(target);
     let found = match which {
         Which::All(wide) => candidates(&mut board, attackers_turn(target, *wide)),
-        Which::Wide => wide_candidates(&mut board, attackers_turn(target, 1), &liberties),
-        Which::OfAttacker => further_candidates(&mut board, target, true, &liberties),
-        Which::OfDefender => further_candidates(&mut board, target, false, &liberties),
+        Which::Wide => later_candidates(&mut board, attackers_turn(target, 1), &liberties),
+        Which::OfAttacker(wide) => further_candidates(
+            &mut board,
+            target,
+            true,
+            *wide > 0,
+            &liberties,
+        ),
+        Which::OfDefender(wide) => further_candidates(
+            &mut board,
+            target,
+            false,
+            *wide > 0,
+            &liberties,
+        ),
     };
     board.finish();
     found

@@ -1,6 +1,6 @@
 //! First proofs of small positions. They are the worked rows, or were found by hand.
 
-use super::wider_proofs::THREE_LIBERTIES;
+use super::wider_proofs::{FOUR_LIBERTIES, THREE_LIBERTIES};
 use super::{IN_ATARI, KO, Question, Stones, position, stone};
 use read_rules::Depths;
 use read_rules::Kind::{Attack, Defend};
@@ -19,7 +19,7 @@ struct Row {
 }
 
 /// First proofs, and one that is not told.
-static FIRST_PROOFS: [Row; 9] = [
+static FIRST_PROOFS: [Row; 10] = [
     Row {
         name: "a capture is printed",
         stones: IN_ATARI,
@@ -75,6 +75,13 @@ static FIRST_PROOFS: [Row; 9] = [
         question: (Attack, "D1", 5, 0),
         tree: Wider,
         proof: Some((0, THREE_LIBERTIES)),
+    },
+    Row {
+        name: "and four",
+        stones: (5, "C4 C3", "E4 E3"),
+        question: (Attack, "E4", 7, 0),
+        tree: Wider,
+        proof: Some((3, FOUR_LIBERTIES)),
     },
     Row {
         // Black D2 has room on all sides, and a reading of it that is deep and wide has many moves.

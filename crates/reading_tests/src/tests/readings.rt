@@ -19,7 +19,7 @@ struct Readings {
 const LONG_LADDER: Stones = (19, "D16", "C16 D17 E17");
 
 /// Readings by what they show.
-static READINGS: [Readings; 30] = [
+static READINGS: [Readings; 38] = [
     Readings {
         name: "a stone in atari is captured",
         stones: IN_ATARI,
@@ -219,6 +219,51 @@ static READINGS: [Readings; 30] = [
         rows: &[
             ((Defend, "C5", 6, 2), Wider, 3, "B4"),
             ((Defend, "C5", 6, 2), Stated, 0, ""),
+        ],
+    },
+    // Each of these has another answer in a tree without the rule that it names: no capture for the attacker's rules and
+    // for the bound, and one for the defender's.
+    Readings {
+        name: "in every ply the attacker strengthens a string with two liberties",
+        stones: (5, "D3", "A5 B5 E5"),
+        rows: &[((Attack, "B5", 9, 3), Wider, 3, "C4")],
+    },
+    Readings {
+        name: "in every ply the attacker saves a string of his",
+        stones: (5, "A4 C2 D2", "C3 D3 E2 E1"),
+        rows: &[((Attack, "C2", 8, 2), Wider, 3, "B2")],
+    },
+    Readings {
+        name: "in every ply the defender takes a string that would cut",
+        stones: (5, "D5 C3 E2", "E5 E3 C1 E1"),
+        rows: &[((Attack, "C1", 7, 0), Wider, 0, "")],
+    },
+    Readings {
+        name: "four liberties are played at where no wide ply is left",
+        stones: (5, "C4 C3", "E4 E3"),
+        rows: &[((Attack, "E4", 7, 0), Wider, 3, "E2")],
+    },
+    Readings {
+        name: "in every ply the defender saves a string beside weak attackers",
+        stones: (5, "A4 B4 C2", "C4 A1"),
+        rows: &[((Attack, "A4", 8, 2), Wider, 0, "")],
+    },
+    Readings {
+        name: "the attacker keeps a string with two liberties from the target",
+        stones: (5, "C5 A3 A2 B2 D2", "A4 B3 E3"),
+        rows: &[((Defend, "A4", 8, 2), Wider, 0, "")],
+    },
+    Readings {
+        name: "the defender covers the liberties of weak attackers",
+        stones: (5, "A5 C4 E2", "D5 D4 B3"),
+        rows: &[((Attack, "D4", 8, 2), Wider, 0, "")],
+    },
+    Readings {
+        name: "the defender approaches a point at which he would be cramped",
+        stones: (5, "C5 A4 C4 A3 D3 E3 A2 A1 D1", "D5 E4 C3 B2 D2 E2 B1"),
+        rows: &[
+            ((Defend, "D1", 4, 1), Wider, 3, "B3"),
+            ((Defend, "D1", 4, 1), Stated, 0, ""),
         ],
     },
 ];

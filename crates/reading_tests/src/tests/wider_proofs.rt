@@ -16,16 +16,27 @@ const BOTH: In = &[(Tree::Stated, true), (Tree::Wider, true)];
 /// No proof in either tree.
 const NEITHER: In = &[(Tree::Stated, false), (Tree::Wider, false)];
 
-/// The first proof that three liberties are enough without a wide ply, under one code: the defender passes, and fills
-/// the last liberty at his second turn.
+/// The first proof in the wider tree that three liberties are enough without a wide ply, under one code: the defender
+/// passes, and fills the last liberty at his second turn. The attacker strengthens a stone of his with two liberties.
 pub(super) const THREE_LIBERTIES: &[u8] = b"\
+    N * PASS * E1 . C1 . PASS * . E1 . . D2 . PASS * C1 . . D2 . . \
+    N * PASS * E1 . C1 . PASS * . E1 . . D2 . PASS * C1 . . D2 . . \
+    N * PASS * E1 . C1 . PASS * . E1 . . D2 . PASS * C1 . . D2 . .";
+
+/// The proof of the stated tree that goes the same way, where a dot would do.
+const THREE_LIBERTIES_IN_WORDS: &[u8] = b"\
     N * PASS * E1 . C1 . PASS * E1 . D2 . PASS * C1 . D2 . \
     N * PASS * E1 . C1 . PASS * E1 . D2 . PASS * C1 . D2 . \
     N * PASS * E1 . C1 . PASS * E1 . D2 . PASS * C1 . D2 .";
 
+/// The first proof in the wider tree that black fills the four liberties of E4 and E3 without a wide ply.
+pub(super) const FOUR_LIBERTIES: &[u8] = b"\
+    W E2 * D4 * D3 * E5 . D5 . D5 * D3 . D2 . D2 * E5 . D5 . D5 * D4 * D3 . D2 . C5 * D3 . D2 . D2 * D4 . \
+    D5 * D3 * E5 . C5 * D3 . D2 . D2 * E5 . D2 * D4 * E5 . D5 . D5 * D4 . D5 * E5 .";
+
 /// Texts in both trees. Where one ply is left and one wide ply, any candidate of the defender's proves that the
 /// attacker does not win, and `*` is followed by a dot for each candidate of the attacker's.
-static IN_BOTH_TREES: [Texts; 12] = [
+static IN_BOTH_TREES: [Texts; 24] = [
     Texts {
         name: "the defender has the liberties of stones beside the target",
         stones: (5, "B2 B3", "C2"),
@@ -66,9 +77,16 @@ static IN_BOTH_TREES: [Texts; 12] = [
         rows: &[("a liberty of a linked string", b"N C5 .", WIDER)],
     },
     Texts {
-        name: "the defender takes a stone that would cut where a wide ply is left",
+        name: "the defender does not join where no wide ply is left",
+        stones: (5, "B5 D5 A4", "C4 B3"),
+        question: (Defend, "A4", 1, 0),
+        code: 3,
+        rows: &[("none of them without a wide ply", b"N C5 .", NEITHER)],
+    },
+    Texts {
+        name: "the defender takes a stone that would cut in every ply",
         stones: (5, "A5 C5 A3", "A4 D4 C3"),
-        question: (Defend, "C5", 1, 1),
+        question: (Defend, "C5", 1, 0),
         code: 3,
         rows: &[(
             "the last liberty of a stone that would cut",
@@ -77,11 +95,53 @@ static IN_BOTH_TREES: [Texts; 12] = [
         )],
     },
     Texts {
-        name: "the defender does not join where no wide ply is left",
-        stones: (5, "B5 D5 A4", "C4 B3"),
-        question: (Defend, "A4", 1, 0),
+        name: "the defender saves a string beside the weak attackers in every ply",
+        stones: (5, "B3 D3 C2", "C3 D2"),
+        question: (Defend, "D2", 1, 0),
         code: 3,
-        rows: &[("none of them without a wide ply", b"N C5 .", NEITHER)],
+        rows: &[("the last liberty of C3", b"N C4 .", WIDER)],
+    },
+    Texts {
+        name: "the defender does not save a string with two liberties",
+        stones: (5, "B3 C2", "C3 D2"),
+        question: (Defend, "D2", 1, 0),
+        code: 3,
+        rows: &[("a liberty of C3, which has two", b"N C4 .", NEITHER)],
+    },
+    Texts {
+        name: "the defender covers the liberties of a stone with two",
+        stones: (5, "A1", "B1"),
+        question: (Defend, "A1", 1, 1),
+        code: 3,
+        rows: &[("a neighbour of the liberty C1", b"N D1 .", WIDER)],
+    },
+    Texts {
+        name: "the defender does not cover where no wide ply is left",
+        stones: (5, "A1", "B1"),
+        question: (Defend, "A1", 1, 0),
+        code: 3,
+        rows: &[("a neighbour of the liberty C1", b"N D1 .", NEITHER)],
+    },
+    Texts {
+        name: "the defender does not cover the liberties of stones with four",
+        stones: (5, "A1", "B1 C1 D1"),
+        question: (Defend, "A1", 1, 1),
+        code: 3,
+        rows: &[("a neighbour of the liberty B2", b"N B3 .", NEITHER)],
+    },
+    Texts {
+        name: "the defender approaches a point at which he would be cramped",
+        stones: (5, "C5 A4 C4 A3 D3 E3 A2 A1 D1", "D5 E4 C3 B2 D2 E2 B1"),
+        question: (Defend, "D1", 4, 1),
+        code: 3,
+        rows: &[("the approach at B3", b"N B3 * . . C2 . C2 .", WIDER)],
+    },
+    Texts {
+        name: "the defender does not approach where nothing is in the way",
+        stones: (5, "C5 A4 C4 A3 D3 E3 A2 A1 D1", "D5 E4 C3 D2 E2 B1"),
+        question: (Defend, "D1", 1, 1),
+        code: 3,
+        rows: &[("B3, which is no candidate", b"N B3 .", NEITHER)],
     },
     Texts {
         name: "the attacker has a net around three liberties",
@@ -102,9 +162,49 @@ static IN_BOTH_TREES: [Texts; 12] = [
         ],
     },
     Texts {
-        name: "the attacker has the liberties of stones beside the target",
+        name: "the attacker has no net where no wide ply is left",
+        stones: (5, "D1", "E2"),
+        question: (Attack, "E2", 1, 0),
+        code: 0,
+        rows: &[(
+            "three liberties alone",
+            b"N * . . . N * . . . N * . . .",
+            BOTH,
+        )],
+    },
+    Texts {
+        name: "the attacker has the liberties of a string with two that might be joined",
+        stones: (5, "A2 A4", "B4"),
+        question: (Attack, "A2", 1, 1),
+        code: 0,
+        rows: &[
+            (
+                "three liberties, and the backfilling moves B1 and B3",
+                b"N * . . . . . N * . . . . . N * . . . . .",
+                STATED,
+            ),
+            (
+                "the same with a net, which has C2 besides, and A5 beside A4",
+                b"N * . . . . . . . N * . . . . . . . N * . . . . . . .",
+                WIDER,
+            ),
+        ],
+    },
+    Texts {
+        name: "the attacker has no liberty of a string with three that might be joined",
+        stones: (5, "A2 A4", ""),
+        question: (Attack, "A2", 1, 1),
+        code: 0,
+        rows: &[(
+            "the liberties, the backfilling moves, and C2 alone",
+            b"N * . . . . . . N * . . . . . . N * . . . . . .",
+            WIDER,
+        )],
+    },
+    Texts {
+        name: "the attacker has the liberties of stones beside the target in every ply",
         stones: (5, "B2 B3", "B1"),
-        question: (Attack, "B2", 1, 1),
+        question: (Attack, "B2", 1, 0),
         code: 0,
         rows: &[
             (
@@ -156,18 +256,37 @@ static IN_BOTH_TREES: [Texts; 12] = [
         rows: &[
             ("three liberties without a wide ply", b"N . N . N .", STATED),
             (
-                "words that go on, where in the stated tree a dot would do",
+                "words that go on, where a dot would do",
+                THREE_LIBERTIES_IN_WORDS,
+                STATED,
+            ),
+            (
+                "words that go on beside a stone with two",
                 THREE_LIBERTIES,
-                BOTH,
+                WIDER,
             ),
         ],
     },
     Texts {
-        name: "four liberties may not be filled in either tree",
-        stones: (9, "D4", ""),
-        question: (Attack, "D4", 9, 0),
+        name: "four liberties may be filled in the wider tree",
+        stones: (5, "C4 C3", "E4 E3"),
+        question: (Attack, "E4", 7, 0),
+        code: 3,
+        rows: &[("the capture at E2", FOUR_LIBERTIES, WIDER)],
+    },
+    Texts {
+        name: "four liberties may not be filled in the stated tree",
+        stones: (5, "C4 C3", "E4 E3"),
+        question: (Attack, "E4", 7, 0),
         code: 0,
-        rows: &[("four liberties without a wide ply", b"N . N . N .", BOTH)],
+        rows: &[("four liberties without a wide ply", b"N . N . N .", STATED)],
+    },
+    Texts {
+        name: "five liberties may not be filled in either tree",
+        stones: (9, "D4 D5", "E4"),
+        question: (Attack, "D4", 11, 0),
+        code: 0,
+        rows: &[("five liberties without a wide ply", b"N . N . N .", BOTH)],
     },
 ];
 

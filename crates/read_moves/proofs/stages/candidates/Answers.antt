@@ -1,6 +1,5 @@
 -- What was gathered are the candidates, on every position that agrees with what was seen.
 use Rattle.std.proofs.Common.{◌||◌, ap, sym, subst, ◌∙◌}
-use Rattle.std.proofs.lemmas.Bool.{lt-ltb, le-ltb}
 use Rattle.std.specs.Cmp.{nat_cmp_total}
 use Rattle.std.specs.FinSet as set
 use Rattle.go_rules.specs.Position.{BoardState}
@@ -9,37 +8,36 @@ use Rattle.go_base.specs.Surroundings.{is_last_liberty_of_enemy}
 use Rattle.trial_board.specs.Trials.{after}
 use Rattle.trial_board.proofs.WalkLemmas.{on_agreed}
 use Rattle.trial_board.proofs.AfterLemmas.{size-after}
-use Rattle.read_rules.proofs.StageLemmas.{candidate_plain, candidate_wide}
+use Rattle.read_rules.proofs.StageLemmas.{candidate_plain, candidate_later}
 use Rattle.read_moves.proofs.CandidateLemmas.{its_liberties, near_twice}
 use Rattle.read_moves.proofs.stages.candidates.Goals as goal
 
 -- the liberties of the target were found
-pub wide_candidates-requires-clause-liberties : goal.wide_candidates-requires-clause-liberties
-wide_candidates-requires-clause-liberties g c = λ pos a.
+pub later_candidates-requires-clause-liberties : goal.later_candidates-requires-clause-liberties
+later_candidates-requires-clause-liberties g c = λ pos a.
     rw c.surroundings-liberties.ensures.stays.moves (c.surroundings-liberties.ensures.over pos a).0
 
--- a wide ply is left
-pub returns-then-turn-gt0-clause-over : goal.returns-then-turn-gt0-clause-over
-returns-then-turn-gt0-clause-over g c = λ pos a p.
+-- the later candidates were joined
+pub returns-then-has_later_candidates-clause-over : goal.returns-then-has_later_candidates-clause-over
+returns-then-has_later_candidates-clause-over g c = λ pos a p.
     let here = after pos c.args.board.now.moves in
     let size = size-after pos c.args.board.now.moves in
     let libs = c.surroundings-liberties.result.liberties in
     let last = c.surroundings-liberties.result.last_liberties in
-    let wide = c.wide_candidates.result in
-    let it = c.surroundings-liberties.ensures.over pos (agrees_before c.wide_candidates.ensures.stays.grows a) in
-    let found = rw c.surroundings-liberties.ensures.stays.moves at (c.wide_candidates.ensures.over pos a p) in
+    let later = c.later_candidates.result in
+    let it = c.surroundings-liberties.ensures.over pos (agrees_before c.later_candidates.ensures.stays.grows a) in
+    let found = rw c.surroundings-liberties.ensures.stays.moves at (c.later_candidates.ensures.over pos a p) in
     let joined = ap (λ t. set.contains t p) c.join.ensures ∙ set.contains-union nat_cmp_total last libs p in
-    candidate_wide c.args.turn here p libs last
+    candidate_later c.args.turn here p libs last
     (its_liberties here pos.size c.args.turn.target libs size it.0)
     (it.1 p ∙ ap (λ n. is_last_liberty_of_enemy n here.cells c.args.turn.target p) (sym size))
-    (set.contains c.join-then-turn-gt0.new.self p) (set.contains wide p)
-    (lt-ltb 0 c.args.turn.wide c.if-turn-gt0.true) found
-    (ap (λ t. set.contains t p) c.join-then-turn-gt0.ensures
-    ∙ set.contains-union nat_cmp_total c.join.new.self wide p ∙ ap (λ y. y || set.contains wide p) joined)
+    (set.contains c.join-then-has_later_candidates.new.self p) (set.contains later p) found
+    (ap (λ t. set.contains t p) c.join-then-has_later_candidates.ensures
+    ∙ set.contains-union nat_cmp_total c.join.new.self later p ∙ ap (λ y. y || set.contains later p) joined)
 
--- no wide ply is left
-pub returns-else-turn-gt0-clause-over : goal.returns-else-turn-gt0-clause-over
-returns-else-turn-gt0-clause-over g c = λ pos a p.
+-- there are no later candidates
+pub returns-else-has_later_candidates-clause-over : goal.returns-else-has_later_candidates-clause-over
+returns-else-has_later_candidates-clause-over g c = λ pos a p.
     let here = after pos c.args.board.now.moves in
     let size = size-after pos c.args.board.now.moves in
     let libs = c.surroundings-liberties.result.liberties in
@@ -49,39 +47,39 @@ returns-else-turn-gt0-clause-over g c = λ pos a p.
     (its_liberties here pos.size c.args.turn.target libs size it.0)
     (it.1 p ∙ ap (λ n. is_last_liberty_of_enemy n here.cells c.args.turn.target p) (sym size))
     (set.contains c.join.new.self p)
-    (le-ltb 0 c.args.turn.wide c.if-turn-gt0.false)
+    (sym c.has_later_candidates.ensures ∙ c.if-has_later_candidates.false)
     (ap (λ t. set.contains t p) c.join.ensures ∙ set.contains-union nat_cmp_total last libs p)
 
 -- each look is where candidates are looked for
-pub returns-then-turn-gt0-clause-near : goal.returns-then-turn-gt0-clause-near
-returns-then-turn-gt0-clause-near g c = λ pos a.
+pub returns-then-has_later_candidates-clause-near : goal.returns-then-has_later_candidates-clause-near
+returns-then-has_later_candidates-clause-near g c = λ pos a.
     let here = after pos c.args.board.now.moves in
-    let a1 = agrees_before c.wide_candidates.ensures.stays.grows a in
+    let a1 = agrees_before c.later_candidates.ensures.stays.grows a in
     let on = on_agreed _ _ (g.met.L.Look.sized c.args.board.now.look)
     (agrees_before c.surroundings-liberties.ensures.stays.grows a1) c.requires.on_board in
     AddsIn-trans (AddsIn-mono (c.surroundings-liberties.ensures.near pos a1)
     (near_twice pos.size here.cells c.args.turn.target on))
-    (rw c.surroundings-liberties.ensures.stays.moves at (c.wide_candidates.ensures.near pos a))
+    (rw c.surroundings-liberties.ensures.stays.moves at (c.later_candidates.ensures.near pos a))
 
--- where no wide ply is left, only the target's surroundings are looked at
-pub returns-else-turn-gt0-clause-near : goal.returns-else-turn-gt0-clause-near
-returns-else-turn-gt0-clause-near g c = λ pos a.
+-- if there are none, only the target's surroundings are looked at
+pub returns-else-has_later_candidates-clause-near : goal.returns-else-has_later_candidates-clause-near
+returns-else-has_later_candidates-clause-near g c = λ pos a.
     let here = after pos c.args.board.now.moves in
     let on = on_agreed _ _ (g.met.L.Look.sized c.args.board.now.look)
     (agrees_before c.surroundings-liberties.ensures.stays.grows a) c.requires.on_board in
     AddsIn-mono (c.surroundings-liberties.ensures.near pos a) (near_twice pos.size here.cells c.args.turn.target on)
 
 -- the position shown is one of those that agree
-pub returns-then-turn-gt0-clause-answer : goal.returns-then-turn-gt0-clause-answer
-returns-then-turn-gt0-clause-answer g c =
-    let shown = c.wide_candidates.ensures.stays.shown ∙ c.surroundings-liberties.ensures.stays.shown in
-    returns-then-turn-gt0-clause-over g c (g.L.Look.shows c.args.board.now.look)
-    (subst (λ (pos : BoardState). Agrees (g.L.Look.seen c.wide_candidates.new.board.look) pos) shown
-    (g.met.L.Look.holds c.wide_candidates.new.board.look))
+pub returns-then-has_later_candidates-clause-answer : goal.returns-then-has_later_candidates-clause-answer
+returns-then-has_later_candidates-clause-answer g c =
+    let shown = c.later_candidates.ensures.stays.shown ∙ c.surroundings-liberties.ensures.stays.shown in
+    returns-then-has_later_candidates-clause-over g c (g.L.Look.shows c.args.board.now.look)
+    (subst (λ (pos : BoardState). Agrees (g.L.Look.seen c.later_candidates.new.board.look) pos) shown
+    (g.met.L.Look.holds c.later_candidates.new.board.look))
 
--- where no wide ply is left, what was gathered are the candidates on the position shown
-pub returns-else-turn-gt0-clause-answer : goal.returns-else-turn-gt0-clause-answer
-returns-else-turn-gt0-clause-answer g c =
-    returns-else-turn-gt0-clause-over g c (g.L.Look.shows c.args.board.now.look)
+-- if there are no later candidates, what was gathered are the candidates on the position shown
+pub returns-else-has_later_candidates-clause-answer : goal.returns-else-has_later_candidates-clause-answer
+returns-else-has_later_candidates-clause-answer g c =
+    returns-else-has_later_candidates-clause-over g c (g.L.Look.shows c.args.board.now.look)
     (subst (λ (pos : BoardState). Agrees (g.L.Look.seen c.surroundings-liberties.new.self.look) pos)
     c.surroundings-liberties.ensures.stays.shown (g.met.L.Look.holds c.surroundings-liberties.new.self.look))

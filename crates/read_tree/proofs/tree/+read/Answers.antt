@@ -6,7 +6,7 @@ use Rattle.std.specs.FinSet as set
 use Rattle.go_base.specs.Facts.{agrees_before, Grows-refl, Grows-trans, same_size}
 use Rattle.go_rules.specs.declared.Cell.TheVariants.{Empty}
 use Rattle.go_rules.proofs.Cells.{eq_is_same_cell}
-use Rattle.std.proofs.lemmas.Bool.{and_parts, lt-ltb, le-ltb}
+use Rattle.std.proofs.lemmas.Bool.{and_parts}
 use Rattle.go_rules.specs.Strings.{is_liberty}
 use Rattle.read_rules.specs.Turns.{next_turn}
 use Rattle.read_rules.specs.Candidates.{is_candidate}
@@ -314,7 +314,6 @@ some_other-some_of-rest-requires g t c κs within =
     let inside = candidates_inside stays c.args.turn c.others_of-others.result
     (g.met.L.Look.holds c.others_of-others.new.board.look)
     (λ pos a p h. other_is_candidate c.args.turn (after pos c.args.board.now.moves) p
-    (lt-ltb 0 c.args.turn.wide (omega (arith, c.if-turn-eq0.false)))
     (sym (rw before.moves at (others.over pos a p)) ∙ h)) in
     search rules
 
@@ -332,16 +331,16 @@ some_other-returns-then-leaves_too_many-clause-over g t c = λ pos a.
     (none_other c.args.plies turn here inside both.0
     (ap (λ n. outlasts turn.tree false c.args.plies (turn.wide - 1) n) (sym counted) ∙ both.1)))
 
--- no wide ply is left: the captures were all
-pub some_other-returns-then-turn-eq0-clause-over : goal.some_other-returns-then-turn-eq0-clause-over
-some_other-returns-then-turn-eq0-clause-over g t c = λ pos a.
+-- there are no later candidates: the captures were all
+pub some_other-returns-then-not-has_later_candidates-clause-over : goal.some_other-returns-then-not-has_later_candidates-clause-over
+some_other-returns-then-not-has_later_candidates-clause-over g t c = λ pos a.
     let a1 = agrees_before c.some_of-good.ensures.stays.grows a in
     let here = after pos c.args.board.now.moves in
     let turn = c.args.turn in
     by_same c.args.plies turn here (set.contains c.captures_of-captures.result) (is_off_liberties turn here)
     c.args.asked c.some_of-good.result
     (λ q. c.captures_of-captures.ensures.over pos a1 q
-    ∙ sym (off_by_captures turn here q (le-ltb 0 turn.wide (omega (arith, c.if-turn-eq0.true)))))
+    ∙ sym (off_by_captures turn here q (sym c.has_later_candidates.ensures ∙ c.if-not-has_later_candidates.true)))
     (rw c.captures_of-captures.ensures.stays.moves at (c.some_of-good.ensures.over pos a))
 
 -- the captures give all that was asked
@@ -381,7 +380,7 @@ off_found g t c = λ pos a q.
     let here = after pos c.args.board.now.moves in
     let others = c.others_of-others.ensures in
     let good = Stays-trans c.some_of-good.ensures.stays c.is_in_atari.ensures.stays in
-    off_by_stages turn here q (lt-ltb 0 turn.wide (omega (arith, c.if-turn-eq0.false)))
+    off_by_stages turn here q
     ∙ ap (λ b. b || is_other turn here q) (sym (c.captures_of-captures.ensures.over pos
     (agrees_before (Stays-trans good others.stays).grows a) q))
     ∙ ap (λ b. set.contains c.captures_of-captures.result q || b)
@@ -418,9 +417,9 @@ good_near g t c = λ pos a q root tree und.
     (sym (captures.over pos a1 p) ∙ h)))
 
 -- the looks for the captures and at their plays lie in the active area
-pub some_other-returns-then-turn-eq0-clause-near : goal.some_other-returns-then-turn-eq0-clause-near
-some_other-returns-then-turn-eq0-clause-near g t c = λ pos a.
-    good_near g t (goal.at.some_other-returns-then-turn-eq0-clause-near g t c).After-some_of-good pos a
+pub some_other-returns-then-not-has_later_candidates-clause-near : goal.some_other-returns-then-not-has_later_candidates-clause-near
+some_other-returns-then-not-has_later_candidates-clause-near g t c = λ pos a.
+    good_near g t (goal.at.some_other-returns-then-not-has_later_candidates-clause-near g t c).After-some_of-good pos a
 
 -- where the captures do, too
 pub some_other-returns-then-not-has_some-clause-near : goal.some_other-returns-then-not-has_some-clause-near
@@ -462,7 +461,6 @@ some_other-returns-clause-near g t c = λ pos a q root tree und.
     ((rw (Stays-trans before c.others_of-others.ensures.stays).moves at (c.some_of-rest.ensures.near pos a q root))
     (left_nodes c.some_of-good.result tree c.without-missing.ensures) und
     (λ p h. other_is_candidate c.args.turn (after pos c.args.board.now.moves) p
-    (lt-ltb 0 c.args.turn.wide (omega (arith, c.if-turn-eq0.false)))
     (sym (rw before.moves at (c.others_of-others.ensures.over pos a3 p)) ∙ h)))
 
 -- a liberty is on the board

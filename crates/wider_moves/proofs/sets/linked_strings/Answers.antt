@@ -23,7 +23,7 @@ returns-clause-liberties g c = λ pos a p.
     let a1 = agrees_before c.around_strings.ensures.stays.grows a in
     let came = rw c.near_friends-friends.ensures.stays.moves at (c.around_strings.ensures.liberties pos a p) in
     came ∙ join_is pos.size (after pos c.args.board.now.moves).cells c.args.target p c.near_friends-friends.result
-    (c.near_friends-friends.ensures.over pos a1)
+    (c.near_friends-friends.ensures.over pos a1) c.args.most
 
 -- the enemies next to them may cut
 pub returns-clause-enemies : goal.returns-clause-enemies
@@ -31,7 +31,7 @@ returns-clause-enemies g c = λ pos a r.
     let a1 = agrees_before c.around_strings.ensures.stays.grows a in
     let came = rw c.near_friends-friends.ensures.stays.moves at (c.around_strings.ensures.enemies pos a r) in
     came ∙ cutter_is pos.size (after pos c.args.board.now.moves).cells c.args.target r c.near_friends-friends.result
-    (c.near_friends-friends.ensures.over pos a1)
+    (c.near_friends-friends.ensures.over pos a1) c.args.most
 
 -- each look is in the third area
 pub returns-clause-near : goal.returns-clause-near

@@ -17,9 +17,9 @@ pub loop-q-init : goal.loop-q-init
 loop-q-init g c = Walked-none (λ pos.
     let cells = (after pos c.args.board.now.moves).cells in
     record {
-      liberties = Gathers-none (is_few_liberty c.args.most pos.size cells) c.args.points.now c.copied-rest.result
+      liberties = Gathers-none (is_few_liberty c.args.least c.args.most pos.size cells) c.args.points.now c.copied-rest.result
           c.new.result c.copied-rest.ensures c.new.ensures;
-      enemies = Gathers-none (is_few_enemy c.args.most pos.size cells) c.args.points.now c.copied-rest.result
+      enemies = Gathers-none (is_few_enemy c.args.least c.args.most pos.size cells) c.args.points.now c.copied-rest.result
           c.new-2.result c.copied-rest.ensures c.new-2.ensures;
     })
 
@@ -31,7 +31,7 @@ loop-q-preserved g c =
     let one = c.add_string-stones in
     let old = c.loop-q.found in
     let new = one.new.found in
-    Walked-next (λ s b. neighbourhood_of s b.cells (alone q)) (λ s b. AddsAround c.args.most s b.cells q one.result
+    Walked-next (λ s b. neighbourhood_of s b.cells (alone q)) (λ s b. AddsAround c.args.least c.args.most s b.cells q one.result
     old.liberties new.liberties old.enemies new.enemies) c.loop-q.invariant
     (record {
       stays = one.ensures.stays;
@@ -51,7 +51,7 @@ loop-q-preserved g c =
 pub returns-clause-liberties : goal.returns-clause-liberties
 returns-clause-liberties g c = λ pos a.
     let i = c.loop-q.invariant in
-    Gathers-all (is_few_liberty c.args.most pos.size (after pos c.args.board.now.moves).cells) c.args.points.now
+    Gathers-all (is_few_liberty c.args.least c.args.most pos.size (after pos c.args.board.now.moves).cells) c.args.points.now
     c.loop-q.next (pos.size * pos.size) c.loop-q.rest c.loop-q.found.liberties (i.over pos a).liberties
     c.in_default.ensures.none
     (λ k h. on_agreed _ _ (g.met.L.Look.sized c.args.board.now.look) (agrees_before i.stays.grows a) (c.requires k h))
@@ -60,7 +60,7 @@ returns-clause-liberties g c = λ pos a.
 pub returns-clause-enemies : goal.returns-clause-enemies
 returns-clause-enemies g c = λ pos a.
     let i = c.loop-q.invariant in
-    Gathers-all (is_few_enemy c.args.most pos.size (after pos c.args.board.now.moves).cells) c.args.points.now
+    Gathers-all (is_few_enemy c.args.least c.args.most pos.size (after pos c.args.board.now.moves).cells) c.args.points.now
     c.loop-q.next (pos.size * pos.size) c.loop-q.rest c.loop-q.found.enemies (i.over pos a).enemies
     c.in_default.ensures.none
     (λ k h. on_agreed _ _ (g.met.L.Look.sized c.args.board.now.look) (agrees_before i.stays.grows a) (c.requires k h))

@@ -10,7 +10,7 @@ use Rattle.wider_moves.proofs.strings.around_strings.Given as goal
 abbrev pub invariant-loop-q : goal.invariant-loop-q
 invariant-loop-q g l = Walked g.L.Look.shows g.L.Look.seen
     (λ s here. neighbourhood_of s here.cells (set.contains l.points))
-    (λ s here. GathersAround l.most s here.cells l.points l.rest l.next l.found.liberties l.found.enemies)
+    (λ s here. GathersAround l.least l.most s here.cells l.points l.rest l.next l.found.liberties l.found.enemies)
     l.fn.board l.board
 
 -- how many points are left

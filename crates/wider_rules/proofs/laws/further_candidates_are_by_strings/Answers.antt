@@ -4,6 +4,6 @@ use Rattle.wider_rules.proofs.laws.further_candidates_are_by_strings.Goals as go
 -- the test for a further candidate and the words are one
 pub returns : goal.returns
 returns c = record {
-  further = λ attacker s cells target p on.
-      (further_gives s cells target attacker p on, further_from s cells target attacker p on);
+  further = λ wide attacker s cells target p on.
+      (further_gives s cells target wide attacker p on, further_from s cells target wide attacker p on);
 }

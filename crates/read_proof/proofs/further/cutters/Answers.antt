@@ -1,0 +1,17 @@
+-- The enemies next to the near friends' strings that have few liberties may cut.
+use Rattle.std.proofs.Common.{◌*◌, ◌∙◌, sym}
+use Rattle.std.proofs.lemmas.Bool.{and_parts, ltb-true}
+use Rattle.wider_rules.proofs.SetLemmas.{cutter_is}
+use Rattle.read_proof.proofs.further.cutters.Goals as goal
+
+-- the near friends are on the board
+pub around_strings-requires : goal.around_strings-requires
+around_strings-requires c = λ q h.
+    let pos = c.args.pos.now in
+    ltb-true q (pos.size * pos.size) (and_parts _ _ (sym (c.near_friends.ensures q) ∙ h)).0
+
+-- the enemies next to their strings that have few liberties
+pub returns : goal.returns
+returns c = λ r.
+    c.around_strings.ensures.enemies r
+    ∙ cutter_is c.args.pos.now.size c.args.pos.now.cells c.args.target r c.near_friends.result c.near_friends.ensures 4

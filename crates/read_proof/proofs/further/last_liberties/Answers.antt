@@ -1,9 +1,0 @@
-use Rattle.std.proofs.Common.{◌∙◌}
-use Rattle.read_proof.proofs.FurtherLemmas.{lasts}
-use Rattle.read_proof.proofs.further.last_liberties.Goals as goal
-
--- a liberty of a string with at most one is its last
-pub returns : goal.returns
-returns c = λ p.
-    c.around_strings-liberties.ensures.liberties p
-    ∙ lasts c.args.pos.now.size c.args.pos.now.cells c.args.points.now p
