@@ -52,7 +52,7 @@ class Run(NamedTuple):
 MOST_BYTES = 30_000
 # A net on {INPUTS}/net.gtp, which the wider tree has and the stated one has not.
 NET = (
-    "3 W D3 * E3 * D2 * E1 . C2 * E1 . D2 . E4 * D2 * E1 . C2 * E1 . D2 . C2 * E3 * E1 . E4 * E1 . E3 . "
+    "3 W D3 * E3 * D2 * E1 . C2 * E1 . D2 . E4 * D2 * E1 . C2 * E1 . E5 * D2 . C2 . C2 * E3 * E1 . E4 * E1 . E3 . "
     "E3 * D2 . C2 ."
 )
 # Both trees have the same answers at these depths.
