@@ -4,19 +4,19 @@
 //! In every ply:
 //!
 //! - *Beside*, for the attacker: the liberties of his strings next to the target that have at most two.
-//! - *Rescue*, for the attacker, and *Save*, for the defender: the one liberty of another defender's string next to such
-//!   a string of the attacker's.
-//! - *Cut*, for the defender: the one liberty of an attacker's string next to a string of the defender's that is next to
-//!   a liberty of the target.
+//! - *Rescue*, for the attacker, and *Save*, for the defender: the one liberty of another defender's string next to
+//!   such a string of the attacker's.
+//! - *Cut*, for the defender: the one liberty of an attacker's string next to a string of the defender's that is next
+//!   to a liberty of the target.
 //!
 //! If a wide ply is left:
 //!
 //! - *Net*, for the attacker: the empty neighbours of the liberties of a target with exactly three.
-//! - *Link*, for the attacker, and *Join*, for the defender: the liberties of the defender's strings next to a liberty of
-//!   the target.
+//! - *Link*, for the attacker, and *Join*, for the defender: the liberties of the defender's strings next to a liberty
+//!   of the target.
 //! - *Beside*, for the defender: the liberties of the attacker's strings next to the target that have at most four.
-//! - *Cover*, for the defender: the empty neighbours of the liberties of an attacker's string next to the target that has
-//!   two or three.
+//! - *Cover*, for the defender: the empty neighbours of the liberties of an attacker's string next to the target that
+//!   has two or three.
 //! - *Approach*, for the defender: the liberties of the attacker's strings next to a point where his stone would be
 //!   cramped.
 //!
