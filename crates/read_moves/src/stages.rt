@@ -1,5 +1,5 @@
-//! The candidates of a target by stages: its liberties and the last liberties of enemy strings next to it, and the later
-//! candidates.
+//! The candidates of a target by stages: its liberties and the last liberties of enemy strings next to it, and the
+//! later candidates.
 
 ghost use Rattle.std.specs.Prelude.{◌≡◌, ℕ, ◌*◌, ◌<◌, ◌&&◌, ◌||◌, IsTrue, nat_lt};
 ghost use Rattle.std.specs.FinSet as set;
@@ -50,8 +50,8 @@ fn attacker_of(cell: Cell) -> Colour
     }
 }
 
-/// The wide candidates by the target's liberties, at either side's turn: the empty neighbours of the liberties, if there
-/// are at most two of these, and the one liberty that a stone of the attacker on one of them would have.
+/// The wide candidates by the target's liberties, at either side's turn: the empty neighbours of the liberties, if
+/// there are at most two of these, and the one liberty that a stone of the attacker on one of them would have.
 fn wide_by_liberties<L: Look>(board: &mut Trial<L>, target: Point, liberties: &PointSet) -> PointSet
     requires on_board { target < (L.shows board.old.look).size * (L.shows board.old.look).size }
     requires liberties { (pos : BoardState) → Agrees (L.seen board.old.look) pos
@@ -120,9 +120,9 @@ fn wider_later_candidates<L: Look>(
     found
 }
 
-/// The candidates that are tried last at the turn. Where a wide ply is left they are the empty neighbours of the target's
-/// liberties, if there are at most two of these, and the one liberty that a stone of the attacker on one of its liberties
-/// would have. In the wider tree they are also the further candidates of whose turn it is.
+/// The candidates that are tried last at the turn. Where a wide ply is left they are the empty neighbours of the
+/// target's liberties, if there are at most two of these, and the one liberty that a stone of the attacker on one of
+/// its liberties would have. In the wider tree they are also the further candidates of whose turn it is.
 ///
 /// The caller gives the target's liberties. The trial moves stay as they were, and no play is tried. After GNU Go
 /// Manual, "Tactical reading"; the choice of these points is this project's own.
@@ -143,8 +143,8 @@ pub fn later_candidates<L: Look>(board: &mut Trial<L>, turn: Turn, liberties: &P
     }
 }
 
-/// The points that a reading tries at a turn: the liberties of the target, the last liberty of each enemy string next to
-/// it, and the `later_candidates`.
+/// The points that a reading tries at a turn: the liberties of the target, the last liberty of each enemy string next
+/// to it, and the `later_candidates`.
 ///
 /// The trial moves stay as they were. After GNU Go Manual, "Tactical reading"; the choice of these points is this
 /// project's own.

@@ -94,8 +94,8 @@ fn attacker_of(cell: Cell) -> Colour
     }
 }
 
-/// The wide candidates by the target's liberties, which are handed in: the empty neighbours of at most two liberties, and
-/// the backfilling moves.
+/// The wide candidates by the target's liberties, which are handed in: the empty neighbours of at most two liberties,
+/// and the backfilling moves.
 fn wide_by_liberties(pos: &Position, target: Point, liberties: &PointSet) -> PointSet
     requires on_board { target < pos.now.size * pos.now.size }
     requires liberties { liberties.now ≡ liberty_points pos.now.size pos.now.cells target }

@@ -1,5 +1,5 @@
-//! The further candidates of a target, which the wider tree tries, found on a position: some in every ply, and some only
-//! if a wide ply is left.
+//! The further candidates of a target, which the wider tree tries, found on a position: some in every ply, and some
+//! only if a wide ply is left.
 
 ghost use Rattle.std.specs.Prelude.{◌≡◌, ℕ, ◌*◌, ◌<◌, ◌==◌, ◌&&◌, IsTrue, nat_lt};
 ghost use Rattle.std.specs.FinSet as set;
@@ -93,8 +93,8 @@ fn near_friends(pos: &Position, target: Point, liberties: &PointSet) -> PointSet
     beside(pos, pos.cell(target), liberties).difference(&pos.string(target))
 }
 
-/// The liberties of the linked strings that have at most so many, which are the points of Join and of Link; the target's
-/// liberties are handed in.
+/// The liberties of the linked strings that have at most so many, which are the points of Join and of Link; the
+/// target's liberties are handed in.
 fn linked_liberties(pos: &Position, target: Point, most: u16, liberties: &PointSet) -> PointSet
     requires on_board { target < pos.now.size * pos.now.size }
     requires liberties { liberties.now ≡ liberty_points pos.now.size pos.now.cells target }
@@ -113,7 +113,8 @@ fn cutters(pos: &Position, target: Point, liberties: &PointSet) -> PointSet
     around_strings(pos, 0, FEW_OF_LINKED, &near_friends(pos, target, liberties)).enemies
 }
 
-/// The points of Cut: the last liberties of enemy strings next to a linked string; the target's liberties are handed in.
+/// The points of Cut: the last liberties of enemy strings next to a linked string; the target's liberties are handed
+/// in.
 fn cut(pos: &Position, target: Point, liberties: &PointSet) -> PointSet
     requires on_board { target < pos.now.size * pos.now.size }
     requires liberties { liberties.now ≡ liberty_points pos.now.size pos.now.cells target }

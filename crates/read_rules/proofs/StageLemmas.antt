@@ -29,8 +29,8 @@ or_false : (a : Bool) → a ≡ (a || false)
 or_false true = refl
 or_false false = refl
 
--- a liberty, a neighbour with a wide ply, a last liberty, a backfilling move with a wide ply, or a further candidate: the
--- two with a wide ply and the further candidate come last
+-- a liberty, a neighbour with a wide ply, a last liberty, a backfilling move with a wide ply, or a further candidate:
+-- the two with a wide ply and the further candidate come last
 later_last : (l w f e t b x : Bool)
     → ((((l || ((w && f) && e)) || t) || (w && b)) || x) ≡ ((l || t) || ((w && ((f && e) || b)) || x))
 later_last true w f e t b x = refl
@@ -54,7 +54,8 @@ candidate_stages turn here p = later_last (is_liberty here.size here.cells turn.
     (is_last_liberty_of_enemy here.size here.cells turn.target p) (is_backfilling here turn.target p)
     (is_wider turn.tree && is_further (ltb 0 turn.wide) turn.attacker_to_play here.size here.cells turn.target p)
 
--- the later candidates are those by the target's liberties with a wide ply, and in the wider tree the further candidates
+-- the later candidates are those by the target's liberties with a wide ply, and in the wider tree the further
+-- candidates
 pub later_further : (turn : Turn) (here : BoardState) (p : ℕ) (wide further : Bool)
     → wide ≡ (ltb 0 turn.wide && is_wide_by_liberties here turn.target p)
     → further ≡ (is_wider turn.tree

@@ -5,9 +5,9 @@ use Rattle.read_rules.specs.declared.tree.Tree.{Tree}
 use Rattle.read_rules.specs.declared.turn.Turn.{Turn}
 use Rattle.read_rules.specs.Trees.{most_narrow, most_few}
 
--- how many liberties a target may have that is captured with so many wide plies left: in the wider tree 4. In the stated
--- tree the attacker plays at one with at most 4, or 2 where no wide ply is left, and two plies later two wide plies are
--- gone and one liberty at most
+-- how many liberties a target may have that is captured with so many wide plies left: in the wider tree 4. In the
+-- stated tree the attacker plays at one with at most 4, or 2 where no wide ply is left, and two plies later two wide
+-- plies are gone and one liberty at most
 abbrev pub most_by_wide : Tree → ℕ → ℕ
 most_by_wide tree k = if k == 0 then most_narrow tree else if nat_lt k 3 then most_few tree else 4
 

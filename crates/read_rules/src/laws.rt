@@ -38,8 +38,8 @@ pub fn candidates_are_by_strings()
 {}
 
 /// A candidate is a liberty of the target, the last liberty of an enemy string next to it, or a later candidate at the
-/// turn. In the stated tree there are later candidates only if a wide ply is left; if none is left in the wider tree, they
-/// are the further candidates of every ply.
+/// turn. In the stated tree there are later candidates only if a wide ply is left; if none is left in the wider tree,
+/// they are the further candidates of every ply.
 pub fn candidates_come_in_stages()
     ensures stages { (turn : Turn) (pos : BoardState) (p : ℕ) → is_candidate turn pos p
         ≡ (is_liberty pos.size pos.cells turn.target p || is_last_liberty_of_enemy pos.size pos.cells turn.target p

@@ -10,8 +10,8 @@ pub enum Tree {
     /// and where a wide ply is left the empty neighbours of at most two liberties and backfilling moves. Where no wide
     /// ply is left, a target with more than two liberties stands.
     Stated,
-    /// The larger tree. It tries the further candidates too, some of them in every ply and some only where a wide ply is
-    /// left. A target with more than four liberties stands, wide ply or not.
+    /// The larger tree. It tries the further candidates too, some of them in every ply and some only where a wide ply
+    /// is left. A target with more than four liberties stands, wide ply or not.
     Wider,
 }
 

@@ -67,8 +67,8 @@ fn look_at<L: Look>(board: &mut Trial<L>, points: &PointSet)
     }
 }
 
-/// Looks at the mover's play at p, on the position without trial moves, and at these points after it. If the play cannot
-/// be made, at what shows that.
+/// Looks at the mover's play at p, on the position without trial moves, and at these points after it. If the play
+/// cannot be made, at what shows that.
 pub fn look_at_play<L: Look>(board: &mut Trial<L>, node: Node, p: Point, points: &PointSet)
     requires untried { board.old.moves ≡ [] }
     requires on_board { IsPointOf L.shows board.old p }

@@ -162,8 +162,8 @@ fn of_a_wide_ply<L: Look>(
     }
 }
 
-/// The further candidates of a target. In every ply these are, at the attacker's turn, Beside by strings with at most two
-/// liberties and Rescue, and at the defender's turn Save and Cut. Where a wide ply is left there are also, at the
+/// The further candidates of a target. In every ply these are, at the attacker's turn, Beside by strings with at most
+/// two liberties and Rescue, and at the defender's turn Save and Cut. Where a wide ply is left there are also, at the
 /// attacker's turn, Net and Link, and at the defender's Beside by strings with at most four, Join, Cover and Approach.
 ///
 /// The caller gives the target's liberties. The trial moves stay as they were, no play is tried, and it takes no

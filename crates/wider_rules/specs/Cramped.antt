@@ -13,8 +13,8 @@ foe_of Empty = Empty
 foe_of Black = White
 foe_of White = Black
 
--- x is reached by a stone of this colour that is played at l: x is an empty neighbour of l, or another point than l that
--- is a liberty of a string of its colour next to l
+-- x is reached by a stone of this colour that is played at l: x is an empty neighbour of l, or another point than l
+-- that is a liberty of a string of its colour next to l
 unfoldable pub is_reached : ℕ → List Cell → Cell → ℕ → ℕ → Bool
 is_reached s cells own l x =
     (any_below (s * s) (λ q. holds_next s cells own l q && is_liberty s cells q x) && not (x == l))
