@@ -26,7 +26,8 @@ static MARKS: [Record; 14] = [
     ),
     (
         "the word stands behind the first move",
-        "(;SZ[9]AB[df]AW[cf][ef][de]TR[df]PL[W](;W[cg];B[dg](;W[aa])(;W[bb]))(;W[dg];B[aa](;W[bb])(;W[cc]C[That is CORRECT.])))",
+        "(;SZ[9]AB[df]AW[cf][ef][de]TR[df]PL[W](;W[cg];B[dg](;W[aa])(;W[bb]))\
+         (;W[dg];B[aa](;W[bb])(;W[cc]C[That is CORRECT.])))",
         "attack D4 depths 3 2\t3\tD3\t1\tas expected",
     ),
     (
