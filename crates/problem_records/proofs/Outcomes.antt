@@ -1,6 +1,6 @@
--- What comes of a record, step by step: of the words of a line, of the marks, of the first node, and of the position.
-use Rattle.std.proofs.Common.{◌≡◌, ◌≢◌, ℕ, Bool, List, [], ◌∷◌, Option, Some, None, Result, Ok, Err, MatchResult}
-use Rattle.std.proofs.Common.{refl, sym, ap, subst, ◌∙◌, ◌⊎◌, inl, inr}
+-- What comes of a record, step by step: of its line, of its first node, and of the position.
+use Rattle.std.proofs.Common.{◌≡◌, ◌≢◌, ℕ, List, [], ◌∷◌, Option, Some, None, Result, Ok, Err, MatchResult}
+use Rattle.std.proofs.Common.{sym, ap, subst, ◌∙◌, ◌⊎◌, inl, inr}
 use Rattle.std.specs.Option.{unwrap_or}
 use Rattle.std.proofs.lemmas.Result.{MatchResult-weaker}
 use Rattle.go_rules.specs.declared.Cell.{Cell}
@@ -11,11 +11,10 @@ use Rattle.read_rules.specs.declared.depths.Depths.{Depths}
 use Rattle.problem_verdicts.specs.declared.expected.Expected.{Expected}
 use Rattle.problem_records.specs.Nodes.{Named}
 use Rattle.problem_records.specs.Problems.{HasStone}
-use Rattle.problem_records.specs.Lines.{words_of, kind_in, target_in, both_or_lack, asked_in_words, IsOfParts}
+use Rattle.problem_records.specs.Lines.{words_of, asked_in_words, IsOfParts}
 use Rattle.problem_records.specs.Marks.{marked_stones, player_of, asked_by_marks}
-use Rattle.problem_records.specs.Asked.{line_in, asked, asked_by_line, IsByMarks, Asks, IsLack, IsOutcome}
-use Rattle.problem_records.specs.Found.{IsLackInWords, IsInWords, IsInLine, IsInMarks, IsLackInNode, IsInNode}
-use Rattle.problem_records.specs.Found.{HasLine, IsOfLine}
+use Rattle.problem_records.specs.Asked.{line_in, asked, asked_by_line, IsOutcome}
+use Rattle.problem_records.specs.Found.{IsInLine, IsInNode, IsOfLine}
 use Rattle.problem_records.specs.declared.lack.Lack.{Lack}
 use Rattle.problem_records.specs.declared.lack.Lack.TheVariants as lack
 use Rattle.problem_records.specs.declared.lack.ProblemError.{ProblemError}
@@ -33,43 +32,10 @@ abbrev point_asked : Result (Kind × ℕ) Lack → ℕ
 point_asked (Ok q) = q.1
 point_asked (Err l) = 0
 
--- a question that is lacking is what is told
-lacking : (question : Result (Kind × ℕ) Lack) (P : Kind × ℕ → Type 0) (l : Lack) → question ≡ Err l
-    → OnQuestion question P l
-lacking question P l e = subst (λ (q : Result (Kind × ℕ) Lack). OnQuestion q P l) (sym e) refl
-
 -- of a question that is asked, what is said of it
 asking : (question : Result (Kind × ℕ) Lack) (P : Kind × ℕ → Type 0) (l : Lack) (q : Kind × ℕ) → question ≡ Ok q → P q
     → OnQuestion question P l
 asking question P l q e h = subst (λ (r : Result (Kind × ℕ) Lack). OnQuestion r P l) (sym e) h
-
-module _ (s : ℕ) (words : List (List ℕ)) where
-  -- the first word says no question
-  pub no_kind : (l : Lack) → kind_in words ≡ Err l → IsInWords s words (Err l)
-  no_kind l e = lacking (asked_in_words s words) (λ q. IsOfParts l) l
-      (ap (λ (k : Result Kind Lack). both_or_lack k (target_in s words)) e)
-
-  -- the second word says no point
-  pub no_target : (k : Kind) (l : Lack) → kind_in words ≡ Ok k → target_in s words ≡ Err l
-      → IsInWords s words (Err l)
-  no_target k l e f = lacking (asked_in_words s words) (λ q. IsOfParts l) l
-      (ap (λ (r : Result Kind Lack). both_or_lack r (target_in s words)) e
-      ∙ ap (λ (t : Result ℕ Lack). both_or_lack (Ok k) t) f)
-
-  -- both words say what they should
-  pub both_said : (k : Kind) (p : ℕ) → kind_in words ≡ Ok k → target_in s words ≡ Ok p
-      → asked_in_words s words ≡ Ok (k, p)
-  both_said k p e f =
-      ap (λ (r : Result Kind Lack). both_or_lack r (target_in s words)) e
-      ∙ ap (λ (t : Result ℕ Lack). both_or_lack (Ok k) t) f
-
-  -- a line that keeps the question, or a lack of its parts
-  pub by_parts : (k : Kind) (p : ℕ) (r : Result Line Lack) → kind_in words ≡ Ok k → target_in s words ≡ Ok p
-      → MatchResult r (λ line. (line.kind ≡ k) × (line.target ≡ p)) IsOfParts → IsInWords s words r
-  by_parts k p (Ok line) e f h =
-      both_said k p e f
-      ∙ (ap (λ (x : Kind). Ok (x, p)) (sym h.0) ∙ ap (λ (x : ℕ). Ok (line.kind, x)) (sym h.1))
-  by_parts k p (Err l) e f h = asking (asked_in_words s words) (λ q. IsOfParts l) l (k, p) (both_said k p e f) h
 
 module _ (pos : BoardState) (vs : List Named) where
   -- a line counts, so its words ask
@@ -78,7 +44,7 @@ module _ (pos : BoardState) (vs : List Named) where
   asked_by_words text e = ap (asked_by_line pos vs) e
 
   -- no line counts, so the marks ask
-  pub asked_at_marks : line_in vs ≡ Ok None
+  asked_at_marks : line_in vs ≡ Ok None
       → asked pos vs ≡ asked_by_marks pos.cells (marked_stones pos vs) (player_of vs)
   asked_at_marks e = ap (asked_by_line pos vs) e
 
@@ -87,10 +53,6 @@ module _ (pos : BoardState) (vs : List Named) where
   some_line text e none = absurd (cc)
 
   module _ (usual : Depths) where
-    -- lines are too many
-    pub by_lack : (l : Lack) → line_in vs ≡ Err l → IsInNode pos vs usual (Err (Lacks l))
-    by_lack l e = lacking (asked pos vs) (λ q. (line_in vs ≢ Ok None) × IsOfParts l) l (ap (asked_by_line pos vs) e)
-
     -- by the line
     pub by_line : (text : List ℕ) (r : Result Line ProblemError) → line_in vs ≡ Ok (Some text)
         → IsInLine pos.size text r → IsInNode pos vs usual r
@@ -100,14 +62,6 @@ module _ (pos : BoardState) (vs : List Named) where
         subst (λ (q : Result (Kind × ℕ) Lack). OnQuestion q (λ _. (line_in vs ≢ Ok None) × IsOfParts l) l)
         (sym (asked_by_words text e))
         (MatchResult-weaker (asked_in_words pos.size (words_of text)) h (λ q p. (some_line text e, p)) (λ w p. p))
-
-    -- by the marks
-    pub by_marks : (r : Result Line ProblemError) → line_in vs ≡ Ok None
-        → IsInMarks (asked_by_marks pos.cells (marked_stones pos vs) (player_of vs)) usual r → IsInNode pos vs usual r
-    by_marks (Ok line) e h = (asked_at_marks e ∙ h.0, λ none. h.1)
-    by_marks (Err NoMemory) e h = tt
-    by_marks (Err (Lacks l)) e h =
-        lacking (asked pos vs) (λ q. (line_in vs ≢ Ok None) × IsOfParts l) l (asked_at_marks e ∙ h)
 
     -- what the first node lacks, the record lacks
     by_node_lack : (e : ProblemError) → IsInNode pos vs usual (Err e) → IsOutcome pos vs usual (Err e)

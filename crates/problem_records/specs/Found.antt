@@ -1,7 +1,6 @@
 -- What each step finds of the question of a record.
-use Rattle.std.specs.Prelude.{◌≡◌, ◌≢◌, ℕ, List, Option, Some, None, Result, Ok, Err, MatchResult}
+use Rattle.std.specs.Prelude.{◌≡◌, ◌≢◌, ℕ, List, Some, None, Result, Ok, Err, MatchResult}
 use Rattle.go_rules.specs.Position.{BoardState}
-use Rattle.go_rules.specs.declared.Cell.{Cell}
 use Rattle.read_rules.specs.declared.question.Kind.{Kind}
 use Rattle.read_rules.specs.declared.depths.Depths.{Depths}
 use Rattle.problem_records.specs.Nodes.{Named}
@@ -35,7 +34,8 @@ abbrev pub IsInWords : ℕ → List (List ℕ) → Result Line Lack → Type 0
 IsInWords s words r =
     MatchResult r (λ line. asked_in_words s words ≡ Ok (line.kind, line.target)) (IsLackInWords s words)
 
--- the same of a line
+-- this comes of a line with this text, on a board of size s: a line that asks the question of its words, or what these
+-- lack, or want of memory
 abbrev pub IsInLine : ℕ → List ℕ → Result Line ProblemError → Type 0
 IsInLine s text r = MatchResult r (λ line. asked_in_words s (words_of text) ≡ Ok (line.kind, line.target))
     (IsLackOrNoMemory (IsLackInWords s (words_of text)))

@@ -45,6 +45,6 @@ comment_of (v ∷ vs) = if has_name (codes "C") v then v.1 ++ (line_feed ∷ com
 abbrev pub shown : NamedValue → Named
 shown v = (filter is_capital v.name.now, said false v.value.now)
 
--- the same of several
+-- values as they were cut from a record
 abbrev pub all_shown : List NamedValue → List Named
 all_shown vs = map shown vs
