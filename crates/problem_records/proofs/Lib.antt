@@ -1,1 +1,4 @@
 pub mod OnBoard
+pub mod Values
+pub mod Stones
+pub mod Outcomes

@@ -1,5 +1,8 @@
 //! What a record lacks of a problem.
 
+ghost use Rattle.std.specs.Prelude.{◌≡◌};
+ghost use Rattle.problem_records.specs.declared.lack.ProblemError.TheVariants as error;
+
 use go_base::NoMemory;
 use std::alloc::{AllocError, AllocFailed};
 use thiserror::Error;
@@ -69,24 +72,32 @@ pub enum ProblemError {
 }
 
 impl From<Lack> for ProblemError {
+    ghost from_gives = { λ lack e. e ≡ error.Lacks lack };
+
     fn from(lack: Lack) -> ProblemError {
         ProblemError::Lacks(lack)
     }
 }
 
 impl From<NoMemory> for ProblemError {
+    ghost from_gives = { λ _ e. e ≡ error.NoMemory };
+
     fn from(_: NoMemory) -> ProblemError {
         ProblemError::NoMemory
     }
 }
 
 impl From<AllocError> for ProblemError {
+    ghost from_gives = { λ _ e. e ≡ error.NoMemory };
+
     fn from(_: AllocError) -> ProblemError {
         ProblemError::NoMemory
     }
 }
 
 impl<T: Drop> From<AllocFailed<T>> for ProblemError {
+    ghost from_gives = { λ _ e. e ≡ error.NoMemory };
+
     fn from(_: AllocFailed<T>) -> ProblemError {
         ProblemError::NoMemory
     }

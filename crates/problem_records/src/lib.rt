@@ -2,17 +2,20 @@
 //! that is to be captured or saved, and the moves that are to do it.
 //!
 //! A line `gopat:` in the comment of the first node says it; a record without one has one marked stone, the player to
-//! move, and right moves. What a record lacks is told, and nothing is guessed. The position has the clause of
-//! `sgf_read`; how the question and the answers are found in the record is shown by tests.
+//! move, and right moves. What a record lacks is told, and nothing is guessed. `problem_of` has clauses of the
+//! position, of the question, and of what is lacking; what a line tells behind its question, and which moves of a record
+//! are right, is shown by tests.
 #![tactic(auto)]
 
-mod first;
 mod lack;
 mod line;
 mod marks;
+mod node;
 mod pieces;
 mod problem;
+mod record;
 mod variations;
 
 pub use lack::{Lack, ProblemError};
-pub use problem::{Problem, problem_of};
+pub use problem::Problem;
+pub use record::problem_of;

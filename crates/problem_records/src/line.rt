@@ -1,16 +1,25 @@
 //! The line in a comment that says the question and what is expected: `gopat: attack C2 depths 16 6 answer A1 only`.
 
-ghost use Rattle.std.specs.Prelude.{IfSome};
+ghost use Rattle.std.specs.Prelude.{◌≡◌, IfSome, IfOk, IfErr, MatchResult, Ok, Err, map};
+ghost use Rattle.std.specs.List.{slice_split};
+ghost use Rattle.std.specs.Option.{option_map};
 ghost use Rattle.go_rules.specs.Board.{largest_points};
+ghost use Rattle.sgf_rules.specs.Tokens.{is_blank as blank};
 ghost use Rattle.problem_records.specs.Problems.{IsMoveBelow};
+ghost use Rattle.problem_records.specs.Lines.{ends_line, behind_blanks, text_behind, words_of};
+ghost use Rattle.problem_records.specs.Lines.{kind_named, kind_in, target_in, told_line, IsOfParts};
+ghost use Rattle.problem_records.specs.Found.{AsksSame, IsInWords, IsInLine};
 
-use crate::lack::Lack;
+use crate::lack::{Lack, ProblemError};
+use crate::node::are_same;
 use go_base::{Point, Size};
 use problem_verdicts::{Depths, Expected, Kind, Moves, Tree};
+use std::alloc::{AllocError, Global};
+use std::str;
 use vertices::{target_named, vertex_named};
 
 /// The word with which the line begins.
-const LINE: &str = "gopat:";
+const LINE: &[u8] = b"gopat:";
 
 /// What the line says.
 #[derive(Drop)]
@@ -56,20 +65,29 @@ struct Draft {
 }
 
 /// The question that a word names.
-fn kind_of(word: &str) -> Option<Kind> {
-    match word {
-        "attack" => Some(Kind::Attack),
-        "defend" => Some(Kind::Defend),
-        _ => None,
+fn kind_named(word: &[u8]) -> Option<Kind>
+    ensures { result ≡ kind_named word.now }
+{
+    if are_same(word, b"attack") {
+        Some(Kind::Attack)
+    } else if are_same(word, b"defend") {
+        Some(Kind::Defend)
+    } else {
+        None
     }
 }
 
 /// The move that a word names.
-fn move_named(word: &str, size: Size) -> Option<Option<Point>>
+fn move_named(word: &[u8], size: Size) -> Option<Option<Point>>
     ensures { IfSome result (IsMoveBelow largest_points) }
 {
     let _ = size.points();
-    target_named(word.as_bytes(), size)
+    target_named(word, size)
+}
+
+/// The number that a word says.
+fn number_said(word: &[u8]) -> Option<u8> {
+    str::from_utf8(word).ok()?.parse::<u8>().ok()
 }
 
 impl Draft {
@@ -85,7 +103,10 @@ impl Draft {
     }
 
     /// Begins a part, if a part may begin here and has not stood before.
-    fn begin(&mut self, part: Part) -> Result<(), Lack> {
+    fn begin(&mut self, part: Part) -> Result<(), Lack>
+        ensures same { AsksSame self.old.line self.new.line }
+        ensures lack { IfErr result IsOfParts }
+    {
         self.end()?;
         if self.has(part) {
             return Err(Lack::Twice);
@@ -95,7 +116,9 @@ impl Draft {
     }
 
     /// Ends the part, if it may end here.
-    fn end(&self) -> Result<(), Lack> {
+    fn end(&self) -> Result<(), Lack>
+        ensures { IfErr result IsOfParts }
+    {
         match self.part {
             Part::Ended | Part::Moves => Ok(()),
             Part::Plies | Part::Wide(_) => Err(Lack::NoDepths),
@@ -105,15 +128,21 @@ impl Draft {
     }
 
     /// Takes in the number of plies.
-    fn take_plies(&mut self, word: &str) -> Result<(), Lack> {
-        let plies = word.parse::<u8>().map_err(|_| Lack::NoDepths)?;
+    fn take_plies(&mut self, word: &[u8]) -> Result<(), Lack>
+        ensures same { AsksSame self.old.line self.new.line }
+        ensures lack { IfErr result IsOfParts }
+    {
+        let plies = number_said(word).ok_or(Lack::NoDepths)?;
         self.part = Part::Wide(plies);
         Ok(())
     }
 
     /// Takes in the number of wide plies behind that of plies.
-    fn take_wide(&mut self, plies: u8, word: &str) -> Result<(), Lack> {
-        let wide = word.parse::<u8>().map_err(|_| Lack::NoDepths)?;
+    fn take_wide(&mut self, plies: u8, word: &[u8]) -> Result<(), Lack>
+        ensures same { AsksSame self.old.line self.new.line }
+        ensures lack { IfErr result IsOfParts }
+    {
+        let wide = number_said(word).ok_or(Lack::NoDepths)?;
         let depths = Depths::new(plies, wide).ok_or(Lack::NoDepths)?;
         self.line.depths = Some(depths.in_tree(self.tree));
         self.part = Part::Ended;
@@ -121,8 +150,11 @@ impl Draft {
     }
 
     /// Takes in the code.
-    fn take_code(&mut self, word: &str) -> Result<(), Lack> {
-        let code = word.parse::<u8>().map_err(|_| Lack::NoCode)?;
+    fn take_code(&mut self, word: &[u8]) -> Result<(), Lack>
+        ensures same { AsksSame self.old.line self.new.line }
+        ensures lack { IfErr result IsOfParts }
+    {
+        let code = number_said(word).ok_or(Lack::NoCode)?;
         if code > 3 {
             return Err(Lack::NoCode);
         }
@@ -132,7 +164,10 @@ impl Draft {
     }
 
     /// Takes in one of the moves.
-    fn take_move(&mut self, word: &str) -> Result<(), Lack> {
+    fn take_move(&mut self, word: &[u8]) -> Result<(), Lack>
+        ensures same { AsksSame self.old.line self.new.line }
+        ensures lack { IfErr result IsOfParts }
+    {
         let at = move_named(word, self.size).ok_or(Lack::NoVertex)?;
         if at.is_none() && self.line.kind == Kind::Attack {
             return Err(Lack::NoPass);
@@ -145,7 +180,10 @@ impl Draft {
     }
 
     /// Takes in a word that begins no part.
-    fn take_word(&mut self, word: &str) -> Result<(), Lack> {
+    fn take_word(&mut self, word: &[u8]) -> Result<(), Lack>
+        ensures same { AsksSame self.old.line self.new.line }
+        ensures lack { IfErr result IsOfParts }
+    {
         match self.part {
             Part::Ended => Err(Lack::NoMeaning),
             Part::Plies => self.take_plies(word),
@@ -155,27 +193,49 @@ impl Draft {
         }
     }
 
+    /// Begins the moves.
+    fn begin_moves(&mut self) -> Result<(), Lack>
+        ensures same { AsksSame self.old.line self.new.line }
+        ensures lack { IfErr result IsOfParts }
+    {
+        self.begin(Part::FirstMove)?;
+        self.line.expected.answers = Some(Moves::none());
+        Ok(())
+    }
+
+    /// Rules other moves out.
+    fn rule_others_out(&mut self) -> Result<(), Lack>
+        ensures same { AsksSame self.old.line self.new.line }
+        ensures lack { IfErr result IsOfParts }
+    {
+        self.begin(Part::Ended)?;
+        self.line.expected.only = true;
+        Ok(())
+    }
+
     /// Takes in the next word.
-    fn take(&mut self, word: &str) -> Result<(), Lack> {
-        match word {
-            "depths" => self.begin(Part::Plies),
-            "code" => self.begin(Part::Code),
-            "answer" => {
-                self.begin(Part::FirstMove)?;
-                self.line.expected.answers = Some(Moves::none());
-                Ok(())
-            }
-            "only" => {
-                self.begin(Part::Ended)?;
-                self.line.expected.only = true;
-                Ok(())
-            }
-            _ => self.take_word(word),
+    fn take(&mut self, word: &[u8]) -> Result<(), Lack>
+        ensures same { AsksSame self.old.line self.new.line }
+        ensures lack { IfErr result IsOfParts }
+    {
+        if are_same(word, b"depths") {
+            self.begin(Part::Plies)
+        } else if are_same(word, b"code") {
+            self.begin(Part::Code)
+        } else if are_same(word, b"answer") {
+            self.begin_moves()
+        } else if are_same(word, b"only") {
+            self.rule_others_out()
+        } else {
+            self.take_word(word)
         }
     }
 
     /// The line, if it is whole.
-    fn finish(self) -> Result<Line, Lack> {
+    fn finish(self) -> Result<Line, Lack>
+        ensures same { IfOk result (AsksSame self.line) }
+        ensures lack { IfErr result IsOfParts }
+    {
         self.end()?;
         let expected = &self.line.expected;
         if expected.only && expected.answers.is_none() {
@@ -188,12 +248,37 @@ impl Draft {
     }
 }
 
-/// What the line says, by the text behind its first word.
-fn line_of(text: &str, size: Size, tree: Tree) -> Result<Line, Lack> {
-    let mut words = text.split_ascii_whitespace();
-    let kind = kind_of(words.next().ok_or(Lack::NoKind)?).ok_or(Lack::NoKind)?;
-    let target = words.next().ok_or(Lack::NoTarget)?;
-    let target = vertex_named(target.as_bytes(), size).ok_or(Lack::NoTarget)?;
+/// The question that the first of these words names.
+fn kind_in(words: &[&[u8]]) -> Result<Kind, Lack>
+    ensures { result ≡ kind_in (map (λ w. w.now) words.now) }
+{
+    match words {
+        [word, ..] => kind_named(word).ok_or(Lack::NoKind),
+        [] => Err(Lack::NoKind),
+    }
+}
+
+/// The point that the second of these words says.
+fn target_in(words: &[&[u8]], size: Size) -> Result<Point, Lack>
+    ensures { result ≡ target_in size (map (λ w. w.now) words.now) }
+{
+    match words {
+        [_, word, ..] => vertex_named(word, size).ok_or(Lack::NoTarget),
+        _ => Err(Lack::NoTarget),
+    }
+}
+
+/// What these words say behind the question about a point.
+fn parts_in(
+    words: &[&[u8]],
+    kind: Kind,
+    target: Point,
+    size: Size,
+    tree: Tree,
+) -> Result<Line, Lack>
+    ensures same { IfOk result (λ line. (line.kind ≡ kind) × (line.target ≡ target)) }
+    ensures lack { IfErr result IsOfParts }
+{
     let mut draft = Draft {
         line: Line {
             kind,
@@ -215,19 +300,85 @@ fn line_of(text: &str, size: Size, tree: Tree) -> Result<Line, Lack> {
     draft.finish()
 }
 
-/// What the one line of a comment says that begins with `gopat:`; `None` if it has no such line.
-pub(crate) fn line_in(comment: &str, size: Size, tree: Tree) -> Result<Option<Line>, Lack> {
+/// What a line says by its words.
+fn line_by_words(words: &[&[u8]], size: Size, tree: Tree) -> Result<Line, Lack>
+    ensures { IsInWords size (map (λ w. w.now) words.now) result }
+{
+    let kind = kind_in(words)?;
+    let target = target_in(words, size)?;
+    let parts = words.get(2..).unwrap_or(&[]);
+    parts_in(parts, kind, target, size, tree)
+}
+
+/// Whether a byte is a blank.
+fn is_blank(b: u8) -> bool
+    ensures { result ≡ blank b }
+{
+    (9 <= b && b <= 13) || b == b' '
+}
+
+/// The words of a line.
+fn words_of<'a>(alloc: Global, line: &'a [u8]) -> Result<Vec<&'a [u8]>, AllocError>
+    ensures { IfOk result (λ words. map (λ w. w.now) words.items ≡ words_of line.now) }
+{
+    line.split(|b| is_blank(*b))
+        .filter(|word| !word.is_empty())
+        .collect(alloc)
+}
+
+/// What a line says.
+pub(crate) fn line_of(
+    alloc: Global,
+    line: &[u8],
+    size: Size,
+    tree: Tree,
+) -> Result<Line, ProblemError>
+    ensures { IsInLine size line.now result }
+{
+    let words = words_of(alloc, line)?;
+    Ok(line_by_words(words.as_slice(), size, tree)?)
+}
+
+/// The bytes behind the blanks at the front.
+fn behind_blanks(bytes: &[u8]) -> &[u8]
+    ensures { result.now ≡ behind_blanks bytes.now }
+{
+    for (i, b) in bytes.iter().enumerate() {
+        if !is_blank(*b) {
+            return &bytes[i..];
+        }
+    }
+    &[]
+}
+
+/// What stands behind `gopat:`, if the line begins with it.
+fn text_behind(line: &[u8]) -> Option<&[u8]>
+    ensures { option_map (λ text. text.now) result ≡ text_behind line.now }
+{
+    behind_blanks(line).strip_prefix(LINE)
+}
+
+/// The lines of a comment.
+pub(crate) fn lines_of<'a>(alloc: Global, comment: &'a [u8]) -> Result<Vec<&'a [u8]>, AllocError>
+    ensures { IfOk result (λ lines. map (λ line. line.now) lines.items ≡ slice_split ends_line comment.now) }
+{
+    comment.split(|b| *b == b'\n').collect(alloc)
+}
+
+/// What the one of these lines says that begins with `gopat:`; `None` if none begins so.
+pub(crate) fn told_line<'a>(lines: &[&'a [u8]]) -> Result<Option<&'a [u8]>, Lack>
+    ensures { MatchResult result
+        (λ found. told_line (map (λ line. line.now) lines.now) ≡ Ok (option_map (λ text. text.now) found))
+        (λ lack. told_line (map (λ line. line.now) lines.now) ≡ Err lack) }
+{
     let mut found = None;
-    for line in comment.lines() {
-        if let Some(text) = line.trim_start().strip_prefix(LINE) {
+    for line in lines {
+        if let Some(text) = text_behind(line) {
             if found.is_some() {
                 return Err(Lack::ManyLines);
             }
             found = Some(text);
         }
     }
-    match found {
-        Some(text) => Ok(Some(line_of(text, size, tree)?)),
-        None => Ok(None),
-    }
+    Ok(found)
 }

@@ -4,8 +4,8 @@ ghost use Rattle.std.specs.Prelude.{IfSome};
 ghost use Rattle.go_rules.specs.Board.{largest_points};
 ghost use Rattle.problem_records.specs.Problems.{IsMoveBelow};
 
-use crate::first::first_values;
-use crate::pieces::{Piece, is_named};
+use crate::node::{NamedValue, is_named};
+use crate::pieces::Piece;
 use go_base::{Colour, Point, Size};
 use problem_verdicts::Moves;
 use sgf_read::move_of;
@@ -89,7 +89,7 @@ fn says_right(comment: &[u8]) -> bool {
 /// Whether a variation says that it is right: by a word in a comment, or by the property TE.
 fn is_right(variation: &[Piece<'_>]) -> bool {
     for piece in variation {
-        if let Piece::Value { name, value } = piece {
+        if let Piece::Value(NamedValue { name, value }) = piece {
             if is_named(name, b"TE") || is_named(name, b"C") && says_right(value) {
                 return true;
             }
@@ -106,6 +106,18 @@ fn move_in(size: Size, value: &[u8]) -> Option<Option<Point>>
     move_of(size, value)
 }
 
+/// The values of the first node of a variation.
+fn first_values<'a>(pieces: &'a [Piece<'a>]) -> &'a [Piece<'a>] {
+    let Some(node) = pieces.iter().position(|p| matches!(p, Piece::Node)) else {
+        return &[];
+    };
+    let rest = &pieces[node + 1..];
+    match rest.iter().position(|p| !matches!(p, Piece::Value(_))) {
+        Some(len) => &rest[..len],
+        None => rest,
+    }
+}
+
 /// The first move of a variation, if its first node has one of this colour that is on the board: a point or a pass.
 fn first_move(variation: &[Piece<'_>], size: Size, colour: Colour) -> Option<Option<Point>>
     ensures { IfSome result (IsMoveBelow largest_points) }
@@ -115,7 +127,7 @@ fn first_move(variation: &[Piece<'_>], size: Size, colour: Colour) -> Option<Opt
         Colour::White => b"W".as_slice(),
     };
     for piece in first_values(variation) {
-        if let Piece::Value { name, value } = piece
+        if let Piece::Value(NamedValue { name, value }) = piece
             && is_named(name, letter)
         {
             return move_in(size, value);

@@ -1,6 +1,6 @@
 -- When a verdict is that all is as expected.
-use Rattle.std.proofs.Common.{◌≡◌, ◌↔◌, ℕ, Bool, true, false, ◌&&◌, ◌||◌, not, Option, Some, None, is_some, if◌then◌else◌}
-use Rattle.std.proofs.Common.{refl, sym, ap, ◌∙◌}
+use Rattle.std.proofs.Common.{◌≡◌, ◌↔◌, ℕ, Bool, true, false, ◌&&◌, ◌||◌, not, Option, Some, None, is_some}
+use Rattle.std.proofs.Common.{refl, sym, ap, ◌∙◌, if◌then◌else◌}
 use Rattle.problem_verdicts.specs.declared.moves.Moves.{Moves}
 use Rattle.problem_verdicts.specs.declared.expected.Expected.{Expected}
 use Rattle.problem_verdicts.specs.declared.judged.Found.{Found}

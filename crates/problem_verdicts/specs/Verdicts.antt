@@ -17,6 +17,7 @@ abbrev pub has_pass : Option Moves → Bool
 has_pass None = false
 has_pass (Some m) = m.pass
 
+-- the author expects the pass: he tells moves, and it is one of them
 abbrev pub expects_pass : Expected → Bool
 expects_pass e = has_pass e.answers
 

@@ -3,7 +3,7 @@
 use super::{Fail, Record, compare};
 
 /// Where the line stands, and how it is written. Black D4 is in atari at D3.
-static LINES: [Record; 10] = [
+static LINES: [Record; 12] = [
     (
         "behind other lines",
         "(;SZ[9]AB[df]AW[cf][ef][de]C[Black is in atari.\nWhite to play.\n  gopat:  attack\td4  answer d3])",
@@ -28,6 +28,16 @@ static LINES: [Record; 10] = [
         "the second comment of the node",
         "(;SZ[9]AB[df]AW[cf][ef][de]C[Easy.]GN[atari]C[gopat: attack D4 answer D3])",
         "attack D4 depths 3 2\t3\tD3\t1\tas expected",
+    ),
+    (
+        "within a line it is no line",
+        "(;SZ[9]AB[df]AW[cf][ef][de]C[See gopat: attack D4 answer D3])",
+        "-\t-\t-\t-\tnot told: no line gopat: and no marked stone",
+    ),
+    (
+        "two comments with a line each",
+        "(;SZ[9]AB[df]AW[cf][ef][de]C[gopat: attack D4 answer D3]C[gopat: attack D4 answer D3])",
+        "-\t-\t-\t-\tnot told: more than one line gopat:",
     ),
     (
         "a comment of a later node",

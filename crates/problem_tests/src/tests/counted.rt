@@ -25,7 +25,8 @@ fn records_of_each_kind(rt: HostRuntime) -> Result<(), Fail> {
     assert!(rt; !counts.is_all_as_expected());
     assert!(rt;
         text.as_str()
-            == "problems 7: as expected 1, other answers too 1, another answer 1, needs no move 1, not solved within the depths 1, not told 2; one answer 3",
+            == "problems 7: as expected 1, other answers too 1, another answer 1, needs no move 1, \
+             not solved within the depths 1, not told 2; one answer 3",
         "{text}"
     );
     Ok(())

@@ -3,7 +3,7 @@
 use super::{Fail, Record, compare};
 
 /// Black D4 is in atari at D3, or two stones stand in the corner.
-static MARKS: [Record; 14] = [
+static MARKS: [Record; 16] = [
     (
         "the main line",
         "(;SZ[9]AB[df]AW[cf][ef][de]TR[df]PL[W];W[dg])",
@@ -26,7 +26,8 @@ static MARKS: [Record; 14] = [
     ),
     (
         "the word stands behind the first move",
-        "(;SZ[9]AB[df]AW[cf][ef][de]TR[df]PL[W](;W[cg];B[dg](;W[aa])(;W[bb]))(;W[dg];B[aa](;W[bb])(;W[cc]C[That is CORRECT.])))",
+        "(;SZ[9]AB[df]AW[cf][ef][de]TR[df]PL[W](;W[cg];B[dg](;W[aa])(;W[bb]))\
+         (;W[dg];B[aa](;W[bb])(;W[cc]C[That is CORRECT.])))",
         "attack D4 depths 3 2\t3\tD3\t1\tas expected",
     ),
     (
@@ -67,6 +68,16 @@ static MARKS: [Record; 14] = [
     (
         "one stone is marked twice, by its point and by a rectangle",
         "(;SZ[9]AB[df]AW[cf][ef][de]TR[df]CR[df:dh]PL[W];W[dg])",
+        "attack D4 depths 3 2\t3\tD3\t1\tas expected",
+    ),
+    (
+        "the player's colour behind a backslash",
+        "(;SZ[9]AB[df]AW[cf][ef][de]TR[df]PL[\\W];W[dg])",
+        "attack D4 depths 3 2\t3\tD3\t1\tas expected",
+    ),
+    (
+        "the first of two players counts",
+        "(;SZ[9]AB[df]AW[cf][ef][de]TR[df]PL[W]PL[B];W[dg])",
         "attack D4 depths 3 2\t3\tD3\t1\tas expected",
     ),
     (

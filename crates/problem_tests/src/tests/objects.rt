@@ -8,17 +8,22 @@ static OBJECTS: [(&str, &str, &str); 3] = [
     (
         "a.sgf",
         "(;SZ[9]AB[bh]AW[ai]C[gopat: attack A1 answer B1 A2 only])",
-        "{\"record\":\"a.sgf\",\"kind\":\"attack\",\"target\":\"A1\",\"plies\":3,\"wide\":2,\"tree\":\"stated\",\"code\":3,\"moves\":[\"A2\",\"B1\"],\"fewest\":3,\"verdict\":\"as expected\"}\n",
+        "{\"record\":\"a.sgf\",\"kind\":\"attack\",\"target\":\"A1\",\"plies\":3,\"wide\":2,\"tree\":\"stated\",\
+         \"code\":3,\"moves\":[\"A2\",\"B1\"],\"fewest\":3,\"verdict\":\"as expected\"}\n",
     ),
     (
         "b\"\\\t.sgf",
         "(;SZ[9]AB[bh]AW[ai]C[gopat: attack A1 depths 2 0])",
-        "{\"record\":\"b\\\"\\\\\\u0009.sgf\",\"kind\":\"attack\",\"target\":\"A1\",\"plies\":2,\"wide\":0,\"tree\":\"stated\",\"code\":0,\"moves\":[],\"fewest\":null,\"verdict\":\"not told\",\"why\":\"no answer\"}\n",
+        "{\"record\":\"b\\\"\\\\\\u0009.sgf\",\"kind\":\"attack\",\"target\":\"A1\",\"plies\":2,\"wide\":0,\"tree\":\"stated\",\
+         \"code\":0,\"moves\":[],\"fewest\":null,\
+         \"verdict\":\"not told\",\"why\":\"no answer\"}\n",
     ),
     (
         "c.sgf",
         "(;SZ[9]AB[bh]AW[ai])",
-        "{\"record\":\"c.sgf\",\"kind\":null,\"target\":null,\"plies\":null,\"wide\":null,\"tree\":null,\"code\":null,\"moves\":null,\"fewest\":null,\"verdict\":\"not told\",\"why\":\"no line gopat: and no marked stone\"}\n",
+        "{\"record\":\"c.sgf\",\"kind\":null,\"target\":null,\"plies\":null,\"wide\":null,\"tree\":null,\
+         \"code\":null,\"moves\":null,\"fewest\":null,\
+         \"verdict\":\"not told\",\"why\":\"no line gopat: and no marked stone\"}\n",
     ),
 ];
 

@@ -2,6 +2,7 @@
 
 mod bytes;
 mod faults;
+mod first;
 mod grammar;
 mod positions;
 mod values;

@@ -8,5 +8,5 @@ use Rattle.problem_records.proofs.line.move_named.Goals as goal
 -- the board has no more points than there are
 pub returns : goal.returns
 returns c =
-    said_below c.args.size largest_points (kept c.as_bytes.result.now) c.target_named.result c.target_named.ensures
+    said_below c.args.size largest_points (kept c.args.word.now) c.target_named.result c.target_named.ensures
     (subst (λ (n : ℕ). n ≤ largest_points) c.points.ensures.value c.points.ensures.bound)

@@ -21,7 +21,7 @@ struct Line {
 }
 
 /// A ko on a board of 4.
-const KO: &[u8] = b".XO.X.XO.XO.....";
+pub(super) const KO: &[u8] = b".XO.X.XO.XO.....";
 
 /// The position of a record that was worked by hand.
 const WORKED: &[u8] = b"\
@@ -150,7 +150,7 @@ static LINES: [Line; 20] = [
         stone: 3,
         liberties: 2,
     },
-    // White at C4 is taken from D4, with Black's stones round B3 and White's round C3.
+    // White at B3 is taken by the play at C3, where White may not take back.
     Line {
         name: "a ban is left",
         record: b"(;SZ[4]AB[ba][ab][bc]AW[ca][cc][db][bb];B[cb])",
@@ -212,7 +212,7 @@ fn mark(cell: Cell) -> u8 {
 }
 
 /// Whether the position is the one that is drawn, row by row from the top.
-fn is_drawn(position: &Position, drawing: &[u8]) -> bool {
+pub(super) fn is_drawn(position: &Position, drawing: &[u8]) -> bool {
     let points = position.size().points();
     if drawing.len() != points as usize {
         return false;

@@ -1,6 +1,6 @@
--- The loop over the tokens of a record.
+-- The loop over the tokens.
 use Rattle.std.proofs.Common.{◌≤◌, ◌-◌, length}
-use Rattle.problem_records.proofs.pieces.pieces_of.Given as goal
+use Rattle.problem_records.proofs.pieces.pieces_from.Given as goal
 
 -- the walk is in the text
 abbrev pub invariant-tokens : goal.invariant-tokens

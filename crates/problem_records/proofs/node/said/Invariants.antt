@@ -1,7 +1,7 @@
 -- The loop over the bytes of a value.
 use Rattle.std.proofs.Common.{◌≡◌, ◌++◌, drop, false}
 use Rattle.sgf_rules.specs.Tokens.{said}
-use Rattle.problem_records.proofs.problem.said.Given as goal
+use Rattle.problem_records.proofs.node.said.Given as goal
 
 -- what was taken so far, and then what the rest says, is what the value says
 abbrev pub invariant-loop-b : goal.invariant-loop-b
