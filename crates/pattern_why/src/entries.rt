@@ -8,14 +8,16 @@ use pattern_lines::parts;
 use std::alloc::Global;
 use why_report::Entry;
 
-/// The entries of a text, and the numbers of their Pattern lines.
+/// The entries of a text.
 #[derive(Drop)]
 pub(crate) struct Entries {
+    /// Their patterns, in order.
     patterns: Vec<Pattern>,
+    /// The numbers of their Pattern lines.
     lines: Vec<u64>,
 }
 
-/// The entries of the text of a file, in which helpers of these names may be named.
+/// The entries of the text of a file, which may name helpers of these names.
 pub(crate) fn entries_of(
     alloc: Global,
     file: &str,
@@ -49,7 +51,7 @@ fn name_and_line(word: &str) -> (&str, Option<u64>) {
     }
 }
 
-/// Whether an entry is one that a word names.
+/// Whether a word names an entry: by its name, which may have an `@`, or by its name and its line.
 fn is_named(entry: Entry<'_>, word: &str) -> bool {
     let (name, line) = name_and_line(word);
     let own = entry.pattern.name.as_slice();
@@ -57,18 +59,27 @@ fn is_named(entry: Entry<'_>, word: &str) -> bool {
 }
 
 impl Entries {
-    /// The entries that this word names, or all if there is none, in the order of the file.
-    pub(crate) fn named<'a>(
-        &'a self,
-        alloc: Global,
-        word: Option<&str>,
-    ) -> Result<Vec<Entry<'a>>, Fault> {
+    /// The entry at a place of the file, which has this pattern.
+    fn at<'a>(&self, place: usize, pattern: &'a Pattern) -> Entry<'a> {
+        let line = self.lines.get(place).copied().unwrap_or(0);
+        Entry { pattern, line }
+    }
+
+    /// All entries, in the order of the file.
+    pub(crate) fn all<'a>(&'a self, alloc: Global) -> Result<Vec<Entry<'a>>, Fault> {
         let mut found = Vec::new(alloc);
-        for (at, pattern) in self.patterns.iter().enumerate() {
-            let line = self.lines.get(at).copied().unwrap_or(0);
-            let entry = Entry { pattern, line };
-            if word.is_none_or(|word| is_named(entry, word)) {
-                found.push(entry)?;
+        for (place, pattern) in self.patterns.iter().enumerate() {
+            found.push(self.at(place, pattern))?;
+        }
+        Ok(found)
+    }
+
+    /// The entries that a word names, in the order of the file.
+    pub(crate) fn named<'a>(&'a self, alloc: Global, word: &str) -> Result<Vec<Entry<'a>>, Fault> {
+        let mut found = Vec::new(alloc);
+        for entry in &self.all(alloc)? {
+            if is_named(*entry, word) {
+                found.push(*entry)?;
             }
         }
         Ok(found)

@@ -5,18 +5,21 @@
 //! if the words are no command line, a file has a fault or cannot be read, a line is not taken, or there is no memory.
 #![tactic(auto)]
 
-mod board;
+mod almost;
 mod entries;
 mod fault;
-mod found;
+mod files;
+mod game;
 mod options;
 mod position;
+mod task;
+mod telling;
 mod tries;
 
 use crate::fault::Fault;
 use crate::options::{Options, options_of};
 use crate::position::tell_position;
-use helpers::{Helper, Helpers, NearEdge, NoBan};
+use helpers::{Helper, NearEdge, NoBan};
 use std::process::ExitCode;
 use std::rt::Env;
 use std::{env, io};
@@ -24,6 +27,9 @@ use std::{env, io};
 /// The note of a faulty command line.
 const USAGE: &str =
     "usage: pattern_why [--colour b|w] [--at VERTEX] [--all] [--json] [--sgf RECORD [--move N]] FILE [PATTERN[@LINE]]";
+
+/// The exit status if something matches.
+const MATCHES: u8 = 0;
 
 /// The exit status if nothing matches.
 const NOTHING: u8 = 1;
@@ -62,22 +68,21 @@ fn main(rt: HostRuntime) -> ExitCode {
         return ExitCode::from(NOT_TOLD);
     };
     let alloc = rt.alloc();
-    let mut list: Vec<Box<dyn Helper>> = Vec::new(alloc);
+    let mut helpers: Vec<Box<dyn Helper>> = Vec::new(alloc);
     let mut has_all = false;
     if let (Ok(near_edge), Ok(no_ban)) = (
         Box::new(alloc, NearEdge::new()),
         Box::new(alloc, NoBan::new()),
     ) {
-        has_all = list.push(near_edge).is_ok() && list.push(no_ban).is_ok();
+        has_all = helpers.push(near_edge).is_ok() && helpers.push(no_ban).is_ok();
     }
-    let Ok(mut helpers) = Helpers::new(alloc, list) else {
-        return give_up(&rt, &Fault::NoMemory);
+    let told = if has_all {
+        tell_position(&rt, &options, helpers)
+    } else {
+        Err(Fault::NoMemory)
     };
-    if !has_all {
-        return give_up(&rt, &Fault::NoMemory);
-    }
-    match tell_position(&rt, &options, &mut helpers) {
-        Ok(true) => ExitCode::from(0),
+    match told {
+        Ok(true) => ExitCode::from(MATCHES),
         Ok(false) => ExitCode::from(NOTHING),
         Err(fault) => give_up(&rt, &fault),
     }

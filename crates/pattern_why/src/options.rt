@@ -7,11 +7,11 @@ use std::alloc::{AllocError, Global};
 /// What the words of the command line ask for.
 #[derive(Drop)]
 pub(crate) struct Options {
-    /// The colour for which patterns are tried; both if there is none.
+    /// The colour for which entries are tried; both if there is none.
     pub(crate) colour: Option<Colour>,
-    /// The vertex at which they are tried; every point if there is none.
+    /// The vertex at which they are tried; each point if there is none.
     pub(crate) at: Option<String>,
-    /// Whether the entries of the file are told in the order of how many parts hold.
+    /// Whether of each entry one line is told, those of which most parts hold first.
     pub(crate) all: bool,
     /// Whether objects of JSON are printed.
     pub(crate) json: bool,
@@ -19,8 +19,10 @@ pub(crate) struct Options {
     pub(crate) record: Option<String>,
     /// How many moves of the record are played; all if there is none.
     pub(crate) moves: Option<u64>,
-    /// The files and the entry, as they were given; one at least.
-    pub(crate) names: Vec<String>,
+    /// The pattern file.
+    pub(crate) file: String,
+    /// The name of the entries that are tried, or one's name and line; all of the file if there is none.
+    pub(crate) entry: Option<String>,
 }
 
 /// A flag of the command line.
@@ -33,7 +35,7 @@ fn value<'a>(alloc: Global, name: &'a str) -> Arg<'a> {
     Arg::new(alloc, name).long(name).action(ArgAction::Set)
 }
 
-/// The files and the entry.
+/// The pattern file and the entry.
 fn names<'a>(alloc: Global) -> Arg<'a> {
     Arg::new(alloc, "names")
         .action(ArgAction::Append)
@@ -60,7 +62,7 @@ fn is_set(matches: &ArgMatches<'_>, flag: &str) -> bool {
     matches.get_str(flag) == Some("true")
 }
 
-/// A copy of the value of an option, if there is one.
+/// A copy of the value of an option, if one is given. None if there is no memory.
 fn text_in(alloc: Global, matches: &ArgMatches<'_>, name: &str) -> Option<Option<String>> {
     match matches.get_str(name) {
         Some(text) => match String::from_str(alloc, text) {
@@ -71,7 +73,7 @@ fn text_in(alloc: Global, matches: &ArgMatches<'_>, name: &str) -> Option<Option
     }
 }
 
-/// The colour, if one is given. None if it is none.
+/// The colour, if one is given. None if the word is neither `b` nor `w`.
 fn colour_in(matches: &ArgMatches<'_>) -> Option<Option<Colour>> {
     match matches.get_str("colour") {
         None => Some(None),
@@ -81,7 +83,7 @@ fn colour_in(matches: &ArgMatches<'_>) -> Option<Option<Colour>> {
     }
 }
 
-/// The number of moves, if one is given. None if it is no number.
+/// The number of moves, if one is given. None if the word is no number.
 fn moves_in(matches: &ArgMatches<'_>) -> Option<Option<u64>> {
     match matches.get_str("move") {
         None => Some(None),
@@ -92,26 +94,28 @@ fn moves_in(matches: &ArgMatches<'_>) -> Option<Option<u64>> {
     }
 }
 
-/// The files and the entry.
-fn names_in(alloc: Global, matches: &ArgMatches<'_>) -> Option<Vec<String>> {
-    let mut names = Vec::new(alloc);
-    for name in matches.get_strs("names")? {
-        names.push(String::from_str(alloc, name).ok()?).ok()?;
+/// The pattern file and the entry, if one is named. None if there is no file, or a word more.
+fn names_in(alloc: Global, matches: &ArgMatches<'_>) -> Option<(String, Option<String>)> {
+    match matches.get_strs("names")? {
+        [file] => Some((String::from_str(alloc, file).ok()?, None)),
+        [file, entry] => Some((
+            String::from_str(alloc, file).ok()?,
+            Some(String::from_str(alloc, entry).ok()?),
+        )),
+        _ => None,
     }
-    Some(names)
 }
 
-/// Whether the options go with each other: `--move` needs `--sgf`, `--all` needs `--at` and takes no entry, and there
-/// is a file and at most one entry.
+/// Whether the options go with each other: `--move` needs `--sgf`, and `--all` needs `--at` and takes no entry.
 fn are_together(options: &Options) -> bool {
-    let count = options.names.len();
     let has_record = options.record.is_some() || options.moves.is_none();
-    let has_point = !options.all || (options.at.is_some() && count == 1);
-    has_record && has_point && (count == 1 || count == 2)
+    let has_point = !options.all || (options.at.is_some() && options.entry.is_none());
+    has_record && has_point
 }
 
 /// What the matches of a command line ask for. None if they do not go with each other.
 fn options_in(alloc: Global, matches: &ArgMatches<'_>) -> Option<Options> {
+    let (file, entry) = names_in(alloc, matches)?;
     let options = Options {
         colour: colour_in(matches)?,
         at: text_in(alloc, matches, "at")?,
@@ -119,7 +123,8 @@ fn options_in(alloc: Global, matches: &ArgMatches<'_>) -> Option<Options> {
         json: is_set(matches, "json"),
         record: text_in(alloc, matches, "sgf")?,
         moves: moves_in(matches)?,
-        names: names_in(alloc, matches)?,
+        file,
+        entry,
     };
     if are_together(&options) {
         Some(options)

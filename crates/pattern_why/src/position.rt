@@ -1,23 +1,19 @@
-//! What is told of a position.
+//! The program's work: the entries of a file, a position, and what is told of them.
 
-use crate::board::{game_of, text_of};
+use crate::almost::tell_almost;
 use crate::entries::{Entries, entries_of};
 use crate::fault::{Fault, noted};
+use crate::files::text_of;
+use crate::game::game_of;
 use crate::options::Options;
-use crate::tries::{tell_all, tell_tries};
-use helpers::Helpers;
+use crate::task::Task;
+use crate::tries::tell_tries;
+use helpers::{Helper, Helpers};
+use std::alloc::Global;
 use std::fs::Files;
 use std::io;
 use std::io::Write;
-use why_report::Setting;
-
-/// The word at a place of the command line; empty if there is none.
-fn word_at(options: &Options, place: usize) -> &str {
-    match options.names.get(place) {
-        Some(name) => name.as_str(),
-        None => "",
-    }
-}
+use why_report::{Entry, Setting};
 
 /// The entries of a file.
 fn entries_in<R: Files + AllocGlobal>(
@@ -31,38 +27,50 @@ fn entries_in<R: Files + AllocGlobal>(
     entries_of(alloc, file, text.as_slice(), names.as_slice())
 }
 
+/// The entries that the command line names. It is an error if it names one that the file does not have.
+fn entries_asked<'a>(
+    alloc: Global,
+    options: &Options,
+    known: &'a Entries,
+) -> Result<Vec<Entry<'a>>, Fault> {
+    let Some(word) = &options.entry else {
+        return known.all(alloc);
+    };
+    let entries = known.named(alloc, word.as_str())?;
+    if entries.is_empty() {
+        let file = &options.file;
+        return Err(noted(format!(in alloc; "{file}: no entry is named {word}")));
+    }
+    Ok(entries)
+}
+
 /// Prints a page.
 fn print_page<R: Print>(rt: &R, page: &str) -> Result<(), Fault> {
     io::writer(rt).write_all(page.as_bytes())?;
     Ok(())
 }
 
-/// Tells why the entries of a file do not match on a position: whether one does.
+/// Prints why the entries of a file do not match on a position, and answers whether one does.
 pub(crate) fn tell_position<R: Files + Input + Print + AllocGlobal>(
     rt: &R,
     options: &Options,
-    helpers: &mut Helpers,
+    helpers: Vec<Box<dyn Helper>>,
 ) -> Result<bool, Fault> {
     let alloc = rt.alloc();
-    let file = word_at(options, 0);
-    let known = entries_in(rt, helpers, file)?;
-    let word = options.names.get(1).map(|word| word.as_str());
-    let entries = known.named(alloc, word)?;
-    if let Some(word) = word
-        && entries.is_empty()
-    {
-        return Err(noted(format!(in alloc; "{file}: no entry is named {word}")));
-    }
+    let mut helpers = Helpers::new(alloc, helpers)?;
+    let known = entries_in(rt, &helpers, options.file.as_str())?;
+    let entries = entries_asked(alloc, options, &known)?;
     let game = game_of(rt, options)?;
     let position = game.position();
     let setting = Setting {
         position: &position,
         depths: game.depths(),
     };
+    let task = Task::new(alloc, options, setting)?;
     let telling = if options.all {
-        tell_all(alloc, options, setting, helpers, entries.as_slice())?
+        tell_almost(&task, &mut helpers, entries.as_slice())?
     } else {
-        tell_tries(alloc, options, setting, helpers, entries.as_slice())?
+        tell_tries(&task, &mut helpers, entries.as_slice())?
     };
     print_page(rt, telling.page.as_str())?;
     Ok(telling.matches)

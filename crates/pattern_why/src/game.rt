@@ -1,12 +1,12 @@
-//! The position that is looked at.
+//! The game whose position is looked at.
 
 use crate::fault::{Fault, noted};
+use crate::files::text_of;
 use crate::options::Options;
 use board_lines::{Game, LineFault, cut_record};
 use gtp_cmd::{RefuseText, refusal};
 use gtp_io::FileLoader;
 use std::alloc::{AllocError, Global};
-use std::fs;
 use std::fs::Files;
 use std::io::Read;
 use why_report::put_name;
@@ -19,14 +19,14 @@ fn new_game(alloc: Global) -> Result<Game, Fault> {
     }
 }
 
-/// The number of a line, and what is told of it.
+/// The words of a note on the line of standard input with this number.
 fn line_words(alloc: Global, number: u64, words: &[u8]) -> Result<String, AllocError> {
     let mut note = format!(in alloc; "input line {number}: ")?;
     put_name(&mut note, words)?;
     Ok(note)
 }
 
-/// The note on a line that `gopat` refuses.
+/// The note on a line that `gopat` refuses: the words of its refusal, which stand between `? ` and two line feeds.
 fn refused(alloc: Global, number: u64, text: RefuseText) -> Fault {
     let reply = refusal(None, text);
     let reply = reply.as_slice();
@@ -70,14 +70,6 @@ fn is_feed(byte: &u8) -> bool {
     *byte == b'\n'
 }
 
-/// The text of a file.
-pub(crate) fn text_of<R: Files + AllocGlobal>(rt: &R, file: &str) -> Result<Vec<u8>, Fault> {
-    match fs::read(rt, file) {
-        Ok(text) => Ok(text),
-        Err(error) => Err(noted(format!(in rt.alloc(); "{file}: {error}"))),
-    }
-}
-
 /// The note on a record that has a fault.
 fn record_note(alloc: Global, file: &str, fault: LineFault) -> Fault {
     match fault {
@@ -88,13 +80,8 @@ fn record_note(alloc: Global, file: &str, fault: LineFault) -> Fault {
     }
 }
 
-/// The game at the end of the main line of a record, or after so many of its moves.
-fn game_after(
-    alloc: Global,
-    file: &str,
-    record: &[u8],
-    moves: Option<u64>,
-) -> Result<Game, Fault> {
+/// The game after `moves` moves of the main line of a record, or at its end if that is `None`.
+fn game_after(alloc: Global, file: &str, record: &[u8], moves: Option<u64>) -> Result<Game, Fault> {
     let cut = cut_record(alloc, record, moves.unwrap_or(u64::MAX))?;
     if let Some(wanted) = moves
         && cut.moves < wanted
@@ -109,7 +96,7 @@ fn game_after(
     }
 }
 
-/// The game whose position is looked at.
+/// The game that a record or the lines of standard input lead to, as the options say.
 pub(crate) fn game_of<R: Files + Input + AllocGlobal>(
     rt: &R,
     options: &Options,
