@@ -43,7 +43,7 @@ fn all_farthest<'a>(
 ) -> Result<Vec<Try<'a>>, Fault> {
     let mut found = Vec::new(task.alloc);
     for entry in entries {
-        for colour in task.colours() {
+        for colour in task.options.colours() {
             if let Some(one) = farthest(task, helpers, *entry, *colour) {
                 found.push(one)?;
             }

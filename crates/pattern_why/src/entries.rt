@@ -59,6 +59,11 @@ fn is_named(entry: Entry<'_>, word: &str) -> bool {
 }
 
 impl Entries {
+    /// The patterns of all entries, in the order of the file.
+    pub(crate) fn patterns(&self) -> &[Pattern] {
+        self.patterns.as_slice()
+    }
+
     /// The entry at a place of the file, which has this pattern.
     fn at<'a>(&self, place: usize, pattern: &'a Pattern) -> Entry<'a> {
         let line = self.lines.get(place).copied().unwrap_or(0);

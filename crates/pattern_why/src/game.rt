@@ -81,7 +81,7 @@ fn record_note(alloc: Global, file: &str, fault: LineFault) -> Fault {
 }
 
 /// The game after `moves` moves of the main line of a record, or at its end if that is `None`.
-fn game_after(alloc: Global, file: &str, record: &[u8], moves: Option<u64>) -> Result<Game, Fault> {
+pub(crate) fn game_after(alloc: Global, file: &str, record: &[u8], moves: Option<u64>) -> Result<Game, Fault> {
     let cut = cut_record(alloc, record, moves.unwrap_or(u64::MAX))?;
     if let Some(wanted) = moves
         && cut.moves < wanted
@@ -94,6 +94,11 @@ fn game_after(alloc: Global, file: &str, record: &[u8], moves: Option<u64>) -> R
         Ok(()) => Ok(game),
         Err(fault) => Err(record_note(alloc, file, fault)),
     }
+}
+
+/// How many moves the main line of a record has.
+pub(crate) fn move_count(alloc: Global, record: &[u8]) -> Result<u64, Fault> {
+    Ok(cut_record(alloc, record, u64::MAX)?.moves)
 }
 
 /// The game that a record or the lines of standard input lead to, as the options say.

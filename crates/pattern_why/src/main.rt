@@ -6,20 +6,24 @@
 #![tactic(auto)]
 
 mod almost;
+mod coverage;
 mod entries;
 mod fault;
 mod files;
 mod game;
 mod options;
 mod position;
+mod progress;
+mod records;
 mod task;
 mod telling;
 mod tries;
 
 use crate::fault::Fault;
 use crate::options::{Options, options_of};
-use crate::position::tell_position;
+use crate::position::tell;
 use helpers::{Helper, NearEdge, NoBan};
+use std::io::IsTerminal;
 use std::process::ExitCode;
 use std::rt::Env;
 use std::{env, io};
@@ -77,7 +81,7 @@ fn main(rt: HostRuntime) -> ExitCode {
         has_all = helpers.push(near_edge).is_ok() && helpers.push(no_ban).is_ok();
     }
     let told = if has_all {
-        tell_position(&rt, &options, helpers)
+        tell(&rt, &options, helpers, rt.stderr().is_terminal())
     } else {
         Err(Fault::NoMemory)
     };

@@ -11,6 +11,8 @@ pub(crate) struct Options {
     pub(crate) colour: Option<Colour>,
     /// The vertex at which they are tried; each point if there is none.
     pub(crate) at: Option<String>,
+    /// The folder of the records over which entries are counted, if they are.
+    pub(crate) coverage: Option<String>,
     /// Whether of each entry one line is told, those of which most parts hold first.
     pub(crate) all: bool,
     /// Whether objects of JSON are printed.
@@ -23,6 +25,17 @@ pub(crate) struct Options {
     pub(crate) file: String,
     /// The name of the entries that are tried, or one's name and line; all of the file if there is none.
     pub(crate) entry: Option<String>,
+}
+
+impl Options {
+    /// The colours for which entries are tried.
+    pub(crate) fn colours(&self) -> &'static [Colour] {
+        match self.colour {
+            Some(Colour::Black) => &[Colour::Black],
+            Some(Colour::White) => &[Colour::White],
+            None => &[Colour::Black, Colour::White],
+        }
+    }
 }
 
 /// A flag of the command line.
@@ -50,6 +63,7 @@ fn command<'a>(alloc: Global) -> Result<Command<'a>, AllocError> {
         .disable_version_flag(true)
         .arg(value(alloc, "colour"))?
         .arg(value(alloc, "at"))?
+        .arg(value(alloc, "coverage"))?
         .arg(flag(alloc, "all"))?
         .arg(flag(alloc, "json"))?
         .arg(value(alloc, "sgf"))?
@@ -106,11 +120,14 @@ fn names_in(alloc: Global, matches: &ArgMatches<'_>) -> Option<(String, Option<S
     }
 }
 
-/// Whether the options go with each other: `--move` needs `--sgf`, and `--all` needs `--at` and takes no entry.
+/// Whether the options go with each other: `--move` needs `--sgf`, `--all` needs `--at` and takes no entry, and with
+/// `--coverage` only `--colour` goes, and no entry.
 fn are_together(options: &Options) -> bool {
     let has_record = options.record.is_some() || options.moves.is_none();
     let has_point = !options.all || (options.at.is_some() && options.entry.is_none());
-    has_record && has_point
+    let has_position = options.at.is_some() || options.json || options.record.is_some();
+    let is_alone = !has_position && options.entry.is_none();
+    has_record && has_point && (options.coverage.is_none() || is_alone)
 }
 
 /// What the matches of a command line ask for. None if they do not go with each other.
@@ -119,6 +136,7 @@ fn options_in(alloc: Global, matches: &ArgMatches<'_>) -> Option<Options> {
     let options = Options {
         colour: colour_in(matches)?,
         at: text_in(alloc, matches, "at")?,
+        coverage: text_in(alloc, matches, "coverage")?,
         all: is_set(matches, "all"),
         json: is_set(matches, "json"),
         record: text_in(alloc, matches, "sgf")?,

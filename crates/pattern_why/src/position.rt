@@ -1,6 +1,7 @@
 //! The program's work: the entries of a file, a position, and what is told of them.
 
 use crate::almost::tell_almost;
+use crate::coverage::tell_coverage;
 use crate::entries::{Entries, entries_of};
 use crate::fault::{Fault, noted};
 use crate::files::text_of;
@@ -13,6 +14,7 @@ use std::alloc::Global;
 use std::fs::Files;
 use std::io;
 use std::io::Write;
+use std::time::Clock;
 use why_report::{Entry, Setting};
 
 /// The entries of a file.
@@ -50,28 +52,43 @@ fn print_page<R: Print>(rt: &R, page: &str) -> Result<(), Fault> {
     Ok(())
 }
 
-/// Prints why the entries of a file do not match on a position, and answers whether one does.
-pub(crate) fn tell_position<R: Files + Input + Print + AllocGlobal>(
+/// Prints why entries do not match on a position, and answers whether one does.
+fn tell_position<R: Files + Input + Print + AllocGlobal>(
     rt: &R,
     options: &Options,
-    helpers: Vec<Box<dyn Helper>>,
+    helpers: &mut Helpers,
+    entries: &[Entry<'_>],
 ) -> Result<bool, Fault> {
-    let alloc = rt.alloc();
-    let mut helpers = Helpers::new(alloc, helpers)?;
-    let known = entries_in(rt, &helpers, options.file.as_str())?;
-    let entries = entries_asked(alloc, options, &known)?;
     let game = game_of(rt, options)?;
     let position = game.position();
     let setting = Setting {
         position: &position,
         depths: game.depths(),
     };
-    let task = Task::new(alloc, options, setting)?;
+    let task = Task::new(rt.alloc(), options, setting)?;
     let telling = if options.all {
-        tell_almost(&task, &mut helpers, entries.as_slice())?
+        tell_almost(&task, helpers, entries)?
     } else {
-        tell_tries(&task, &mut helpers, entries.as_slice())?
+        tell_tries(&task, helpers, entries)?
     };
     print_page(rt, telling.page.as_str())?;
     Ok(telling.matches)
+}
+
+/// Prints what the options ask for, and answers whether something matches, or whether each entry fits once at least.
+pub(crate) fn tell<R: Files + Input + Print + Eprint + Clock + AllocGlobal + Clone + Drop>(
+    rt: &R,
+    options: &Options,
+    helpers: Vec<Box<dyn Helper>>,
+    is_terminal: bool,
+) -> Result<bool, Fault> {
+    let alloc = rt.alloc();
+    let mut helpers = Helpers::new(alloc, helpers)?;
+    let known = entries_in(rt, &helpers, options.file.as_str())?;
+    if let Some(folder) = &options.coverage {
+        let folder = folder.as_str();
+        return tell_coverage(rt, options, &known, folder, &mut helpers, is_terminal);
+    }
+    let entries = entries_asked(alloc, options, &known)?;
+    tell_position(rt, options, &mut helpers, entries.as_slice())
 }

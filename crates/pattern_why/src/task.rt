@@ -2,7 +2,7 @@
 
 use crate::fault::{Fault, noted};
 use crate::options::Options;
-use go_base::{Colour, Point};
+use go_base::Point;
 use std::alloc::Global;
 use vertices::vertex_named;
 use why_report::Setting;
@@ -54,14 +54,5 @@ impl<'a> Task<'a> {
             from,
             to,
         })
-    }
-
-    /// The colours for which entries are tried.
-    pub(crate) fn colours(&self) -> &'static [Colour] {
-        match self.options.colour {
-            Some(Colour::Black) => &[Colour::Black],
-            Some(Colour::White) => &[Colour::White],
-            None => &[Colour::Black, Colour::White],
-        }
     }
 }

@@ -94,7 +94,7 @@ pub(crate) fn tell_tries(
 ) -> Result<Telling, Fault> {
     let mut telling = Telling::new(task.alloc);
     for entry in entries {
-        for colour in task.colours() {
+        for colour in task.options.colours() {
             tell_entry(task, helpers, &mut telling, *entry, *colour)?;
         }
     }
