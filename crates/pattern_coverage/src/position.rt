@@ -46,6 +46,7 @@ fn ends_of_one(
     ensures { (d : DepthsSeen) (advice : Advice) → AreLaterEnds d advice p.now position.now friend place ends.now
         → AreEnds d advice p.now position.now friend result }
 {
+    let _ = position.size().points();
     let illegal = fits_among(p, position, friend, blocked);
     let stone = count_ends(ends, place, 2);
     let enemy = count_ends(ends, place, 3);
