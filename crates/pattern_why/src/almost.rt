@@ -3,23 +3,64 @@
 use crate::fault::Fault;
 use crate::task::Task;
 use crate::telling::Telling;
-use go_base::{Colour, Transform};
+use go_base::{Colour, Point, Transform};
 use helpers::Helpers;
+use match_reasons::Reason;
 use pat_types::mark_count;
 use why_report::{Entry, PARTS, Try, parts_held, put_json, put_line, tried};
 
-/// The try of an entry for a colour at the first point in which most parts hold, under the first transformation for
-/// which as many do.
-fn farthest<'a>(
+/// A try that is kept without its entry.
+#[derive(Clone, Copy)]
+struct Kept {
+    /// The place of the entry in its list.
+    place: usize,
+    /// The friend, who plays the move.
+    colour: Colour,
+    /// The transformation of the diagram.
+    transform: Transform,
+    /// The point of the star.
+    at: Point,
+    /// The first part of a match that fails; `None` for a match.
+    reason: Option<Reason>,
+}
+
+impl Kept {
+    /// Keeps a try of the entry at this place.
+    fn new(place: usize, one: &Try<'_>) -> Kept {
+        Kept {
+            place,
+            colour: one.colour,
+            transform: one.transform,
+            at: one.at,
+            reason: one.reason,
+        }
+    }
+
+    /// The try, of this entry.
+    fn of<'a>(&self, entry: Entry<'a>) -> Try<'a> {
+        Try {
+            entry,
+            colour: self.colour,
+            transform: self.transform,
+            at: self.at,
+            reason: self.reason,
+        }
+    }
+}
+
+/// The try of the entry at a place for a colour, at the first point that is asked for, in which most parts hold. Of
+/// several it is the one under the first transformation.
+fn farthest(
     task: &Task<'_>,
     helpers: &mut Helpers,
-    entry: Entry<'a>,
+    place: usize,
+    entry: Entry<'_>,
     colour: Colour,
-) -> Option<Try<'a>> {
+) -> Option<Kept> {
     if task.from >= task.setting.position.size().points() {
         return None;
     }
-    let mut best: Option<Try<'a>> = None;
+    let mut best: Option<Kept> = None;
     for number in 0..mark_count(entry.pattern.mark) {
         if let Some(transform) = Transform::new(number) {
             let one = tried(entry, task.setting, colour, transform, task.from, helpers);
@@ -28,17 +69,18 @@ fn farthest<'a>(
                 None => true,
             };
             if is_farther {
-                best = Some(one);
+                best = Some(Kept::new(place, &one));
             }
         }
     }
     best
 }
 
-/// The farthest tries of these entries at the first point, in their order, for each colour.
-fn all_farthest<'a>(
+/// The farthest tries of these entries at the first point that is asked for, in their order, for each colour.
+fn all_farthest(
     task: &Task<'_>,
     helpers: &mut Helpers,
+<<<<<<< HEAD
     entries: &[Entry<'a>],
 ) -> Result<Vec<Try<'a>>, Fault> {
     let mut found = Vec::new(task.alloc);
@@ -46,10 +88,19 @@ fn all_farthest<'a>(
         for colour in task.options.colours() {
             if let Some(one) = farthest(task, helpers, *entry, *colour) {
                 found.push(one)?;
+=======
+    entries: &[Entry<'_>],
+) -> Result<Vec<Kept>, Fault> {
+    let mut all = Vec::new(task.alloc);
+    for (place, entry) in entries.iter().enumerate() {
+        for colour in task.options.colours() {
+            if let Some(one) = farthest(task, helpers, place, *entry, *colour) {
+                all.push(one)?;
+>>>>>>> origin/why
             }
         }
     }
-    Ok(found)
+    Ok(all)
 }
 
 /// Tells of the farthest try of an entry: by an object of JSON, or by a line for a person.
@@ -71,12 +122,14 @@ pub(crate) fn tell_almost(
     helpers: &mut Helpers,
     entries: &[Entry<'_>],
 ) -> Result<Telling, Fault> {
-    let found = all_farthest(task, helpers, entries)?;
+    let all = all_farthest(task, helpers, entries)?;
     let mut telling = Telling::new(task.alloc);
     for held in (0..PARTS as u8 + 1).rev() {
-        for one in &found {
-            if parts_held(one.reason) == held {
-                tell_farthest(task, &mut telling, one)?;
+        for one in &all {
+            if parts_held(one.reason) == held
+                && let Some(entry) = entries.get(one.place)
+            {
+                tell_farthest(task, &mut telling, &one.of(*entry))?;
             }
         }
     }
