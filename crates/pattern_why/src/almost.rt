@@ -80,15 +80,6 @@ fn farthest(
 fn all_farthest(
     task: &Task<'_>,
     helpers: &mut Helpers,
-<<<<<<< HEAD
-    entries: &[Entry<'a>],
-) -> Result<Vec<Try<'a>>, Fault> {
-    let mut found = Vec::new(task.alloc);
-    for entry in entries {
-        for colour in task.options.colours() {
-            if let Some(one) = farthest(task, helpers, *entry, *colour) {
-                found.push(one)?;
-=======
     entries: &[Entry<'_>],
 ) -> Result<Vec<Kept>, Fault> {
     let mut all = Vec::new(task.alloc);
@@ -96,7 +87,6 @@ fn all_farthest(
         for colour in task.options.colours() {
             if let Some(one) = farthest(task, helpers, place, *entry, *colour) {
                 all.push(one)?;
->>>>>>> origin/why
             }
         }
     }
