@@ -25,7 +25,12 @@ FILES = {
     "two.db": "Pattern P\nO*\n:O,s\n\nPattern P\nX*\n:O,s\n",
     "game.sgf": RECORD,
     "bad.sgf": "(;SZ[9]",
+    "never.db": SQUEEZE.format(2) + "\nPattern Row\nXXX*\n:8,s\n",
+    "records/game.sgf": RECORD,
+    "faulty/a.sgf": "(;SZ[9]",
+    "faulty/b.sgf": RECORD,
 }
+COLUMNS = "entry\tline\tfits\tmove\tstone\tclass n\tconstraint\thelper\tmatch\n"
 COUNTS = "Squeeze@1, black: 648 tries, diagram 646, move 0, stone 0, class n 0, constraint {}, helper 0, match {}\n"
 DRAWN = "    ? O ?    |   . O .\n    O X *    |   O X .\n    ? . ?    |   . . .\n    A is E5\n"
 MIRRORED = DRAWN.replace("X *", "X .").replace("? . ?", "? * ?")
@@ -97,7 +102,14 @@ def runs() -> Iterator[Run]:
     yield Run("a missing file", ["none.db"], PLAYS, "", "none.db: ", 2)
     yield Run("another command", ["silent.db"], "attack E5\n", "", "input line 1: only boardsize", 2)
     yield Run("a refused line", ["silent.db"], PLAYS + "play w E5\n", "", "input line 5: illegal move", 2)
-    wrong = [[], ["--no", "silent.db"], ["--move", "1", "silent.db"], ["--all", "silent.db"], ["a", "b", "c"]]
+    row = COLUMNS + "Squeeze\t1\t2\t0\t0\t0\t{}\t0\t{}\n"
+    summary = "1 records, 4 positions, 1 entries, 0 of them never fit"
+    yield Run("--coverage", ["--coverage", "records", "silent.db"], "", row.format(2, 0), summary, 0)
+    never = row.format(0, 2) + "Row\t9\t0\t0\t0\t0\t0\t0\t0\n"
+    yield Run("an entry that never fits", ["--coverage", "records", "never.db"], "", never, "1 of them never fit", 1)
+    yield Run("a faulty record", ["--coverage", "faulty", "mended.db"], "", row.format(0, 2), "faulty/a.sgf: bad sgf", 1)
+    yield Run("no folder", ["--coverage", "none", "silent.db"], "", "", "none: ", 2)
+    wrong = [[], ["--no", "silent.db"], ["--coverage", "records", "--json", "silent.db"], ["--move", "1", "silent.db"], ["--all", "silent.db"], ["a", "b", "c"]]
     for words in [*wrong, ["--colour", "x", "silent.db"]]:
         yield Run(" ".join(["the words", *words]), words, "", "", USAGE, 2)
 
@@ -125,7 +137,9 @@ def main(program: str) -> int:
     tried = list(runs())
     with tempfile.TemporaryDirectory() as folder:
         for name, text in FILES.items():
-            (pathlib.Path(folder) / name).write_text(text, encoding="utf-8")
+            path = pathlib.Path(folder) / name
+            path.parent.mkdir(exist_ok=True)
+            path.write_text(text, encoding="utf-8")
         different = sum(differs(str(pathlib.Path(program).resolve()), folder, run) for run in tried)
     print(f"{len(tried)} runs, {different} of them differ")
     return 1 if different else 0
