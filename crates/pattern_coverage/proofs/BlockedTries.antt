@@ -123,8 +123,7 @@ pub try_within : (n s : ℕ) (try : ℕ × ℕ) → Contains (tries_among n (ran
     → (try.0 < n) × (try.1 < s * s)
 try_within n s try there =
     let of = Contains-flat_map (λ t. map (λ m. (t, m)) (range_with_len 0 (s * s))) (range_with_len 0 n) try there in
-    let at = Contains-map (λ m. (of.0, m)) (range_with_len 0 (s * s)) try of.2 in
-    (
+    let at = Contains-map (λ m. (of.0, m)) (range_with_len 0 (s * s)) try of.2 in (
       subst (λ t. t < n) (ap (λ (w : ℕ × ℕ). w.0) at.2) (Contains-below n of.0 of.1),
       subst (λ m. m < s * s) (ap (λ (w : ℕ × ℕ). w.1) at.2) (Contains-below (s * s) at.0 at.1),
     )
@@ -183,9 +182,8 @@ pub fits-next : (f : ℕ × ℕ → Bool) (n : ℕ) (points : List ℕ) (before 
     → (after ≡ count_by f (tries_among (n + 1) points)) × (after ≤ (n + 1) * length points)
 fits-next f n points before more after was low is now =
     let most = count_by-le-length (λ m. f (n, m)) points in
-    let less : more ≤ length points = subst (λ k. k ≤ length points) (sym is) most in
-    (
+    let less : more ≤ length points = subst (λ k. k ≤ length points) (sym is) most in (
       now ∙ ap (λ k. k + more) was ∙ ap (λ k. count_by f (tries_among n points) + k) is
-      ∙ sym (count-transform f n points),
+          ∙ sym (count-transform f n points),
       grind (arith, low, less, now),
     )

@@ -145,5 +145,15 @@ module _ {X : Type 0} (f : X → ℕ) (low : (x : X) → f x < 7) where
   seven_counts (x ∷ xs) =
       let first : (n : ℕ) → count_at (x ∷ xs) n ≡ cond (eqb (f x) n) 1 0 + count_at xs n =
       λ n. count-cons (λ y. eqb (f y) n) x xs in
-      omega (arith, first 0, first 1, first 2, first 3, first 4, first 5, first 6, one_of_seven (f x) (low x),
-      seven_counts xs)
+      omega (
+        arith,
+        first 0,
+        first 1,
+        first 2,
+        first 3,
+        first 4,
+        first 5,
+        first 6,
+        one_of_seven (f x) (low x),
+        seven_counts xs,
+      )

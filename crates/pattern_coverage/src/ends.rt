@@ -78,9 +78,7 @@ pub(crate) fn ends_of(
 {
     let mut ends = Vec::with_capacity(alloc, found.len())?;
     'tries: for z in found {
-        ends.push(end_of(
-            patterns, position, friend, depths, helpers, *z,
-        ))?;
+        ends.push(end_of(patterns, position, friend, depths, helpers, *z))?;
     }
     Ok(ends)
 }

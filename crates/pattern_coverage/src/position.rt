@@ -84,14 +84,7 @@ fn ends_of_all(
 {
     let mut counts = Vec::with_capacity(alloc, patterns.len())?;
     'patterns: for (place, p) in patterns.iter().enumerate() {
-        counts.push(ends_of_one(
-            p,
-            place as u16,
-            position,
-            friend,
-            ends,
-            blocked,
-        ))?;
+        counts.push(ends_of_one(p, place as u16, position, friend, ends, blocked))?;
     }
     Ok(counts)
 }

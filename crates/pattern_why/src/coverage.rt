@@ -187,7 +187,12 @@ fn put_names(page: &mut String) -> Result<(), AllocError> {
 }
 
 /// Puts the line of an entry.
-fn put_row(page: &mut String, name: &[u8], line: u64, counts: &PartCounts) -> Result<(), AllocError> {
+fn put_row(
+    page: &mut String,
+    name: &[u8],
+    line: u64,
+    counts: &PartCounts,
+) -> Result<(), AllocError> {
     put_name(page, name)?;
     write!(page, "\t{line}\t{}", fits_of(counts))?;
     for part in 1..ENDS {
@@ -252,11 +257,20 @@ pub(crate) fn tell_coverage<R: Files + Print + Eprint + Clock + AllocGlobal + Cl
     };
     let names = records_of(rt, folder)?;
     let mut coverage = Coverage::new(alloc, patterns.len())?;
-    cover_records(rt, search, helpers, &mut coverage, names.as_slice(), is_terminal)?;
+    cover_records(
+        rt,
+        search,
+        helpers,
+        &mut coverage,
+        names.as_slice(),
+        is_terminal,
+    )?;
     let table = table_of(alloc, entries, &coverage)?;
     io::writer(rt).write_all(table.as_bytes())?;
     let never = coverage.never_fit();
     let (records, positions, all) = (coverage.records, coverage.positions, patterns.len());
-    eprintln!(rt; "{records} records, {positions} positions, {all} entries, {never} of them never fit")?;
+    eprintln!(rt;
+        "{records} records, {positions} positions, {all} entries, {never} of them never fit"
+    )?;
     Ok(never == 0 && !coverage.missed)
 }

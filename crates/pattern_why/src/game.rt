@@ -81,7 +81,12 @@ fn record_note(alloc: Global, file: &str, fault: LineFault) -> Fault {
 }
 
 /// The game after `moves` moves of the main line of a record, or at its end if that is `None`.
-pub(crate) fn game_after(alloc: Global, file: &str, record: &[u8], moves: Option<u64>) -> Result<Game, Fault> {
+pub(crate) fn game_after(
+    alloc: Global,
+    file: &str,
+    record: &[u8],
+    moves: Option<u64>,
+) -> Result<Game, Fault> {
     let cut = cut_record(alloc, record, moves.unwrap_or(u64::MAX))?;
     if let Some(wanted) = moves
         && cut.moves < wanted
