@@ -1,8 +1,9 @@
 //! Why a pattern does not match: tells its author, for a position that protocol lines set up or that a game record
-//! leads to, which part of the definition of a match fails first.
+//! leads to, which part of the definition of a match fails first; or how often each part fails over game records.
 //!
 //! `pattern_why [options] FILE [PATTERN[@LINE]]`. The exit status is 0 if something matches, 1 if nothing does, and 2
 //! if the words are no command line, a file has a fault or cannot be read, a line is not taken, or there is no memory.
+//! With `--coverage` it is 0 if each entry fits somewhere and no record has a fault, and 1 if not.
 #![tactic(auto)]
 
 mod almost;
@@ -30,7 +31,8 @@ use std::{env, io};
 
 /// The note of a faulty command line.
 const USAGE: &str =
-    "usage: pattern_why [--colour b|w] [--at VERTEX] [--all] [--json] [--sgf RECORD [--move N]] FILE [PATTERN[@LINE]]";
+    "usage: pattern_why [--colour b|w] [--at VERTEX] [--all] [--json] [--sgf RECORD [--move N]] FILE [PATTERN[@LINE]], \
+or pattern_why [--colour b|w] --coverage FOLDER FILE";
 
 /// The exit status if something matches.
 const MATCHES: u8 = 0;
