@@ -6,9 +6,9 @@ Without files these are README.md and docs/FORMATS.md, docs/USING.md, docs/AUTHO
 docs/DOORS.md, in this order, and the manual page docs/gopat.1, in which `man` may find nothing to warn of; and the map
 of docs/ARCHITECTURE.md is compared with crates.txt, tools/README.md with the scripts, and the tables of messages of
 docs/AUTHORS.md with the texts of the checker. It runs at the top of a fresh clone: README's commands prove and build
-the program, docs/USING.md says what has to stand beside the clone, and docs/AUTHORS.md wants the checker that `rt run`
-makes in crates/pattern_check. `python3 tools/check_docs.py --map` compares the map, the scripts and the messages alone,
-and needs no program.
+the program, docs/USING.md says what has to stand beside the clone, and docs/AUTHORS.md wants the programs that `rt run`
+makes in crates/pattern_check and crates/pattern_why. `python3 tools/check_docs.py --map` compares the map, the scripts
+and the messages alone, and needs no program.
 
 A command is a line `$ ..` of a block that is set off by three backticks; it goes on over lines that end in a backslash.
 All commands of a document run in one shell, one after another, with nothing to read. The lines below a command, up to

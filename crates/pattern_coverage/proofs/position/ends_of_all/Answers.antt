@@ -1,0 +1,25 @@
+use Rattle.std.proofs.Common.{◌≡◌, List, length, take, subst, rules, arith, refl, ◌≤◌}
+use Rattle.std.proofs.lemmas.Option.{slice_get_read}
+use Rattle.std.proofs.lemmas.List.{take_all}
+use Rattle.pat_types.specs.declared.pattern.Pattern.{Pattern}
+use Rattle.pattern_coverage.specs.Ends.{AreAllEnds}
+use Rattle.pattern_coverage.proofs.AllEnds.{AreAllEnds-next}
+use Rattle.pattern_coverage.proofs.position.ends_of_all.Goals as goal
+
+-- the ends of one pattern more
+pub patterns-preserved : goal.patterns-preserved
+patterns-preserved c d advice later =
+    AreAllEnds-next d advice c.args.position.now c.args.friend c.args.patterns.now c.patterns.place
+    c.index-patterns-place.result c.patterns.counts.items c.push.new.self.items c.ends_of_one.result
+    c.patterns-test.true c.index-patterns-place.is (c.patterns.invariant d advice later)
+    (c.ends_of_one.ensures d advice (later c.patterns.place c.index-patterns-place.result
+    (slice_get_read c.args.patterns.now (length c.args.patterns.now) c.patterns.place c.index-patterns-place.result refl
+    c.patterns-test.true c.index-patterns-place.is)))
+    c.in_ok-push.ensures.items
+
+-- behind the last pattern those of all
+pub returns : goal.returns
+returns c d advice later =
+    let past : length c.args.patterns.now ≤ c.patterns.place = search rules in
+    subst (λ patterns. AreAllEnds d advice patterns c.args.position.now c.args.friend c.patterns.counts.items)
+    (take_all c.patterns.place c.args.patterns.now past) (c.patterns.invariant d advice later)

@@ -1,0 +1,52 @@
+use Rattle.std.proofs.Common.{◌≡◌, ℕ, ◌<◌, sym, ap, ◌∙◌, subst, length, map, Contains}
+use Rattle.helpers.specs.HelperStates.{says_yes}
+use Rattle.helpers.specs.Slots.{states_of}
+use Rattle.dfa_core.specs.States.{IsAutomatonOf}
+use Rattle.pattern_coverage.specs.Ends.{end_at}
+use Rattle.pattern_coverage.proofs.Advice.{raised-says}
+use Rattle.pattern_coverage.proofs.AllEnds.{later_ends, bare-there, if_ok, of_bare}
+use Rattle.pattern_coverage.proofs.position.ends_on.Goals as goal
+
+-- the automaton accepts only numbers of bare patterns
+pub matches-requires : goal.matches-requires
+matches-requires g c = record {
+  numbers = λ w n there. subst (λ l. n < length l) (sym c.as_slice.ensures.value)
+      (c.requires.diagrams.numbers w n there);
+}
+
+-- what is found is of the patterns, at points of the board
+pub ends_of-requires : goal.ends_of-requires
+ends_of-requires g c z there =
+    let advice = says_yes (states_of (λ z. (goal.Helper-dyn g z).state z.1) c.args.helpers.now) in
+    let bare = c.args.diagrams.now.bare.items in
+    let theirs = subst (λ l. IsAutomatonOf l c.args.diagrams.now.scanner) (sym c.as_slice.ensures.value)
+    c.requires.diagrams.automaton in
+    bare-there _ advice c.args.patterns.now bare c.args.position.now c.args.friend z c.requires.diagrams.bare
+    (subst (λ zs. Contains zs z) (c.as_slice-2.ensures.value
+    ∙ of_bare _ advice c.args.position.now c.args.friend c.in_ok-found.found.items c.as_slice.result.now bare
+    c.as_slice.ensures.value (c.in_ok-found.ensures.patterns theirs)) there)
+
+-- the ends of all patterns, from those of the tries whose diagrams fit with a legal move
+pub returns : goal.returns
+returns g c =
+    let slots = states_of (λ z. (goal.Helper-dyn g z).state z.1) c.args.helpers.now in
+    let advice = says_yes slots in
+    let board = c.args.position.now in
+    let patterns = c.args.patterns.now in
+    let bare = c.args.diagrams.now.bare.items in
+    let theirs = subst (λ l. IsAutomatonOf l c.args.diagrams.now.scanner) (sym c.as_slice.ensures.value)
+    c.requires.diagrams.automaton in
+    let found = c.as_slice-2.ensures.value
+    ∙ of_bare _ advice board c.args.friend c.in_ok-found.found.items c.as_slice.result.now bare
+    c.as_slice.ensures.value (c.in_ok-found.ensures.patterns theirs) in
+    let said = ap says_yes c.in_ok-found.ensures.calls ∙ raised-says _ slots in
+    let told = c.as_slice-3.ensures.value ∙ c.in_ok-ends.ensures
+    ∙ ap (λ says. map (end_at c.args.depths says patterns board c.args.friend) c.as_slice-2.result.now) said
+    ∙ ap (map (end_at c.args.depths advice patterns board c.args.friend)) found in
+    record {
+      ends = if_ok _ _ c.ends_of_all.result
+          (λ counts all. all c.args.depths advice
+          (λ place p there. later_ends c.args.depths advice p board c.args.friend _ advice patterns bare place
+          c.requires.diagrams.bare there c.as_slice-3.result.now told))
+          c.ends_of_all.ensures;
+    }

@@ -1,0 +1,46 @@
+//! How many tries of a pattern end at each part.
+ghost use Rattle.std.specs.Prelude.{◌≡◌, ℕ, ◌+◌, ◌-◌, ◌<◌, ◌^◌, min, slice_index};
+
+/// How many ends a try may have: the six parts, and a match.
+pub const ENDS: usize = 7;
+
+/// How many tries of a pattern end at each part, and how many are matches.
+#[derive(Clone, Copy, Debug, PartialEq, Eq)]
+pub struct PartCounts {
+    /// The counts, by the number of the part; the last is that of the matches.
+    pub counts: [u64; ENDS],
+}
+
+impl PartCounts {
+    /// No try.
+    pub fn new() -> PartCounts
+        ensures { (part : ℕ) → part < 7 → slice_index result.counts part ≡ 0 }
+    {
+        PartCounts { counts: [0; ENDS] }
+    }
+
+    /// How many tries end at a part.
+    pub fn at(&self, part: usize) -> u64
+        ensures { part < 7 → result ≡ slice_index self.now.counts part }
+    {
+        self.counts.get(part).copied().unwrap_or(0)
+    }
+
+    /// Adds the tries of another position, each count as far as a `u64` goes.
+    pub fn add(&mut self, more: &PartCounts)
+        ensures { (part : ℕ) → part < 7 → slice_index self.new.counts part
+            ≡ min (slice_index self.old.counts part + slice_index more.now.counts part) (2 ^ 64 - 1) }
+    {
+        let PartCounts { counts: old } = *self;
+        let PartCounts { counts: more } = *more;
+        self.counts = [
+            old[0].saturating_add(more[0]),
+            old[1].saturating_add(more[1]),
+            old[2].saturating_add(more[2]),
+            old[3].saturating_add(more[3]),
+            old[4].saturating_add(more[4]),
+            old[5].saturating_add(more[5]),
+            old[6].saturating_add(more[6]),
+        ];
+    }
+}

@@ -1,0 +1,137 @@
+//! The ends of all tries on a position.
+ghost use Rattle.std.specs.Prelude.{◌≡◌, ℕ, ◌*◌, ◌≤◌, length, filter, IfOk, Some, slice_get};
+ghost use Rattle.std.specs.List.{range_with_len};
+ghost use Rattle.pat_types.specs.Marks.{count_of};
+ghost use Rattle.helpers.specs.HelperStates.{says_yes};
+ghost use Rattle.helpers.specs.Slots.{states_of};
+ghost use Rattle.match_rules.specs.Conditions.{Advice};
+ghost use Rattle.read_rules.specs.declared.depths.Depths.{Depths as DepthsSeen};
+ghost use Rattle.pat_types.specs.declared.pattern.Pattern.{Pattern as PatternSeen};
+ghost use Rattle.pattern_coverage.specs.Bare.{AreDiagramsOf};
+ghost use Rattle.pattern_coverage.specs.Ends.{AreEnds, AreLaterEnds, AreAllEnds, is_blocked};
+
+use crate::bare::Diagrams;
+use crate::blocked::{blocked_points, fits_among};
+use crate::counts::PartCounts;
+use crate::ends::{End, count_ends, ends_of};
+use go_base::{Colour, NoMemory, Point, Position};
+use helpers::Helpers;
+use match_engine::{Readings, matches};
+use pat_types::{Pattern, mark_count};
+use read_rules::Depths;
+use std::alloc::Global;
+
+/// How many readings are kept for bare patterns, which ask for none.
+const KEPT_READINGS: u32 = 8;
+
+/// How many tries a pattern has on a position.
+fn tries_of(p: &Pattern, position: &Position) -> u64
+    ensures { result ≡ count_of p.now.mark * (position.now.size * position.now.size) }
+{
+    mark_count(p.mark) as u64 * position.size().points() as u64
+}
+
+/// The ends of the tries of the pattern at a place of the list, from the ends behind a legal move and from the empty
+/// points where the friend may not play.
+fn ends_of_one(
+    p: &Pattern,
+    place: u16,
+    position: &Position,
+    friend: Colour,
+    ends: &[End],
+    blocked: &[Point],
+) -> PartCounts
+    requires blocked { blocked.now
+        ≡ filter (is_blocked position.now friend) (range_with_len 0 (position.now.size * position.now.size)) }
+    ensures { (d : DepthsSeen) (advice : Advice) → AreLaterEnds d advice p.now position.now friend place ends.now
+        → AreEnds d advice p.now position.now friend result }
+{
+    let _ = position.size().points();
+    let illegal = fits_among(p, position, friend, blocked);
+    let stone = count_ends(ends, place, 2);
+    let enemy = count_ends(ends, place, 3);
+    let constraint = count_ends(ends, place, 4);
+    let helper = count_ends(ends, place, 5);
+    let matched = count_ends(ends, place, 6);
+    let others = illegal
+        .saturating_add(stone)
+        .saturating_add(enemy)
+        .saturating_add(constraint)
+        .saturating_add(helper)
+        .saturating_add(matched);
+    let diagram = tries_of(p, position).saturating_sub(others);
+    PartCounts {
+        counts: [diagram, illegal, stone, enemy, constraint, helper, matched],
+    }
+}
+
+/// The ends of the tries of each pattern, in the order of the list.
+fn ends_of_all(
+    alloc: Global,
+    patterns: &[Pattern],
+    position: &Position,
+    friend: Colour,
+    ends: &[End],
+    blocked: &[Point],
+) -> Result<Vec<PartCounts>, NoMemory>
+    requires few { length patterns.now ≤ 4096 }
+    requires blocked { blocked.now
+        ≡ filter (is_blocked position.now friend) (range_with_len 0 (position.now.size * position.now.size)) }
+    ensures { IfOk result (λ counts. (d : DepthsSeen) (advice : Advice)
+        → ((place : ℕ) (p : PatternSeen) → slice_get patterns.now place ≡ Some p
+        → AreLaterEnds d advice p position.now friend place ends.now)
+        → AreAllEnds d advice patterns.now position.now friend counts.items) }
+{
+    let mut counts = Vec::with_capacity(alloc, patterns.len())?;
+    'patterns: for (place, p) in patterns.iter().enumerate() {
+        counts.push(ends_of_one(p, place as u16, position, friend, ends, blocked))?;
+    }
+    Ok(counts)
+}
+
+/// How many tries of each pattern of a list end at each part on a position for a friend, in the order of the list.
+///
+/// Each reading is made afresh at `depths`. The helpers are asked about each try that comes to them. Takes memory.
+pub fn ends_on(
+    alloc: Global,
+    patterns: &[Pattern],
+    diagrams: &Diagrams,
+    position: &Position,
+    friend: Colour,
+    depths: Depths,
+    helpers: &mut Helpers,
+) -> Result<Vec<PartCounts>, NoMemory>
+    requires few { length patterns.now ≤ 4096 }
+    requires diagrams { AreDiagramsOf patterns.now diagrams.now }
+    ensures ends { IfOk result (λ counts. AreAllEnds depths (says_yes (states_of state helpers.old)) patterns.now
+        position.now friend counts.items) }
+{
+    let mut readings = Readings::new(alloc, depths, KEPT_READINGS)?;
+    let found = matches(
+        alloc,
+        diagrams.bare.as_slice(),
+        &diagrams.scanner,
+        position,
+        friend,
+        &mut readings,
+        helpers,
+    )?;
+    let ends = ends_of(
+        alloc,
+        patterns,
+        position,
+        friend,
+        depths,
+        helpers,
+        found.as_slice(),
+    )?;
+    let blocked = blocked_points(alloc, position, friend)?;
+    ends_of_all(
+        alloc,
+        patterns,
+        position,
+        friend,
+        ends.as_slice(),
+        blocked.as_slice(),
+    )
+}

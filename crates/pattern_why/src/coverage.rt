@@ -1,0 +1,276 @@
+//! How often the entries of a file fit and match over the records of a folder.
+
+ghost use Rattle.std.specs.Prelude.{◌≤◌, length, IfOk};
+ghost use Rattle.pattern_coverage.specs.Bare.{AreDiagramsOf};
+
+use crate::entries::Entries;
+use crate::fault::{Fault, noted};
+use crate::files::text_of;
+use crate::game::{game_after, move_count};
+use crate::options::Options;
+use crate::progress::Progress;
+use crate::records::records_of;
+use dfa_join::JoinError;
+use go_base::Colour;
+use helpers::Helpers;
+use pat_types::Pattern;
+use pattern_coverage::{Diagrams, ENDS, PartCounts, ends_on};
+use std::alloc::{AllocError, Global};
+use std::fs::Files;
+use std::io;
+use std::io::Write;
+use std::time::Clock;
+use why_report::{PARTS, part_name, put_name};
+
+/// The most entries of a list that has an automaton.
+const MOST_ENTRIES: usize = 4096;
+
+/// The most states of the automaton.
+const MOST_STATES: u32 = 4_000_000;
+
+/// What is counted over records.
+#[derive(Drop)]
+pub(crate) struct Coverage {
+    /// Where the tries of each entry end, in the order of the file.
+    counts: Vec<PartCounts>,
+    /// How many records were looked at.
+    records: u64,
+    /// How many positions.
+    positions: u64,
+    /// Whether a record could not be read to its end.
+    missed: bool,
+}
+
+/// How often an entry's diagram fits.
+fn fits_of(counts: &PartCounts) -> u64 {
+    let mut fits: u64 = 0;
+    for part in 1..ENDS {
+        fits = fits.saturating_add(counts.at(part));
+    }
+    fits
+}
+
+impl Coverage {
+    /// Nothing is counted yet, for so many entries.
+    fn new(alloc: Global, entries: usize) -> Result<Coverage, Fault> {
+        let mut counts = Vec::new(alloc);
+        for _ in 0..entries {
+            counts.push(PartCounts::new())?;
+        }
+        Ok(Coverage {
+            counts,
+            records: 0,
+            positions: 0,
+            missed: false,
+        })
+    }
+
+    /// Adds the ends of the tries on one position for one colour.
+    fn add(&mut self, ends: &[PartCounts]) {
+        for (total, more) in self.counts.iter_mut().zip(ends) {
+            total.add(more);
+        }
+    }
+
+    /// How many entries never fit.
+    fn never_fit(&self) -> usize {
+        let mut never: usize = 0;
+        for counts in &self.counts {
+            if fits_of(counts) == 0 {
+                never = never.saturating_add(1);
+            }
+        }
+        never
+    }
+}
+
+/// What is looked for on each position.
+#[derive(Clone, Copy)]
+struct Search<'a> {
+    /// Where memory is taken.
+    alloc: Global,
+    /// The colours for which entries are tried.
+    colours: &'static [Colour],
+    /// The patterns of the entries, in the order of the file.
+    patterns: &'a [Pattern],
+    /// Their diagrams.
+    diagrams: &'a Diagrams,
+}
+
+/// Counts the tries on the position after so many moves of a record.
+fn cover_position(
+    search: Search<'_>,
+    helpers: &mut Helpers,
+    coverage: &mut Coverage,
+    name: &str,
+    record: &[u8],
+    moves: u64,
+) -> Result<(), Fault>
+    requires few { length search.patterns.now ≤ 4096 }
+    requires diagrams { AreDiagramsOf search.patterns.now search.diagrams.now }
+{
+    let game = game_after(search.alloc, name, record, Some(moves))?;
+    let position = game.position();
+    for colour in search.colours {
+        let ends = ends_on(
+            search.alloc,
+            search.patterns,
+            search.diagrams,
+            &position,
+            *colour,
+            game.depths(),
+            helpers,
+        )?;
+        coverage.add(ends.as_slice());
+    }
+    coverage.positions = coverage.positions.saturating_add(1);
+    Ok(())
+}
+
+/// Counts the tries on each position of a record's main line, the one before its first move among them.
+fn cover_record(
+    search: Search<'_>,
+    helpers: &mut Helpers,
+    coverage: &mut Coverage,
+    name: &str,
+    record: &[u8],
+) -> Result<(), Fault>
+    requires few { length search.patterns.now ≤ 4096 }
+    requires diagrams { AreDiagramsOf search.patterns.now search.diagrams.now }
+{
+    let last = move_count(search.alloc, record)?;
+    for moves in 0..last.saturating_add(1) {
+        cover_position(search, helpers, coverage, name, record, moves)?;
+    }
+    Ok(())
+}
+
+/// Counts the tries on each position of the records with these names. A record that has a fault is told on standard
+/// error, and is counted up to it.
+fn cover_records<R: Files + Eprint + Clock + AllocGlobal>(
+    rt: &R,
+    search: Search<'_>,
+    helpers: &mut Helpers,
+    coverage: &mut Coverage,
+    names: &[String],
+    is_terminal: bool,
+) -> Result<(), Fault>
+    requires few { length search.patterns.now ≤ 4096 }
+    requires diagrams { AreDiagramsOf search.patterns.now search.diagrams.now }
+{
+    let mut progress = Progress::begin(rt, is_terminal)?;
+    for name in names {
+        progress.tell(rt, "reading", name.as_str())?;
+        let record = text_of(rt, name.as_str())?;
+        match cover_record(search, helpers, coverage, name.as_str(), record.as_slice()) {
+            Ok(()) => {}
+            Err(Fault::Note(note)) => {
+                coverage.missed = true;
+                progress.clear(rt)?;
+                eprintln!(rt; "{note}")?;
+            }
+            Err(fault) => return Err(fault),
+        }
+        coverage.records = coverage.records.saturating_add(1);
+    }
+    progress.clear(rt)?;
+    Ok(())
+}
+
+/// Puts the first line of the table: the names of its columns.
+fn put_names(page: &mut String) -> Result<(), AllocError> {
+    page.push_str("entry\tline\tfits")?;
+    for part in 1..PARTS + 1 {
+        write!(page, "\t{}", part_name(part))?;
+    }
+    page.push_str("\n")
+}
+
+/// Puts the line of an entry.
+fn put_row(
+    page: &mut String,
+    name: &[u8],
+    line: u64,
+    counts: &PartCounts,
+) -> Result<(), AllocError> {
+    put_name(page, name)?;
+    write!(page, "\t{line}\t{}", fits_of(counts))?;
+    for part in 1..ENDS {
+        write!(page, "\t{}", counts.at(part))?;
+    }
+    page.push_str("\n")
+}
+
+/// The table: a line for each entry of the file.
+fn table_of(alloc: Global, entries: &Entries, coverage: &Coverage) -> Result<String, Fault> {
+    let mut page = String::new(alloc);
+    put_names(&mut page)?;
+    for (entry, counts) in entries.all(alloc)?.iter().zip(&coverage.counts) {
+        put_row(&mut page, entry.pattern.name.as_slice(), entry.line, counts)?;
+    }
+    Ok(page)
+}
+
+/// Why the entries of a file have no automaton.
+fn join_fault(alloc: Global, file: &str, error: &JoinError) -> Fault {
+    match error {
+        JoinError::TooManyStates { limit } => noted(format!(in alloc;
+            "{file}: more than {limit} states; split the file"
+        )),
+        JoinError::NoMemory => Fault::NoMemory,
+    }
+}
+
+/// The diagrams of the entries of a file.
+fn diagrams_of(alloc: Global, file: &str, patterns: &[Pattern]) -> Result<Diagrams, Fault>
+    requires { length patterns.now ≤ 4096 }
+    ensures { IfOk result (AreDiagramsOf patterns.now) }
+{
+    match Diagrams::new(alloc, patterns, MOST_STATES) {
+        Ok(diagrams) => Ok(diagrams),
+        Err(error) => Err(join_fault(alloc, file, &error)),
+    }
+}
+
+/// Prints how often the entries of a file fit and match over the records of a folder. Answers whether each fits once at
+/// least. The counts of all are told on standard error.
+pub(crate) fn tell_coverage<R: Files + Print + Eprint + Clock + AllocGlobal + Clone + Drop>(
+    rt: &R,
+    options: &Options,
+    entries: &Entries,
+    folder: &str,
+    helpers: &mut Helpers,
+    is_terminal: bool,
+) -> Result<bool, Fault> {
+    let alloc = rt.alloc();
+    let file = options.file.as_str();
+    let patterns = entries.patterns();
+    if patterns.len() > MOST_ENTRIES {
+        return Err(noted(format!(in alloc; "{file}: more than {MOST_ENTRIES} entries")));
+    }
+    let diagrams = diagrams_of(alloc, file, patterns)?;
+    let search = Search {
+        alloc,
+        colours: options.colours(),
+        patterns,
+        diagrams: &diagrams,
+    };
+    let names = records_of(rt, folder)?;
+    let mut coverage = Coverage::new(alloc, patterns.len())?;
+    cover_records(
+        rt,
+        search,
+        helpers,
+        &mut coverage,
+        names.as_slice(),
+        is_terminal,
+    )?;
+    let table = table_of(alloc, entries, &coverage)?;
+    io::writer(rt).write_all(table.as_bytes())?;
+    let never = coverage.never_fit();
+    let (records, positions, all) = (coverage.records, coverage.positions, patterns.len());
+    eprintln!(rt;
+        "{records} records, {positions} positions, {all} entries, {never} of them never fit"
+    )?;
+    Ok(never == 0 && !coverage.missed)
+}

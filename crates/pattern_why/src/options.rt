@@ -1,0 +1,159 @@
+//! What the words of the command line ask for.
+
+use clap::{Arg, ArgAction, ArgMatches, Command};
+use go_base::Colour;
+use std::alloc::{AllocError, Global};
+
+/// What the words of the command line ask for.
+#[derive(Drop)]
+pub(crate) struct Options {
+    /// The colour for which entries are tried; both if there is none.
+    pub(crate) colour: Option<Colour>,
+    /// The vertex at which they are tried; each point if there is none.
+    pub(crate) at: Option<String>,
+    /// The folder of the records over which entries are counted, if they are.
+    pub(crate) coverage: Option<String>,
+    /// Whether of each entry one line is told, those of which most parts hold first.
+    pub(crate) all: bool,
+    /// Whether objects of JSON are printed.
+    pub(crate) json: bool,
+    /// The game record whose position is looked at; else lines on standard input set it up.
+    pub(crate) record: Option<String>,
+    /// How many moves of the record are played; all if there is none.
+    pub(crate) moves: Option<u64>,
+    /// The pattern file.
+    pub(crate) file: String,
+    /// The name of the entries that are tried, or one's name and line; all of the file if there is none.
+    pub(crate) entry: Option<String>,
+}
+
+impl Options {
+    /// The colours for which entries are tried.
+    pub(crate) fn colours(&self) -> &'static [Colour] {
+        match self.colour {
+            Some(Colour::Black) => &[Colour::Black],
+            Some(Colour::White) => &[Colour::White],
+            None => &[Colour::Black, Colour::White],
+        }
+    }
+}
+
+/// A flag of the command line.
+fn flag<'a>(alloc: Global, name: &'a str) -> Arg<'a> {
+    Arg::new(alloc, name).long(name).action(ArgAction::SetTrue)
+}
+
+/// An option with a value.
+fn value<'a>(alloc: Global, name: &'a str) -> Arg<'a> {
+    Arg::new(alloc, name).long(name).action(ArgAction::Set)
+}
+
+/// The pattern file and the entry.
+fn names<'a>(alloc: Global) -> Arg<'a> {
+    Arg::new(alloc, "names")
+        .action(ArgAction::Append)
+        .num_args(0..)
+}
+
+/// The command line of the program.
+fn command<'a>(alloc: Global) -> Result<Command<'a>, AllocError> {
+    Command::new(alloc, "pattern_why")
+        .no_binary_name(true)
+        .disable_help_flag(true)
+        .disable_version_flag(true)
+        .arg(value(alloc, "colour"))?
+        .arg(value(alloc, "at"))?
+        .arg(value(alloc, "coverage"))?
+        .arg(flag(alloc, "all"))?
+        .arg(flag(alloc, "json"))?
+        .arg(value(alloc, "sgf"))?
+        .arg(value(alloc, "move"))?
+        .arg(names(alloc))
+}
+
+/// Whether a flag is set.
+fn is_set(matches: &ArgMatches<'_>, flag: &str) -> bool {
+    matches.get_str(flag) == Some("true")
+}
+
+/// A copy of the value of an option, if one is given. None if there is no memory.
+fn text_in(alloc: Global, matches: &ArgMatches<'_>, name: &str) -> Option<Option<String>> {
+    match matches.get_str(name) {
+        Some(text) => match String::from_str(alloc, text) {
+            Ok(copy) => Some(Some(copy)),
+            Err(_) => None,
+        },
+        None => Some(None),
+    }
+}
+
+/// The colour, if one is given. None if the word is neither `b` nor `w`.
+fn colour_in(matches: &ArgMatches<'_>) -> Option<Option<Colour>> {
+    match matches.get_str("colour") {
+        None => Some(None),
+        Some("b") => Some(Some(Colour::Black)),
+        Some("w") => Some(Some(Colour::White)),
+        Some(_) => None,
+    }
+}
+
+/// The number of moves, if one is given. None if the word is no number.
+fn moves_in(matches: &ArgMatches<'_>) -> Option<Option<u64>> {
+    match matches.get_str("move") {
+        None => Some(None),
+        Some(text) => match text.parse::<u64>() {
+            Ok(moves) => Some(Some(moves)),
+            Err(_) => None,
+        },
+    }
+}
+
+/// The pattern file and the entry, if one is named. None if there is no file, or a word more.
+fn names_in(alloc: Global, matches: &ArgMatches<'_>) -> Option<(String, Option<String>)> {
+    match matches.get_strs("names")? {
+        [file] => Some((String::from_str(alloc, file).ok()?, None)),
+        [file, entry] => Some((
+            String::from_str(alloc, file).ok()?,
+            Some(String::from_str(alloc, entry).ok()?),
+        )),
+        _ => None,
+    }
+}
+
+/// Whether the options go with each other: `--move` needs `--sgf`, `--all` needs `--at` and takes no entry, and with
+/// `--coverage` only `--colour` goes, and no entry.
+fn are_together(options: &Options) -> bool {
+    let has_record = options.record.is_some() || options.moves.is_none();
+    let has_point = !options.all || (options.at.is_some() && options.entry.is_none());
+    let has_position = options.at.is_some() || options.json || options.record.is_some();
+    let is_alone = !has_position && options.entry.is_none();
+    has_record && has_point && (options.coverage.is_none() || is_alone)
+}
+
+/// What the matches of a command line ask for. None if they do not go with each other.
+fn options_in(alloc: Global, matches: &ArgMatches<'_>) -> Option<Options> {
+    let (file, entry) = names_in(alloc, matches)?;
+    let options = Options {
+        colour: colour_in(matches)?,
+        at: text_in(alloc, matches, "at")?,
+        coverage: text_in(alloc, matches, "coverage")?,
+        all: is_set(matches, "all"),
+        json: is_set(matches, "json"),
+        record: text_in(alloc, matches, "sgf")?,
+        moves: moves_in(matches)?,
+        file,
+        entry,
+    };
+    if are_together(&options) {
+        Some(options)
+    } else {
+        None
+    }
+}
+
+/// The options that the words of a command line give, which are without the program's name. None if they are no command
+/// line with a file.
+pub(crate) fn options_of(alloc: Global, words: &[String]) -> Option<Options> {
+    let matches = command(alloc).ok()?.try_get_matches_from(words).ok()?;
+    options_in(alloc, &matches)
+}

@@ -1,0 +1,94 @@
+//! The program's work: the entries of a file, a position, and what is told of them.
+
+use crate::almost::tell_almost;
+use crate::coverage::tell_coverage;
+use crate::entries::{Entries, entries_of};
+use crate::fault::{Fault, noted};
+use crate::files::text_of;
+use crate::game::game_of;
+use crate::options::Options;
+use crate::task::Task;
+use crate::tries::tell_tries;
+use helpers::{Helper, Helpers};
+use std::alloc::Global;
+use std::fs::Files;
+use std::io;
+use std::io::Write;
+use std::time::Clock;
+use why_report::{Entry, Setting};
+
+/// The entries of a file.
+fn entries_in<R: Files + AllocGlobal>(
+    rt: &R,
+    helpers: &Helpers,
+    file: &str,
+) -> Result<Entries, Fault> {
+    let alloc = rt.alloc();
+    let names = helpers.names(alloc)?;
+    let text = text_of(rt, file)?;
+    entries_of(alloc, file, text.as_slice(), names.as_slice())
+}
+
+/// The entries that the command line names. It is an error if it names one that the file does not have.
+fn entries_asked<'a>(
+    alloc: Global,
+    options: &Options,
+    known: &'a Entries,
+) -> Result<Vec<Entry<'a>>, Fault> {
+    let Some(word) = &options.entry else {
+        return known.all(alloc);
+    };
+    let entries = known.named(alloc, word.as_str())?;
+    if entries.is_empty() {
+        let file = &options.file;
+        return Err(noted(format!(in alloc; "{file}: no entry is named {word}")));
+    }
+    Ok(entries)
+}
+
+/// Prints a page.
+fn print_page<R: Print>(rt: &R, page: &str) -> Result<(), Fault> {
+    io::writer(rt).write_all(page.as_bytes())?;
+    Ok(())
+}
+
+/// Prints why entries do not match on a position, and answers whether one does.
+fn tell_position<R: Files + Input + Print + AllocGlobal>(
+    rt: &R,
+    options: &Options,
+    helpers: &mut Helpers,
+    entries: &[Entry<'_>],
+) -> Result<bool, Fault> {
+    let game = game_of(rt, options)?;
+    let position = game.position();
+    let setting = Setting {
+        position: &position,
+        depths: game.depths(),
+    };
+    let task = Task::new(rt.alloc(), options, setting)?;
+    let telling = if options.all {
+        tell_almost(&task, helpers, entries)?
+    } else {
+        tell_tries(&task, helpers, entries)?
+    };
+    print_page(rt, telling.page.as_str())?;
+    Ok(telling.matches)
+}
+
+/// Prints what the options ask for, and answers whether something matches, or whether each entry fits once at least.
+pub(crate) fn tell<R: Files + Input + Print + Eprint + Clock + AllocGlobal + Clone + Drop>(
+    rt: &R,
+    options: &Options,
+    helpers: Vec<Box<dyn Helper>>,
+    is_terminal: bool,
+) -> Result<bool, Fault> {
+    let alloc = rt.alloc();
+    let mut helpers = Helpers::new(alloc, helpers)?;
+    let known = entries_in(rt, &helpers, options.file.as_str())?;
+    if let Some(folder) = &options.coverage {
+        let folder = folder.as_str();
+        return tell_coverage(rt, options, &known, folder, &mut helpers, is_terminal);
+    }
+    let entries = entries_asked(alloc, options, &known)?;
+    tell_position(rt, options, &mut helpers, entries.as_slice())
+}

@@ -1,0 +1,102 @@
+//! Each try that is asked for, in order.
+
+use crate::fault::Fault;
+use crate::task::Task;
+use crate::telling::Telling;
+use go_base::{Colour, Transform};
+use helpers::Helpers;
+use pat_types::mark_count;
+use why_report::{
+    Entry, PARTS, PartCounts, Try, part_name, parts_held, put_block, put_entry, put_json, tried,
+};
+
+/// Puts how many tries of an entry for a colour failed first in each part, and how many matched.
+fn put_counts(
+    page: &mut String,
+    entry: Entry<'_>,
+    colour: Colour,
+    counts: &PartCounts,
+) -> Result<(), Fault> {
+    put_entry(page, entry, colour)?;
+    write!(page, ": {} tries", counts.all())?;
+    for part in 0..PARTS + 1 {
+        write!(page, ", {} {}", part_name(part), counts.in_part(part))?;
+    }
+    page.push_str("\n")?;
+    Ok(())
+}
+
+/// Tells of a try: by an object of JSON, or by a block for a person if the point was named or the diagram fits.
+fn tell_try(task: &Task<'_>, telling: &mut Telling, one: &Try<'_>) -> Result<(), Fault> {
+    telling.note(one);
+    if task.options.json {
+        put_json(&mut telling.page, task.alloc, task.setting, one)?;
+    } else if task.options.at.is_some() || parts_held(one.reason) > 0 {
+        put_block(&mut telling.page, task.alloc, task.setting, one)?;
+    }
+    Ok(())
+}
+
+/// Tells of the tries of an entry for a colour under one transformation, at each point that is asked for.
+fn tell_points(
+    task: &Task<'_>,
+    helpers: &mut Helpers,
+    telling: &mut Telling,
+    counts: &mut PartCounts,
+    entry: Entry<'_>,
+    colour: Colour,
+    transform: Transform,
+) -> Result<(), Fault> {
+    for at in task.from..task.to {
+        if at < task.setting.position.size().points() {
+            let one = tried(entry, task.setting, colour, transform, at, helpers);
+            counts.add(one.reason);
+            tell_try(task, telling, &one)?;
+        }
+    }
+    Ok(())
+}
+
+/// Tells of the tries of an entry for a colour under each transformation of its mark. For a person their counts stand
+/// behind them, unless a point was named.
+fn tell_entry(
+    task: &Task<'_>,
+    helpers: &mut Helpers,
+    telling: &mut Telling,
+    entry: Entry<'_>,
+    colour: Colour,
+) -> Result<(), Fault> {
+    let mut counts = PartCounts::new();
+    for number in 0..mark_count(entry.pattern.mark) {
+        if let Some(transform) = Transform::new(number) {
+            tell_points(
+                task,
+                helpers,
+                telling,
+                &mut counts,
+                entry,
+                colour,
+                transform,
+            )?;
+        }
+    }
+    if !task.options.json && task.options.at.is_none() {
+        put_counts(&mut telling.page, entry, colour, &counts)?;
+    }
+    Ok(())
+}
+
+/// Tells of each try of these entries: in their order, for each colour, under each transformation, at each point.
+pub(crate) fn tell_tries(
+    task: &Task<'_>,
+    helpers: &mut Helpers,
+    entries: &[Entry<'_>],
+) -> Result<Telling, Fault> {
+    let mut telling = Telling::new(task.alloc);
+    for entry in entries {
+        for colour in task.options.colours() {
+            tell_entry(task, helpers, &mut telling, *entry, *colour)?;
+        }
+    }
+    Ok(telling)
+}

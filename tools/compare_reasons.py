@@ -1,0 +1,146 @@
+"""Compares the answers of pattern_why with the matches of gopat: a try has no reason exactly if it is a match.
+
+usage: python3 tools/compare_reasons.py GOPAT PATTERN_WHY TRIES [SEED [PATTERNS]]
+
+Each round takes a dozen entries and a position of random plays, and compares each try: each entry, colour,
+transformation and point. The entries are random ones of every mark and class, with edges, constraints and helpers; or
+some of the file PATTERNS, whose names differ. Rounds go on until so many tries were compared. How many of them failed
+first in each part is told too. The exit status is 1 if a try differs.
+"""
+
+import collections
+import json
+import pathlib
+import random
+import re
+import subprocess
+import tempfile
+from typing import NamedTuple
+
+import command_line
+import gtp
+
+ENTRIES = 12
+FUNCTIONS = ["lib", "xlib", "olib", "attack", "defend", "ko", "safe_xmove", "safe_omove", "legal_xmove", "legal_omove"]
+PAIRS = ["same_worm", "does_attack", "does_defend", "odefend_against", "xdefend_against"]
+OPERATORS = ["||", "&&", "==", "!=", "<", "<=", ">", ">=", "+", "-"]
+
+
+class Try(NamedTuple):
+    """What is tried: the entry's name, the colour, the transformation, and the vertex of the star."""
+
+    entry: str
+    colour: str
+    transformation: int
+    at: str
+
+
+def letters(luck: random.Random) -> list[list[str]]:
+    """The letters of a random diagram, with one star."""
+    rows, columns = luck.randint(1, 3), luck.randint(1, 3)
+    drawn = [luck.choices("?.OXox", [6, 4, 2, 2, 1, 1], k=columns) for _ in range(rows)]
+    luck.choice(drawn)[luck.randrange(columns)] = "*"
+    return drawn
+
+
+def with_edges(drawn: list[list[str]], sides: str) -> list[str]:
+    """The lines of a diagram with edges at these sides, of `tblr`."""
+    left, right = "|" * ("l" in sides), "|" * ("r" in sides)
+    edge = "+" * len(left) + "-" * len(drawn[0]) + "+" * len(right)
+    rows = [left + "".join(row) + right for row in drawn]
+    return [edge] * ("t" in sides) + rows + [edge] * ("b" in sides)
+
+
+def expression(luck: random.Random, points: list[str], depth: int) -> str:
+    """A random expression over these arguments."""
+    kind = luck.random()
+    if depth == 0 or kind < 0.2:
+        if luck.random() < 0.3:
+            return str(luck.randint(0, 3))
+        if luck.random() < 0.7:
+            return f"{luck.choice(FUNCTIONS)}({luck.choice(points)})"
+        return f"{luck.choice(PAIRS)}({luck.choice(points)},{luck.choice(points)})"
+    if kind < 0.3:
+        return f"!({expression(luck, points, depth - 1)})"
+    sides = expression(luck, points, depth - 1), expression(luck, points, depth - 1)
+    return f"({sides[0]} {luck.choice(OPERATORS)} {sides[1]})"
+
+
+def entry(luck: random.Random, number: int) -> str:
+    """A random entry with this number in its name."""
+    drawn = letters(luck)
+    sides = "".join(side for side in "tblr" if luck.random() < 0.12)
+    classes = "".join(letter for letter in "sn" if luck.random() < (0.6 if letter == "s" else 0.25)) or "-"
+    helpers = "".join(f",{name}" for name in ["near_edge", "no_ban"] if luck.random() < 0.15)
+    lines = [f"Pattern R{number}", *with_edges(drawn, sides), f":{luck.choice('8|-/' + chr(92) + '+XO')},{classes}{helpers}"]
+    if luck.random() < 0.5:
+        points = ["*"]
+        for row in drawn:
+            for at, letter in enumerate(row):
+                if letter != "*" and len(points) < 3 and luck.random() < 0.5:
+                    row[at] = "ABC"[len(points) - 1]
+                    points.append(row[at])
+        lines += [*with_edges(drawn, sides), f";{expression(luck, points, 2)}"]
+    return "\n".join(lines) + "\n\n"
+
+
+def entries_of(path: str) -> list[str]:
+    """The entries of a file."""
+    text = pathlib.Path(path).read_text(encoding="utf-8")
+    return re.findall(r"^Pattern .*?(?=^Pattern |\Z)", text, re.DOTALL | re.MULTILINE)
+
+
+def lines_of(luck: random.Random) -> list[str]:
+    """The lines that set up a random position."""
+    size = luck.choice([3, 5, 5, 7, 9])
+    vertices = gtp.vertices(size)
+    plays = [f"play {luck.choice('bw')} {luck.choice(vertices)}" for _ in range(luck.randint(0, size * size * 2))]
+    return [f"boardsize {size}", f"depths {luck.randint(1, 8)} {luck.randint(0, 1)}", *plays]
+
+
+def matches(gopat: str, folder: str, lines: list[str]) -> tuple[list[str], set[Try]]:
+    """The lines that gopat takes, and its matches for both colours."""
+    replies, _ = gtp.session([gopat, "patterns.db"], [*lines, "match_patterns b", "match_patterns w"], folder)
+    found = set()
+    for colour, reply in zip(["black", "white"], replies[-2:]):
+        for line in reply.text.splitlines():
+            name, transformation, at = line.split()
+            found.add(Try(name, colour, int(transformation), at))
+    return [line for line, reply in zip(lines, replies) if reply.ok], found
+
+
+def told(program: str, folder: str, lines: list[str]) -> dict[Try, str | None]:
+    """The part that fails first of each try, by pattern_why; `None` for a match."""
+    done = subprocess.run(
+        [program, "--json", "patterns.db"], input="\n".join(lines), capture_output=True, text=True, check=False, cwd=folder
+    )
+    if done.returncode == 2:
+        raise RuntimeError(done.stderr)
+    objects = [json.loads(line) for line in done.stdout.splitlines()]
+    return {Try(one["entry"], one["colour"], one["transformation"], one["at"]): one["fails"] for one in objects}
+
+
+def main(gopat: str, program: str, tries: str, seed: str = "1", patterns: str | None = None) -> int:
+    luck = random.Random(int(seed))
+    listed = entries_of(patterns) if patterns else []
+    parts: collections.Counter[str] = collections.Counter()
+    gopat, program = (str(pathlib.Path(path).resolve()) for path in (gopat, program))
+    compared = rounds = different = 0
+    with tempfile.TemporaryDirectory() as folder:
+        while compared < int(tries):
+            texts = luck.sample(listed, min(ENTRIES, len(listed))) or [entry(luck, at) for at in range(ENTRIES)]
+            (pathlib.Path(folder) / "patterns.db").write_text("".join(texts), encoding="utf-8")
+            lines, wanted = matches(gopat, folder, lines_of(luck))
+            reasons = told(program, folder, lines)
+            wrong = wanted ^ {one for one, fails in reasons.items() if fails is None}
+            for one in sorted(wrong):
+                print(f"differs: {one}, told {reasons.get(one, 'nothing')}: {lines}\n{''.join(texts)}")
+            parts.update(fails or "match" for fails in reasons.values())
+            compared, rounds, different = compared + len(reasons), rounds + 1, different + len(wrong)
+    print(f"{compared} tries in {rounds} rounds, {different} of them differ")
+    print(", ".join(f"{part} {count}" for part, count in parts.most_common()))
+    return 1 if different else 0
+
+
+if __name__ == "__main__":
+    command_line.run(main, __doc__)
