@@ -33,7 +33,7 @@ import html_page
 import positions
 import sgf
 from go_rules import EMPTY, Position, vertex_of
-from problems import Expected, Problem, legal_moves
+from problems import Problem, legal_moves
 from proof_tree import (
     Depths, Part, Step, behind_in_words, claim_in_words, counted, first_node, grouped, mover, parts_of, words_below
 )
@@ -72,7 +72,7 @@ def problem_of(told: dict, name: str) -> Problem:
     situation = positions.after_node(positions.first(positions.size_of(root)), root)
     depths = Depths(told["plies"], told["wide"], told["tree"] == "wider")
     question = asking.Question(told["kind"], told["target"], depths)
-    return Problem(name, "\n".join(root.texts("C")).strip(), situation, question, Expected(told["expected"] or []))
+    return Problem(name, "\n".join(root.texts("C")).strip(), situation, question, told["expected"] or [])
 
 
 def answer_of(told: dict) -> Answer:
@@ -180,7 +180,7 @@ def board_html(problem: Problem, answer: Answer, grids: board_picture.Grids) -> 
     frame = board_picture.whole(position.size)
     picture = board_picture.of_position(position, frame)
     picture.marks[frame.spot(problem.target())] = "triangle"
-    for names, mark in (([*tried(problem), *problem.expected.moves], "bad"), (answer.moves, "good")):
+    for names, mark in (([*tried(problem), *problem.expected], "bad"), (answer.moves, "good")):
         points = [positions.point_named(position, name) for name in names if name != "PASS"]
         picture.marks.update({frame.spot(point): mark for point in points if position.cells[point] == EMPTY})
     return board_picture.svg(picture, 24 if position.size <= 13 else 17, grids)

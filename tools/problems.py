@@ -16,22 +16,14 @@ CLAUSE = re.compile(r"\s+(depths\s+\d+\s+\d+|code\s+[0-3]|answer(?:\s+(?:[A-Za-z
 IS_RIGHT = re.compile(r"\b(RIGHT|CORRECT)\b")
 
 
-class Expected(NamedTuple):
-    """What a record expects: the moves that attain the code, the code, and whether no other move does."""
-
-    moves: list[str]
-    code: int | None = None
-    is_only: bool = False
-
-
 class Problem(NamedTuple):
-    """A record with its question."""
+    """A record with its question, and the moves that are expected to attain the code."""
 
     name: str
     comment: str
     situation: positions.Situation
     question: asking.Question
-    expected: Expected
+    expected: list[str]
 
     def target(self) -> int:
         return positions.point_named(self.situation.position, self.question.vertex)
@@ -61,14 +53,12 @@ def said(text: str) -> tuple[str, str, dict[str, list[str]]] | None:
     return found[1], found[2].upper(), {one[0]: one[1:] for one in words}
 
 
-def from_line(told: tuple[str, str, dict[str, list[str]]], depths: Depths) -> tuple[asking.Question, Expected]:
-    """The question and what is expected, by a line."""
+def from_line(told: tuple[str, str, dict[str, list[str]]], depths: Depths) -> tuple[asking.Question, list[str]]:
+    """The question and the moves that are expected, by a line."""
     kind, vertex, clauses = told
     if "depths" in clauses:
         depths = depths._replace(plies=int(clauses["depths"][0]), wide=int(clauses["depths"][1]))
-    moves = [move.upper() for move in clauses.get("answer", [])]
-    code = int(clauses["code"][0]) if "code" in clauses else None
-    return asking.Question(kind, vertex, depths), Expected(moves, code, "only" in clauses)
+    return asking.Question(kind, vertex, depths), [move.upper() for move in clauses.get("answer", [])]
 
 
 def is_right(node: sgf.Node) -> bool:
@@ -78,7 +68,7 @@ def is_right(node: sgf.Node) -> bool:
     )
 
 
-def from_marks(root: sgf.Node, situation: positions.Situation, depths: Depths) -> tuple[asking.Question, Expected]:
+def from_marks(root: sgf.Node, situation: positions.Situation, depths: Depths) -> tuple[asking.Question, list[str]]:
     """The question about the one marked stone, and the moves that are said to be right: all of them. If none is, the
     main line is the solution."""
     size, cells = situation.position.size, situation.position.cells
@@ -89,7 +79,7 @@ def from_marks(root: sgf.Node, situation: positions.Situation, depths: Depths) -
     kind = "defend" if cells[marked[0]] == plays else "attack"
     right = list(filter(is_right, root.children)) or root.children[:1]
     moves = [sgf.vertex(value, size) for child in right for value in child.texts("B", "W")]
-    return asking.Question(kind, vertex_of(size, marked[0]), depths), Expected(moves, None, bool(moves))
+    return asking.Question(kind, vertex_of(size, marked[0]), depths), moves
 
 
 def problem_of(path: pathlib.Path, name: str, depths: Depths) -> Problem:

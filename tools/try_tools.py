@@ -4,9 +4,9 @@ usage: python3 tools/try_tools.py [--store] [GOPAT [CHECK_PROBLEMS]]
 
 It runs at the top of a clone. Each run is compared with what is stored in tools/expected: the output, what is said on
 standard error, and the exit status. In the place of gopat stands stored_replies.py, with replies that gopat once gave;
-with GOPAT this program is asked instead, and has to lead to the same outputs. A page of problems is made of objects that
-are stored too; with CHECK_PROBLEMS they come from this program. With --store all outputs are stored anew, and what the
-programs said with them.
+with GOPAT this program is asked instead, and has to lead to the same outputs. A page of problems is made of objects
+that are stored too; with CHECK_PROBLEMS they come from this program. With --store all outputs are stored anew, and what
+the programs said with them.
 
 Besides, these have to be so of all outputs: a page has no script, asks for no other file, closes what it opens, and
 each of its links has a target; a board of each size from 2 to 25, and parts of it, are drawn with nothing cut off, and
