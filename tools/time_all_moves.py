@@ -4,10 +4,10 @@ usage: python3 tools/time_all_moves.py LIBRARY REGRESSION [PLIES WIDE [TIMES]]
 
 LIBRARY is gopat's shared library, made of libgopat_c.a as docs/DOORS.md says; REGRESSION is the folder regression/ of
 GNU Go's source. It runs at the top of a clone. The depths are 16 6 unless they are told. Each question is asked by
-`gopat_attack` or `gopat_defend`, and all its moves by `gopat_all`, each TIMES times (3), of which the least time counts.
-It is that of the library's call. The two have to tell the same code.
-Prints for each tree the processor's milliseconds of both over all questions, how many times the first the second is,
-and the same of the question for which it is greatest, of those that take a millisecond and more.
+`gopat_attack` or `gopat_defend`, and all its moves by `gopat_all`, each TIMES times (3), of which the least time
+counts. It is that of the library's call. The two have to tell the same code. Prints for each tree the processor's
+milliseconds of both over all questions, how many times the first the second is, and the same of the question for which
+it is greatest, of those that take a millisecond and more.
 """
 
 import os
