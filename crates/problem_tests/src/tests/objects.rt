@@ -12,14 +12,15 @@ static OBJECTS: [(&str, Scope, &str, &str); 4] = [
         Scope::Tried,
         "(;SZ[9]AB[bh]AW[ai]C[gopat: attack A1 answer B1 A2 only])",
         "{\"record\":\"a.sgf\",\"kind\":\"attack\",\"target\":\"A1\",\"plies\":3,\"wide\":2,\"tree\":\"stated\",\
-         \"scope\":\"tried\",\"expected\":[\"A2\",\"B1\"],\"code\":3,\"moves\":[\"A2\",\"B1\"],\"fewest\":3,\"verdict\":\"as expected\"}\n",
+         \"scope\":\"tried\",\"expected\":[\"A2\",\"B1\"],\"code\":3,\"moves\":[\"A2\",\"B1\"],\"fewest\":3,\
+         \"verdict\":\"as expected\"}\n",
     ),
     (
         "b\"\\\t.sgf",
         Scope::Tried,
         "(;SZ[9]AB[bh]AW[ai]C[gopat: attack A1 depths 2 0])",
-        "{\"record\":\"b\\\"\\\\\\u0009.sgf\",\"kind\":\"attack\",\"target\":\"A1\",\"plies\":2,\"wide\":0,\"tree\":\"stated\",\
-         \"scope\":\"tried\",\"expected\":null,\"code\":0,\"moves\":[],\"fewest\":null,\
+        "{\"record\":\"b\\\"\\\\\\u0009.sgf\",\"kind\":\"attack\",\"target\":\"A1\",\"plies\":2,\"wide\":0,\
+         \"tree\":\"stated\",\"scope\":\"tried\",\"expected\":null,\"code\":0,\"moves\":[],\"fewest\":null,\
          \"verdict\":\"not told\",\"why\":\"no answer\"}\n",
     ),
     (
