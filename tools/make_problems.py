@@ -35,7 +35,7 @@ import gtp
 import positions
 import solutions
 from go_rules import BLACK, EMPTY, WHITE, Move, Position, other, string_at, vertex_of
-from problems import Expected, Problem, legal_moves, told
+from problems import Problem, legal_moves, told
 
 # A position is asked at no more than so many plies, and so many wide ones, before it is asked at the depths wanted.
 FIRST_PLIES, FIRST_WIDE = 8, 4
@@ -123,7 +123,7 @@ def with_black_to_move(found: Found) -> Position:
 def problem_about(position: Position, kind: str, target: int, depths: asking.Depths) -> Problem:
     """The question about the string of a stone."""
     question = asking.Question(kind, vertex_of(position.size, target), depths)
-    return Problem("", "", positions.set_up(position, []), question, Expected([]))
+    return Problem("", "", positions.set_up(position, []), question, [])
 
 
 def asks_about(problem: Problem, kind: str, plies: int, wide: int) -> list[str]:

@@ -1,51 +1,91 @@
 """Writes a page of problems: for each the board, the question, what gopat answers, and the proof as a tree that folds.
 
-usage: python3 tools/problem_page.py GOPAT FOLDER [--depths PLIES:WIDE] [--wider] > OUT.html
+usage: python3 tools/problem_page.py OBJECTS > OUT.html
 
-A problem is a game record `*.sgf` of the folder, in the position of its first node. Its question stands in the comment
-there, as a line
+OBJECTS is a file with what `check_problems --json` printed (docs/FORMATS.md, *Problem sets*), or `-` for standard
+input, so that a page is made by
 
-    gopat: attack C2 depths 16 6 answer A1 code 3 only
+    check_problems --tree wider --anywhere --proof --json FOLDER | python3 tools/problem_page.py - > OUT.html
 
-where all that follows the vertex may be left out: the depths (else those of --depths, 10:2), the moves that attain the
-code, the code, and that no other move does. Where there is no such line, the question is about the one stone that is
-marked (TR, SQ, CR or MA): a defence if PL is its colour, else an attack; the moves expected are then the first moves of
-the variations that have TE, or a comment with RIGHT or CORRECT, or else that of the main line, and no others. A record
-without a question is told with its name.
-
-gopat is asked, in one session: the question, by `attack` or `defend`; its proof, by `attack_proof` or `defend_proof`;
-the question at 1, 2, .. plies, for the fewest at which the code is the same; and where the code is above 0, after each
-legal move in turn, the other side's question with one ply less and one wide ply less. A move attains the code if the
-code of that is at most 3 less it, or if the string is captured. This is asked of every legal move, also of one that the
-reading itself does not try. With --wider GOPAT is `gopat_wide`, and the proofs are those of the wider tree.
+The script runs where check_problems did: it reads the records that the objects name, for the position and the comment
+of the first node. With --anywhere the moves are all legal moves that attain the code, also those that the reading does
+not try, and without it those that it tries. Without --proof there are no proofs.
 
 On the board the string asked about has a triangle. Green is a move that attains the code; red is another one that the
 reading tries, or that the record expects. A proof has a board for each move; of a long one only so many moves are shown
 as fit into 20,000 bytes, so that the page stays small, and proof_as_sgf.py writes them all.
 
-The page says of each problem whether it is as expected, and the same is printed on standard error. The exit status is 1
-where something is not as expected, or a proof is none, and 2 where the words cannot be taken, no record is found, or
-gopat refuses a line.
+The page tells each problem's verdict, and the same is printed on standard error. The exit status is 1 if something is
+not as expected, or a proof proves nothing, and 2 if the words cannot be taken, or there is no object of a record.
 """
 
-import argparse
 import html
+import json
+import os
+import pathlib
 import sys
+from typing import NamedTuple
 
 import asking
 import board_picture
 import command_line
-import gtp
 import html_page
 import positions
+import sgf
 from go_rules import EMPTY, Position, vertex_of
-from problems import Answer, Problem, ask, legal_moves, problems_in, verdict
+from problems import Problem, legal_moves
 from proof_tree import (
-    Part, Step, behind_in_words, claim_in_words, counted, first_node, grouped, mover, parts_of, words_below
+    Depths, Part, Step, behind_in_words, claim_in_words, counted, first_node, grouped, mover, parts_of, words_below
 )
 
 PROOF_BYTES = 20_000
 MOST_NAMES, MOST_IN_ROW = 40, 4
+
+
+# What check_problems told.
+
+
+class Answer(NamedTuple):
+    """What was found of a problem: the code, the moves that attain it, whether every legal move was judged, the fewest
+    plies for it, the verdict in words, and the proof: none if it was not asked for, or is too long."""
+
+    code: int
+    moves: list[str]
+    is_anywhere: bool
+    plies: int | None
+    verdict: str
+    proof: str | None
+    is_too_long: bool
+
+    def is_right(self) -> bool:
+        return self.verdict == "as expected"
+
+
+def said(told: dict) -> str:
+    """The verdict of an object, in words."""
+    return f"{told['verdict']}: {told['why']}" if "why" in told else told["verdict"]
+
+
+def problem_of(told: dict, name: str) -> Problem:
+    """The problem of an object, with the position and the comment of its record."""
+    root = sgf.tree(pathlib.Path(told["record"]).read_bytes().decode("utf-8", "replace"))
+    situation = positions.after_node(positions.first(positions.size_of(root)), root)
+    depths = Depths(told["plies"], told["wide"], told["tree"] == "wider")
+    question = asking.Question(told["kind"], told["target"], depths)
+    return Problem(name, "\n".join(root.texts("C")).strip(), situation, question, told["expected"] or [])
+
+
+def answer_of(told: dict) -> Answer:
+    """What an object says of the answer."""
+    is_anywhere, proof = told["scope"] == "anywhere", told.get("proof")
+    is_too_long = "proof" in told and proof is None
+    return Answer(told["code"], told["moves"], is_anywhere, told["fewest"], said(told), proof, is_too_long)
+
+
+def short_names(told: list[dict]) -> list[str]:
+    """The names of the records, without the folder in which all of them are."""
+    folder = os.path.commonpath([os.path.dirname(one["record"]) or "." for one in told])
+    return [os.path.relpath(one["record"], folder) for one in told]
 
 
 # The page.
@@ -109,10 +149,10 @@ def part_html(tree: Tree, kind: str, group: list[Part], levels: int) -> str:
 
 def proof_html(problem: Problem, answer: Answer, tree: Tree) -> str:
     """The proof as it folds, with as many moves one behind the other as there is room for."""
-    code, words = asking.code_and_words(answer.proof)
+    words = answer.proof.split()
     kind, vertex, depths = problem.question
-    parts = parts_of(problem.situation.position, kind, vertex, depths, code, words)
-    if parts is None or code != answer.code:
+    parts = parts_of(problem.situation.position, kind, vertex, depths, answer.code, words)
+    if parts is None:
         raise NoProof(f"{problem.name}: the words do not prove code {answer.code}")
     groups, shown = grouped(parts), ""
     for levels in range(depths.plies + 1):
@@ -124,7 +164,7 @@ def proof_html(problem: Problem, answer: Answer, tree: Tree) -> str:
 
 
 class NoProof(Exception):
-    """What gopat printed as a proof proves nothing. The text says of which problem."""
+    """What was printed as a proof proves nothing. The text says of which problem."""
 
 
 def tried(problem: Problem) -> list[str]:
@@ -140,7 +180,7 @@ def board_html(problem: Problem, answer: Answer, grids: board_picture.Grids) -> 
     frame = board_picture.whole(position.size)
     picture = board_picture.of_position(position, frame)
     picture.marks[frame.spot(problem.target())] = "triangle"
-    for names, mark in (([*tried(problem), *problem.expected.moves], "bad"), (answer.moves, "good")):
+    for names, mark in (([*tried(problem), *problem.expected], "bad"), (answer.moves, "good")):
         points = [positions.point_named(position, name) for name in names if name != "PASS"]
         picture.marks.update({frame.spot(point): mark for point in points if position.cells[point] == EMPTY})
     return board_picture.svg(picture, 24 if position.size <= 13 else 17, grids)
@@ -162,22 +202,21 @@ def in_words(problem: Problem, answer: Answer) -> str:
     legal = sum(1 for _ in legal_moves(problem))
     each = f"each of the {legal} legal moves" if len(answer.moves) == legal else named(answer.moves, MOST_NAMES)
     return (
-        f"{head}gopat answers <b>{answer.code} {answer.move}</b>; fewest plies for this code: {answer.plies}. "
-        f"It is attained by {each}."
+        f"{head}gopat answers <b>{answer.code}</b>; fewest plies for this code: {answer.plies}. "
+        f"It is attained by {each}{'' if answer.is_anywhere else ', of the moves that the reading tries'}."
     )
 
 
 def section(problem: Problem, answer: Answer, name: str, grids: board_picture.Grids) -> str:
     """A problem on the page."""
-    right = verdict(problem.expected, answer)
     lines = [
         f"<h2>{html.escape(problem.name)}</h2>",
         f'<p class="said">{html.escape(problem.comment)}</p>' if problem.comment else "",
         f"<p>{in_words(problem, answer)}</p>",
-        f'<p class="{"yes" if right.is_right else "no"}">{right.text}</p>',
+        f'<p class="{"yes" if answer.is_right() else "no"}">{html.escape(answer.verdict)}</p>',
     ]
-    proof = f"<p>{html.escape(answer.proof)}</p>"
-    if answer.proof[:1].isdigit():
+    proof = "<p>The proof is too long.</p>" if answer.is_too_long else ""
+    if answer.proof is not None:
         proof = proof_html(problem, answer, Tree(problem, grids, name))
     board = board_html(problem, answer, grids)
     return f'<section id="{name}"><div>{board}</div><div>{"".join(lines)}{proof}</div></section>'
@@ -185,8 +224,7 @@ def section(problem: Problem, answer: Answer, name: str, grids: board_picture.Gr
 
 def table_row(problem: Problem, answer: Answer, name: str) -> str:
     """A problem in the table at the beginning."""
-    right = verdict(problem.expected, answer)
-    status = f'<span class="{"yes" if right.is_right else "no"}">{right.text}</span>'
+    status = f'<span class="{"yes" if answer.is_right() else "no"}">{html.escape(answer.verdict)}</span>'
     link = f'<a href="#{name}">{html.escape(problem.name)}</a>'
     question = f"{problem.question.kind} {problem.question.vertex}"
     plies = str(answer.plies) if answer.code else ""
@@ -200,7 +238,7 @@ def page(asked: list[tuple[Problem, Answer]], without: list[str]) -> str:
     names = [f"p{number}" for number in range(len(asked))]
     sections = [section(*one, name, grids) for one, name in zip(asked, names)]
     rows = "".join(table_row(*one, name) for one, name in zip(asked, names))
-    heads = "".join(f"<th>{head}</th>" for head in ("problem", "question", "code", "moves", "plies", "expected"))
+    heads = "".join(f"<th>{head}</th>" for head in ("problem", "question", "code", "moves", "plies", "verdict"))
     table = f'<div class="wide"><table><tr>{heads}</tr>{rows}</table></div>'
     told_none = [f"<p>{html.escape(line)}</p>" for line in without]
     legend = '<p class="soft">The triangle is the string asked about; green attains the code, red does not.</p>'
@@ -211,30 +249,27 @@ def page(asked: list[tuple[Problem, Answer]], without: list[str]) -> str:
 # The command.
 
 
-def read_words(given: tuple[str, ...]) -> argparse.Namespace:
-    words = argparse.ArgumentParser(usage=__doc__, add_help=False)
-    words.add_argument("gopat")
-    words.add_argument("folder")
-    words.add_argument("--depths", default="10:2")
-    words.add_argument("--wider", action="store_true")
-    return words.parse_args(given)
+def objects_in(words: str) -> list[dict]:
+    """The objects of a file, or of standard input."""
+    text = sys.stdin.read() if words == "-" else pathlib.Path(words).read_text(encoding="utf-8")
+    told = [json.loads(line) for line in text.splitlines()]
+    if not told or any("verdict" not in one for one in told):
+        raise ValueError(f"{words}: no objects of check_problems --json")
+    return told
 
 
-def main(*given: str) -> int:
-    words = read_words(given)
+def main(words: str) -> int:
     try:
-        problems, without = problems_in(words.folder, asking.depths_of(words.depths, words.wider))
-        gopat = asking.running(words.gopat)
-        asked = [(problem, ask(gopat, problem)) for problem in problems]
-        gopat.end()
-        text = page(asked, without)
-    except (positions.NotRead, asking.Refused, NoProof, gtp.Ended) as why:
-        print(why or "gopat ended before it had answered", file=sys.stderr)
+        told = objects_in(words)
+        named = list(zip(short_names(told), told))
+        asked = [(problem_of(one, name), answer_of(one)) for name, one in named if one["kind"]]
+        text = page(asked, [f"{name}: {said(one)}" for name, one in named if not one["kind"]])
+    except (OSError, ValueError, KeyError, sgf.NoTree, positions.NotRead, NoProof) as why:
+        print(why, file=sys.stderr)
         return 1 if isinstance(why, NoProof) else 2
     sys.stdout.write(text)
-    verdicts = [(problem.name, verdict(problem.expected, answer)) for problem, answer in asked]
-    print("\n".join([*without, *(f"{name}: {right.text}" for name, right in verdicts)]), file=sys.stderr)
-    return 1 if without or not all(right.is_right for _, right in verdicts) else 0
+    print("\n".join(f"{name}: {said(one)}" for name, one in named), file=sys.stderr)
+    return 0 if all(one["verdict"] == "as expected" for one in told) else 1
 
 
 if __name__ == "__main__":

@@ -1,4 +1,4 @@
-"""Problems: game records with a question about a string, what is expected of the answer, and what gopat answers."""
+"""Problems: game records with a question about a string, and what is expected of the answer."""
 
 import pathlib
 import re
@@ -16,22 +16,14 @@ CLAUSE = re.compile(r"\s+(depths\s+\d+\s+\d+|code\s+[0-3]|answer(?:\s+(?:[A-Za-z
 IS_RIGHT = re.compile(r"\b(RIGHT|CORRECT)\b")
 
 
-class Expected(NamedTuple):
-    """What a record expects: the moves that attain the code, the code, and whether no other move does."""
-
-    moves: list[str]
-    code: int | None = None
-    is_only: bool = False
-
-
 class Problem(NamedTuple):
-    """A record with its question."""
+    """A record with its question, and the moves that are expected to attain the code."""
 
     name: str
     comment: str
     situation: positions.Situation
     question: asking.Question
-    expected: Expected
+    expected: list[str]
 
     def target(self) -> int:
         return positions.point_named(self.situation.position, self.question.vertex)
@@ -61,14 +53,12 @@ def said(text: str) -> tuple[str, str, dict[str, list[str]]] | None:
     return found[1], found[2].upper(), {one[0]: one[1:] for one in words}
 
 
-def from_line(told: tuple[str, str, dict[str, list[str]]], depths: Depths) -> tuple[asking.Question, Expected]:
-    """The question and what is expected, by a line."""
+def from_line(told: tuple[str, str, dict[str, list[str]]], depths: Depths) -> tuple[asking.Question, list[str]]:
+    """The question and the moves that are expected, by a line."""
     kind, vertex, clauses = told
     if "depths" in clauses:
         depths = depths._replace(plies=int(clauses["depths"][0]), wide=int(clauses["depths"][1]))
-    moves = [move.upper() for move in clauses.get("answer", [])]
-    code = int(clauses["code"][0]) if "code" in clauses else None
-    return asking.Question(kind, vertex, depths), Expected(moves, code, "only" in clauses)
+    return asking.Question(kind, vertex, depths), [move.upper() for move in clauses.get("answer", [])]
 
 
 def is_right(node: sgf.Node) -> bool:
@@ -78,7 +68,7 @@ def is_right(node: sgf.Node) -> bool:
     )
 
 
-def from_marks(root: sgf.Node, situation: positions.Situation, depths: Depths) -> tuple[asking.Question, Expected]:
+def from_marks(root: sgf.Node, situation: positions.Situation, depths: Depths) -> tuple[asking.Question, list[str]]:
     """The question about the one marked stone, and the moves that are said to be right: all of them. If none is, the
     main line is the solution."""
     size, cells = situation.position.size, situation.position.cells
@@ -89,7 +79,7 @@ def from_marks(root: sgf.Node, situation: positions.Situation, depths: Depths) -
     kind = "defend" if cells[marked[0]] == plays else "attack"
     right = list(filter(is_right, root.children)) or root.children[:1]
     moves = [sgf.vertex(value, size) for child in right for value in child.texts("B", "W")]
-    return asking.Question(kind, vertex_of(size, marked[0]), depths), Expected(moves, None, bool(moves))
+    return asking.Question(kind, vertex_of(size, marked[0]), depths), moves
 
 
 def problem_of(path: pathlib.Path, name: str, depths: Depths) -> Problem:
@@ -125,17 +115,6 @@ def problems_in(folder: str, depths: Depths) -> tuple[list[Problem], list[str]]:
 # What gopat is asked.
 
 
-class Answer(NamedTuple):
-    """What gopat told of a problem: the code and the move, the moves that attain the code, the fewest plies for it, and
-    the proof or why there is none."""
-
-    code: int
-    move: str
-    moves: list[str]
-    plies: int
-    proof: str
-
-
 def legal_moves(problem: Problem) -> Iterator[Move]:
     """The moves of the side to move: the pass for a defence, and each legal play."""
     position = problem.situation.position
@@ -146,76 +125,9 @@ def legal_moves(problem: Problem) -> Iterator[Move]:
             yield Move(point)
 
 
-def depths_line(plies: int, wide: int) -> str:
-    return f"depths {plies} {wide}"
-
-
-def ask(gopat: gtp.Running, problem: Problem) -> Answer:
-    """Asks all about a problem."""
-    kind, vertex, depths = problem.question
-    for line in [*problem.situation.lines, depths_line(depths.plies, depths.wide)]:
-        told(gopat, line)
-    answer = told(gopat, f"{kind} {vertex}").split()
-    proof = gopat.ask(f"{kind}_proof {vertex}").text
-    code = int(answer[0])
-    plies = fewest_plies(gopat, problem, code)
-    moves = [move for move in legal_moves(problem) if code and attains(gopat, problem, move, code)]
-    names = [vertex_of(problem.situation.position.size, move.point) for move in moves]
-    return Answer(code, answer[1] if code else "", names, plies, proof)
-
-
 def told(gopat: gtp.Running, line: str) -> str:
     """The text of a reply."""
     reply = gopat.ask(line)
     if not reply.ok:
         raise asking.Refused(f"{line}: {reply.text}")
     return reply.text
-
-
-def fewest_plies(gopat: gtp.Running, problem: Problem, code: int) -> int:
-    """The fewest plies at which the code is this one."""
-    kind, vertex, depths = problem.question
-    for plies in range(1, depths.plies):
-        told(gopat, depths_line(plies, depths.wide))
-        if told(gopat, f"{kind} {vertex}")[0] == str(code):
-            return plies
-    return depths.plies
-
-
-def attains(gopat: gtp.Running, problem: Problem, move: Move, code: int) -> bool:
-    """Whether after a move the other side's question leaves this code."""
-    kind, vertex, depths = problem.question
-    size = problem.situation.position.size
-    after = play(problem.situation.position, problem.mover(), move.point)
-    if after.cells[problem.target()] == EMPTY:
-        return True
-    if depths.plies == 1:
-        return kind == "defend"
-    told(gopat, depths_line(depths.plies - 1, max(depths.wide - 1, 0)))
-    told(gopat, f"play {positions.LETTERS[problem.mover()]} {vertex_of(size, move.point)}")
-    against = told(gopat, f"{'defend' if kind == 'attack' else 'attack'} {vertex}")
-    told(gopat, "undo")
-    return int(against[0]) <= 3 - code
-
-
-class Verdict(NamedTuple):
-    """Whether an answer is as expected, and in words."""
-
-    is_right: bool
-    text: str
-
-
-def verdict(expected: Expected, answer: Answer) -> Verdict:
-    """How an answer compares with what is expected."""
-    wrong = [move for move in expected.moves if move not in answer.moves]
-    others = [move for move in answer.moves if move not in expected.moves]
-    if expected.code not in (None, answer.code):
-        return Verdict(False, f"code {expected.code} is expected")
-    if wrong and answer.code == 0:
-        return Verdict(False, "not solved at these depths")
-    if wrong:
-        return Verdict(False, f"expected: {' '.join(wrong)}")
-    if expected.moves and others:
-        return Verdict(not expected.is_only, "as expected, and other moves do as well")
-    is_told = expected.moves or expected.code is not None
-    return Verdict(True, "as expected" if is_told else "nothing is expected")

@@ -4,9 +4,10 @@ usage: python3 tools/time_all_moves.py LIBRARY REGRESSION [PLIES WIDE [TIMES]]
 
 LIBRARY is gopat's shared library, made of libgopat_c.a as docs/DOORS.md says; REGRESSION is the folder regression/ of
 GNU Go's source. It runs at the top of a clone. The depths are 16 6 unless they are told. Each question is asked by
-`gopat_attack` or `gopat_defend`, and all its moves by `gopat_all`, each TIMES times (3), of which the least time counts.
-Prints for each tree the processor's milliseconds of both over all questions, how many times the first the second is,
-and the same of the question for which it is greatest, of those that take a millisecond and more.
+`gopat_attack` or `gopat_defend`, and all its moves by `gopat_all`, each TIMES times (3), of which the least time
+counts. It is that of the library's call. The two have to tell the same code. Prints for each tree the processor's
+milliseconds of both over all questions, how many times the first the second is, and the same of the question for which
+it is greatest, of those that take a millisecond and more.
 """
 
 import os
@@ -50,16 +51,26 @@ def board_of(gopat, position):
     return gopat.Board(position.size, bytes(position.cells), ban)
 
 
+def calls_of(gopat, board, asked, depths) -> tuple[Callable[[], object], Callable[[], object]]:
+    """The calls of the library for a question and for all its moves."""
+    library, handed, point = gopat._LIBRARY, board._board, board.point(asked.vertex)
+    within, ask = gopat._depths(*depths), getattr(library, f"gopat_{asked.kind}")
+    kind = gopat.KINDS[asked.kind]
+    return lambda: ask(handed, point, within), lambda: library.gopat_all(handed, kind, point, within)
+
+
 def taken(gopat, regression: str, depths: tuple[int, int], is_wider: bool, times: int) -> list[Taken]:
     """What each question of the suites takes."""
     found = []
     for path in sorted(pathlib.Path(regression).glob("*.tst")):
         for asked in suites_as_records.questions(path):
             board = board_of(gopat, asked.situations[-1].position)
-            ask, arguments = getattr(board, asked.kind), (asked.vertex, *depths, is_wider)
-            question = seconds(lambda: ask(*arguments), times)
-            moves = seconds(lambda: board.all_moves(asked.kind, *arguments), times)
-            found.append(Taken(question, moves, f"{path.stem} {asked.number}"))
+            code = getattr(board, asked.kind)(asked.vertex, *depths, is_wider).code
+            if board.all_moves(asked.kind, asked.vertex, *depths, is_wider).code != code:
+                raise RuntimeError(f"{path.stem} {asked.number}: two codes")
+            question, moves = calls_of(gopat, board, asked, (*depths, is_wider))
+            name = f"{path.stem} {asked.number}"
+            found.append(Taken(seconds(question, times), seconds(moves, times), name))
     return found
 
 

@@ -1,11 +1,12 @@
 """Runs the scripts that draw, on docs/examples and on the small inputs of tools/expected/inputs, and compares.
 
-usage: python3 tools/try_tools.py [GOPAT | --store [GOPAT]]
+usage: python3 tools/try_tools.py [--store] [GOPAT [CHECK_PROBLEMS]]
 
 It runs at the top of a clone. Each run is compared with what is stored in tools/expected: the output, what is said on
 standard error, and the exit status. In the place of gopat stands stored_replies.py, with replies that gopat once gave;
-with GOPAT this program is asked instead, and has to lead to the same outputs. With --store all outputs are stored anew,
-and the replies of GOPAT with them.
+with GOPAT this program is asked instead, and has to lead to the same outputs. A page of problems is made of objects
+that are stored too; with CHECK_PROBLEMS they come from this program. With --store all outputs are stored anew, and what
+the programs said with them.
 
 Besides, these have to be so of all outputs: a page has no script, asks for no other file, closes what it opens, and
 each of its links has a target; a board of each size from 2 to 25, and parts of it, are drawn with nothing cut off, and
@@ -39,13 +40,23 @@ TOOLS, EXPECTED, INPUTS, EXAMPLES = "tools", "tools/expected", "tools/expected/i
 
 
 class Run(NamedTuple):
-    """A run of a script: a name, the words of its command line, in which {gopat} stands for the program and {out} for a
-    new folder, the exit status, and what comes on standard input."""
+    """A run of a script: a name, the words of its command line, in which {gopat} stands for the program, {out} for a
+    new folder and {objects} for what check_problems printed, the exit status, what comes on standard input, and the
+    words behind check_problems."""
 
     name: str
     words: str
     status: int = 0
     given: str = ""
+    checked: str = ""
+
+
+class Programs(NamedTuple):
+    """The programs that are asked, if any are, and whether what they say is stored."""
+
+    gopat: str | None
+    check_problems: str | None
+    is_stored: bool
 
 
 # A hundred pages of one problem each, as long as this, have less than 3 MB.
@@ -58,6 +69,7 @@ NET = (
 # Both trees have the same answers at these depths.
 FIRST_CAPTURES = "--number 2 --size 5 --stones 6:10 --depths 3:0 --plies 1:3 --seed 5"
 ATARI = f"{EXAMPLES}/atari.db {EXAMPLES}/hane.db"
+PAGE = "problem_page.py {objects}"
 RUNS = [
     Run("board.svg", f"board_picture.py {EXAMPLES}/record.sgf --numbers --last --triangle D4 --label D3=A"),
     Run("part.svg", f"board_picture.py {EXAMPLES}/problem.gtp --part A1:E4 --square C2 --cross A1 --circle D2"),
@@ -92,15 +104,15 @@ RUNS = [
     Run("faulty.txt", f"show_matches.py {{gopat}} {EXAMPLES}/hane.gtp b {EXAMPLES}/hane.db {ATARI}", 2),
     Run("catalogue.html", f"pattern_pages.py {INPUTS}/edges.db {INPUTS}/odd.db"),
     Run("found.html", f"pattern_pages.py {EXAMPLES}/hane.db --records {INPUTS}/records --moves 0,2 --gopat {{gopat}}"),
-    Run("problems.html", f"problem_page.py {{gopat}} {INPUTS}/problems --depths 3:1"),
-    Run("unexpected.html", f"problem_page.py {{gopat}} {INPUTS}/unexpected --depths 3:1", 1),
-    Run("long.html", f"problem_page.py {{gopat}} {INPUTS}/long"),
+    Run("problems.html", PAGE, checked=f"--depths 3 1 --anywhere --proof --json {INPUTS}/problems"),
+    Run("unexpected.html", PAGE, 1, checked=f"--depths 3 1 --json {INPUTS}/unexpected"),
+    Run("long.html", PAGE, checked=f"--anywhere --proof --json {INPUTS}/long"),
     Run("random_problems.txt", f"make_problems.py {{gopat}} {{out}} {FIRST_CAPTURES}"),
     Run("no_depths.txt", "make_problems.py {gopat} {out} --depths 6", 2),
     Run("no_suites.txt", f"suites_as_records.py {INPUTS} {{out}}", 2),
     Run("README.md", f"problem_index.py {EXAMPLES}/problems"),
     Run("no_index.txt", f"problem_index.py {INPUTS}/records", 2),
-    Run("no_problem.txt", f"problem_page.py {{gopat}} {INPUTS}/records", 2),
+    Run("no_problem.txt", "problem_page.py -", 2),
 ]
 # What stands in the documents, and where.
 IN_DOCUMENTS = {
@@ -127,20 +139,35 @@ def execute(words: list[str], given: str = "") -> Done:
     return Done(done.returncode, done.stdout, done.stderr)
 
 
-def program(run: Run, gopat: str | None, is_stored: bool) -> str:
+def program(run: Run, programs: Programs) -> str:
     """What a run asks in the place of gopat."""
-    replies = f"{EXPECTED}/{run.name}.replies"
+    replies, gopat = f"{EXPECTED}/{run.name}.replies", programs.gopat
     stands_in = f"{sys.executable} {TOOLS}/stored_replies.py"
     if gopat is None:
         return f"{stands_in} {replies}"
-    return f"{stands_in} --store {replies} {gopat}" if is_stored else gopat
+    return f"{stands_in} --store {replies} {gopat}" if programs.is_stored else gopat
 
 
-def done_of(run: Run, gopat: str | None, is_stored: bool) -> Done:
+def objects(run: Run, programs: Programs, room: str) -> str:
+    """The file with what check_problems prints, or once printed."""
+    stored = f"{EXPECTED}/{run.name}.objects"
+    if not run.checked or programs.check_problems is None:
+        return stored
+    path = stored if programs.is_stored else f"{room}/objects"
+    with open(path, "w", encoding="utf-8") as file:
+        words = [programs.check_problems, *shlex.split(run.checked)]
+        subprocess.run(words, stdout=file, stderr=subprocess.DEVNULL, check=False)
+    return path
+
+
+def done_of(run: Run, programs: Programs) -> Done:
     """Runs a script with its words."""
-    words = [word.replace("{gopat}", program(run, gopat, is_stored)) for word in shlex.split(run.words)]
     with tempfile.TemporaryDirectory() as room:
-        return execute([word.replace("{out}", room) for word in words], run.given)
+        stand = {"{gopat}": program(run, programs), "{objects}": objects(run, programs, room), "{out}": room}
+        words = shlex.split(run.words)
+        for name, value in stand.items():
+            words = [word.replace(name, value) for word in words]
+        return execute(words, run.given)
 
 
 def shown(done: Done) -> str:
@@ -413,10 +440,10 @@ def wrong_proofs() -> Iterator[str]:
 CHECKS: list[Callable[[], Iterator[str]]] = [wrong_boards, wrong_diagrams, wrong_proofs, wrong_pictures, wrong_words]
 
 
-def check(run: Run, gopat: str | None, is_stored: bool) -> Iterator[str]:
+def check(run: Run, programs: Programs) -> Iterator[str]:
     """What is wrong with a run and its output."""
-    done = done_of(run, gopat, is_stored)
-    yield from compare(run, done, is_stored)
+    done = done_of(run, programs)
+    yield from compare(run, done, programs.is_stored)
     if run.name.endswith((".html", ".svg")):
         yield from look_through(run.name, done.out)
     if run.name == "long.html" and (len(done.out) > MOST_BYTES or "left out here" not in done.out):
@@ -429,12 +456,13 @@ def check(run: Run, gopat: str | None, is_stored: bool) -> Iterator[str]:
 
 def main(*words: str) -> int:
     is_stored = words[:1] == ("--store",)
-    programs = words[1:] if is_stored else words
-    if len(programs) > 1 or any(word.startswith("--") for word in programs):
+    named = words[1:] if is_stored else words
+    if len(named) > 2 or any(word.startswith("--") for word in named):
         print(__doc__, file=sys.stderr)
         return 2
-    gopat = programs[0] if programs else None
-    wrong = [line for run in RUNS for line in check(run, gopat, is_stored)]
+    gopat, check_problems, *_ = *named, None, None
+    programs = Programs(gopat, check_problems, is_stored)
+    wrong = [line for run in RUNS for line in check(run, programs)]
     wrong += [line for one in CHECKS for line in one()]
     print("\n".join([*wrong, f"{len(RUNS)} runs and {len(CHECKS)} checks, {len(wrong)} differ"]))
     return 1 if wrong else 0

@@ -1,9 +1,9 @@
 //! A checker for authors of problem sets: tells of each record the code of its question, all moves that attain it, the
 //! fewest plies with which they do, and whether that is what the author expects.
 //!
-//! `check_problems [--depths PLIES WIDE] [--tree stated|wider] [--only NAME] [--proof] [--json] FOLDER|FILE...`. The
-//! exit status is 0 if all is as expected, 1 if something is not, and 2 if the words are no command line or name no
-//! record, or a folder cannot be listed, or there is no memory.
+//! `check_problems [--depths PLIES WIDE] [--tree stated|wider] [--anywhere] [--only NAME] [--proof] [--json]
+//! FOLDER|FILE...`. The exit status is 0 if all is as expected, 1 if something is not, and 2 if the words are no
+//! command line or name no record, or a folder cannot be listed, or there is no memory.
 #![tactic(auto)]
 
 mod names;
@@ -24,8 +24,8 @@ use std::{env, fs, io};
 
 /// The note of a faulty command line.
 const USAGE: &str =
-    "usage: check_problems [--depths PLIES WIDE] [--tree stated|wider] [--only NAME] [--proof] \
-[--json] FOLDER|FILE...";
+    "usage: check_problems [--depths PLIES WIDE] [--tree stated|wider] [--anywhere] [--only NAME] \
+[--proof] [--json] FOLDER|FILE...";
 
 /// The exit status if something is not as expected.
 const NOT_AS_EXPECTED: u8 = 1;
@@ -43,7 +43,14 @@ fn row_at<R: Files + AllocGlobal>(rt: &R, options: &Options, name: &str) -> io::
     match fs::read(rt, name) {
         Ok(text) => {
             let text = text.as_slice();
-            row_of(rt.alloc(), text, options.depths, options.proof).map_err(no_memory)
+            row_of(
+                rt.alloc(),
+                text,
+                options.depths,
+                options.scope,
+                options.proof,
+            )
+            .map_err(no_memory)
         }
         Err(_) => Ok(Row::NotLoaded),
     }

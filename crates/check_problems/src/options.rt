@@ -1,7 +1,7 @@
 //! What the words of the command line ask for.
 
 use clap::{Arg, ArgAction, ArgMatches, Command};
-use problem_verdicts::{Depths, Tree};
+use problem_verdicts::{Depths, Scope, Tree};
 use std::alloc::{AllocError, Global};
 
 /// The plies of a question whose record tells no depths.
@@ -15,6 +15,8 @@ const USUAL_WIDE: u8 = 2;
 pub(crate) struct Options {
     /// The depths of a question whose record tells none, and the tree of all questions.
     pub(crate) depths: Depths,
+    /// Which moves of a question are judged.
+    pub(crate) scope: Scope,
     /// The file name of the records that are checked, if not all are.
     pub(crate) only: Option<String>,
     /// Whether the proof behind each code is told.
@@ -54,6 +56,7 @@ fn command<'a>(alloc: Global) -> Result<Command<'a>, AllocError> {
         .arg(option(alloc, "depths", 2))?
         .arg(option(alloc, "tree", 1))?
         .arg(option(alloc, "only", 1))?
+        .arg(flag(alloc, "anywhere"))?
         .arg(flag(alloc, "proof"))?
         .arg(flag(alloc, "json"))?
         .arg(places(alloc))
@@ -79,6 +82,15 @@ fn tree_in(matches: &ArgMatches<'_>) -> Option<Tree> {
         None | Some("stated") => Some(Tree::Stated),
         Some("wider") => Some(Tree::Wider),
         Some(_) => None,
+    }
+}
+
+/// Which moves of a question are judged.
+fn scope_in(matches: &ArgMatches<'_>) -> Scope {
+    if is_set(matches, "anywhere") {
+        Scope::Anywhere
+    } else {
+        Scope::Tried
     }
 }
 
@@ -109,6 +121,7 @@ fn options_in(alloc: Global, matches: &ArgMatches<'_>) -> Option<Options> {
     }
     Some(Options {
         depths,
+        scope: scope_in(matches),
         only: only_in(alloc, matches)?,
         proof: is_set(matches, "proof"),
         json: is_set(matches, "json"),

@@ -2,7 +2,8 @@
 
 use crate::page::{kind_word, print_bytes, print_moves, verdict_words};
 use crate::row::{Asked, Row};
-use problem_verdicts::{Tree, Verdict};
+use go_base::Size;
+use problem_verdicts::{Moves, Scope, Tree, Verdict};
 use std::alloc::AllocError;
 use std::fmt::Display;
 use vertices::vertex_text;
@@ -29,6 +30,21 @@ fn tree_word(tree: Tree) -> &'static str {
     }
 }
 
+/// The word of a scope.
+fn scope_word(scope: Scope) -> &'static str {
+    match scope {
+        Scope::Tried => "tried",
+        Scope::Anywhere => "anywhere",
+    }
+}
+
+/// Prints moves as a list.
+fn print_list(page: &mut String, moves: &Moves, size: Size) -> Result<(), AllocError> {
+    page.push_str("[")?;
+    print_moves(page, moves, size, "\"", ",")?;
+    page.push_str("]")
+}
+
 /// Prints a member whose value may be none.
 fn print_number(page: &mut String, name: &str, value: Option<u8>) -> Result<(), AllocError> {
     match value {
@@ -49,20 +65,29 @@ fn print_question(page: &mut String, asked: &Asked) -> Result<(), AllocError> {
     print_bytes(page, vertex_text(size, problem.target).as_slice())?;
     write!(
         page,
-        "\",\"plies\":{},\"wide\":{},\"tree\":\"{}\"",
+        "\",\"plies\":{},\"wide\":{},\"tree\":\"{}\",\"scope\":\"{}\"",
         problem.depths.plies,
         problem.depths.wide,
-        tree_word(problem.depths.tree)
+        tree_word(problem.depths.tree),
+        scope_word(asked.scope)
     )
+}
+
+/// Prints the member of the moves that the author expects.
+fn print_expected(page: &mut String, asked: &Asked) -> Result<(), AllocError> {
+    page.push_str(",\"expected\":")?;
+    match &asked.problem.expected.answers {
+        Some(moves) => print_list(page, moves, asked.problem.position.size()),
+        None => page.push_str("null"),
+    }
 }
 
 /// Prints the members of what is found.
 fn print_found(page: &mut String, asked: &Asked) -> Result<(), AllocError> {
     let found = &asked.judged.found;
     print_number(page, "code", Some(found.code))?;
-    page.push_str(",\"moves\":[")?;
-    print_moves(page, &found.moves, asked.problem.position.size(), "\"", ",")?;
-    page.push_str("]")?;
+    page.push_str(",\"moves\":")?;
+    print_list(page, &found.moves, asked.problem.position.size())?;
     print_number(page, "fewest", found.fewest)
 }
 
@@ -87,6 +112,7 @@ fn print_proof(page: &mut String, asked: &Asked) -> Result<(), AllocError> {
 /// Prints the members of a record that asks a question.
 fn print_asked(page: &mut String, asked: &Asked) -> Result<(), AllocError> {
     print_question(page, asked)?;
+    print_expected(page, asked)?;
     print_found(page, asked)?;
     print_verdict(page, asked.judged.verdict)?;
     if asked.judged.verdict == Verdict::NotTold {
@@ -98,7 +124,9 @@ fn print_asked(page: &mut String, asked: &Asked) -> Result<(), AllocError> {
 /// Prints the members of a record that asks no question.
 fn print_unasked<D: Display>(page: &mut String, why: &D) -> Result<(), AllocError> {
     page.push_str(",\"kind\":null,\"target\":null,\"plies\":null,\"wide\":null,\"tree\":null")?;
-    page.push_str(",\"code\":null,\"moves\":null,\"fewest\":null")?;
+    page.push_str(
+        ",\"scope\":null,\"expected\":null,\"code\":null,\"moves\":null,\"fewest\":null",
+    )?;
     print_verdict(page, Verdict::NotTold)?;
     write!(page, ",\"why\":\"{why}\"")
 }

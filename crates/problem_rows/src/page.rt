@@ -2,7 +2,7 @@
 
 use crate::row::{Asked, Row};
 use go_base::Size;
-use problem_verdicts::{Kind, Moves, Verdict};
+use problem_verdicts::{Kind, Moves, Scope, Verdict};
 use std::alloc::AllocError;
 use std::fmt::Display;
 use vertices::vertex_text;
@@ -77,7 +77,11 @@ fn print_question(page: &mut String, asked: &Asked) -> Result<(), AllocError> {
         page,
         " depths {} {}",
         problem.depths.plies, problem.depths.wide
-    )
+    )?;
+    match asked.scope {
+        Scope::Tried => Ok(()),
+        Scope::Anywhere => page.push_str(" anywhere"),
+    }
 }
 
 /// Prints the moves that attain the code.

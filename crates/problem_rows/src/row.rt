@@ -2,7 +2,7 @@
 
 use go_base::{Bytes, NoMemory};
 use problem_records::{Lack, Problem, ProblemError, problem_of};
-use problem_verdicts::{Depths, Judged, Verdict, judge};
+use problem_verdicts::{Depths, Judged, Scope, Verdict, judge};
 use std::alloc::Global;
 use write_proof::{ProofError, first_proof};
 
@@ -11,6 +11,8 @@ use write_proof::{ProofError, first_proof};
 pub struct Asked {
     /// What it asks.
     pub problem: Problem,
+    /// Which moves are judged.
+    pub scope: Scope,
     /// What is found, and the verdict.
     pub judged: Judged,
     /// The first proof behind the code, if it is asked for; `None` in it if the proof is too long.
@@ -43,13 +45,19 @@ fn proof_of(alloc: Global, problem: &Problem) -> Result<Option<Bytes>, NoMemory>
     }
 }
 
-/// What a problem comes to, with its proof if it is asked for.
-fn asked_of(alloc: Global, problem: Problem, proves: bool) -> Result<Asked, NoMemory> {
+/// What a problem comes to by the moves of the scope, with its proof if it is asked for.
+fn asked_of(
+    alloc: Global,
+    problem: Problem,
+    scope: Scope,
+    proves: bool,
+) -> Result<Asked, NoMemory> {
     let judged = judge(
         &problem.position,
         problem.kind,
         problem.target,
         problem.depths,
+        scope,
         &problem.expected,
     );
     let proof = if proves {
@@ -59,16 +67,23 @@ fn asked_of(alloc: Global, problem: Problem, proves: bool) -> Result<Asked, NoMe
     };
     Ok(Asked {
         problem,
+        scope,
         judged,
         proof,
     })
 }
 
-/// What is told of the record with this text, whose question has these depths if the record tells none; with the proof
-/// behind the code, if it is asked for. Takes memory.
-pub fn row_of(alloc: Global, text: &[u8], depths: Depths, proves: bool) -> Result<Row, NoMemory> {
+/// What is told of the record with this text, whose question has these depths if the record tells none, and of which
+/// the moves of the scope are judged; with the proof behind the code, if it is asked for. Takes memory.
+pub fn row_of(
+    alloc: Global,
+    text: &[u8],
+    depths: Depths,
+    scope: Scope,
+    proves: bool,
+) -> Result<Row, NoMemory> {
     match problem_of(alloc, text, depths) {
-        Ok(problem) => Ok(Row::Asked(asked_of(alloc, problem, proves)?)),
+        Ok(problem) => Ok(Row::Asked(asked_of(alloc, problem, scope, proves)?)),
         Err(ProblemError::Lacks(lack)) => Ok(Row::Lacks(lack)),
         Err(ProblemError::NoMemory) => Err(NoMemory),
     }

@@ -1,5 +1,6 @@
 //! What authors of problem sets are told.
 
+mod anywhere;
 mod comments;
 mod counted;
 mod lacks;
@@ -9,7 +10,7 @@ mod verdicts;
 
 use go_base::NoMemory;
 use problem_rows::{print_row, row_of};
-use problem_verdicts::{Depths, Tree};
+use problem_verdicts::{Depths, Scope, Tree};
 use std::alloc::{AllocError, Global};
 use std::process::Abort;
 
@@ -45,20 +46,29 @@ fn usual() -> Result<Depths, Fail> {
     }
 }
 
-/// The line of a record of the name `r`.
-fn line_of(alloc: Global, record: &str) -> Result<String, Fail> {
-    let row = row_of(alloc, record.as_bytes(), usual()?, false)?;
+/// The line of a record of the name `r`, of which the moves of the scope are judged.
+fn line_of(alloc: Global, record: &str, scope: Scope) -> Result<String, Fail> {
+    let row = row_of(alloc, record.as_bytes(), usual()?, scope, false)?;
     let mut line = String::new(alloc);
     print_row(&mut line, "r", &row)?;
     Ok(line)
 }
 
-/// Compares the lines of records with what is expected.
-fn compare<R: Abort + AllocGlobal>(rt: &R, records: &[Record]) -> Result<(), Fail> {
+/// Compares the lines of records with what is expected, if the moves of this scope are judged.
+fn compare_in<R: Abort + AllocGlobal>(
+    rt: &R,
+    scope: Scope,
+    records: &[Record],
+) -> Result<(), Fail> {
     for &(what, record, columns) in records {
-        let line = line_of(rt.alloc(), record)?;
+        let line = line_of(rt.alloc(), record, scope)?;
         let want = format!(in rt.alloc(); "r\t{columns}\n")?;
         assert!(rt; line == want, "{what}: {line}");
     }
     Ok(())
+}
+
+/// Compares the lines of records with what is expected, if the moves that the tree tries are judged.
+fn compare<R: Abort + AllocGlobal>(rt: &R, records: &[Record]) -> Result<(), Fail> {
+    compare_in(rt, Scope::Tried, records)
 }

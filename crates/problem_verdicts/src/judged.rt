@@ -3,16 +3,16 @@
 ghost use Rattle.std.specs.Prelude.{◌≡◌, ◌≢◌, ◌*◌, ◌<◌, None};
 ghost use Rattle.go_rules.specs.Strings.{cell_at};
 ghost use Rattle.read_rules.specs.Answer.{asked_in};
-ghost use Rattle.read_all.specs.AllMoves.{AreAllMoves};
 ghost use Rattle.read_all.specs.FewestPlies.{AreFewest};
-ghost use Rattle.problem_verdicts.specs.Questions.{other_kind, code_of, is_needless, IsFound};
+ghost use Rattle.problem_verdicts.specs.Questions.{other_kind, code_of, is_needless, AreMovesOf, IsFound};
 ghost use Rattle.problem_verdicts.specs.Verdicts.{verdict_on};
 
 use crate::expected::Expected;
 use crate::moves::Moves;
+use crate::scope::Scope;
 use crate::verdict::{Verdict, verdict_of};
-use go_base::{Cell, Point, Position, Watch};
-use read_all::{Depths, Kind, all_moves, fewest_plies};
+use go_base::{Cell, Look, Point, Position, Watch};
+use read_all::{AllMoves, Depths, Kind, all_moves, fewest_plies, moves_anywhere};
 use read_tree::{attack, defend};
 
 /// What is found of a question.
@@ -20,7 +20,7 @@ use read_tree::{attack, defend};
 pub struct Found {
     /// The code: 3, 2, 1 or 0.
     pub code: u8,
-    /// All moves that attain the code; none for code 0.
+    /// All moves that attain the code, of those that are judged; none for code 0.
     pub moves: Moves,
     /// The fewest plies with which the question has this code; `None` for code 0.
     pub fewest: Option<u8>,
@@ -84,13 +84,32 @@ fn fewest_of(pos: &Position, kind: Kind, target: Point, depths: Depths, code: u8
     fewest_plies(Watch::new(pos), kind, target, depths, code).plies
 }
 
-/// What is found of a question about the string at `target`.
-fn find(pos: &Position, kind: Kind, target: Point, depths: Depths) -> Found
+/// The code of a question, and all moves of the scope that attain it.
+fn moves_of<L: Look>(
+    look: L,
+    kind: Kind,
+    target: Point,
+    depths: Depths,
+    scope: Scope,
+) -> AllMoves<L>
+    requires on_board { target < (L.shows look).size * (L.shows look).size }
+    requires stone { cell_at (L.shows look).cells target ≢ Cell.Empty }
+    ensures { AreMovesOf scope (asked_in depths.tree (L.shows look) kind target depths.plies depths.wide)
+        (L.shows look) result.code result.pass result.points }
+{
+    match scope {
+        Scope::Tried => all_moves(look, kind, target, depths),
+        Scope::Anywhere => moves_anywhere(look, kind, target, depths),
+    }
+}
+
+/// What is found of a question about the string at `target`, with the moves of the scope.
+fn find(pos: &Position, kind: Kind, target: Point, depths: Depths, scope: Scope) -> Found
     requires on_board { target < pos.now.size * pos.now.size }
     requires stone { cell_at pos.now.cells target ≢ Cell.Empty }
-    ensures { IsFound pos.now kind target depths result }
+    ensures { IsFound scope pos.now kind target depths result }
 {
-    let all = all_moves(Watch::new(pos), kind, target, depths);
+    let all = moves_of(Watch::new(pos), kind, target, depths, scope);
     Found {
         code: all.code,
         fewest: fewest_of(pos, kind, target, depths, all.code),
@@ -102,21 +121,22 @@ fn find(pos: &Position, kind: Kind, target: Point, depths: Depths) -> Found
     }
 }
 
-/// What is found of the question, whether the string at `target` can be captured or saved with these depths, and what
-/// its author is told, who expects this.
+/// What is found of the question, whether the string at `target` can be captured or saved with these depths, and by
+/// which moves of the scope; and what its author is told, who expects this.
 pub fn judge(
     pos: &Position,
     kind: Kind,
     target: Point,
     depths: Depths,
+    scope: Scope,
     expected: &Expected,
 ) -> Judged
     requires on_board { target < pos.now.size * pos.now.size }
     requires stone { cell_at pos.now.cells target ≢ Cell.Empty }
-    ensures found { IsFound pos.now kind target depths result.found }
+    ensures found { IsFound scope pos.now kind target depths result.found }
     ensures verdict { result.verdict ≡ verdict_on expected.now result.found }
 {
-    let found = find(pos, kind, target, depths);
+    let found = find(pos, kind, target, depths, scope);
     let verdict = verdict_of(expected, &found);
     Judged { found, verdict }
 }

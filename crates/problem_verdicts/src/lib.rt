@@ -2,14 +2,15 @@
 //! and whether that is what the author expects.
 //!
 //! `judge` reads the question; `verdict_of` is the rule by which what was found is compared with what is expected.
-//! Codes are those of a reading, and the moves are the candidates of the question and the pass, as `read_all` tells
-//! them. Nothing takes memory.
+//! Codes are those of a reading. The moves are those of a `Scope`, as `read_all` tells them: the moves that the tree
+//! tries, or every legal move. Nothing takes memory.
 #![tactic(auto)]
 
 mod expected;
 mod judged;
 mod laws;
 mod moves;
+mod scope;
 mod verdict;
 
 pub use expected::Expected;
@@ -17,4 +18,5 @@ pub use judged::{Found, Judged, judge};
 pub use laws::answers_mean_moves;
 pub use moves::Moves;
 pub use read_all::{Depths, Kind, Tree};
+pub use scope::Scope;
 pub use verdict::{Verdict, verdict_of};
