@@ -13,10 +13,8 @@ returns-clause-ok c =
       patterns = record { sound = c.in_ok-list.ensures.ok.0; spelled = c.in_ok-list.ensures.ok.1 };
       few = (
         length rows,
-        (
-          subst (λ ps. HasStates ps (length rows)) same c.in_ok-automaton.ensures.states,
-          c.in_ok-automaton.ensures.bound,
-        ),
+        subst (λ ps. HasStates ps (length rows)) same c.in_ok-automaton.ensures.states,
+        c.in_ok-automaton.ensures.bound,
       );
       automaton = subst (λ ps. IsAutomatonOf ps rows) same c.in_ok-automaton.ensures.accepts;
       numbers = subst (λ ps. NumbersPatterns rows ps) same c.in_ok-automaton.ensures.numbers;

@@ -1,5 +1,5 @@
 -- The scanner's rows are those of the automaton.
-use Rattle.std.proofs.Common.{◌∙◌, sym, subst}
+use Rattle.std.proofs.Common.{sym, subst}
 use Rattle.dfa_core.specs.States.{IsAutomatonOf}
 use Rattle.match_doors.specs.Patterns.{NumbersPatterns}
 use Rattle.match_doors.proofs.matcher.Matcher.open.Goals as goal
@@ -9,8 +9,7 @@ pub invariant_of-result : goal.invariant_of-result
 invariant_of-result c =
     let list = c.in_ok-list.field-0.list.items in
     let read = c.in_ok-list.ensures.ok in
-    let same = c.in_ok-scanner.ensures ∙ c.in_ok-list.automaton-is in
     record {
-      automaton = subst (λ rows. IsAutomatonOf list rows) (sym same) read.automaton;
-      numbers = subst (λ rows. NumbersPatterns rows list) (sym same) read.numbers;
+      automaton = subst (λ rows. IsAutomatonOf list rows) (sym c.in_ok-scanner.ensures) read.automaton;
+      numbers = subst (λ rows. NumbersPatterns rows list) (sym c.in_ok-scanner.ensures) read.numbers;
     }
