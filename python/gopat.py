@@ -12,6 +12,17 @@
 
 The module wants the shared library of the crate `gopat_c`: `GOPAT_LIBRARY` names its file, else `libgopat_c.so` stands
 beside this one. What has no answer raises `Refused`. Boards never change: `play` gives a new one.
+
+`Patterns` and `Session` keep something, until `close` or the end of a `with`: the patterns of a pattern file, of which
+they tell the matches on a board, and a whole session of the protocol. They want the shared libraries of the crates
+`gopat_matches_c` and `gopat_session_c`, named by `GOPAT_MATCHES_LIBRARY` and `GOPAT_SESSION_LIBRARY` or beside this file.
+
+    >>> with Patterns("Pattern Edge\\nO*|\\n:8,s\\n") as patterns:
+    ...     patterns.matches(Board.of_rows(["...", ".X.", "..."]), BLACK)
+    [Match(pattern=0, move='C2', transform=0), Match(pattern=0, move='B3', transform=1)]
+    >>> with Session() as session:
+    ...     session.line("boardsize 9"), session.line("1 komi x")
+    ('=', '?1 syntax error')
 """
 
 import ctypes
@@ -47,13 +58,17 @@ class Status(enum.IntEnum):
     SUICIDE = 14
     SHORT_BUFFER = 15
     TOO_LONG = 16
+    CLOSED = 17
+    NO_MEMORY = 18
+    BAD_TEXT = 19
+    TOO_MANY_STATES = 20
 
 
 class Refused(ValueError):
     """A question that has no answer; `status` says why."""
 
-    def __init__(self, status: Status):
-        super().__init__(status.name.lower().replace("_", " "))
+    def __init__(self, status: Status, fault: str = ""):
+        super().__init__(status.name.lower().replace("_", " ") + fault)
         self.status = status
 
 
@@ -78,6 +93,15 @@ class Proof(NamedTuple):
 
     code: int
     text: str
+
+
+class Match(NamedTuple):
+    """A match: the place of its pattern in the text, counted from 0, the vertex of its move, and the transformation of
+    its diagram, 0 to 7."""
+
+    pattern: int
+    move: str
+    transform: int
 
 
 class _Board(ctypes.Structure):
@@ -118,10 +142,39 @@ class _Played(ctypes.Structure):
     _fields_ = [("status", ctypes.c_uint8), ("board", _Board)]
 
 
+class _Handle(ctypes.Structure):
+    _fields_ = [("is_open", ctypes.c_bool), ("at", ctypes.c_void_p)]
+
+
+class _Opened(ctypes.Structure):
+    _fields_ = [
+        ("status", ctypes.c_uint8),
+        ("kind", ctypes.c_uint8),
+        ("line", ctypes.c_uint64),
+        ("patterns", ctypes.c_size_t),
+    ]
+
+
+class _Match(ctypes.Structure):
+    _fields_ = [("pattern", ctypes.c_uint16), ("at", ctypes.c_uint16), ("transform", ctypes.c_uint8)]
+
+
+class _Found(ctypes.Structure):
+    _fields_ = [("status", ctypes.c_uint8), ("number", ctypes.c_size_t)]
+
+
+class _Reply(ctypes.Structure):
+    _fields_ = [("status", ctypes.c_uint8), ("ends", ctypes.c_uint8), ("length", ctypes.c_size_t)]
+
+
+def _opened_library(variable: str, name: str) -> ctypes.CDLL:
+    """A shared library: the one that the variable names, else the one of this name beside this file."""
+    return ctypes.CDLL(os.environ.get(variable, str(pathlib.Path(__file__).with_name(name))))
+
+
 def _library() -> ctypes.CDLL:
     """The shared library, with the types of its functions."""
-    beside = pathlib.Path(__file__).with_name("libgopat_c.so")
-    library = ctypes.CDLL(os.environ.get("GOPAT_LIBRARY", str(beside)))
+    library = _opened_library("GOPAT_LIBRARY", "libgopat_c.so")
     byte, point = ctypes.c_uint8, ctypes.c_uint16
     for name, result, arguments in [
         ("attack", _Answer, [point, _Depths]),
@@ -245,3 +298,104 @@ class Board:
 
 def _depths(plies: int, wide: int, wider: bool) -> _Depths:
     return _Depths(_fitting(plies, 255), _fitting(wide, 255), wider)
+
+
+class _Held:
+    """What a handle holds, until it is closed."""
+
+    _ends: str
+
+    def _begin(self, library: ctypes.CDLL, functions: list[tuple]):
+        self._handle = _Handle()
+        for name, result, arguments in functions:
+            function = getattr(library, name)
+            function.restype, function.argtypes = result, [ctypes.POINTER(_Handle), *arguments]
+        self._library = library
+
+    def _opened(self, reply: _Opened) -> int:
+        """How many patterns there are."""
+        if reply.status:
+            fault = f": line {reply.line} kind {reply.kind}" if reply.line else ""
+            raise Refused(Status(reply.status), fault)
+        return reply.patterns
+
+    def close(self) -> None:
+        """Frees what is held. Afterwards each question is refused."""
+        getattr(self._library, self._ends)(self._handle)
+
+    def __enter__(self):
+        return self
+
+    def __exit__(self, *_):
+        self.close()
+
+
+def _bytes(text: str | bytes) -> bytes:
+    return text.encode() if isinstance(text, str) else text
+
+
+class Patterns(_Held):
+    """The patterns of a pattern file, which name no helper; `count` is their number."""
+
+    _ends = "gopat_patterns_close"
+
+    def __init__(self, text: str | bytes):
+        size = ctypes.c_size_t
+        self._begin(
+            _opened_library("GOPAT_MATCHES_LIBRARY", "libgopat_matches_c.so"),
+            [
+                ("gopat_patterns_open", _Opened, [ctypes.c_char_p, size]),
+                ("gopat_matches", _Found, [_Board, ctypes.c_uint8, _Depths, ctypes.POINTER(_Match), size]),
+                ("gopat_patterns_close", None, []),
+            ],
+        )
+        data = _bytes(text)
+        self.count = self._opened(self._library.gopat_patterns_open(self._handle, data, len(data)))
+
+    def matches(
+        self, board: Board, colour: int, plies: int = 10, wide: int = 2, wider: bool = False
+    ) -> list[Match]:
+        """The matches on the board for a colour, in order: by the pattern, the transformation and the point."""
+        asked, depths = _fitting(colour, 255), _depths(plies, wide, wider)
+        room = 256
+        while True:
+            found = (_Match * room)()
+            reply = self._library.gopat_matches(self._handle, board._board, asked, depths, found, room)
+            if reply.status != Status.SHORT_BUFFER:
+                break
+            room = reply.number
+        return [Match(z.pattern, board.vertex(z.at), z.transform) for z in found[: _told(reply).number]]
+
+
+class Session(_Held):
+    """A session of the protocol with the patterns of a pattern file, which name no helper: what the program answers
+    through a pipe. Each file that a line names counts as empty."""
+
+    _ends = "gopat_session_close"
+
+    def __init__(self, text: str | bytes = b"", plies: int = 10, wide: int = 2, wider: bool = False):
+        size, chars = ctypes.c_size_t, ctypes.c_char_p
+        self._begin(
+            _opened_library("GOPAT_SESSION_LIBRARY", "libgopat_session_c.so"),
+            [
+                ("gopat_session_open", _Opened, [chars, size, _Depths]),
+                ("gopat_line", _Reply, [chars, size, chars, size]),
+                ("gopat_last_reply", _Reply, [chars, size]),
+                ("gopat_session_close", None, []),
+            ],
+        )
+        data, depths = _bytes(text), _depths(plies, wide, wider)
+        self.count = self._opened(self._library.gopat_session_open(self._handle, data, len(data), depths))
+        self.ended = False
+
+    def line(self, text: str | bytes) -> str:
+        """The reply to a line, without the empty line at its end; no text for a line without words. `ended` says then
+        whether the line ends the session."""
+        data = _bytes(text)
+        room = ctypes.create_string_buffer(4096)
+        reply = self._library.gopat_line(self._handle, data, len(data), room, len(room))
+        if reply.status == Status.SHORT_BUFFER:
+            room = ctypes.create_string_buffer(reply.length)
+            reply = self._library.gopat_last_reply(self._handle, room, len(room))
+        self.ended = bool(_told(reply).ends)
+        return room.raw[: reply.length].decode().removesuffix("\n\n")
