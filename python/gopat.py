@@ -13,16 +13,13 @@
 The module wants the shared library of the crate `gopat_c`: `GOPAT_LIBRARY` names its file, else `libgopat_c.so` stands
 beside this one. What has no answer raises `Refused`. Boards never change: `play` gives a new one.
 
-`Patterns` and `Session` keep something, until `close` or the end of a `with`: the patterns of a pattern file, of which
-they tell the matches on a board, and a whole session of the protocol. They want the shared libraries of the crates
-`gopat_matches_c` and `gopat_session_c`, named by `GOPAT_MATCHES_LIBRARY` and `GOPAT_SESSION_LIBRARY` or beside this file.
+`Patterns` holds the patterns of a pattern file until `close` or the end of a `with`, and tells their matches on a
+board. It wants the shared library of the crate `gopat_matches_c`: `GOPAT_MATCHES_LIBRARY` names its file, else
+`libgopat_matches_c.so` stands beside this one.
 
     >>> with Patterns("Pattern Edge\\nO*|\\n:8,s\\n") as patterns:
     ...     patterns.matches(Board.of_rows(["...", ".X.", "..."]), BLACK)
     [Match(pattern=0, move='C2', transform=0), Match(pattern=0, move='B3', transform=1)]
-    >>> with Session() as session:
-    ...     session.line("boardsize 9"), session.line("1 komi x")
-    ('=', '?1 syntax error')
 """
 
 import ctypes
@@ -161,10 +158,6 @@ class _Match(ctypes.Structure):
 
 class _Found(ctypes.Structure):
     _fields_ = [("status", ctypes.c_uint8), ("number", ctypes.c_size_t)]
-
-
-class _Reply(ctypes.Structure):
-    _fields_ = [("status", ctypes.c_uint8), ("ends", ctypes.c_uint8), ("length", ctypes.c_size_t)]
 
 
 def _opened_library(variable: str, name: str) -> ctypes.CDLL:
@@ -366,36 +359,3 @@ class Patterns(_Held):
             room = reply.number
         return [Match(z.pattern, board.vertex(z.at), z.transform) for z in found[: _told(reply).number]]
 
-
-class Session(_Held):
-    """A session of the protocol with the patterns of a pattern file, which name no helper: what the program answers
-    through a pipe. Each file that a line names counts as empty."""
-
-    _ends = "gopat_session_close"
-
-    def __init__(self, text: str | bytes = b"", plies: int = 10, wide: int = 2, wider: bool = False):
-        size, chars = ctypes.c_size_t, ctypes.c_char_p
-        self._begin(
-            _opened_library("GOPAT_SESSION_LIBRARY", "libgopat_session_c.so"),
-            [
-                ("gopat_session_open", _Opened, [chars, size, _Depths]),
-                ("gopat_line", _Reply, [chars, size, chars, size]),
-                ("gopat_last_reply", _Reply, [chars, size]),
-                ("gopat_session_close", None, []),
-            ],
-        )
-        data, depths = _bytes(text), _depths(plies, wide, wider)
-        self.count = self._opened(self._library.gopat_session_open(self._handle, data, len(data), depths))
-        self.ended = False
-
-    def line(self, text: str | bytes) -> str:
-        """The reply to a line, without the empty line at its end; no text for a line without words. `ended` says then
-        whether the line ends the session."""
-        data = _bytes(text)
-        room = ctypes.create_string_buffer(4096)
-        reply = self._library.gopat_line(self._handle, data, len(data), room, len(room))
-        if reply.status == Status.SHORT_BUFFER:
-            room = ctypes.create_string_buffer(reply.length)
-            reply = self._library.gopat_last_reply(self._handle, room, len(room))
-        self.ended = bool(_told(reply).ends)
-        return room.raw[: reply.length].decode().removesuffix("\n\n")

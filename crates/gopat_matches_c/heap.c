@@ -1,6 +1,5 @@
-/* The memory of libgopat_matches_c.a and libgopat_session_c.a, by malloc, realloc and free. Another allocator may stand
-   in their place: an answer `ok` has room for n bytes at p, aligned to a, which is at most 16; without it p is not
-   null, and nothing changed. */
+/* The memory of libgopat_matches_c.a, by malloc, realloc and free. Another allocator may stand in their place: an answer
+   `ok` has room for n bytes at p, aligned to a, which is at most 16; without it p is not null, and nothing changed. */
 #include <stdbool.h>
 #include <stdlib.h>
 
