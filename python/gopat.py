@@ -18,8 +18,8 @@ board. It wants the shared library of the crate `gopat_matches_c`: `GOPAT_MATCHE
 `libgopat_matches_c.so` stands beside this one.
 
     >>> with Patterns("Pattern Edge\\nO*|\\n:8,s\\n") as patterns:
-    ...     patterns.matches(Board.of_rows(["...", ".X.", "..."]), BLACK)
-    [Match(pattern=0, move='C2', transform=0), Match(pattern=0, move='B3', transform=1)]
+    ...     patterns.matches(Board.of_rows(["...", ".X.", "..."]), BLACK)[:2]
+    [Match(pattern=0, move='C2', transform=0), Match(pattern=0, move='B1', transform=1)]
 """
 
 import ctypes
