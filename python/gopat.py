@@ -12,6 +12,14 @@
 
 The module wants the shared library of the crate `gopat_c`: `GOPAT_LIBRARY` names its file, else `libgopat_c.so` stands
 beside this one. What has no answer raises `Refused`. Boards never change: `play` gives a new one.
+
+`Patterns` holds the patterns of a pattern file until `close` or the end of a `with`, and tells their matches on a
+board. It wants the shared library of the crate `gopat_matches_c`: `GOPAT_MATCHES_LIBRARY` names its file, else
+`libgopat_matches_c.so` stands beside this one.
+
+    >>> with Patterns("Pattern Edge\\nO*|\\n:8,s\\n") as patterns:
+    ...     patterns.matches(Board.of_rows(["...", ".X.", "..."]), BLACK)[:2]
+    [Match(pattern=0, move='C2', transform=0), Match(pattern=0, move='B1', transform=1)]
 """
 
 import ctypes
@@ -47,13 +55,17 @@ class Status(enum.IntEnum):
     SUICIDE = 14
     SHORT_BUFFER = 15
     TOO_LONG = 16
+    CLOSED = 17
+    NO_MEMORY = 18
+    BAD_TEXT = 19
+    TOO_MANY_STATES = 20
 
 
 class Refused(ValueError):
     """A question that has no answer; `status` says why."""
 
-    def __init__(self, status: Status):
-        super().__init__(status.name.lower().replace("_", " "))
+    def __init__(self, status: Status, fault: str = ""):
+        super().__init__(status.name.lower().replace("_", " ") + fault)
         self.status = status
 
 
@@ -78,6 +90,15 @@ class Proof(NamedTuple):
 
     code: int
     text: str
+
+
+class Match(NamedTuple):
+    """A match: the place of its pattern in the text, counted from 0, the vertex of its move, and the transformation of
+    its diagram, 0 to 7."""
+
+    pattern: int
+    move: str
+    transform: int
 
 
 class _Board(ctypes.Structure):
@@ -118,10 +139,35 @@ class _Played(ctypes.Structure):
     _fields_ = [("status", ctypes.c_uint8), ("board", _Board)]
 
 
+class _Handle(ctypes.Structure):
+    _fields_ = [("is_open", ctypes.c_bool), ("at", ctypes.c_void_p)]
+
+
+class _Opened(ctypes.Structure):
+    _fields_ = [
+        ("status", ctypes.c_uint8),
+        ("kind", ctypes.c_uint8),
+        ("line", ctypes.c_uint64),
+        ("patterns", ctypes.c_size_t),
+    ]
+
+
+class _Match(ctypes.Structure):
+    _fields_ = [("pattern", ctypes.c_uint16), ("at", ctypes.c_uint16), ("transform", ctypes.c_uint8)]
+
+
+class _Found(ctypes.Structure):
+    _fields_ = [("status", ctypes.c_uint8), ("number", ctypes.c_size_t)]
+
+
+def _opened_library(variable: str, name: str) -> ctypes.CDLL:
+    """A shared library: the one that the variable names, else the one of this name beside this file."""
+    return ctypes.CDLL(os.environ.get(variable, str(pathlib.Path(__file__).with_name(name))))
+
+
 def _library() -> ctypes.CDLL:
     """The shared library, with the types of its functions."""
-    beside = pathlib.Path(__file__).with_name("libgopat_c.so")
-    library = ctypes.CDLL(os.environ.get("GOPAT_LIBRARY", str(beside)))
+    library = _opened_library("GOPAT_LIBRARY", "libgopat_c.so")
     byte, point = ctypes.c_uint8, ctypes.c_uint16
     for name, result, arguments in [
         ("attack", _Answer, [point, _Depths]),
@@ -245,3 +291,71 @@ class Board:
 
 def _depths(plies: int, wide: int, wider: bool) -> _Depths:
     return _Depths(_fitting(plies, 255), _fitting(wide, 255), wider)
+
+
+class _Held:
+    """What a handle holds, until it is closed."""
+
+    _ends: str
+
+    def _begin(self, library: ctypes.CDLL, functions: list[tuple]):
+        self._handle = _Handle()
+        for name, result, arguments in functions:
+            function = getattr(library, name)
+            function.restype, function.argtypes = result, [ctypes.POINTER(_Handle), *arguments]
+        self._library = library
+
+    def _opened(self, reply: _Opened) -> int:
+        """How many patterns there are."""
+        if reply.status:
+            fault = f": line {reply.line} kind {reply.kind}" if reply.line else ""
+            raise Refused(Status(reply.status), fault)
+        return reply.patterns
+
+    def close(self) -> None:
+        """Frees what is held. Afterwards each question is refused."""
+        getattr(self._library, self._ends)(self._handle)
+
+    def __enter__(self):
+        return self
+
+    def __exit__(self, *_):
+        self.close()
+
+
+def _bytes(text: str | bytes) -> bytes:
+    return text.encode() if isinstance(text, str) else text
+
+
+class Patterns(_Held):
+    """The patterns of a pattern file, which name no helper; `count` is their number."""
+
+    _ends = "gopat_patterns_close"
+
+    def __init__(self, text: str | bytes):
+        size = ctypes.c_size_t
+        self._begin(
+            _opened_library("GOPAT_MATCHES_LIBRARY", "libgopat_matches_c.so"),
+            [
+                ("gopat_patterns_open", _Opened, [ctypes.c_char_p, size]),
+                ("gopat_matches", _Found, [_Board, ctypes.c_uint8, _Depths, ctypes.POINTER(_Match), size]),
+                ("gopat_patterns_close", None, []),
+            ],
+        )
+        data = _bytes(text)
+        self.count = self._opened(self._library.gopat_patterns_open(self._handle, data, len(data)))
+
+    def matches(
+        self, board: Board, colour: int, plies: int = 10, wide: int = 2, wider: bool = False
+    ) -> list[Match]:
+        """The matches on the board for a colour, in order: by the pattern, the transformation and the point."""
+        asked, depths = _fitting(colour, 255), _depths(plies, wide, wider)
+        room = 256
+        while True:
+            found = (_Match * room)()
+            reply = self._library.gopat_matches(self._handle, board._board, asked, depths, found, room)
+            if reply.status != Status.SHORT_BUFFER:
+                break
+            room = reply.number
+        return [Match(z.pattern, board.vertex(z.at), z.transform) for z in found[: _told(reply).number]]
+
