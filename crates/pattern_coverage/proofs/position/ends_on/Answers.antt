@@ -40,7 +40,7 @@ returns g c =
     ∙ of_bare _ advice board c.args.friend c.in_ok-found.found.items c.as_slice.result.now bare
     c.as_slice.ensures.value (c.in_ok-found.ensures.patterns theirs) in
     let said = ap says_yes c.in_ok-found.ensures.calls ∙ raised-says _ slots in
-    let told = c.as_slice-3.ensures.value ∙ c.in_ok-ends.ensures
+    let told = c.as_slice-3.ensures.value ∙ c.in_ok-ends.ensures.ends
     ∙ ap (λ says. map (end_at c.args.depths says patterns board c.args.friend) c.as_slice-2.result.now) said
     ∙ ap (map (end_at c.args.depths advice patterns board c.args.friend)) found in
     record {
