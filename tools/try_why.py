@@ -107,10 +107,12 @@ def runs() -> Iterator[Run]:
     yield Run("--coverage", ["--coverage", "records", "silent.db"], "", row.format(2, 0), summary, 0)
     never = row.format(0, 2) + "Row\t9\t0\t0\t0\t0\t0\t0\t0\n"
     yield Run("an entry that never fits", ["--coverage", "records", "never.db"], "", never, "1 of them never fit", 1)
-    yield Run("a faulty record", ["--coverage", "faulty", "mended.db"], "", row.format(0, 2), "faulty/a.sgf: bad sgf", 1)
+    among = ["--coverage", "faulty", "mended.db"]
+    yield Run("a faulty record among others", among, "", row.format(0, 2), "faulty/a.sgf: bad sgf", 1)
     yield Run("no folder", ["--coverage", "none", "silent.db"], "", "", "none: ", 2)
-    wrong = [[], ["--no", "silent.db"], ["--coverage", "records", "--json", "silent.db"], ["--move", "1", "silent.db"], ["--all", "silent.db"], ["a", "b", "c"]]
-    for words in [*wrong, ["--colour", "x", "silent.db"]]:
+    alone = [["--coverage", "records", *words, "silent.db"] for words in [["--json"], ["--at", "E5"]]]
+    wrong = [[], ["--no", "silent.db"], ["--move", "1", "silent.db"], ["--all", "silent.db"], ["a", "b", "c"]]
+    for words in [*alone, *wrong, ["--colour", "x", "silent.db"]]:
         yield Run(" ".join(["the words", *words]), words, "", "", USAGE, 2)
 
 

@@ -1,7 +1,7 @@
 -- The ends of all tries of a pattern: those behind the move, those at it, and the rest at the diagram.
 use Rattle.std.proofs.Common.{inl, inr, ◌≡◌, ℕ, zero, suc, ◌+◌, ◌-◌, ◌*◌, ◌<◌, ◌≤◌, Bool, true, false, ◌&&◌, cond, eqb, List, []}
 use Rattle.std.proofs.Common.{◌∷◌, length, map, count_by, Some, None, Option, slice_get, get_or, refl, sym, ap, ◌∙◌}
-use Rattle.std.proofs.Common.{subst, arith, Contains, ◌++◌, take, min, ◌^◌, Result, Ok, Err, IfOk}
+use Rattle.std.proofs.Common.{subst, arith, Contains, ◌++◌, take, min, ◌^◌, Result, Ok, Err, IfOk, OnOk}
 use Rattle.std.specs.List.{range_with_len}
 use Rattle.std.proofs.lemmas.Bool.{cases_Bool, eqb-true}
 use Rattle.std.proofs.lemmas.List.{take_more, map-append}
@@ -252,6 +252,11 @@ module _ (d : Depths) (advice : Advice) (board : BoardState) (friend : Colour) w
 pub if_ok : {T E : Type 0} (P Q : T → Type 0) (r : Result T E) → ((v : T) → P v → Q v) → IfOk r P → IfOk r Q
 if_ok P Q (Ok v) follows fact = follows v fact
 if_ok P Q (Err e) follows fact = fact
+
+-- what is a fact is one if a result is a value
+pub on_ok : {T E P : Type 0} (r : Result T E) → P → OnOk r P
+on_ok (Ok v) fact = fact
+on_ok (Err e) fact = tt
 
 -- the matches of a list that is the list of bare patterns are those of the bare patterns
 pub of_bare : (code : Codes) (advice : Advice) (board : BoardState) (friend : Colour) (found : List Match)

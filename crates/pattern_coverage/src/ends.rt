@@ -1,5 +1,5 @@
 //! Where the tries end whose diagram fits with a legal move.
-ghost use Rattle.std.specs.Prelude.{◌≡◌, ◌&&◌, ◌==◌, ◌*◌, ◌<◌, length, map, count_by, Contains, IfOk, slice_get};
+ghost use Rattle.std.specs.Prelude.{◌≡◌, ◌&&◌, ◌==◌, ◌*◌, ◌<◌, length, map, count_by, Contains, IfOk, OnOk, slice_get};
 ghost use Rattle.helpers.specs.HelperStates.{says_yes};
 ghost use Rattle.helpers.specs.Slots.{states_of};
 ghost use Rattle.match_rules.specs.declared.found.Match.{Match as MatchSeen};
@@ -73,8 +73,9 @@ pub(crate) fn ends_of(
     found: &[Match],
 ) -> Result<Vec<End>, NoMemory>
     requires { (z : MatchSeen) → Contains found.now z → IsFoundThere patterns.now position.now z }
-    ensures { IfOk result (λ ends. ends.items
+    ensures ends { IfOk result (λ ends. ends.items
         ≡ map (end_at depths (says_yes (states_of state helpers.old)) patterns.now position.now friend) found.now) }
+    ensures advice { OnOk result (says_yes (states_of state helpers.new) ≡ says_yes (states_of state helpers.old)) }
 {
     let mut ends = Vec::with_capacity(alloc, found.len())?;
     'tries: for z in found {

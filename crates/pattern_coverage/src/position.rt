@@ -1,5 +1,5 @@
 //! The ends of all tries on a position.
-ghost use Rattle.std.specs.Prelude.{◌≡◌, ℕ, ◌*◌, ◌≤◌, length, filter, IfOk, Some, slice_get};
+ghost use Rattle.std.specs.Prelude.{◌≡◌, ℕ, ◌*◌, ◌≤◌, length, filter, IfOk, OnOk, Some, slice_get};
 ghost use Rattle.std.specs.List.{range_with_len};
 ghost use Rattle.pat_types.specs.Marks.{count_of};
 ghost use Rattle.helpers.specs.HelperStates.{says_yes};
@@ -91,7 +91,8 @@ fn ends_of_all(
 
 /// How many tries of each pattern of a list end at each part on a position for a friend, in the order of the list.
 ///
-/// Each reading is made afresh at `depths`. The helpers are asked about each try that comes to them. Takes memory.
+/// Each reading is made afresh at `depths`. The helpers are asked about each try that comes to them, and say afterwards
+/// what they said before. Takes memory.
 pub fn ends_on(
     alloc: Global,
     patterns: &[Pattern],
@@ -105,6 +106,7 @@ pub fn ends_on(
     requires diagrams { AreDiagramsOf patterns.now diagrams.now }
     ensures ends { IfOk result (λ counts. AreAllEnds depths (says_yes (states_of state helpers.old)) patterns.now
         position.now friend counts.items) }
+    ensures advice { OnOk result (says_yes (states_of state helpers.new) ≡ says_yes (states_of state helpers.old)) }
 {
     let mut readings = Readings::new(alloc, depths, KEPT_READINGS)?;
     let found = matches(

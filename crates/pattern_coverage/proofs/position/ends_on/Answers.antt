@@ -4,7 +4,7 @@ use Rattle.helpers.specs.Slots.{states_of}
 use Rattle.dfa_core.specs.States.{IsAutomatonOf}
 use Rattle.pattern_coverage.specs.Ends.{end_at}
 use Rattle.pattern_coverage.proofs.Advice.{raised-says}
-use Rattle.pattern_coverage.proofs.AllEnds.{later_ends, bare-there, if_ok, of_bare}
+use Rattle.pattern_coverage.proofs.AllEnds.{later_ends, bare-there, if_ok, on_ok, of_bare}
 use Rattle.pattern_coverage.proofs.position.ends_on.Goals as goal
 
 -- the automaton accepts only numbers of bare patterns
@@ -26,9 +26,16 @@ ends_of-requires g c z there =
     ∙ of_bare _ advice c.args.position.now c.args.friend c.in_ok-found.found.items c.as_slice.result.now bare
     c.as_slice.ensures.value (c.in_ok-found.ensures.patterns theirs)) there)
 
+-- helpers that were asked about bare patterns and then about what was found say what they said
+pub returns-clause-advice : goal.returns-clause-advice
+returns-clause-advice g c =
+    let slots = states_of (λ z. (goal.Helper-dyn g z).state z.1) c.args.helpers.now in
+    on_ok c.ends_of_all.result
+    (c.in_ok-ends.ensures.advice ∙ (ap says_yes c.in_ok-found.ensures.calls ∙ raised-says _ slots))
+
 -- the ends of all patterns, from those of the tries whose diagrams fit with a legal move
-pub returns : goal.returns
-returns g c =
+pub returns-clause-ends : goal.returns-clause-ends
+returns-clause-ends g c =
     let slots = states_of (λ z. (goal.Helper-dyn g z).state z.1) c.args.helpers.now in
     let advice = says_yes slots in
     let board = c.args.position.now in
@@ -40,13 +47,11 @@ returns g c =
     ∙ of_bare _ advice board c.args.friend c.in_ok-found.found.items c.as_slice.result.now bare
     c.as_slice.ensures.value (c.in_ok-found.ensures.patterns theirs) in
     let said = ap says_yes c.in_ok-found.ensures.calls ∙ raised-says _ slots in
-    let told = c.as_slice-3.ensures.value ∙ c.in_ok-ends.ensures
+    let told = c.as_slice-3.ensures.value ∙ c.in_ok-ends.ensures.ends
     ∙ ap (λ says. map (end_at c.args.depths says patterns board c.args.friend) c.as_slice-2.result.now) said
     ∙ ap (map (end_at c.args.depths advice patterns board c.args.friend)) found in
-    record {
-      ends = if_ok _ _ c.ends_of_all.result
-          (λ counts all. all c.args.depths advice
-          (λ place p there. later_ends c.args.depths advice p board c.args.friend _ advice patterns bare place
-          c.requires.diagrams.bare there c.as_slice-3.result.now told))
-          c.ends_of_all.ensures;
-    }
+    if_ok _ _ c.ends_of_all.result
+    (λ counts all. all c.args.depths advice
+    (λ place p there. later_ends c.args.depths advice p board c.args.friend _ advice patterns bare place
+    c.requires.diagrams.bare there c.as_slice-3.result.now told))
+    c.ends_of_all.ensures
