@@ -87,11 +87,12 @@ fn ends_in(alloc: Global, row: &Row) -> Option<[u64; 7]> {
     if patterns.len() > MOST_PATTERNS {
         return None;
     }
-    let diagrams = Diagrams::new(alloc, patterns.as_slice(), 10_000).ok()?;
+    let list = patterns.as_slice();
+    let diagrams = Diagrams::new(alloc, list, 10_000).ok()?;
     let mut helpers = new_helpers(alloc).ok()?;
     let ends = ends_on(
         alloc,
-        patterns.as_slice(),
+        list,
         &diagrams,
         &position,
         Colour::Black,

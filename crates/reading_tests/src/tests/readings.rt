@@ -19,7 +19,7 @@ struct Readings {
 const LONG_LADDER: Stones = (19, "D16", "C16 D17 E17");
 
 /// Readings by what they show.
-static READINGS: [Readings; 38] = [
+static READINGS: [Readings; 30] = [
     Readings {
         name: "a stone in atari is captured",
         stones: IN_ATARI,
@@ -221,8 +221,11 @@ static READINGS: [Readings; 38] = [
             ((Defend, "C5", 6, 2), Stated, 0, ""),
         ],
     },
-    // Each of these has another answer in a tree without the rule that it names: no capture for the attacker's rules and
-    // for the bound, and one for the defender's.
+];
+
+/// Questions that each rule of the wider tree decides: without the rule the answer is another, no capture for the
+/// attacker's rules and for the bound, and one for the defender's.
+static DECIDED: [Readings; 8] = [
     Readings {
         name: "in every ply the attacker strengthens a string with two liberties",
         stones: (5, "D3", "A5 B5 E5"),
@@ -442,6 +445,14 @@ fn first_wrong(readings: &Readings) -> u8 {
 #[test]
 fn questions_have_their_answers(rt: HostRuntime) {
     for readings in &READINGS {
+        let wrong = first_wrong(readings);
+        assert!(rt; wrong == 0, "{}, {wrong} plies", readings.name);
+    }
+}
+
+#[test]
+fn each_rule_of_the_wider_tree_decides_a_question(rt: HostRuntime) {
+    for readings in &DECIDED {
         let wrong = first_wrong(readings);
         assert!(rt; wrong == 0, "{}, {wrong} plies", readings.name);
     }
