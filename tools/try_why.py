@@ -105,7 +105,7 @@ def runs() -> Iterator[Run]:
     row = COLUMNS + "Squeeze\t1\t2\t0\t0\t0\t{}\t0\t{}\n"
     summary = "1 records, 4 positions, 1 entries, 0 of them never fit"
     yield Run("--coverage", ["--coverage", "records", "silent.db"], "", row.format(2, 0), summary, 0)
-    never = row.format(0, 2) + "Row\t9\t0\t0\t0\t0\t0\t0\t0\n"
+    never = row.format(0, 2) + "Row\t11\t0\t0\t0\t0\t0\t0\t0\n"
     yield Run("an entry that never fits", ["--coverage", "records", "never.db"], "", never, "1 of them never fit", 1)
     among = ["--coverage", "faulty", "mended.db"]
     yield Run("a faulty record among others", among, "", row.format(0, 2), "faulty/a.sgf: bad sgf", 1)
