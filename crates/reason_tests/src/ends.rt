@@ -88,18 +88,23 @@ fn ends_in(alloc: Global, row: &Row) -> Option<[u64; 7]> {
         return None;
     }
     let list = patterns.as_slice();
-    let diagrams = Diagrams::new(alloc, list, 10_000).ok()?;
     let mut helpers = new_helpers(alloc).ok()?;
-    let ends = ends_on(
-        alloc,
-        list,
-        &diagrams,
-        &position,
-        Colour::Black,
-        Depths::new(3, 2)?,
-        &mut helpers,
-    );
-    Some(ends.ok()?.first()?.counts)
+    let depths = Depths::new(3, 2)?;
+    match Diagrams::new(alloc, list, 10_000) {
+        Ok(diagrams) => {
+            let ends = ends_on(
+                alloc,
+                list,
+                &diagrams,
+                &position,
+                Colour::Black,
+                depths,
+                &mut helpers,
+            );
+            Some(ends.ok()?.first()?.counts)
+        }
+        Err(_) => None,
+    }
 }
 
 #[test]
