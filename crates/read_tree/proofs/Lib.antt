@@ -11,5 +11,7 @@ pub mod StandingNodes
 pub mod AtariLemmas
 pub mod EscapeLemmas
 pub mod TableLemmas
+pub mod KnownPliesLemmas
+pub mod DeepeningLemmas
 pub mod NodeLemmas
 mod BoundLemmas

@@ -13,7 +13,6 @@ use Rattle.read_tree.specs.declared.allowances.Allowances.{Allowances}
 use Rattle.read_tree.specs.declared.table.AttackerNode.{AttackerNode}
 use Rattle.read_tree.specs.declared.table.Verdict.{Verdict}
 use Rattle.read_tree.specs.declared.table.Entry.{Entry}
-use Rattle.read_tree.specs.contracts.table.AttackerNodePartialEq.TheImpl.{ghosts}
 use Rattle.trial_board.specs.declared.moves.TrialMove.{TrialMove}
 use Rattle.trial_board.specs.Trials.{after}
 use Rattle.trial_board.specs.Changed.{changed}
@@ -21,36 +20,91 @@ use Rattle.read_tree.specs.Allowances.{Ko, defender_may, neither_may, attacker_m
 use Rattle.read_tree.specs.Allowances.{either, Tells}
 use Rattle.read_rules.specs.declared.node.Node.{Node}
 use Rattle.read_tree.proofs.AllowanceLemmas.{none_of, Tells-same, has-without, in_other}
-use Rattle.read_tree.specs.Table.{is_won, IsTrueOf, IsTrueTable}
+use Rattle.read_tree.specs.Table.{is_won, known_of, entry_node, IsTrueOf, IsTrueEntry, IsTrueTable}
+use Rattle.read_tree.specs.declared.known_plies.KnownPlies.{KnownPlies}
+use Rattle.read_tree.specs.KnownPlies.{is_from, IsMonotone, IsTrueKnown}
+use Rattle.read_tree.proofs.KnownPliesLemmas.{won_monotone}
+use Rattle.std.proofs.lemmas.Bool.{ltb-true}
+use Rattle.std.proofs.Common.{nat_lt}
+use Rattle.trial_board.specs.declared.changes.Changes.{Changes}
 
--- nodes that compare as equal are one
-pub same_node : (a b : AttackerNode) → ghosts.eq a b ≡ true → a ≡ b
-same_node a b e = search rules
-
--- what is true of a node stays true while more is seen
-true_more : {seen more : Fact → Bool} {tree : Tree} {target : ℕ} {defender : Colour} {node : AttackerNode}
-    {verdict : Verdict}
-    → IsTrueOf seen tree target defender node verdict → Grows seen more
-    → IsTrueOf more tree target defender node verdict
-true_more t grows = record { each = λ pos a. t.each pos (agrees_before grows a) }
+-- a true entry stays true while more is seen
+entry_more : {seen more : Fact → Bool} {tree : Tree} {target : ℕ} {defender : Colour} (entry : Entry)
+    → IsTrueEntry seen tree target defender entry → Grows seen more → IsTrueEntry more tree target defender entry
+entry_more entry t grows = record { each = λ pos a. t.each pos (agrees_before grows a) }
 
 -- a table that is true stays true while more is seen
 pub table_more : {seen more : Fact → Bool} {tree : Tree} {target : ℕ} {defender : Colour} {table : List Entry}
     → IsTrueTable seen tree target defender table → Grows seen more → IsTrueTable more tree target defender table
 table_more {seen} {more} {tree} {target} {defender} {table} t grows = record {
-  all = All-weaker (λ (e : Entry). IsTrueOf seen tree target defender e.node e.verdict)
-      (λ (e : Entry). IsTrueOf more tree target defender e.node e.verdict) (λ e h. true_more h grows) table t.all;
+  all = All-weaker (IsTrueEntry seen tree target defender) (IsTrueEntry more tree target defender)
+      (λ e h. entry_more e h grows) table t.all;
 }
 
--- the verdict of an entry is true of the node that is compared as equal to its own
-pub found : {seen : Fact → Bool} {tree : Tree} {target : ℕ} {defender : Colour} (table : List Entry) (i : ℕ)
-    (other : Entry) (node : AttackerNode) → i < length table → ghosts.eq (get_or table i other).node node ≡ true
-    → IsTrueTable seen tree target defender table
-    → IsTrueOf seen tree target defender node (get_or table i other).verdict
-found {seen} {tree} {target} {defender} table i other node h same t =
-    subst (λ (n : AttackerNode). IsTrueOf seen tree target defender n (get_or table i other).verdict)
-    (same_node (get_or table i other).node node same)
-    (All-get_or (λ (e : Entry). IsTrueOf seen tree target defender e.node e.verdict) table i other h t.all)
+-- an entry of a true table is true
+pub entry_true : {seen : Fact → Bool} {tree : Tree} {target : ℕ} {defender : Colour} (table : List Entry) (i : ℕ)
+    (other : Entry) → i < length table → IsTrueTable seen tree target defender table
+    → IsTrueEntry seen tree target defender (get_or table i other)
+entry_true {seen} {tree} {target} {defender} table i other h t =
+    All-get_or (IsTrueEntry seen tree target defender) table i other h t.all
+
+-- what is true of the node that has the changes and the wide plies of another is true of this
+pub of_node : {seen : Fact → Bool} {tree : Tree} {target : ℕ} {defender : Colour} (changes : Changes) (wide : ℕ)
+    (node : AttackerNode) (verdict : Verdict) → changes ≡ node.changes → wide ≡ node.wide
+    → IsTrueOf seen tree target defender (record { changes = changes; plies = node.plies; wide = wide }) verdict
+    → IsTrueOf seen tree target defender node verdict
+of_node {seen} {tree} {target} {defender} changes wide node verdict same_changes same_wide t =
+    subst (λ (w : ℕ). IsTrueOf seen tree target defender
+    (record { changes = node.changes; plies = node.plies; wide = w }) verdict) same_wide
+    (subst (λ (c : Changes). IsTrueOf seen tree target defender
+    (record { changes = c; plies = node.plies; wide = wide }) verdict) same_changes t)
+
+-- and the other way
+pub as_node : {seen : Fact → Bool} {tree : Tree} {target : ℕ} {defender : Colour} (changes : Changes) (wide : ℕ)
+    (node : AttackerNode) (verdict : Verdict) → changes ≡ node.changes → wide ≡ node.wide
+    → IsTrueOf seen tree target defender node verdict
+    → IsTrueOf seen tree target defender (record { changes = changes; plies = node.plies; wide = wide }) verdict
+as_node {seen} {tree} {target} {defender} changes wide node verdict same_changes same_wide t =
+    subst (λ (w : ℕ). IsTrueOf seen tree target defender
+    (record { changes = changes; plies = node.plies; wide = w }) verdict) (sym same_wide)
+    (subst (λ (c : Changes). IsTrueOf seen tree target defender
+    (record { changes = c; plies = node.plies; wide = node.wide }) verdict) (sym same_changes) t)
+
+-- what an entry knows with so many plies is true of its node
+pub told_true : {seen : Fact → Bool} {tree : Tree} {target : ℕ} {defender : Colour} (entry : Entry) (plies : ℕ)
+    (verdict : Verdict) → IsTrueEntry seen tree target defender entry
+    → ((ko : Ko) → has verdict.good ko ≡ is_from (known_of entry ko).won_from plies)
+    → ((ko : Ko) → has verdict.known ko ≡ (has verdict.good ko || nat_lt plies (known_of entry ko).lost_below))
+    → IsTrueOf seen tree target defender (entry_node entry plies) verdict
+told_true {seen} {tree} {target} {defender} entry plies verdict t good known = record {
+  each = λ pos a ko h.
+      by_known (has verdict.good ko) (known_of entry ko)
+      (λ n. is_won tree target defender (entry_node entry n) pos ko)
+      (t.each pos a ko) (good ko) (sym (known ko) ∙ h);
+}
+  where
+    by_known : (g : Bool) (k : KnownPlies) (won : ℕ → Bool) → IsTrueKnown won k → g ≡ is_from k.won_from plies
+        → (g || nat_lt plies k.lost_below) ≡ true → g ≡ won plies
+    by_known true k won its e h = sym (its.gives plies (sym e))
+    by_known false k won its e h = sym (its.denies plies (ltb-true plies k.lost_below h))
+
+-- what was found with so many plies keeps the entry true
+pub learnt_true : {seen : Fact → Bool} {tree : Tree} {target : ℕ} {defender : Colour} (entry next : Entry) (plies : ℕ)
+    (verdict : Verdict) → IsTrueEntry seen tree target defender entry
+    → IsTrueOf seen tree target defender (entry_node entry plies) verdict
+    → next.changes ≡ entry.changes → next.wide ≡ entry.wide
+    → ((ko : Ko) (won : ℕ → Bool) → IsMonotone won → IsTrueKnown won (known_of entry ko)
+    → (has verdict.known ko ≡ true → has verdict.good ko ≡ won plies) → IsTrueKnown won (known_of next ko))
+    → IsTrueEntry seen tree target defender next
+learnt_true {seen} {tree} {target} {defender} entry next plies verdict t of same_changes same_wide step = record {
+  each = λ pos a ko.
+      let won : ℕ → Bool = λ n. is_won tree target defender (entry_node entry n) pos ko in
+      subst (λ (w : ℕ). IsTrueKnown (λ n. is_won tree target defender
+      (record { changes = next.changes; plies = n; wide = w }) pos ko) (known_of next ko)) (sym same_wide)
+      (subst (λ (c : Changes). IsTrueKnown (λ n. is_won tree target defender
+      (record { changes = c; plies = n; wide = entry.wide }) pos ko) (known_of next ko)) (sym same_changes)
+      (step ko won (won_monotone tree target defender entry pos ko) (t.each pos a ko) (of.each pos a ko)));
+}
 
 -- those that are in both sets
 pub has_both : (a b : Allowances) (ko : Ko) → has (both a b) ko ≡ (has a ko && has b ko)

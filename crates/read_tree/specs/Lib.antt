@@ -1,5 +1,7 @@
 pub mod Allowances
+pub mod Deepening
 pub mod Escapes
+pub mod KnownPlies
 pub mod Nodes
 pub mod Readings
 pub mod Stages

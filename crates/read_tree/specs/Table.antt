@@ -11,7 +11,9 @@ use Rattle.read_rules.specs.declared.turn.Turn.{Turn}
 use Rattle.read_tree.specs.declared.table.AttackerNode.{AttackerNode}
 use Rattle.read_tree.specs.declared.table.Verdict.{Verdict}
 use Rattle.read_tree.specs.declared.table.Entry.{Entry}
-use Rattle.read_tree.specs.Allowances.{Ko, under, has}
+use Rattle.read_tree.specs.Allowances.{Ko, defender_may, neither_may, attacker_may, under, has}
+use Rattle.read_tree.specs.declared.known_plies.KnownPlies.{KnownPlies}
+use Rattle.read_tree.specs.KnownPlies.{IsTrueKnown}
 
 -- the attacker's turn in the reading of a target in the tree, with so many wide plies left
 abbrev pub attackers_turn : Tree → ℕ → Colour → ℕ → Turn
@@ -30,10 +32,27 @@ pub record IsTrueOf (seen : Fact → Bool) (tree : Tree) (target : ℕ) (defende
   pub each : (pos : BoardState) → Agrees seen pos → (ko : Ko) → has verdict.known ko ≡ true
       → has verdict.good ko ≡ is_won tree target defender node pos ko
 
--- each verdict in the table is true of its node
+-- what an entry knows under an allowance
+abbrev pub known_of : Entry → Ko → KnownPlies
+known_of entry defender_may = entry.defender
+known_of entry neither_may = entry.neither
+known_of entry attacker_may = entry.attacker
+
+-- the node of an entry, with so many plies left after the attacker's play
+abbrev pub entry_node : Entry → ℕ → AttackerNode
+entry_node entry plies = record { changes = entry.changes; plies = plies; wide = entry.wide }
+
+-- what the entry knows is true: on each position that agrees with the facts, under each allowance, with whatever plies
+-- are left
+pub record IsTrueEntry (seen : Fact → Bool) (tree : Tree) (target : ℕ) (defender : Colour) (entry : Entry) : Type 0
+    where
+  pub each : (pos : BoardState) → Agrees seen pos → (ko : Ko)
+      → IsTrueKnown (λ n. is_won tree target defender (entry_node entry n) pos ko) (known_of entry ko)
+
+-- each entry of the table is true
 pub record IsTrueTable (seen : Fact → Bool) (tree : Tree) (target : ℕ) (defender : Colour) (table : List Entry)
     : Type 0 where
-  pub all : All (λ (e : Entry). IsTrueOf seen tree target defender e.node e.verdict) table
+  pub all : All (IsTrueEntry seen tree target defender) table
 
 -- the same in the reading that the turn is of
 abbrev pub IsTrueTableAt : (Fact → Bool) → Turn → List Entry → Type 0

@@ -22,11 +22,12 @@ ghost use Rattle.read_tree.specs.Walk.{IsPointOf, AreLibertiesOf, OnEachAgreeing
 
 use crate::allowances::Allowances;
 use crate::bound::has_too_many;
+use crate::deepening::succeeds_by_depths;
 use crate::first_look::{FirstLook, first_look};
 use crate::memory::Memory;
 use crate::report::Report;
 use crate::table::{Entry, empty_table};
-use crate::tree::{pass_saves, succeeds};
+use crate::tree::pass_saves;
 use go_base::points::PointSet;
 use go_base::{Cell, Look, Point};
 use read_moves::candidates;
@@ -81,7 +82,7 @@ fn best_point<L: Look>(
     let mut next = 0;
     while let Some(p) = candidates.first_from(next) {
         let asked = Allowances::above(best.code, turn.attacker_to_play);
-        let good = succeeds(board, turn, p, plies, asked, known, memory);
+        let good = succeeds_by_depths(board, turn, p, plies, asked, known, memory);
         best = better(best, turn.attacker_to_play, good, Spot::At(p));
         if best.code == 3 {
             return best;

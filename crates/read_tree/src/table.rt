@@ -1,21 +1,26 @@
 //! What a reading remembers of the attacker's nodes, so that a node that is met again by other plays is not read again.
 //! The table has its storage in place, takes no memory, and lives for one reading.
 
-ghost use Rattle.std.specs.Prelude.{◌≡◌, ℕ, Bool, ◌<◌, length, replicate};
+ghost use Rattle.std.specs.Prelude.{◌≡◌, ℕ, Bool, true, ◌<◌, length, replicate};
 ghost use Rattle.go_rules.specs.declared.Colour.{Colour};
 ghost use Rattle.go_base.specs.Facts.{Fact};
 ghost use Rattle.read_rules.specs.declared.tree.Tree.{Tree};
 ghost use Rattle.read_tree.specs.declared.table.AttackerNode.{AttackerNode};
 ghost use Rattle.read_tree.specs.Allowances.{both, either};
-ghost use Rattle.read_tree.specs.Table.{IsTrueOf, IsTrueTable};
+ghost use Rattle.read_tree.specs.Table.{IsTrueOf, IsTrueEntry, IsTrueTable};
+ghost use Rattle.read_tree.specs.KnownPlies.{IsMonotone, IsTrueKnown};
 
 use crate::allowances::Allowances;
+use crate::known_plies::KnownPlies;
 use go_base::bits::WORDS;
 use go_base::{Colour, Point};
 use trial_board::Changes;
 
 /// How many nodes are remembered at most.
-pub const ENTRIES: usize = 1024;
+pub const ENTRIES: usize = 4096;
+
+/// How many places a node may have; of the nodes there the one stays that was read with most plies.
+const PLACES: usize = 4;
 
 /// A node at the attacker's turn, by what the trial moves changed of the position that is read. Tree, target and
 /// defender are those of the reading.
@@ -38,13 +43,19 @@ pub struct Verdict {
     pub good: Allowances,
 }
 
-/// A node that is remembered, and what is known of it.
+/// What is remembered of an attacker's node, with whatever plies are left.
 #[derive(Clone, Copy, Debug, PartialEq, Eq)]
 pub struct Entry {
-    /// The node.
-    pub node: AttackerNode,
-    /// What is known of it.
-    pub verdict: Verdict,
+    /// What the trial moves changed.
+    pub changes: Changes,
+    /// How many wide plies are left.
+    pub wide: u8,
+    /// What is known under the allowance by which the defender may.
+    pub defender: KnownPlies,
+    /// Under the one by which neither side may.
+    pub neither: KnownPlies,
+    /// Under the one by which the attacker may.
+    pub attacker: KnownPlies,
 }
 
 impl Verdict {
@@ -73,9 +84,94 @@ impl Verdict {
     }
 }
 
+impl Entry {
+    /// Nothing is known of the node.
+    fn nothing_of(node: &AttackerNode) -> Entry
+        ensures changes { result.changes ≡ node.now.changes }
+        ensures wide { result.wide ≡ node.now.wide }
+        ensures true { (seen : Fact → Bool) (tree : Tree) (target : ℕ) (defender : Colour)
+            → IsTrueEntry seen tree target defender result }
+    {
+        Entry {
+            changes: node.changes,
+            wide: node.wide,
+            defender: KnownPlies::nothing(),
+            neither: KnownPlies::nothing(),
+            attacker: KnownPlies::nothing(),
+        }
+    }
+
+    /// Whether it is about the node.
+    fn is_of(&self, node: &AttackerNode) -> bool
+        ensures { result ≡ true → (self.now.changes ≡ node.now.changes) × (self.now.wide ≡ node.now.wide) }
+    {
+        self.wide == node.wide && self.changes == node.changes
+    }
+
+    /// What is known with so many plies left.
+    fn with_plies(&self, plies: u8) -> Verdict
+        ensures { (seen : Fact → Bool) (tree : Tree) (target : ℕ) (defender : Colour)
+            → IsTrueEntry seen tree target defender self.now
+            → IsTrueOf seen tree target defender
+            (record { changes = self.now.changes; plies = plies; wide = self.now.wide }) result }
+    {
+        let good = Allowances {
+            defender: self.defender.is_won(plies),
+            neither: self.neither.is_won(plies),
+            attacker: self.attacker.is_won(plies),
+        };
+        Verdict {
+            known: Allowances {
+                defender: good.defender || self.defender.is_lost(plies),
+                neither: good.neither || self.neither.is_lost(plies),
+                attacker: good.attacker || self.attacker.is_lost(plies),
+            },
+            good,
+        }
+    }
+
+    /// The same, and what was found with so many plies left.
+    fn with(&self, plies: u8, verdict: Verdict) -> Entry
+        ensures { (seen : Fact → Bool) (tree : Tree) (target : ℕ) (defender : Colour)
+            → IsTrueEntry seen tree target defender self.now
+            → IsTrueOf seen tree target defender
+            (record { changes = self.now.changes; plies = plies; wide = self.now.wide }) verdict
+            → IsTrueEntry seen tree target defender result }
+    {
+        let Verdict { known, good } = verdict;
+        Entry {
+            changes: self.changes,
+            wide: self.wide,
+            defender: learnt(self.defender, plies, known.defender, good.defender),
+            neither: learnt(self.neither, plies, known.neither, good.neither),
+            attacker: learnt(self.attacker, plies, known.attacker, good.attacker),
+        }
+    }
+
+    /// The plies that something is known of: the more, the dearer it was to find.
+    fn depth(&self) -> u8 {
+        self.defender
+            .depth()
+            .max(self.neither.depth())
+            .max(self.attacker.depth())
+    }
+}
+
+/// What is known once it was found, if it was, whether the attacker has his way with so many plies.
+fn learnt(before: KnownPlies, plies: u8, found: bool, good: bool) -> KnownPlies
+    ensures { (won : ℕ → Bool) → IsMonotone won → IsTrueKnown won before → (found ≡ true → good ≡ won plies)
+        → IsTrueKnown won result }
+{
+    if found {
+        before.with(plies, good)
+    } else {
+        before
+    }
+}
+
 /// A table of this entry alone.
 fn filled_with(entry: Entry) -> [Entry; ENTRIES]
-    ensures { result ≡ replicate 1024 entry }
+    ensures { result ≡ replicate 4096 entry }
 {
     [entry; ENTRIES]
 }
@@ -85,15 +181,11 @@ pub fn empty_table() -> [Entry; ENTRIES]
     ensures { (seen : Fact → Bool) (tree : Tree) (target : ℕ) (defender : Colour)
         → IsTrueTable seen tree target defender result }
 {
-    let nothing = Entry {
-        node: AttackerNode {
-            changes: Changes::of_ban(None),
-            plies: 0,
-            wide: 0,
-        },
-        verdict: Verdict::nothing(),
-    };
-    filled_with(nothing)
+    filled_with(Entry::nothing_of(&AttackerNode {
+        changes: Changes::of_ban(None),
+        plies: 0,
+        wide: 0,
+    }))
 }
 
 /// Mixes one more word into a number.
@@ -110,46 +202,77 @@ fn ban_word(ban: Option<(Point, Colour)>) -> u64 {
     }
 }
 
-/// The node's place in a table of so many entries.
-fn place_of(node: &AttackerNode, entries: usize) -> usize
+/// The first of the node's places in a table of so many entries, whatever plies are left.
+fn first_place(node: &AttackerNode, entries: usize) -> usize
     requires { 0 < entries }
     ensures { result < entries }
 {
-    let mut number = mixed(
-        u64::from(node.plies) * 256 + u64::from(node.wide),
-        ban_word(node.changes.ban),
-    );
+    let mut number = mixed(u64::from(node.wide), ban_word(node.changes.ban));
     for i in 0..WORDS {
         number = mixed(mixed(number, node.changes.black[i]), node.changes.white[i]);
     }
     ((number ^ (number >> 32)) % entries as u64) as usize
 }
 
-/// What the table knows of the node: nothing, where another has its place.
+/// The place of the node among its places: that of its entry, or else of the entry that was found with fewest plies.
+fn place_of(table: &[Entry], node: &AttackerNode) -> usize
+    requires { 0 < length table.now }
+    ensures { result < length table.now }
+{
+    let first = first_place(node, table.len());
+    let mut place = first;
+    let mut depth = u8::MAX;
+    'places: for i in first..table.len().min(first + PLACES) {
+        let entry = &table[i];
+        if entry.is_of(node) {
+            return i;
+        }
+        let its = entry.depth();
+        if its < depth {
+            place = i;
+            depth = its;
+        }
+    }
+    place
+}
+
+/// What the table knows of the node: nothing, if it is in none of its places.
 pub fn find(table: &[Entry], node: &AttackerNode) -> Verdict
     requires { 0 < length table.now }
     ensures { (seen : Fact → Bool) (tree : Tree) (target : ℕ) (defender : Colour)
         → IsTrueTable seen tree target defender table.now
         → IsTrueOf seen tree target defender node.now result }
 {
-    let entry = table[place_of(node, table.len())];
-    if entry.node == *node {
-        entry.verdict
+    let entry = &table[place_of(table, node)];
+    if entry.is_of(node) {
+        entry.with_plies(node.plies)
     } else {
         Verdict::nothing()
     }
 }
 
-/// Remembers what is known of the node, in the place of another or of what was known of it.
+/// What the entry knows of the node: nothing, if it is about another.
+fn entry_of(entry: &Entry, node: &AttackerNode) -> Entry
+    ensures changes { result.changes ≡ node.now.changes }
+    ensures wide { result.wide ≡ node.now.wide }
+    ensures true { (seen : Fact → Bool) (tree : Tree) (target : ℕ) (defender : Colour)
+        → IsTrueEntry seen tree target defender entry.now → IsTrueEntry seen tree target defender result }
+{
+    if entry.is_of(node) {
+        *entry
+    } else {
+        Entry::nothing_of(node)
+    }
+}
+
+/// Remembers what is known of the node, with what was known of it before, or in the place of another.
 pub fn keep(table: &mut [Entry], node: &AttackerNode, verdict: Verdict)
     requires { 0 < length table.old }
     ensures { (seen : Fact → Bool) (tree : Tree) (target : ℕ) (defender : Colour)
         → IsTrueTable seen tree target defender table.old
         → IsTrueOf seen tree target defender node.now verdict → IsTrueTable seen tree target defender table.new }
 {
-    let place = place_of(node, table.len());
-    table[place] = Entry {
-        node: *node,
-        verdict,
-    };
+    let place = place_of(table, node);
+    let before = entry_of(&table[place], node);
+    table[place] = before.with(node.plies, verdict);
 }

@@ -33,11 +33,17 @@ use crate::outlook::{Outlook, is_in_atari, liberties_within, outlook_of, stone_o
 use crate::table::AttackerNode;
 use go_base::points::PointSet;
 use go_base::{Cell, Look, Point};
-use read_rules::Turn;
+use read_rules::{Tree, Turn};
 use trial_board::Trial;
 
-/// With fewer plies left after the attacker's play his nodes are not remembered.
-const LEAST_PLIES: u8 = 4;
+/// With fewer plies left after the attacker's play his nodes are not remembered: to read them costs less than to find
+/// them. A node of the wider tree has more candidates, so that it pays there sooner.
+fn least_plies(tree: Tree) -> u8 {
+    match tree {
+        Tree::Stated => 4,
+        Tree::Wider => 2,
+    }
+}
 
 /// The liberties of the target after the play at p, by those before it: an attacker's play that does not take the
 /// target takes no liberty but its own point. None where they are to be found on the board.
@@ -86,7 +92,7 @@ fn liberties_known<L: Look>(
 
 /// Those of the asked under which the attacker wins, by those under which the side to play, the attacker or not, has
 /// its way.
-fn attackers(attacker: bool, asked: Allowances, good: Allowances) -> Allowances
+pub fn attackers(attacker: bool, asked: Allowances, good: Allowances) -> Allowances
     ensures { result ≡ (if attacker then good else without asked good) }
 {
     if attacker { good } else { asked.without(good) }
@@ -285,7 +291,7 @@ fn some_by_table<L: Look>(
         Tells asked result (λ ko. is_some (first_success plies (under turn ko) here))) }
     ensures near { LooksNear L.seen board.old board.new (suc plies) turn asked }
 {
-    if plies < LEAST_PLIES || !memory.has_room() {
+    if plies < least_plies(turn.tree) || !memory.has_room() {
         return some_success(board, turn, plies, asked, known, memory);
     }
     let Some(changes) = board.changes() else {

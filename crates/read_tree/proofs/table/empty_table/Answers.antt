@@ -2,7 +2,7 @@ use Rattle.std.proofs.Common.{subst, sym}
 use Rattle.std.specs.Prelude.{List}
 use Rattle.std.proofs.lemmas.List.Elements.{All-replicate}
 use Rattle.read_tree.specs.declared.table.Entry.{Entry}
-use Rattle.read_tree.specs.Table.{IsTrueOf, IsTrueTable}
+use Rattle.read_tree.specs.Table.{IsTrueEntry, IsTrueTable}
 use Rattle.read_tree.proofs.table.empty_table.Goals as goal
 
 -- of each node nothing is known
@@ -10,6 +10,6 @@ pub returns : goal.returns
 returns c = λ seen tree target defender.
     subst (λ (table : List Entry). IsTrueTable seen tree target defender table) (sym c.filled_with.ensures)
     (record {
-      all = All-replicate (λ (e : Entry). IsTrueOf seen tree target defender e.node e.verdict) 1024 _
-          (c.nothing.ensures seen tree target defender _);
+      all = All-replicate (IsTrueEntry seen tree target defender) 4096 _
+          (c.nothing_of.ensures.true seen tree target defender);
     })

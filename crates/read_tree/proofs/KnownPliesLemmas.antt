@@ -1,0 +1,96 @@
+-- What the attacker has with some plies he has with more, so what is known of a node by its plies stays true.
+use Rattle.std.proofs.Common.{◌≡◌, ℕ, zero, suc, ◌≤◌, ◌<◌, Bool, true, false, not, nat_lt, Option, Some, None, is_some}
+use Rattle.std.proofs.Common.{refl, sym, ap, subst, ◌∙◌, arith, inl, inr, find, ◌×◌}
+use Rattle.std.specs.Prelude.{List, [], ◌∷◌, cond}
+use Rattle.std.proofs.lemmas.Bool.{both_ways, cases_Bool, ltb-true, lt-ltb}
+use Rattle.go_rules.specs.declared.Colour.{Colour}
+use Rattle.go_rules.specs.Position.{BoardState}
+use Rattle.read_rules.specs.declared.node.Node.{Node}
+use Rattle.read_rules.specs.declared.turn.Turn.{Turn}
+use Rattle.read_rules.specs.declared.tree.Tree.{Tree}
+use Rattle.read_rules.specs.GameTree.{attacker_wins, child_of, suits, succeeds, first_success}
+use Rattle.read_rules.specs.Candidates.{candidates_of}
+use Rattle.read_rules.proofs.PlyLaws.{one_more}
+use Rattle.read_tree.specs.Allowances.{Ko, under}
+use Rattle.read_tree.specs.declared.known_plies.KnownPlies.{KnownPlies}
+use Rattle.read_tree.specs.KnownPlies.{is_from, IsMonotone, IsTrueKnown}
+use Rattle.read_tree.specs.Table.{attackers_turn, entry_node, is_won}
+use Rattle.read_tree.specs.declared.table.Entry.{Entry}
+use Rattle.trial_board.specs.Changed.{changed}
+
+-- what he has with n plies he has with m, which are no fewer
+pub with_more : {won : ℕ → Bool} → IsMonotone won → (m n : ℕ) → n ≤ m → won n ≡ true → won m ≡ true
+with_more {won} mono zero n few h =
+    let none : n ≡ 0 = omega (arith, few) in
+    subst (λ k. won k ≡ true) none h
+with_more {won} mono (suc m) n few h = elim (cases_Bool (nat_lt m n)) [
+  | inl last ↦
+      let same : n ≡ suc m = omega (arith, few, ltb-true m n last) in
+      subst (λ k. won k ≡ true) same h
+  | inr less ↦
+      let fewer : n ≤ m = omega (arith, few, less) in
+      mono.more m (with_more mono m n fewer h)
+]
+
+-- and what he has not with m plies he has not with n, which are no more
+pub with_fewer : {won : ℕ → Bool} → IsMonotone won → (m n : ℕ) → n ≤ m → won m ≡ false → won n ≡ false
+with_fewer {won} mono m n few h = elim (cases_Bool (won n)) [
+  | inl w ↦ absurd (both_ways (won m) h (with_more mono m n few w))
+  | inr l ↦ l
+]
+
+-- nothing known is true
+pub nothing_true : (won : ℕ → Bool) → IsTrueKnown won (record { won_from = None; lost_below = 0 })
+nothing_true won = record {
+  gives = λ n h. absurd h;
+  denies = λ n h. absurd (omega (arith, h));
+}
+
+-- it is true that he has his way with these plies and more
+pub won_true : {won : ℕ → Bool} {known : KnownPlies} (n : ℕ) → IsMonotone won → IsTrueKnown won known
+    → won n ≡ true → IsTrueKnown won (record { won_from = Some n; lost_below = known.lost_below })
+won_true {won} {known} n mono t w = record {
+  gives = λ m h. with_more mono m n (not_less m n h) w;
+  denies = t.denies;
+}
+  where
+    not_less : (m n : ℕ) → not (nat_lt m n) ≡ true → n ≤ m
+    not_less m n h = omega (arith, h)
+
+-- it is true that he has it not with fewer plies than these, or with these
+pub lost_true : {won : ℕ → Bool} {known : KnownPlies} (n below : ℕ) → IsMonotone won → IsTrueKnown won known
+    → won n ≡ false → below ≤ suc n
+    → IsTrueKnown won (record { won_from = known.won_from; lost_below = below })
+lost_true {won} {known} n below mono t l few = record {
+  gives = t.gives;
+  denies = λ m h. with_fewer mono n m (omega (arith, few, h)) l;
+}
+
+-- the mover's child that the attacker wins with n plies he wins with one more
+child_more : (n : ℕ) (child : Option (Node × BoardState)) → suits n true child ≡ true → suits (suc n) true child ≡ true
+child_more n None h = h
+child_more n (Some c) h = one_more n c.0 c.1 h
+
+-- a test that gives another finds no less
+find_more : {X : Type 0} (f g : X → Bool) → ((x : X) → f x ≡ true → g x ≡ true) → (xs : List X)
+    → is_some (find f xs) ≡ true → is_some (find g xs) ≡ true
+find_more f g more [] h = h
+find_more f g more (x ∷ xs) h = found (f x) (g x) (more x) h
+  where
+    found : (a b : Bool) → (a ≡ true → b ≡ true) → is_some (cond a (Some x) (find f xs)) ≡ true
+        → is_some (cond b (Some x) (find g xs)) ≡ true
+    found true b m h = ap (λ t. is_some (cond t (Some x) (find g xs))) (m refl)
+    found false true m h = refl
+    found false false m h = find_more f g more xs h
+
+-- an attacker's node that is won with n plies is won with one more
+pub won_monotone : (tree : Tree) (target : ℕ) (defender : Colour) (entry : Entry) (pos : BoardState) (ko : Ko)
+    → IsMonotone (λ n. is_won tree target defender (entry_node entry n) pos ko)
+won_monotone tree target defender entry pos ko = record {
+  more = λ n h.
+      find_more (succeeds n node here) (succeeds (suc n) node here)
+      (λ p. child_more n (child_of node here p)) (candidates_of node.turn here) h;
+}
+  where
+    node = under (attackers_turn tree target defender entry.wide) ko
+    here = changed pos entry.changes
