@@ -1,12 +1,16 @@
 """Tries the wrong bodies that stand outside the gate, crates/NAME/more-edits/*.edit: the prover has to refuse each.
 
-usage: python3 tools/try_edits.py [CRATE...]
+usage: python3 tools/try_edits.py [--apply | CRATE...]
 
 Without a name the edits of all crates are tried, which takes an hour or more. Run it at the top of a clone. It works on
 a copy beside the clone, in which the edits of more-edits/ stand in place of those of must-fail/, and runs
 `rt must-fail` there for one crate after the other. What is proved in the clone is taken along, so it pays to have
 proved the crate before. Prints a line for each edit. The status is 1 if an edit was not refused, or only for a name
 that it took away.
+
+With `--apply` nothing is proved and nothing changed: it tells which edits of must-fail/ and more-edits/ can be applied
+to the clone as it stands. Each text behind `old: ` has to stand in its file once, and the edit has to change something.
+The status is 1 if one cannot be applied.
 """
 
 import pathlib
@@ -20,6 +24,7 @@ import command_line
 
 REFUSED = re.compile(r"rt: must-fail (\S+): refused, as it must be(.*)")
 TRIED = re.compile(r"rt: must-fail (\S+): ")
+FOLDERS = ("must-fail", "more-edits")
 LOST_NAME = "only because a proof file names what the edit took away"
 
 
@@ -31,6 +36,38 @@ def crates_with_edits(root: pathlib.Path, names: tuple[str, ...]) -> list[str]:
             print(f"try_edits.py: {name} has no crates/{name}/more-edits", file=sys.stderr)
             sys.exit(2)
     return [name for name in found if not names or name in names]
+
+
+def why_not_applied(edit: pathlib.Path) -> str | None:
+    """Why an edit cannot be applied to its crate, or None. The pairs of an edit apply one after another."""
+    crate = edit.parent.parent
+    file, old, texts = None, None, {}
+    for line in edit.read_text(encoding="utf-8").splitlines():
+        if line.startswith("file: "):
+            file = crate / line.removeprefix("file: ")
+            if not file.is_file():
+                return f"there is no file {file}"
+            texts.setdefault(file, file.read_text(encoding="utf-8"))
+        elif line.startswith("old: ") and file:
+            old = line.removeprefix("old: ")
+            if (count := texts[file].count(old)) != 1:
+                return f"this stands {count} times in {file}: {old}"
+        elif line.startswith("new:") and old is not None:
+            texts[file], old = texts[file].replace(old, line.removeprefix("new:").removeprefix(" ")), None
+        else:
+            return f"this line is not read: {line}"
+    changed = any(file.read_text(encoding="utf-8") != text for file, text in texts.items())
+    return None if changed else "it changes nothing"
+
+
+def apply_all() -> int:
+    """Tells which edits of the gate and outside it cannot be applied. The status is 1 if there is one."""
+    edits = sorted(edit for folder in FOLDERS for edit in pathlib.Path().glob(f"crates/*/{folder}/*.edit"))
+    faults = [(edit, why) for edit in edits if (why := why_not_applied(edit))]
+    for edit, why in faults:
+        print(f"{edit}: {why}")
+    print(f"{len(edits)} edits, {len(faults)} of them cannot be applied")
+    return 1 if faults else 0
 
 
 def put_in_place(copy: pathlib.Path, name: str):
@@ -55,6 +92,8 @@ def main(*names: str) -> int:
     if not (root / "crates.txt").is_file():
         print("try_edits.py: run it at the top of a clone, where crates.txt stands", file=sys.stderr)
         return 2
+    if names == ("--apply",):
+        return apply_all()
     crates = crates_with_edits(root, names)
     with tempfile.TemporaryDirectory(prefix="edits-", dir=root.parent) as room:
         copy = pathlib.Path(room) / "clone"
