@@ -1,24 +1,21 @@
 -- What reading a play with fewer plies first leaves open, and why its looks stay in the active area: the nodes of a
 -- question with fewer plies are among those of the question.
-use Rattle.std.proofs.Common.{◌≡◌, ℕ, zero, suc, ◌-◌, ◌+◌, ◌≤◌, ◌<◌, Bool, true, false, not, ◌&&◌, ◌||◌, Option, Some, None, if◌then◌else◌}
-use Rattle.std.proofs.Common.{refl, sym, ap, subst, ◌∙◌, arith, inl, inr, IsTrue, rules, ◌×◌}
+use Rattle.std.proofs.Common.{◌≡◌, ℕ, suc, ◌-◌, ◌+◌, ◌≤◌, Bool, true, false, not, ◌&&◌, ◌||◌, Option, Some, None, if◌then◌else◌}
+use Rattle.std.proofs.Common.{refl, sym, ap, subst, ◌∙◌, arith, inl, inr}
 use Rattle.std.proofs.lemmas.Bool.{both_ways, cases_Bool}
 use Rattle.go_rules.specs.Position.{BoardState}
 use Rattle.go_base.specs.Facts.{Fact}
-use Rattle.trial_board.specs.Trials.{Trying, after}
 use Rattle.read_rules.specs.declared.node.Node.{Node}
 use Rattle.read_rules.specs.declared.turn.Turn.{Turn}
 use Rattle.read_rules.specs.declared.question.ReadingQuestion.{ReadingQuestion}
-use Rattle.read_rules.specs.ActiveArea.{IsNodeOf, first, by_play, by_pass, IsUndecided, InActiveArea, AddsNear}
-use Rattle.read_rules.specs.GameTree.{attacker_wins, child_of, suits, succeeds}
+use Rattle.read_rules.specs.ActiveArea.{IsNodeOf, first, by_play, by_pass, InActiveArea, AddsNear}
+use Rattle.read_rules.specs.GameTree.{child_of, suits, succeeds}
 use Rattle.read_rules.proofs.AreaLemmas.{AddsNear-mono}
 use Rattle.read_rules.proofs.PlyLaws.{one_more}
 use Rattle.read_tree.specs.declared.allowances.Allowances.{Allowances}
 use Rattle.read_tree.specs.Allowances.{Ko, defender_may, neither_may, attacker_may, under, has, has_some, without, Tells}
 use Rattle.read_tree.specs.Deepening.{IsLeftOpen}
-use Rattle.read_tree.specs.KnownPlies.{IsMonotone}
 use Rattle.read_tree.specs.Steps.{AreNodesOf}
-use Rattle.read_tree.specs.Walk.{LooksNearWhere}
 use Rattle.read_tree.proofs.AllowanceLemmas.{has-without, none_of}
 use Rattle.read_tree.proofs.KnownPliesLemmas.{with_more}
 
@@ -34,6 +31,11 @@ fewer_plies q d = record {
   wide = q.wide;
 }
 
+-- the same node, with as many plies left written otherwise
+moved : {q : ReadingQuestion} {root : BoardState} {a b : ℕ} {node : Node} {here : BoardState} → a ≡ b
+    → IsNodeOf q root a node here → IsNodeOf q root b node here
+moved {q} {root} {a} {b} {node} {here} e t = subst (λ (m : ℕ). IsNodeOf q root m node here) e t
+
 -- with fewer plies, a node with enough plies left is one of the question with as many fewer
 sooner : {q : ReadingQuestion} {root : BoardState} (d : ℕ) {n : ℕ} {node : Node} {here : BoardState}
     → IsNodeOf q root n node here → d ≤ n → IsNodeOf (fewer_plies q d) root (n - d) node here
@@ -41,25 +43,25 @@ sooner {q} {root} d (first code low high) few = first code low high
 sooner {q} {root} d {n} (by_play before und p candidate next new child) few =
     let one : suc n - d ≡ suc (n - d) = omega (arith, few) in
     let less : d ≤ suc n = omega (arith, few) in
-    by_play (subst (λ (m : ℕ). IsNodeOf (fewer_plies q d) root m _ _) one (sooner d before less)) und p candidate next
+    by_play (moved one (sooner d before less)) und p candidate next
     new child
 sooner {q} {root} d {n} (by_pass before und defends) few =
     let one : suc n - d ≡ suc (n - d) = omega (arith, few) in
     let less : d ≤ suc n = omega (arith, few) in
-    by_pass (subst (λ (m : ℕ). IsNodeOf (fewer_plies q d) root m _ _) one (sooner d before less)) und defends
+    by_pass (moved one (sooner d before less)) und defends
 
 -- a node of the question with fewer plies is one of the question, with as many more
 later : {q : ReadingQuestion} {root : BoardState} (d : ℕ) → d ≤ q.plies → {n : ℕ} {node : Node} {here : BoardState}
     → IsNodeOf (fewer_plies q d) root n node here → IsNodeOf q root (n + d) node here
 later {q} {root} d few (first code low high) =
     let all : q.plies - d + d ≡ q.plies = omega (arith, few) in
-    subst (λ (m : ℕ). IsNodeOf q root m _ root) (sym all) (first code low high)
+    moved (sym all) (first code low high)
 later {q} {root} d few {n} (by_play before und p candidate next new child) =
     let one : suc n + d ≡ suc (n + d) = omega arith in
-    by_play (subst (λ (m : ℕ). IsNodeOf q root m _ _) one (later d few before)) und p candidate next new child
+    by_play (moved one (later d few before)) und p candidate next new child
 later {q} {root} d few {n} (by_pass before und defends) =
     let one : suc n + d ≡ suc (n + d) = omega arith in
-    by_pass (subst (λ (m : ℕ). IsNodeOf q root m _ _) one (later d few before)) und defends
+    by_pass (moved one (later d few before)) und defends
 
 -- a node has no more plies left than the question
 left_at_most : {q : ReadingQuestion} {root : BoardState} {n : ℕ} {node : Node} {here : BoardState}
@@ -94,23 +96,24 @@ some_ko set h = elim (cases_Bool set.defender) [
     rest true n a e f h = cc
     rest false true a e f h = cc
 
--- looks near the nodes with fewer plies left lie in the active area of each question of the nodes with all of them
-pub near_later : {L : Type 0} {seen : L → Fact → Bool} {old new : Trying L} {turn : Turn} {asked left : Allowances}
-    {P : BoardState → Type 0} (fewer plies : ℕ) → fewer ≤ plies → ((ko : Ko) → has left ko ≡ true → has asked ko ≡ true)
-    → has_some asked ≡ true → LooksNearWhere seen old new (suc fewer) turn left P
-    → LooksNearWhere seen old new (suc plies) turn asked P
-near_later {L} {seen} {old} {new} {turn} {asked} {left} {P} fewer plies few less some near = λ pos a q root tree und there.
+-- looks near the nodes with fewer plies left, of each question, lie in the active area of a question of the nodes with
+-- all of them
+pub one_near : {q : ReadingQuestion} {root here : BoardState} {turn : Turn} {asked left : Allowances}
+    {before now : Fact → Bool} (fewer plies : ℕ) → fewer ≤ plies → AreNodesOf q root (suc plies) turn asked here
+    → has_some asked ≡ true → ((ko : Ko) → has left ko ≡ true → has asked ko ≡ true)
+    → ((less : ReadingQuestion) → AreNodesOf less root (suc fewer) turn left here
+    → AddsNear before now (InActiveArea less root))
+    → AddsNear before now (InActiveArea q root)
+one_near {q} {root} {here} {turn} {asked} {left} fewer plies few tree some less near =
     let w = some_ko asked some in
     let most : suc plies ≤ q.plies = left_at_most (tree.each w.0 w.1) in
     let within : plies - fewer ≤ q.plies = omega (arith, most) in
     let enough : plies - fewer ≤ suc plies = omega arith in
     let same : suc plies - (plies - fewer) ≡ suc fewer = omega (arith, few) in
     AddsNear-mono (InActiveArea (fewer_plies q (plies - fewer)) root) (InActiveArea q root)
-    (near pos a (fewer_plies q (plies - fewer)) root (record {
-      each = λ ko h.
-          subst (λ (m : ℕ). IsNodeOf (fewer_plies q (plies - fewer)) root m (under turn ko) (after pos old.moves)) same
-          (sooner (plies - fewer) (tree.each ko (less ko h)) enough);
-    }) und there)
+    (near (fewer_plies q (plies - fewer)) (record {
+      each = λ ko h. moved same (sooner (plies - fewer) (tree.each ko (less ko h)) enough);
+    }))
     (area_later (plies - fewer) within)
 
 -- at first all that is asked is open
@@ -148,14 +151,14 @@ pub open_next : {n : ℕ} {turn : Turn} {here : BoardState} {p : ℕ} {asked lef
     → Tells left good (λ ko. succeeds fewer (under turn ko) here p)
     → next ≡ without left (if turn.attacker_to_play then good else without left good)
     → IsLeftOpen n turn here p asked next
-open_next {n} {turn} {here} {p} {asked} {left} fewer good next few open tells is = record {
-  asked_for = λ ko h. open.asked_for ko (kept (has left ko) _ (sym (has_next ko) ∙ h));
+open_next {n} {turn} {here} {p} {asked} {left} fewer good next few before tells is = record {
+  asked_for = λ ko h. before.asked_for ko (kept (has left ko) _ (sym (has_next ko) ∙ h));
   closed = λ ko h l. elim (cases_Bool (has left ko)) [
     | inl in_left ↦
         by_side turn.attacker_to_play n fewer (child_of (under turn ko) here p) few
         (side turn.attacker_to_play (has left ko) (has good ko) (succeeds fewer (under turn ko) here p) in_left
         (sym (has_next ko) ∙ l) (tells.each ko))
-    | inr out ↦ open.closed ko h out
+    | inr out ↦ before.closed ko h out
   ];
 }
   where
@@ -166,9 +169,11 @@ open_next {n} {turn} {here} {p} {asked} {left} fewer good next few open tells is
         ∙ has-without left (if turn.attacker_to_play then good else without left good) ko
         ∙ ap (λ b. has left ko && not b) (has_by turn.attacker_to_play good (without left good) ko
         ∙ ap (λ b. if turn.attacker_to_play then has good ko else b) (has-without left good ko))
+
     kept : (l x : Bool) → (l && not x) ≡ true → l ≡ true
     kept true x h = refl
     kept false x h = cc
+
     side : (b l g s : Bool) → l ≡ true → (l && not (if b then g else l && not g)) ≡ false → g ≡ (l && s) → s ≡ b
     side true true true s e h t = sym t
     side true true false s e h t = cc
@@ -182,28 +187,26 @@ pub closed_tells : {n : ℕ} {turn : Turn} {here : BoardState} {p : ℕ} {asked 
     → Tells left good (λ ko. succeeds n (under turn ko) here p)
     → found ≡ (if turn.attacker_to_play then without asked (without left good) else good)
     → Tells asked found (λ ko. succeeds n (under turn ko) here p)
-closed_tells {n} {turn} {here} {p} {asked} {left} good found open tells is = record {
+closed_tells {n} {turn} {here} {p} {asked} {left} good found before tells is = record {
   each = λ ko.
       ap (λ s. has s ko) is
       ∙ has_by turn.attacker_to_play (without asked (without left good)) good ko
       ∙ ap (λ b. if turn.attacker_to_play then b else has good ko)
       (has-without asked (without left good) ko ∙ ap (λ b. has asked ko && not b) (has-without left good ko))
       ∙ told turn.attacker_to_play (has asked ko) (has left ko) (has good ko)
-      (succeeds n (under turn ko) here p) (open.asked_for ko) (open.closed ko) (tells.each ko);
+      (succeeds n (under turn ko) here p) (before.asked_for ko) (before.closed ko) (tells.each ko);
 }
   where
     told : (b a l g s : Bool) → (l ≡ true → a ≡ true) → (a ≡ true → l ≡ false → s ≡ b) → g ≡ (l && s)
         → (if b then a && not (l && not g) else g) ≡ (a && s)
-    told true true true g s f c t = not_not g ∙ t
+    told true true true true s f c t = t
+    told true true true false s f c t = t
     told true true false g s f c t = sym (c refl refl)
     told true false l g s f c t = refl
     told false true true g s f c t = t
     told false true false g s f c t = t ∙ sym (c refl refl)
     told false false true g s f c t = absurd (both_ways false refl (f refl))
     told false false false g s f c t = t
-    not_not : (g : Bool) → not (not g) ≡ g
-    not_not true = refl
-    not_not false = refl
 
 -- of no allowance, none is found
 pub none_tells : (left : Allowances) (test : Ko → Bool) → has_some left ≡ false → Tells left left test

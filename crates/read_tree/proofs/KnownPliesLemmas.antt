@@ -1,20 +1,20 @@
 -- What the attacker has with some plies he has with more, so what is known of a node by its plies stays true.
-use Rattle.std.proofs.Common.{◌≡◌, ℕ, zero, suc, ◌≤◌, ◌<◌, Bool, true, false, not, nat_lt, Option, Some, None, is_some}
-use Rattle.std.proofs.Common.{refl, sym, ap, subst, ◌∙◌, arith, inl, inr, find, ◌×◌}
+use Rattle.std.proofs.Common.{◌≡◌, ℕ, zero, suc, ◌≤◌, Bool, true, false, not, nat_lt, Option, Some, None, is_some}
+use Rattle.std.proofs.Common.{refl, sym, ap, subst, arith, inl, inr, find}
 use Rattle.std.specs.Prelude.{List, [], ◌∷◌, cond}
-use Rattle.std.proofs.lemmas.Bool.{both_ways, cases_Bool, ltb-true, lt-ltb}
+use Rattle.std.proofs.lemmas.Bool.{both_ways, cases_Bool, ltb-true, ltb-false, not-true}
 use Rattle.go_rules.specs.declared.Colour.{Colour}
 use Rattle.go_rules.specs.Position.{BoardState}
 use Rattle.read_rules.specs.declared.node.Node.{Node}
-use Rattle.read_rules.specs.declared.turn.Turn.{Turn}
 use Rattle.read_rules.specs.declared.tree.Tree.{Tree}
-use Rattle.read_rules.specs.GameTree.{attacker_wins, child_of, suits, succeeds, first_success}
+use Rattle.read_rules.specs.GameTree.{child_of, suits, succeeds}
 use Rattle.read_rules.specs.Candidates.{candidates_of}
 use Rattle.read_rules.proofs.PlyLaws.{one_more}
-use Rattle.read_tree.specs.Allowances.{Ko, under}
+use Rattle.read_tree.specs.Allowances.{Ko, defender_may, neither_may, attacker_may, under}
+use Rattle.go_base.specs.Facts.{Fact}
 use Rattle.read_tree.specs.declared.known_plies.KnownPlies.{KnownPlies}
-use Rattle.read_tree.specs.KnownPlies.{is_from, IsMonotone, IsTrueKnown}
-use Rattle.read_tree.specs.Table.{attackers_turn, entry_node, is_won}
+use Rattle.read_tree.specs.KnownPlies.{IsMonotone, IsTrueKnown}
+use Rattle.read_tree.specs.Table.{attackers_turn, entry_node, is_won, known_of, IsTrueEntry}
 use Rattle.read_tree.specs.declared.table.Entry.{Entry}
 use Rattle.trial_board.specs.Changed.{changed}
 
@@ -28,7 +28,7 @@ with_more {won} mono (suc m) n few h = elim (cases_Bool (nat_lt m n)) [
       let same : n ≡ suc m = omega (arith, few, ltb-true m n last) in
       subst (λ k. won k ≡ true) same h
   | inr less ↦
-      let fewer : n ≤ m = omega (arith, few, less) in
+      let fewer : n ≤ m = ltb-false m n less in
       mono.more m (with_more mono m n fewer h)
 ]
 
@@ -42,7 +42,7 @@ with_fewer {won} mono m n few h = elim (cases_Bool (won n)) [
 -- nothing known is true
 pub nothing_true : (won : ℕ → Bool) → IsTrueKnown won (record { won_from = None; lost_below = 0 })
 nothing_true won = record {
-  gives = λ n h. absurd h;
+  gives = λ n h. absurd (both_ways false refl h);
   denies = λ n h. absurd (omega (arith, h));
 }
 
@@ -55,7 +55,7 @@ won_true {won} {known} n mono t w = record {
 }
   where
     not_less : (m n : ℕ) → not (nat_lt m n) ≡ true → n ≤ m
-    not_less m n h = omega (arith, h)
+    not_less m n h = ltb-false m n (not-true (nat_lt m n) h)
 
 -- it is true that he has it not with fewer plies than these, or with these
 pub lost_true : {won : ℕ → Bool} {known : KnownPlies} (n below : ℕ) → IsMonotone won → IsTrueKnown won known
@@ -75,22 +75,41 @@ child_more n (Some c) h = one_more n c.0 c.1 h
 find_more : {X : Type 0} (f g : X → Bool) → ((x : X) → f x ≡ true → g x ≡ true) → (xs : List X)
     → is_some (find f xs) ≡ true → is_some (find g xs) ≡ true
 find_more f g more [] h = h
-find_more f g more (x ∷ xs) h = found (f x) (g x) (more x) h
+find_more f g more (x ∷ xs) h = found (f x) (g x) (more x) (find_more f g more xs) h
   where
-    found : (a b : Bool) → (a ≡ true → b ≡ true) → is_some (cond a (Some x) (find f xs)) ≡ true
-        → is_some (cond b (Some x) (find g xs)) ≡ true
-    found true b m h = ap (λ t. is_some (cond t (Some x) (find g xs))) (m refl)
-    found false true m h = refl
-    found false false m h = find_more f g more xs h
+    found : (a b : Bool) → (a ≡ true → b ≡ true)
+        → (is_some (find f xs) ≡ true → is_some (find g xs) ≡ true)
+        → is_some (cond a (Some x) (find f xs)) ≡ true → is_some (cond b (Some x) (find g xs)) ≡ true
+    found true b m rest h = ap (λ t. is_some (cond t (Some x) (find g xs))) (m refl)
+    found false true m rest h = refl
+    found false false m rest h = rest h
 
 -- an attacker's node that is won with n plies is won with one more
 pub won_monotone : (tree : Tree) (target : ℕ) (defender : Colour) (entry : Entry) (pos : BoardState) (ko : Ko)
     → IsMonotone (λ n. is_won tree target defender (entry_node entry n) pos ko)
 won_monotone tree target defender entry pos ko = record {
   more = λ n h.
+      let node = under (attackers_turn tree target defender entry.wide) ko in
+      let here = changed pos entry.changes in
       find_more (succeeds n node here) (succeeds (suc n) node here)
       (λ p. child_more n (child_of node here p)) (candidates_of node.turn here) h;
 }
-  where
-    node = under (attackers_turn tree target defender entry.wide) ko
-    here = changed pos entry.changes
+
+-- a statement about each allowance
+pub of_three : (P : Ko → Type 0) → P defender_may → P neither_may → P attacker_may → (ko : Ko) → P ko
+of_three P d n a defender_may = d
+of_three P d n a neither_may = n
+of_three P d n a attacker_may = a
+
+-- an entry of nothing known is true
+pub nothing_known : {seen : Fact → Bool} {tree : Tree} {target : ℕ} {defender : Colour} (entry : Entry)
+    → entry.defender ≡ record { won_from = None; lost_below = 0 }
+    → entry.neither ≡ record { won_from = None; lost_below = 0 }
+    → entry.attacker ≡ record { won_from = None; lost_below = 0 }
+    → IsTrueEntry seen tree target defender entry
+nothing_known {seen} {tree} {target} {defender} entry d n a = record {
+  each = λ pos agrees ko.
+      let won : ℕ → Bool = λ m. is_won tree target defender (entry_node entry m) pos ko in
+      subst (IsTrueKnown won) (sym (of_three (λ k. known_of entry k ≡ record { won_from = None; lost_below = 0 }) d n a ko))
+      (nothing_true won);
+}

@@ -4,7 +4,13 @@ use Rattle.std.proofs.Common.{arith, eqb, subst, not, cond, Option, None, Some, 
 use Rattle.std.specs.Option.{option_map}
 use mathlib.Core.Bool.{beq}
 use Rattle.std.proofs.lemmas.Bool.{ltb-true, lt-ltb, or_right}
+use Rattle.std.specs.Prelude.{List}
+use Rattle.go_rules.specs.declared.Colour.{Colour}
 use Rattle.go_rules.specs.Position.{BoardState}
+use Rattle.go_base.specs.Facts.{Fact}
+use Rattle.read_rules.specs.declared.tree.Tree.{Tree}
+use Rattle.read_tree.specs.declared.table.Entry.{Entry}
+use Rattle.read_tree.specs.Table.{IsTrueTable, IsTrueTableAt}
 use Rattle.read_rules.specs.declared.node.Node.{Node}
 use Rattle.read_rules.specs.Trees.{most_narrow}
 use Rattle.go_rules.specs.Strings.{liberties}
@@ -20,7 +26,7 @@ use Rattle.read_rules.specs.declared.turn.Turn.{Turn}
 use Rattle.read_tree.specs.declared.allowances.Allowances.{Allowances}
 use Rattle.read_tree.specs.Allowances.{Ko, defender_may, neither_may, attacker_may, attacker_ko_of, defender_ko_of}
 use Rattle.read_tree.specs.Allowances.{under, has_some, Tells}
-use Rattle.read_tree.specs.Nodes.{has_one_at_most, the_allowance, LeadsTo}
+use Rattle.read_tree.specs.Nodes.{has_one_at_most, the_allowance, LeadsTo, SameReading}
 
 -- the set of the allowances of these numbers
 abbrev allowance_by : ℕ → ℕ → Allowances
@@ -160,3 +166,16 @@ module _ (n : ℕ) (node : Node) (here : BoardState) where
   pub good_first : (found : Option Spot) → false ≡ is_barred node here → found ≡ first_move n node here
       → is_some found ≡ is_some (good_move n node here)
   good_first found e is = ap is_some is ∙ ap (λ b. is_some (cond b None (first_move n node here))) e
+
+-- a table that is true in the reading of a node is true in that of another about the same string
+pub same_table : {seen : Fact → Bool} {table : List Entry} (node next : Node) → SameReading node next
+    → IsTrueTableAt seen node.turn table → IsTrueTableAt seen next.turn table
+same_table {seen} {table} node next same t =
+    by next.turn.tree next.turn.target next.turn.defender same.tree same.target same.defender
+  where
+    by : (tree : Tree) (target : ℕ) (defender : Colour) → tree ≡ node.turn.tree → target ≡ node.turn.target
+        → defender ≡ node.turn.defender → IsTrueTable seen tree target defender table
+    by tree target defender e f g =
+        subst (λ (x : Tree). IsTrueTable seen x target defender table) (sym e)
+        (subst (λ (y : ℕ). IsTrueTable seen node.turn.tree y defender table) (sym f)
+        (subst (λ (z : Colour). IsTrueTable seen node.turn.tree node.turn.target z table) (sym g) t))

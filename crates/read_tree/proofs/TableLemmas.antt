@@ -74,13 +74,14 @@ as_node {seen} {tree} {target} {defender} changes wide node verdict same_changes
 pub told_true : {seen : Fact → Bool} {tree : Tree} {target : ℕ} {defender : Colour} (entry : Entry) (plies : ℕ)
     (verdict : Verdict) → IsTrueEntry seen tree target defender entry
     → ((ko : Ko) → has verdict.good ko ≡ is_from (known_of entry ko).won_from plies)
-    → ((ko : Ko) → has verdict.known ko ≡ (has verdict.good ko || nat_lt plies (known_of entry ko).lost_below))
+    → ((ko : Ko) → has verdict.known ko
+    ≡ (is_from (known_of entry ko).won_from plies || nat_lt plies (known_of entry ko).lost_below))
     → IsTrueOf seen tree target defender (entry_node entry plies) verdict
 told_true {seen} {tree} {target} {defender} entry plies verdict t good known = record {
   each = λ pos a ko h.
-      by_known (has verdict.good ko) (known_of entry ko)
+      good ko ∙ by_known (is_from (known_of entry ko).won_from plies) (known_of entry ko)
       (λ n. is_won tree target defender (entry_node entry n) pos ko)
-      (t.each pos a ko) (good ko) (sym (known ko) ∙ h);
+      (t.each pos a ko) refl (sym (known ko) ∙ h);
 }
   where
     by_known : (g : Bool) (k : KnownPlies) (won : ℕ → Bool) → IsTrueKnown won k → g ≡ is_from k.won_from plies

@@ -45,9 +45,9 @@ entry_node entry plies = record { changes = entry.changes; plies = plies; wide =
 -- what the entry knows is true: on each position that agrees with the facts, under each allowance, with whatever plies
 -- are left
 pub record IsTrueEntry (seen : Fact → Bool) (tree : Tree) (target : ℕ) (defender : Colour) (entry : Entry) : Type 0
-    where
-  pub each : (pos : BoardState) → Agrees seen pos → (ko : Ko)
-      → IsTrueKnown (λ n. is_won tree target defender (entry_node entry n) pos ko) (known_of entry ko)
+  where
+    pub each : (pos : BoardState) → Agrees seen pos → (ko : Ko)
+        → IsTrueKnown (λ n. is_won tree target defender (entry_node entry n) pos ko) (known_of entry ko)
 
 -- each entry of the table is true
 pub record IsTrueTable (seen : Fact → Bool) (tree : Tree) (target : ℕ) (defender : Colour) (table : List Entry)

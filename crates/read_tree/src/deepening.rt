@@ -1,7 +1,7 @@
 //! A play at the root that is read with fewer plies first: what the attacker wins with few plies he wins with all, and
 //! the table then knows the nodes by which he does.
 
-ghost use Rattle.std.specs.Prelude.{◌≡◌, ℕ, ◌+◌, ◌<◌, ◌≤◌, suc, true, length, IsTrue};
+ghost use Rattle.std.specs.Prelude.{◌≡◌, ℕ, ◌+◌, ◌<◌, ◌≤◌, suc, true, length, IsTrue, if◌then◌else◌};
 ghost use Rattle.trial_board.specs.Trials.{Stays};
 ghost use Rattle.read_rules.specs.Candidates.{is_candidate};
 ghost use Rattle.read_rules.specs.GameTree.{succeeds};

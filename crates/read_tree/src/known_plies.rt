@@ -1,6 +1,6 @@
 //! What is known of a node under one ko allowance, by the plies that are left.
 
-ghost use Rattle.std.specs.Prelude.{◌≡◌, ℕ, Bool, None, nat_lt};
+ghost use Rattle.std.specs.Prelude.{◌≡◌, ◌||◌, ℕ, Bool, None, nat_lt};
 ghost use Rattle.read_tree.specs.KnownPlies.{is_from, IsMonotone, IsTrueKnown};
 
 /// With how many plies the attacker is known to have his way at a node, and with how many he is known not to.
@@ -40,12 +40,19 @@ impl KnownPlies {
         plies < self.lost_below
     }
 
+    /// Whether it is known if he has his way with so many plies.
+    pub fn is_known(self, plies: u8) -> bool
+        ensures { result ≡ (is_from self.won_from plies || nat_lt plies self.lost_below) }
+    {
+        self.is_won(plies) || self.is_lost(plies)
+    }
+
     /// What is known once it was found whether he has his way with so many plies: with more plies he keeps it, and with
     /// fewer he has it no sooner.
     pub fn with(self, plies: u8, good: bool) -> KnownPlies
         ensures { (won : ℕ → Bool) → IsMonotone won → IsTrueKnown won self → good ≡ won plies → IsTrueKnown won result }
     {
-        if self.is_won(plies) || self.is_lost(plies) {
+        if self.is_known(plies) {
             return self;
         }
         if good {

@@ -89,7 +89,7 @@ impl Entry {
     fn nothing_of(node: &AttackerNode) -> Entry
         ensures changes { result.changes ≡ node.now.changes }
         ensures wide { result.wide ≡ node.now.wide }
-        ensures true { (seen : Fact → Bool) (tree : Tree) (target : ℕ) (defender : Colour)
+        ensures holds { (seen : Fact → Bool) (tree : Tree) (target : ℕ) (defender : Colour)
             → IsTrueEntry seen tree target defender result }
     {
         Entry {
@@ -115,18 +115,17 @@ impl Entry {
             → IsTrueOf seen tree target defender
             (record { changes = self.now.changes; plies = plies; wide = self.now.wide }) result }
     {
-        let good = Allowances {
-            defender: self.defender.is_won(plies),
-            neither: self.neither.is_won(plies),
-            attacker: self.attacker.is_won(plies),
-        };
         Verdict {
             known: Allowances {
-                defender: good.defender || self.defender.is_lost(plies),
-                neither: good.neither || self.neither.is_lost(plies),
-                attacker: good.attacker || self.attacker.is_lost(plies),
+                defender: self.defender.is_known(plies),
+                neither: self.neither.is_known(plies),
+                attacker: self.attacker.is_known(plies),
             },
-            good,
+            good: Allowances {
+                defender: self.defender.is_won(plies),
+                neither: self.neither.is_won(plies),
+                attacker: self.attacker.is_won(plies),
+            },
         }
     }
 
@@ -138,7 +137,8 @@ impl Entry {
             (record { changes = self.now.changes; plies = plies; wide = self.now.wide }) verdict
             → IsTrueEntry seen tree target defender result }
     {
-        let Verdict { known, good } = verdict;
+        let known = verdict.known;
+        let good = verdict.good;
         Entry {
             changes: self.changes,
             wide: self.wide,
@@ -255,7 +255,7 @@ pub fn find(table: &[Entry], node: &AttackerNode) -> Verdict
 fn entry_of(entry: &Entry, node: &AttackerNode) -> Entry
     ensures changes { result.changes ≡ node.now.changes }
     ensures wide { result.wide ≡ node.now.wide }
-    ensures true { (seen : Fact → Bool) (tree : Tree) (target : ℕ) (defender : Colour)
+    ensures holds { (seen : Fact → Bool) (tree : Tree) (target : ℕ) (defender : Colour)
         → IsTrueEntry seen tree target defender entry.now → IsTrueEntry seen tree target defender result }
 {
     if entry.is_of(node) {

@@ -13,9 +13,9 @@ invariant-depths g l = record {
   stays : Stays g.L.Look.shows g.L.Look.seen l.fn.board l.board;
   some : has_some l.left ≡ true;
   table : IsTrueTableAt (g.L.Look.seen l.board.look) l.turn l.memory.table.now;
-  near : LooksNearWhere g.L.Look.seen l.fn.board l.board (suc l.plies) l.turn l.asked
+  near : LooksNearWhere g.L.Look.seen l.fn.board l.board (suc l.plies) l.turn l.fn.asked
       (λ here. is_candidate l.turn here l.p ≡ true);
-  left : OnEachAgreeing g.L.Look.seen l.fn.board l.board (λ here. IsLeftOpen l.plies l.turn here l.p l.asked l.left);
+  left : OnEachAgreeing g.L.Look.seen l.fn.board l.board (λ here. IsLeftOpen l.plies l.turn here l.p l.fn.asked l.left);
 }
 
 -- how many plies the next reading lacks

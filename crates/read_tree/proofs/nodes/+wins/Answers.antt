@@ -10,10 +10,18 @@ use Rattle.read_rules.proofs.WinLemmas.{wins-captured, wins-no_plies, wins-by_mo
 use Rattle.read_rules.proofs.WinLemmas.{first_success-none}
 use Rattle.read_tree.proofs.TableLemmas.{table_more}
 use Rattle.read_tree.proofs.NodeLemmas.{play_made, play_refused, no_pass, pass_made, first_pass, first_point}
-use Rattle.read_tree.proofs.NodeLemmas.{good_barred, good_first}
+use Rattle.read_tree.proofs.NodeLemmas.{good_barred, good_first, same_table}
 use Rattle.trial_board.specs.Trials.{Stays-trans}
 use Rattle.read_tree.proofs.ReadyLemmas.{candidate_inside, point_after}
 use Rattle.read_tree.proofs.nodes.+wins.Goals as goal
+
+-- after the play there is room, and the table is true in the same reading
+pub succeeds-wins_at-won-requires : goal.succeeds-wins_at-won-requires
+succeeds-wins_at-won-requires g t c κs within =
+    let same = c.in-Some.ensures.same in
+    let table = same_table c.args.node c.in-Some.next same
+    (table_more c.requires.table c.make_at.ensures.grows) in
+    search rules
 
 -- the play is made
 pub succeeds-returns-in-Some-clause-over : goal.succeeds-returns-in-Some-clause-over

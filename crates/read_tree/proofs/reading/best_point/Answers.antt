@@ -42,8 +42,8 @@ loop-p-init g c = record {
 }
 
 -- a candidate is on the board, and above a code below 3 there is an allowance to ask for
-pub succeeds-good-requires : goal.succeeds-good-requires
-succeeds-good-requires g c =
+pub succeeds_by_depths-good-requires : goal.succeeds_by_depths-good-requires
+succeeds_by_depths-good-requires g c =
     let i = c.loop-p.invariant in
     let some = asks_some c.loop-p.best.code c.args.turn.attacker_to_play i.code in
     let on = point_after i.stays c.in-Some.p
@@ -57,35 +57,35 @@ succeeds-good-requires g c =
 -- One more candidate was read.
 module _ (g : Over) (c : After-better-best g) where
   -- the best of those that were read, on a position that agrees
-  read_best : (pos : BoardState) → Agrees (g.L.Look.seen c.succeeds-good.new.board.look) pos
+  read_best : (pos : BoardState) → Agrees (g.L.Look.seen c.succeeds_by_depths-good.new.board.look) pos
       → IsBest c.args.plies c.args.turn (after pos c.args.board.now.moves) nowhere c.args.first
       → IsBest c.args.plies c.args.turn (after pos c.args.board.now.moves)
       (λ q. nat_lt q (c.in-Some.p + 1) && set.contains c.candidates-candidates.result q) c.better-best.result
   read_best pos a start =
       let i = c.loop-p.invariant in
       let first = c.in-Some.ensures.some in
-      let a1 = agrees_before c.succeeds-good.ensures.stays.grows a in
+      let a1 = agrees_before c.succeeds_by_depths-good.ensures.stays.grows a in
       rw c.better-best.ensures.is (best_point c.args.plies c.args.turn (after pos c.args.board.now.moves)
-      (set.contains c.candidates-candidates.result) c.loop-p.next c.in-Some.p c.loop-p.best c.succeeds-good.result
+      (set.contains c.candidates-candidates.result) c.loop-p.next c.in-Some.p c.loop-p.best c.succeeds_by_depths-good.result
       (c.candidates-candidates.ensures.over pos (agrees_before i.grows a1)) (i.best pos a1 start) first.2 first.3
-      (rw (i.stays.moves, c.above-asked.ensures) at (c.succeeds-good.ensures.over pos a)))
+      (rw (i.stays.moves, c.above-asked.ensures) at (c.succeeds_by_depths-good.ensures.over pos a)))
 
   -- the looks up to now lie in the active area
-  read_near : LooksNear g.L.Look.seen c.args.board.now c.succeeds-good.new.board (suc c.args.plies) c.args.turn
+  read_near : LooksNear g.L.Look.seen c.args.board.now c.succeeds_by_depths-good.new.board (suc c.args.plies) c.args.turn
       all_three
   read_near pos a q root tree und =
       let i = c.loop-p.invariant in
-      let a1 = agrees_before c.succeeds-good.ensures.stays.grows a in
+      let a1 = agrees_before c.succeeds_by_depths-good.ensures.stays.grows a in
       let candidate = sym (c.candidates-candidates.ensures.over pos (agrees_before i.grows a1) c.in-Some.p)
       ∙ c.in-Some.ensures.some.2 in
       AddsNear-trans (i.near pos a1 q root tree und)
-      ((rw i.stays.moves at (c.succeeds-good.ensures.near pos a q root))
+      ((rw i.stays.moves at (c.succeeds_by_depths-good.ensures.near pos a q root))
       (fewer_nodes c.above-asked.result tree (λ ko h. has_all ko)) und candidate)
 
   -- its move is on the board
   read_on_board : IfSome c.better-best.result.at (IsOnBoard (g.L.Look.shows c.args.board.now.look).size)
   read_on_board = rw c.better-best.ensures.is
-      (better_on c.loop-p.best c.args.turn.attacker_to_play c.succeeds-good.result c.in-Some.p
+      (better_on c.loop-p.best c.args.turn.attacker_to_play c.succeeds_by_depths-good.result c.in-Some.p
       (g.L.Look.shows c.args.board.now.look).size c.loop-p.invariant.on_board
       (candidate_inside c.args.turn (g.L.Look.shows c.args.board.now.look)
       c.args.board.now.moves c.in-Some.p (sym (c.candidates-candidates.ensures.answer c.in-Some.p)
@@ -98,12 +98,12 @@ loop-p-preserved g c =
     let d = (goal.at.loop-p-preserved g c).After-better-best in
     let bounded = c.better-best.ensures.code (omega (arith, i.code)) in
     record {
-      stays = Stays-trans i.stays c.succeeds-good.ensures.stays;
-      grows = Grows-trans i.grows c.succeeds-good.ensures.stays.grows;
+      stays = Stays-trans i.stays c.succeeds_by_depths-good.ensures.stays;
+      grows = Grows-trans i.grows c.succeeds_by_depths-good.ensures.stays.grows;
       code = omega (arith, bounded, c.if-best-eq3.false);
       none = c.better-best.ensures.none i.none;
       on_board = read_on_board g d;
-      table = c.succeeds-good.ensures.table;
+      table = c.succeeds_by_depths-good.ensures.table;
       near = read_near g d;
       best = read_best g d;
     }
@@ -114,7 +114,7 @@ returns-then-best-eq3 g c =
     let i = c.loop-p.invariant in
     let d = (goal.at.returns-then-best-eq3 g c).After-better-best in
     record {
-      stays = Stays-trans i.stays c.succeeds-good.ensures.stays;
+      stays = Stays-trans i.stays c.succeeds_by_depths-good.ensures.stays;
       code = c.better-best.ensures.code (omega (arith, i.code));
       none = c.better-best.ensures.none i.none;
       on_board = read_on_board g d;

@@ -11,5 +11,5 @@ returns c = λ seen tree target defender.
     subst (λ (table : List Entry). IsTrueTable seen tree target defender table) (sym c.filled_with.ensures)
     (record {
       all = All-replicate (IsTrueEntry seen tree target defender) 4096 _
-          (c.nothing_of.ensures.true seen tree target defender);
+          (c.nothing_of.ensures.holds seen tree target defender);
     })

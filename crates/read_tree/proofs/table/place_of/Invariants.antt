@@ -3,4 +3,4 @@ use Rattle.read_tree.proofs.table.place_of.Given as goal
 
 -- the place is one of the table
 abbrev pub invariant-places : goal.invariant-places
-invariant-places l = record { place : l.place < length l.table.now }
+invariant-places l = record { place : l.place < length l.table }

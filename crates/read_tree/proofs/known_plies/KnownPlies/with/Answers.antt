@@ -1,4 +1,4 @@
-use Rattle.std.proofs.Common.{◌≡◌, sym, ◌∙◌, arith, rules}
+use Rattle.std.proofs.Common.{sym, ◌∙◌, arith}
 use Rattle.read_tree.proofs.KnownPliesLemmas.{won_true, lost_true}
 use Rattle.read_tree.proofs.known_plies.KnownPlies.with.Goals as goal
 
