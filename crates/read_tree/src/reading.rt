@@ -26,12 +26,12 @@ use crate::deepening::succeeds_by_depths;
 use crate::first_look::{FirstLook, first_look};
 use crate::memory::Memory;
 use crate::report::Report;
-use crate::table::{Entry, empty_table};
+use crate::table::{Entry, empty_table, smaller_table};
 use crate::tree::pass_saves;
 use go_base::points::PointSet;
 use go_base::{Cell, Look, Point};
 use read_moves::candidates;
-use read_rules::{Answer, Depths, Kind, ReadingQuestion, Spot, Turn};
+use read_rules::{Answer, Depths, Kind, ReadingQuestion, Spot, Tree, Turn};
 use trial_board::Trial;
 
 /// From how many plies on a reading remembers nodes.
@@ -151,6 +151,20 @@ fn read_with_table<L: Look>(
     read_by(board, question, known, &mut table)
 }
 
+/// The same with a smaller table.
+#[inline(never)]
+fn read_with_smaller_table<L: Look>(
+    board: &mut Trial<L>,
+    question: &ReadingQuestion,
+    known: &PointSet,
+) -> Answer
+    requires { IsToRead L.shows L.seen board.old question.now known.now }
+    ensures { Answers L.shows L.seen board.old board.new question.now result }
+{
+    let mut table = smaller_table();
+    read_by(board, question, known, &mut table)
+}
+
 /// The same with a table where there are plies enough, and without one where it would cost more than it saves.
 fn read_known<L: Look>(board: &mut Trial<L>, question: &ReadingQuestion, known: &PointSet) -> Answer
     requires { IsToRead L.shows L.seen board.old question.now known.now }
@@ -159,7 +173,10 @@ fn read_known<L: Look>(board: &mut Trial<L>, question: &ReadingQuestion, known: 
     if question.plies < PLIES_WITH_TABLE {
         return read_by(board, question, known, &mut []);
     }
-    read_with_table(board, question, known)
+    match question.tree {
+        Tree::Stated => read_with_smaller_table(board, question, known),
+        Tree::Wider => read_with_table(board, question, known),
+    }
 }
 
 /// The answer to a question whose target has few liberties, read on a board of its own. That board is large, and a

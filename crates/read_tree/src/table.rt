@@ -19,6 +19,9 @@ use trial_board::Changes;
 /// How many nodes are remembered at most.
 pub const ENTRIES: usize = 4096;
 
+/// How many in the stated tree, which has fewer nodes: to make a larger table takes longer than most of its readings.
+pub const FEWER_ENTRIES: usize = 1024;
+
 /// How many places a node may have; of the nodes there the one stays that was read with most plies.
 const PLACES: usize = 4;
 
@@ -182,6 +185,25 @@ pub fn empty_table() -> [Entry; ENTRIES]
         → IsTrueTable seen tree target defender result }
 {
     filled_with(Entry::nothing_of(&AttackerNode {
+        changes: Changes::of_ban(None),
+        plies: 0,
+        wide: 0,
+    }))
+}
+
+/// A smaller table of this entry alone.
+fn fewer_filled_with(entry: Entry) -> [Entry; FEWER_ENTRIES]
+    ensures { result ≡ replicate 1024 entry }
+{
+    [entry; FEWER_ENTRIES]
+}
+
+/// A smaller table of no nodes, of which nothing is known.
+pub fn smaller_table() -> [Entry; FEWER_ENTRIES]
+    ensures { (seen : Fact → Bool) (tree : Tree) (target : ℕ) (defender : Colour)
+        → IsTrueTable seen tree target defender result }
+{
+    fewer_filled_with(Entry::nothing_of(&AttackerNode {
         changes: Changes::of_ban(None),
         plies: 0,
         wide: 0,
