@@ -39,7 +39,7 @@ WORKER_SCRIPTS = ["rules.js", "proof.js", "worker.js"]
 # The greatest number of plies that the page takes, and the bytes of the module's stack and of its whole memory, which
 # come in pages of 65536. docs/DOORS.md says how much of the stack was seen in use.
 MOST_PLIES = 200
-STACK = 16 * 65536
+STACK = 32 * 65536
 MEMORY = STACK + 4 * 65536
 LINE = re.compile(rf"(?m)^{CRATE} staticlib:(.*)$")
 MODULE = re.compile(r'<script type="text/plain" id="module">([^<]*)</script>')
