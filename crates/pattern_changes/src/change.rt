@@ -67,6 +67,7 @@ fn has_same_match(patterns: &[Pattern], others: &[Pattern], z: Match, theirs: &[
 }
 
 /// Of the matches of some patterns those that the matches of the others do not have, in their order.
+#[tactic(auto, unfolding(crate::specs::Changes::lacking))]
 fn lacking(
     alloc: Global,
     patterns: &[Pattern],
@@ -107,6 +108,7 @@ fn put(
 }
 
 /// Puts what changes for a friend on the position after so many moves behind the other changes.
+#[tactic(auto, unfolding(crate::specs::Changes::changes_for))]
 fn put_for(
     alloc: Global,
     changes: &mut Vec<Change>,
@@ -133,6 +135,7 @@ fn put_for(
 }
 
 /// Puts what changes for these friends on the position after so many moves behind the other changes.
+#[tactic(auto, unfolding(crate::specs::Changes::changes_at))]
 fn put_at(
     alloc: Global,
     changes: &mut Vec<Change>,
@@ -162,6 +165,7 @@ fn put_at(
 ///
 /// Changes stand in the order of the positions, for each in that of the friends, for each those that went before those
 /// that came, and these in the order of matches. The readings keep their depths. Takes memory.
+#[tactic(auto, unfolding(crate::specs::Changes::changes_over))]
 pub fn changes_over(
     alloc: Global,
     old: &Matcher,

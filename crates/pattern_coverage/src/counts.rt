@@ -48,8 +48,8 @@ impl PartCounts {
             ≡ (if other == part then min (slice_index self.old.counts other + 1) (2 ^ 64 - 1)
             else slice_index self.old.counts other) }
     {
-        if let Some(count) = self.counts.get_mut(part) {
-            *count = count.saturating_add(1);
+        if part < ENDS {
+            self.counts[part] = self.counts[part].saturating_add(1);
         }
     }
 
