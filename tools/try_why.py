@@ -57,7 +57,7 @@ PARTS = (
     '{"entry":"Squeeze","line":1,"colour":"black","at":"F5","transformation":0,"held":4,"fails":"constraint",'
     '"parts":[{"part":"lib(A)","value":2},{"part":"1","value":1},{"part":"lib(A) == 1","value":0}]}\n'
 )
-CHANGES = "{}, move 3: {}, black at F5, transformation 0: {}\n{0}, move 3: {1}, black at E4, transformation 7: {2}\n"
+CHANGES = "{0}, move 3: {1}, black at F5, transformation 0: {2}\n{0}, move 3: {1}, black at E4, transformation 7: {2}\n"
 CHANGED = (
     '{"record":"records/game.sgf","move":3,"change":"came","entry":"Squeeze","line":1,"colour":"black","at":"F5",'
     '"transformation":0}\n'
@@ -127,8 +127,8 @@ def comparisons() -> Iterator[Run]:
     """The runs of --compare."""
     game = "records/game.sgf"
     mended = ["--compare", "silent.db", "mended.db"]
-    came = CHANGES.format("{}", "Squeeze@1", "came")
-    yield Run("what came", [*mended, "records"], "", came.format(game), "2 matches came, 0 went", 1)
+    came = CHANGES.format(game, "Squeeze@1", "came")
+    yield Run("what came", [*mended, "records"], "", came, "2 matches came, 0 went", 1)
     back = ["--compare", "mended.db", "silent.db", "records"]
     went = CHANGES.format(game, "Squeeze@1", "went")
     yield Run("what went", back, "", went, "1 records, 4 positions, 0 matches came, 2 went", 1)
@@ -138,7 +138,7 @@ def comparisons() -> Iterator[Run]:
     renamed = ["--compare", "mended.db", "renamed.db", "records"]
     both = went + CHANGES.format(game, "Press@3", "came")
     yield Run("another name, and its line", renamed, "", both, "2 matches came, 2 went", 1)
-    among = came.format("faulty/b.sgf")
+    among = CHANGES.format("faulty/b.sgf", "Squeeze@1", "came")
     yield Run("a faulty record, compared", [*mended, "faulty"], "", among, "faulty/a.sgf: bad sgf", 2)
     for pair in [["faulty.db", "mended.db"], ["mended.db", "faulty.db"]]:
         yield Run(" ".join(["files", *pair]), ["--compare", *pair, "records"], "", "", "faulty.db: line 3 kind 11", 2)

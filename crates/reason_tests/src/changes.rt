@@ -124,7 +124,10 @@ static ROWS: [Row; 11] = [
         b"Pattern P\nO*\n:O,s",
         b"Pattern P\nO*X\n:O,s",
         &[(Colour::Black, 40), (Colour::White, 42)],
-        &[(1, Colour::Black, Way::Went, 0, 0, 41)],
+        &[
+            (1, Colour::Black, Way::Went, 0, 0, 41),
+            (2, Colour::White, Way::Went, 0, 0, 43),
+        ],
     ),
 ];
 

@@ -1,4 +1,4 @@
-use Rattle.std.proofs.Common.{◌≡◌, List, length, take, subst, rules, arith, refl, ◌≤◌}
+use Rattle.std.proofs.Common.{◌≡◌, List, length, take, subst, rules, arith, refl, sym, ◌≤◌}
 use Rattle.std.proofs.lemmas.Option.{slice_get_read}
 use Rattle.std.proofs.lemmas.List.{take_all}
 use Rattle.pat_types.specs.declared.pattern.Pattern.{Pattern}
@@ -12,9 +12,11 @@ patterns-preserved c d advice later =
     AreAllEnds-next d advice c.args.position.now c.args.friend c.args.patterns.now c.patterns.place
     c.index-patterns-place.result c.patterns.counts.items c.push.new.self.items c.ends_of_one.result
     c.patterns-test.true c.index-patterns-place.is (c.patterns.invariant d advice later)
-    (c.ends_of_one.ensures d advice (later c.patterns.place c.index-patterns-place.result
+    (c.ends_of_one.ensures d advice (later c.patterns.place c.index-patterns-place.result c.index-later-place.result
     (slice_get_read c.args.patterns.now (length c.args.patterns.now) c.patterns.place c.index-patterns-place.result refl
-    c.patterns-test.true c.index-patterns-place.is)))
+    c.patterns-test.true c.index-patterns-place.is)
+    (slice_get_read c.args.later.now (length c.args.patterns.now) c.patterns.place c.index-later-place.result
+    (sym c.requires.same) c.patterns-test.true c.index-later-place.is)))
     c.in_ok-push.ensures.items
 
 -- behind the last pattern those of all
