@@ -100,7 +100,7 @@ def lines_of(record: sgf.Record) -> Iterator[tuple[str, bool]]:
 
 def listed(gopat: str, patterns: pathlib.Path, lines: list[tuple[str, bool]]) -> list[list[Found]]:
     """The matches of each question, in order."""
-    command = [gopat, "--states", "4000000", str(patterns)]
+    command = [gopat, "--states", "1000000", str(patterns)]
     replies, _ = gtp.session(command, [line for line, _ in lines])
     found = []
     for (line, asked), reply in zip(lines, replies):

@@ -26,11 +26,12 @@ module _ {X : Type 0} where
         → before ≡ flat_map f (enumerate_from 0 (take i xs)) → after ≡ before ++ f (i, x)
         → after ≡ flat_map f (enumerate_from 0 (take (i + 1) xs))
     numbered-next xs i x before after low read so_far now =
+        let last : 0 + length (take i xs) ≡ i = omega (arith, length-front i xs low) in
         now ∙ ap (λ l. l ++ f (i, x)) so_far
         ∙ sym (ap (λ l. flat_map f (enumerate_from 0 l))
         (take_more xs i x low ∙ ap (λ y. take i xs ++ y ∷ []) (sym read))
         ∙ ap (flat_map f) (enumerate-append 0 (take i xs) x)
-        ∙ ap (λ k. flat_map f (enumerate_from 0 (take i xs) ++ (k, x) ∷ [])) (length-front i xs low)
+        ∙ ap (λ k. flat_map f (enumerate_from 0 (take i xs) ++ (k, x) ∷ [])) last
         ∙ flat_map-append f (enumerate_from 0 (take i xs)) ((i, x) ∷ [])
         ∙ ap (λ l. flat_map f (enumerate_from 0 (take i xs)) ++ l) (append-none (f (i, x))))
       where

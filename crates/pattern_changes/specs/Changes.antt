@@ -1,6 +1,6 @@
 -- What a change of a list of patterns changes: the matches that went and those that came. Patterns of the two lists
 -- belong together by their names.
-use Rattle.std.specs.Prelude.{◌≡◌, ⊥, ℕ, ◌&&◌, ◌==◌, not, Bool, false, List, ◌++◌, map, filter, Option, Some, None}
+use Rattle.std.specs.Prelude.{◌≡◌, ℕ, ◌&&◌, ◌==◌, not, Bool, false, List, ◌++◌, map, filter, Option, Some, None}
 use Rattle.std.specs.Prelude.{slice_get, Contains}
 use Rattle.std.specs.List.{list_any, flat_map, enumerate_from}
 use Rattle.std.specs.Str.{bytes_eq}
