@@ -1,4 +1,5 @@
-use Rattle.std.proofs.Common.{◌++◌, ap, ◌∙◌}
+use Rattle.std.proofs.Common.{ℕ, ◌++◌, ap, ◌∙◌}
+use Rattle.go_rules.specs.Position.{BoardState}
 use Rattle.helpers.specs.HelperStates.{says_yes}
 use Rattle.helpers.specs.Slots.{states_of}
 use Rattle.match_engine.specs.Readings.{codes_of}
@@ -14,7 +15,7 @@ positions-preserved g c =
     let old = c.args.old.now in
     let new = c.args.new.now in
     let friends = c.args.friends.now in
-    let place = (c.positions.moves, c.index-positions-moves.result) in
+    let place : ℕ × BoardState = (c.positions.moves, c.index-positions-moves.result) in
     let before = c.positions.changes.items in
     record {
       changes = numbered-next (changes_at (codes_of c.args.readings.now) first old new friends) c.args.positions.now
