@@ -1,8 +1,8 @@
 -- The changes over a game are exactly those that the words say.
-use Rattle.std.proofs.Common.{inl, inr, ◌≡◌, ℕ, ◌+◌, ◌-◌, Bool, true, false, not, ◌||◌, List, [], ◌∷◌, ◌++◌, map, filter, Option}
-use Rattle.std.proofs.Common.{Some, None, slice_get, Contains, refl, sym, ap, ◌∙◌, subst, arith}
-use Rattle.std.specs.List.{list_any, flat_map, enumerate_from}
-use Rattle.std.proofs.lemmas.Bool.{cases_Bool, false≢true}
+use Rattle.std.proofs.Common.{inl, inr, ◌≡◌, ℕ, ◌+◌, ◌-◌, Bool, true, false, not, ◌||◌, List, [], ◌∷◌, map}
+use Rattle.std.proofs.Common.{slice_get, Contains, refl, sym, ap, ◌∙◌, subst, arith}
+use Rattle.std.specs.List.{list_any, enumerate_from}
+use Rattle.std.proofs.lemmas.Bool.{false≢true}
 use Rattle.std.proofs.lemmas.List.Elements.{Contains-append_left, Contains-append_right, Contains-append_cases}
 use Rattle.go_rules.specs.declared.Colour.{Colour}
 use Rattle.go_rules.specs.Position.{BoardState}
@@ -10,7 +10,7 @@ use Rattle.pat_types.specs.declared.pattern.Pattern.{Pattern}
 use Rattle.cons_eval.specs.Readings.{Codes}
 use Rattle.match_rules.specs.declared.found.Match.{Match}
 use Rattle.match_rules.specs.Conditions.{Advice}
-use Rattle.match_rules.specs.Match.{matches_of, IsMatch}
+use Rattle.match_rules.specs.Match.{matches_of}
 use Rattle.match_rules.proofs.Lists.{Contains-cons_cases, Contains-first, Contains-rest, Contains-nil, Contains-map}
 use Rattle.match_rules.proofs.Lists.{Contains-map_from, Contains-flat_map, Contains-flat_map_from, Contains-filter}
 use Rattle.match_rules.proofs.Lists.{Contains-filter_from, Contains-enumerate, Contains-enumerate_from}
@@ -19,7 +19,7 @@ use Rattle.pattern_changes.specs.declared.change.Change.{Change}
 use Rattle.pattern_changes.specs.declared.change.Way.{Way}
 use Rattle.pattern_changes.specs.declared.change.Way.TheVariants.{Went, Came}
 use Rattle.pattern_changes.specs.Changes.{is_same_match, lacking, lost, change_of, changes_for, changes_at, changes_over}
-use Rattle.pattern_changes.specs.Changes.{IsSameMatch, IsLost, IsChanged, IsChange}
+use Rattle.pattern_changes.specs.Changes.{IsLost, IsChanged, IsChange}
 use Rattle.pattern_changes.proofs.SameMatches.{same-true, same-from}
 
 module _ {X : Type 0} (test : X → Bool) where

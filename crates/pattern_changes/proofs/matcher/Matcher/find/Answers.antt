@@ -1,4 +1,4 @@
-use Rattle.std.proofs.Common.{ℕ, ◌<◌, List, length, sym, ap, ◌∙◌, subst}
+use Rattle.std.proofs.Common.{◌<◌, List, length, sym, ap, ◌∙◌, subst}
 use Rattle.helpers.specs.HelperStates.{says_yes}
 use Rattle.helpers.specs.Slots.{states_of}
 use Rattle.pat_types.specs.declared.pattern.Pattern.{Pattern}

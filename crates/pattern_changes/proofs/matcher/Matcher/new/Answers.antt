@@ -1,4 +1,4 @@
-use Rattle.std.proofs.Common.{sym, subst, length, ◌<◌}
+use Rattle.std.proofs.Common.{sym, subst}
 use Rattle.dfa_core.specs.States.{IsAutomatonOf}
 use Rattle.pattern_changes.specs.Numbers.{NumbersPatterns}
 use Rattle.pattern_changes.proofs.matcher.Matcher.new.Goals as goal
