@@ -84,7 +84,8 @@ fn ends_of_all(
 {
     let mut counts = Vec::with_capacity(alloc, patterns.len())?;
     'patterns: for (place, p) in patterns.iter().enumerate() {
-        counts.push(ends_of_one(p, &later[place], position, friend, blocked))?;
+        let one = later[place];
+        counts.push(ends_of_one(p, &one, position, friend, blocked))?;
     }
     Ok(counts)
 }

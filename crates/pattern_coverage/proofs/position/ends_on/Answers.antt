@@ -29,7 +29,7 @@ ends_of-requires g c z there =
 -- there are counts for each pattern
 pub ends_of_all-requires-clause-same : goal.ends_of_all-requires-clause-same
 ends_of_all-requires-clause-same g c =
-    ap length c.as_slice-4.ensures.value ∙ c.in_ok-later.ensures.length ∙ c.len.ensures.value
+    ap length c.as_slice-4.ensures.value ∙ c.in_ok-later.ensures.length
 
 -- helpers that were asked about bare patterns and then about what was found say what they said
 pub returns-clause-advice : goal.returns-clause-advice
