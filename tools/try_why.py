@@ -25,6 +25,7 @@ FILES = {
     "two.db": "Pattern P\nO*\n:O,s\n\nPattern P\nX*\n:O,s\n",
     "game.sgf": RECORD,
     "bad.sgf": "(;SZ[9]",
+    "renamed.db": "# Another name.\n\n" + SQUEEZE.format(2).replace("Squeeze", "Press"),
     "never.db": SQUEEZE.format(2) + "\nPattern Row\nXXX*\n:8,s\n",
     "records/game.sgf": RECORD,
     "faulty/a.sgf": "(;SZ[9]",
@@ -55,6 +56,11 @@ MISFIT = (
 PARTS = (
     '{"entry":"Squeeze","line":1,"colour":"black","at":"F5","transformation":0,"held":4,"fails":"constraint",'
     '"parts":[{"part":"lib(A)","value":2},{"part":"1","value":1},{"part":"lib(A) == 1","value":0}]}\n'
+)
+CHANGES = "{0}, move 3: {1}, black at F5, transformation 0: {2}\n{0}, move 3: {1}, black at E4, transformation 7: {2}\n"
+CHANGED = (
+    '{"record":"records/game.sgf","move":3,"change":"came","entry":"Squeeze","line":1,"colour":"black","at":"F5",'
+    '"transformation":0}\n'
 )
 SHORT = "{} of 6: P@{}, {} at E4, transformation 0: {}\n"
 OTHER = "the diagram does not fit: row 1, column 1 is '{}' and D4 holds a stone of the {}"
@@ -111,8 +117,35 @@ def runs() -> Iterator[Run]:
     yield Run("a faulty record among others", among, "", row.format(0, 2), "faulty/a.sgf: bad sgf", 1)
     yield Run("no folder", ["--coverage", "none", "silent.db"], "", "", "none: ", 2)
     alone = [["--coverage", "records", *words, "silent.db"] for words in [["--json"], ["--at", "E5"]]]
+    yield from comparisons()
     wrong = [[], ["--no", "silent.db"], ["--move", "1", "silent.db"], ["--all", "silent.db"], ["a", "b", "c"]]
     for words in [*alone, *wrong, ["--colour", "x", "silent.db"]]:
+        yield Run(" ".join(["the words", *words]), words, "", "", USAGE, 2)
+
+
+def comparisons() -> Iterator[Run]:
+    """The runs of --compare."""
+    game = "records/game.sgf"
+    mended = ["--compare", "silent.db", "mended.db"]
+    came = CHANGES.format(game, "Squeeze@1", "came")
+    yield Run("what came", [*mended, "records"], "", came, "2 matches came, 0 went", 1)
+    back = ["--compare", "mended.db", "silent.db", "records"]
+    went = CHANGES.format(game, "Squeeze@1", "went")
+    yield Run("what went", back, "", went, "1 records, 4 positions, 0 matches came, 2 went", 1)
+    yield Run("the same", ["--compare", "mended.db", "mended.db", "records"], "", "", "0 matches came, 0 went", 0)
+    yield Run("the other colour", ["--colour", "w", *mended, "records"], "", "", "0 matches came, 0 went", 0)
+    yield Run("objects of changes", ["--json", *mended, "records"], "", CHANGED, "2 matches came", 1)
+    renamed = ["--compare", "mended.db", "renamed.db", "records"]
+    both = went + CHANGES.format(game, "Press@3", "came")
+    yield Run("another name, and its line", renamed, "", both, "2 matches came, 2 went", 1)
+    among = CHANGES.format("faulty/b.sgf", "Squeeze@1", "came")
+    yield Run("a faulty record, compared", [*mended, "faulty"], "", among, "faulty/a.sgf: bad sgf", 2)
+    for pair in [["faulty.db", "mended.db"], ["mended.db", "faulty.db"]]:
+        yield Run(" ".join(["files", *pair]), ["--compare", *pair, "records"], "", "", "faulty.db: line 3 kind 11", 2)
+    yield Run("no folder to compare over", [*mended, "none"], "", "", "none: ", 2)
+    more = [["--at", "E5"], ["--sgf", "game.sgf"], ["--all"], ["--coverage", "records"]]
+    wrong = [[*mended], [*mended, "records", "Squeeze"], *([*words, *mended, "records"] for words in more)]
+    for words in wrong:
         yield Run(" ".join(["the words", *words]), words, "", "", USAGE, 2)
 
 

@@ -6,3 +6,4 @@ pub mod Parts
 pub mod BlockedTries
 pub mod AllEnds
 pub mod Advice
+pub mod Tallies

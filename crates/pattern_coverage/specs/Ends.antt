@@ -1,6 +1,6 @@
 -- Where tries of patterns end: at the first part of the definition of a match that fails, by its number.
-use Rattle.std.specs.Prelude.{◌≡◌, ℕ, ◌+◌, ◌*◌, ◌<◌, ◌≤◌, ◌==◌, ◌&&◌, not, Bool, List, map, length, Option, Some, None}
-use Rattle.std.specs.Prelude.{count_by, slice_get, slice_index}
+use Rattle.std.specs.Prelude.{◌≡◌, ℕ, ◌+◌, ◌-◌, ◌*◌, ◌<◌, ◌≤◌, ◌^◌, ◌==◌, ◌&&◌, not, Bool, List, map, length, Option, Some}
+use Rattle.std.specs.Prelude.{None, count_by, min, slice_get, slice_index}
 use Rattle.std.specs.List.{flat_map, range_with_len}
 use Rattle.go_rules.specs.declared.Cell.TheVariants.{Empty}
 use Rattle.go_rules.specs.declared.Colour.{Colour}
@@ -84,3 +84,8 @@ end_at d advice patterns board friend z = record {
 abbrev pub AreLaterEnds : Depths → Advice → Pattern → BoardState → Colour → ℕ → List End → Type 0
 AreLaterEnds d advice p board friend place ends = (part : ℕ) → 2 ≤ part → part < 7
     → count_by (λ end. end.pattern == place && end.part == part) ends ≡ ends_at d advice p board friend part
+
+-- the counts are those of the tries of the pattern that end behind the move, as far as a u64 goes
+abbrev pub AreLaterCounts : Depths → Advice → Pattern → BoardState → Colour → PartCounts → Type 0
+AreLaterCounts d advice p board friend c = (part : ℕ) → 2 ≤ part → part < 7
+    → slice_index c.counts part ≡ min (ends_at d advice p board friend part) (2 ^ 64 - 1)

@@ -1,5 +1,5 @@
 //! How many tries of a pattern end at each part.
-ghost use Rattle.std.specs.Prelude.{◌≡◌, ℕ, ◌+◌, ◌-◌, ◌<◌, ◌^◌, min, slice_index};
+ghost use Rattle.std.specs.Prelude.{◌≡◌, ℕ, ◌+◌, ◌-◌, ◌<◌, ◌^◌, ◌==◌, if◌then◌else◌, min, slice_index};
 
 /// How many ends a try may have: the six parts, and a match.
 pub const ENDS: usize = 7;
@@ -24,6 +24,33 @@ impl PartCounts {
         ensures { part < 7 → result ≡ slice_index self.now.counts part }
     {
         self.counts.get(part).copied().unwrap_or(0)
+    }
+
+    /// How many tries there are, as far as a `u64` goes.
+    pub fn all(&self) -> u64
+        ensures { result ≡ min (slice_index self.now.counts 0 + (slice_index self.now.counts 1
+            + (slice_index self.now.counts 2 + (slice_index self.now.counts 3 + (slice_index self.now.counts 4
+            + (slice_index self.now.counts 5 + slice_index self.now.counts 6)))))) (2 ^ 64 - 1) }
+    {
+        let PartCounts { counts } = *self;
+        counts[0]
+            .saturating_add(counts[1])
+            .saturating_add(counts[2])
+            .saturating_add(counts[3])
+            .saturating_add(counts[4])
+            .saturating_add(counts[5])
+            .saturating_add(counts[6])
+    }
+
+    /// Counts one try that ends at a part, as far as a `u64` goes.
+    pub fn count(&mut self, part: usize)
+        ensures { (other : ℕ) → other < 7 → slice_index self.new.counts other
+            ≡ (if other == part then min (slice_index self.old.counts other + 1) (2 ^ 64 - 1)
+            else slice_index self.old.counts other) }
+    {
+        if part < ENDS {
+            self.counts[part] = self.counts[part].saturating_add(1);
+        }
     }
 
     /// Adds the tries of another position, each count as far as a `u64` goes.

@@ -1,5 +1,5 @@
 //! Where the tries end whose diagram fits with a legal move.
-ghost use Rattle.std.specs.Prelude.{◌≡◌, ◌&&◌, ◌==◌, ◌*◌, ◌<◌, length, map, count_by, Contains, IfOk, OnOk, slice_get};
+ghost use Rattle.std.specs.Prelude.{◌≡◌, ◌*◌, ◌<◌, length, map, Contains, IfOk, OnOk, slice_get};
 ghost use Rattle.helpers.specs.HelperStates.{says_yes};
 ghost use Rattle.helpers.specs.Slots.{states_of};
 ghost use Rattle.match_rules.specs.declared.found.Match.{Match as MatchSeen};
@@ -82,13 +82,4 @@ pub(crate) fn ends_of(
         ends.push(end_of(patterns, position, friend, depths, helpers, *z))?;
     }
     Ok(ends)
-}
-
-/// How many tries of the pattern at a place of the list end at a part.
-pub(crate) fn count_ends(ends: &[End], pattern: u16, part: u8) -> u64
-    ensures { result ≡ count_by (λ end. end.pattern == pattern && end.part == part) ends.now }
-{
-    ends.iter()
-        .filter(|end| end.pattern == pattern && end.part == part)
-        .count() as u64
 }

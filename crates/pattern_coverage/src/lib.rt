@@ -14,6 +14,7 @@ mod blocked;
 mod counts;
 mod ends;
 mod position;
+mod tally;
 
 pub use bare::Diagrams;
 pub use counts::{ENDS, PartCounts};

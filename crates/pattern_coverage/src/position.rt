@@ -8,12 +8,14 @@ ghost use Rattle.match_rules.specs.Conditions.{Advice};
 ghost use Rattle.read_rules.specs.declared.depths.Depths.{Depths as DepthsSeen};
 ghost use Rattle.pat_types.specs.declared.pattern.Pattern.{Pattern as PatternSeen};
 ghost use Rattle.pattern_coverage.specs.Bare.{AreDiagramsOf};
-ghost use Rattle.pattern_coverage.specs.Ends.{AreEnds, AreLaterEnds, AreAllEnds, is_blocked};
+ghost use Rattle.pattern_coverage.specs.declared.counts.PartCounts.{PartCounts as PartCountsSeen};
+ghost use Rattle.pattern_coverage.specs.Ends.{AreEnds, AreLaterCounts, AreAllEnds, is_blocked};
 
 use crate::bare::Diagrams;
 use crate::blocked::{blocked_points, fits_among};
 use crate::counts::PartCounts;
-use crate::ends::{End, count_ends, ends_of};
+use crate::ends::ends_of;
+use crate::tally::tally;
 use go_base::{Colour, NoMemory, Point, Position};
 use helpers::Helpers;
 use match_engine::{Readings, matches};
@@ -31,28 +33,26 @@ fn tries_of(p: &Pattern, position: &Position) -> u64
     mark_count(p.mark) as u64 * position.size().points() as u64
 }
 
-/// The ends of the tries of the pattern at a place of the list, from the ends behind a legal move and from the empty
-/// points where the friend may not play.
+/// The ends of a pattern's tries, from those behind a legal move and from the empty points where the friend may not play.
 fn ends_of_one(
     p: &Pattern,
-    place: u16,
+    later: &PartCounts,
     position: &Position,
     friend: Colour,
-    ends: &[End],
     blocked: &[Point],
 ) -> PartCounts
     requires blocked { blocked.now
         ≡ filter (is_blocked position.now friend) (range_with_len 0 (position.now.size * position.now.size)) }
-    ensures { (d : DepthsSeen) (advice : Advice) → AreLaterEnds d advice p.now position.now friend place ends.now
+    ensures { (d : DepthsSeen) (advice : Advice) → AreLaterCounts d advice p.now position.now friend later.now
         → AreEnds d advice p.now position.now friend result }
 {
     let _ = position.size().points();
     let illegal = fits_among(p, position, friend, blocked);
-    let stone = count_ends(ends, place, 2);
-    let enemy = count_ends(ends, place, 3);
-    let constraint = count_ends(ends, place, 4);
-    let helper = count_ends(ends, place, 5);
-    let matched = count_ends(ends, place, 6);
+    let stone = later.at(2);
+    let enemy = later.at(3);
+    let constraint = later.at(4);
+    let helper = later.at(5);
+    let matched = later.at(6);
     let others = illegal
         .saturating_add(stone)
         .saturating_add(enemy)
@@ -65,26 +65,27 @@ fn ends_of_one(
     }
 }
 
-/// The ends of the tries of each pattern, in the order of the list.
+/// The ends of the tries of each pattern, in the order of the list, from the counts of those behind a legal move.
 fn ends_of_all(
     alloc: Global,
     patterns: &[Pattern],
+    later: &[PartCounts],
     position: &Position,
     friend: Colour,
-    ends: &[End],
     blocked: &[Point],
 ) -> Result<Vec<PartCounts>, NoMemory>
-    requires few { length patterns.now ≤ 4096 }
+    requires same { length later.now ≡ length patterns.now }
     requires blocked { blocked.now
         ≡ filter (is_blocked position.now friend) (range_with_len 0 (position.now.size * position.now.size)) }
     ensures { IfOk result (λ counts. (d : DepthsSeen) (advice : Advice)
-        → ((place : ℕ) (p : PatternSeen) → slice_get patterns.now place ≡ Some p
-        → AreLaterEnds d advice p position.now friend place ends.now)
+        → ((place : ℕ) (p : PatternSeen) (c : PartCountsSeen) → slice_get patterns.now place ≡ Some p
+        → slice_get later.now place ≡ Some c → AreLaterCounts d advice p position.now friend c)
         → AreAllEnds d advice patterns.now position.now friend counts.items) }
 {
     let mut counts = Vec::with_capacity(alloc, patterns.len())?;
     'patterns: for (place, p) in patterns.iter().enumerate() {
-        counts.push(ends_of_one(p, place as u16, position, friend, ends, blocked))?;
+        let one = later[place];
+        counts.push(ends_of_one(p, &one, position, friend, blocked))?;
     }
     Ok(counts)
 }
@@ -127,13 +128,14 @@ pub fn ends_on(
         helpers,
         found.as_slice(),
     )?;
+    let later = tally(alloc, patterns.len(), ends.as_slice())?;
     let blocked = blocked_points(alloc, position, friend)?;
     ends_of_all(
         alloc,
         patterns,
+        later.as_slice(),
         position,
         friend,
-        ends.as_slice(),
         blocked.as_slice(),
     )
 }

@@ -4,29 +4,26 @@ ghost use Rattle.std.specs.Prelude.{◌≤◌, length, IfOk};
 ghost use Rattle.pattern_coverage.specs.Bare.{AreDiagramsOf};
 
 use crate::entries::Entries;
-use crate::fault::{Fault, noted};
+use crate::fault::Fault;
 use crate::files::text_of;
-use crate::game::{game_after, move_count};
+use crate::game::depths_at_first;
+use crate::joining::{MOST_ENTRIES, MOST_STATES, join_fault, too_many};
+use crate::main_line::main_line;
 use crate::options::Options;
+use crate::outcome::Outcome;
 use crate::progress::Progress;
 use crate::records::records_of;
-use dfa_join::JoinError;
-use go_base::Colour;
+use go_base::{Colour, Position};
 use helpers::Helpers;
 use pat_types::Pattern;
 use pattern_coverage::{Diagrams, ENDS, PartCounts, ends_on};
+use read_rules::Depths;
 use std::alloc::{AllocError, Global};
 use std::fs::Files;
 use std::io;
 use std::io::Write;
 use std::time::Clock;
 use why_report::{PARTS, part_name, put_name};
-
-/// The most entries of a list that has an automaton.
-const MOST_ENTRIES: usize = 4096;
-
-/// The most states of the automaton.
-const MOST_STATES: u32 = 4_000_000;
 
 /// What is counted over records.
 #[derive(Drop)]
@@ -95,30 +92,28 @@ struct Search<'a> {
     patterns: &'a [Pattern],
     /// Their diagrams.
     diagrams: &'a Diagrams,
+    /// How deep readings go.
+    depths: Depths,
 }
 
-/// Counts the tries on the position after so many moves of a record.
+/// Counts the tries on a position.
 fn cover_position(
     search: Search<'_>,
     helpers: &mut Helpers,
     coverage: &mut Coverage,
-    name: &str,
-    record: &[u8],
-    moves: u64,
+    position: &Position,
 ) -> Result<(), Fault>
     requires few { length search.patterns.now ≤ 4096 }
     requires diagrams { AreDiagramsOf search.patterns.now search.diagrams.now }
 {
-    let game = game_after(search.alloc, name, record, Some(moves))?;
-    let position = game.position();
     for colour in search.colours {
         let ends = ends_on(
             search.alloc,
             search.patterns,
             search.diagrams,
-            &position,
+            position,
             *colour,
-            game.depths(),
+            search.depths,
             helpers,
         )?;
         coverage.add(ends.as_slice());
@@ -127,26 +122,34 @@ fn cover_position(
     Ok(())
 }
 
-/// Counts the tries on each position of a record's main line, the one before its first move among them.
-fn cover_record(
+/// Counts the tries on each position of a record's main line. A fault of the record is told on standard error, and the
+/// positions before it are counted.
+fn cover_record<R: Files + Eprint + AllocGlobal>(
+    rt: &R,
     search: Search<'_>,
     helpers: &mut Helpers,
     coverage: &mut Coverage,
+    progress: &mut Progress,
     name: &str,
-    record: &[u8],
 ) -> Result<(), Fault>
     requires few { length search.patterns.now ≤ 4096 }
     requires diagrams { AreDiagramsOf search.patterns.now search.diagrams.now }
 {
-    let last = move_count(search.alloc, record)?;
-    for moves in 0..last.saturating_add(1) {
-        cover_position(search, helpers, coverage, name, record, moves)?;
+    let record = text_of(rt, name)?;
+    let line = main_line(search.alloc, name, record.as_slice())?;
+    for position in &line.positions {
+        cover_position(search, helpers, coverage, position)?;
     }
+    if let Some(note) = &line.fault {
+        coverage.missed = true;
+        progress.clear(rt)?;
+        eprintln!(rt; "{note}")?;
+    }
+    coverage.records = coverage.records.saturating_add(1);
     Ok(())
 }
 
-/// Counts the tries on each position of the records with these names. A record that has a fault is told on standard
-/// error, and is counted up to it.
+/// Counts the tries on each position of the records with these names.
 fn cover_records<R: Files + Eprint + Clock + AllocGlobal>(
     rt: &R,
     search: Search<'_>,
@@ -161,17 +164,7 @@ fn cover_records<R: Files + Eprint + Clock + AllocGlobal>(
     let mut progress = Progress::begin(rt, is_terminal)?;
     for name in names {
         progress.tell(rt, "reading", name.as_str())?;
-        let record = text_of(rt, name.as_str())?;
-        match cover_record(search, helpers, coverage, name.as_str(), record.as_slice()) {
-            Ok(()) => {}
-            Err(Fault::Note(note)) => {
-                coverage.missed = true;
-                progress.clear(rt)?;
-                eprintln!(rt; "{note}")?;
-            }
-            Err(fault) => return Err(fault),
-        }
-        coverage.records = coverage.records.saturating_add(1);
+        cover_record(rt, search, helpers, coverage, &mut progress, name.as_str())?;
     }
     progress.clear(rt)?;
     Ok(())
@@ -211,16 +204,6 @@ fn table_of(alloc: Global, entries: &Entries, coverage: &Coverage) -> Result<Str
     Ok(page)
 }
 
-/// Why the entries of a file have no automaton.
-fn join_fault(alloc: Global, file: &str, error: &JoinError) -> Fault {
-    match error {
-        JoinError::TooManyStates { limit } => noted(format!(in alloc;
-            "{file}: more than {limit} states; split the file"
-        )),
-        JoinError::NoMemory => Fault::NoMemory,
-    }
-}
-
 /// The diagrams of the entries of a file.
 fn diagrams_of(alloc: Global, file: &str, patterns: &[Pattern]) -> Result<Diagrams, Fault>
     requires { length patterns.now ≤ 4096 }
@@ -232,8 +215,8 @@ fn diagrams_of(alloc: Global, file: &str, patterns: &[Pattern]) -> Result<Diagra
     }
 }
 
-/// Prints how often the entries of a file fit and match over the records of a folder. Answers whether each fits once at
-/// least. The counts of all are told on standard error.
+/// Prints how often the entries of a file fit and match over the records of a folder. The outcome is whether each fits
+/// once at least and no record has a fault. The counts of all are told on standard error.
 pub(crate) fn tell_coverage<R: Files + Print + Eprint + Clock + AllocGlobal + Clone + Drop>(
     rt: &R,
     options: &Options,
@@ -241,12 +224,12 @@ pub(crate) fn tell_coverage<R: Files + Print + Eprint + Clock + AllocGlobal + Cl
     folder: &str,
     helpers: &mut Helpers,
     is_terminal: bool,
-) -> Result<bool, Fault> {
+) -> Result<Outcome, Fault> {
     let alloc = rt.alloc();
     let file = options.file.as_str();
     let patterns = entries.patterns();
     if patterns.len() > MOST_ENTRIES {
-        return Err(noted(format!(in alloc; "{file}: more than {MOST_ENTRIES} entries")));
+        return Err(too_many(alloc, file));
     }
     let diagrams = diagrams_of(alloc, file, patterns)?;
     let search = Search {
@@ -254,6 +237,7 @@ pub(crate) fn tell_coverage<R: Files + Print + Eprint + Clock + AllocGlobal + Cl
         colours: options.colours(),
         patterns,
         diagrams: &diagrams,
+        depths: depths_at_first(alloc)?,
     };
     let names = records_of(rt, folder)?;
     let mut coverage = Coverage::new(alloc, patterns.len())?;
@@ -272,5 +256,5 @@ pub(crate) fn tell_coverage<R: Files + Print + Eprint + Clock + AllocGlobal + Cl
     eprintln!(rt;
         "{records} records, {positions} positions, {all} entries, {never} of them never fit"
     )?;
-    Ok(never == 0 && !coverage.missed)
+    Ok(Outcome::of(never == 0 && !coverage.missed))
 }

@@ -64,6 +64,11 @@ impl Entries {
         self.patterns.as_slice()
     }
 
+    /// The patterns of all entries, and the numbers of their Pattern lines, in the order of the file.
+    pub(crate) fn into_parts(self) -> (Vec<Pattern>, Vec<u64>) {
+        (self.patterns, self.lines)
+    }
+
     /// The entry at a place of the file, which has this pattern.
     fn at<'a>(&self, place: usize, pattern: &'a Pattern) -> Entry<'a> {
         let line = self.lines.get(place).copied().unwrap_or(0);

@@ -6,6 +6,7 @@ use crate::options::Options;
 use board_lines::{Game, LineFault, cut_record};
 use gtp_cmd::{RefuseText, refusal};
 use gtp_io::FileLoader;
+use read_rules::Depths;
 use std::alloc::{AllocError, Global};
 use std::fs::Files;
 use std::io::Read;
@@ -99,6 +100,11 @@ pub(crate) fn game_after(
         Ok(()) => Ok(game),
         Err(fault) => Err(record_note(alloc, file, fault)),
     }
+}
+
+/// How deep readings go before any line says so, and over records.
+pub(crate) fn depths_at_first(alloc: Global) -> Result<Depths, Fault> {
+    Ok(new_game(alloc)?.depths())
 }
 
 /// How many moves the main line of a record has.

@@ -1,18 +1,24 @@
 //! Why a pattern does not match: tells its author, for a position that protocol lines set up or that a game record
-//! leads to, which part of the definition of a match fails first; or how often each part fails over game records.
+//! leads to, which part of the definition of a match fails first; or how often each part fails over game records; or
+//! which matches go and come over game records if a pattern file is changed.
 //!
 //! `pattern_why [options] FILE [PATTERN[@LINE]]`. The exit status is 0 if something matches, 1 if nothing does, and 2
 //! if the words are no command line, a file has a fault or cannot be read, a line is not taken, or there is no memory.
-//! With `--coverage` it is 0 if each entry fits somewhere and no record has a fault, and 1 if not.
+//! With `--coverage` it is 0 if each entry fits somewhere and no record has a fault, and 1 if not. With `--compare` it is
+//! 0 if no match went or came, 1 if one did, and also 2 if a record has a fault.
 #![tactic(auto)]
 
 mod almost;
+mod compare;
 mod coverage;
 mod entries;
 mod fault;
 mod files;
 mod game;
+mod joining;
+mod main_line;
 mod options;
+mod outcome;
 mod position;
 mod progress;
 mod records;
@@ -22,6 +28,7 @@ mod tries;
 
 use crate::fault::Fault;
 use crate::options::{Options, options_of};
+use crate::outcome::Outcome;
 use crate::position::tell;
 use helpers::{Helper, NearEdge, NoBan};
 use std::io::IsTerminal;
@@ -32,16 +39,8 @@ use std::{env, io};
 /// The note of a faulty command line.
 const USAGE: &str =
     "usage: pattern_why [--colour b|w] [--at VERTEX] [--all] [--json] [--sgf RECORD [--move N]] FILE [PATTERN[@LINE]], \
-or pattern_why [--colour b|w] --coverage FOLDER FILE";
-
-/// The exit status if something matches.
-const MATCHES: u8 = 0;
-
-/// The exit status if nothing matches.
-const NOTHING: u8 = 1;
-
-/// The exit status if nothing can be told.
-const NOT_TOLD: u8 = 2;
+or pattern_why [--colour b|w] --coverage FOLDER FILE, \
+or pattern_why [--colour b|w] [--json] --compare OLD NEW FOLDER";
 
 /// The words of the command line without the program's name.
 fn words_of<R: Env + AllocGlobal>(rt: &R) -> io::Result<Vec<String>> {
@@ -65,13 +64,13 @@ fn give_up<R: Eprint>(rt: &R, fault: &Fault) -> ExitCode {
         Fault::Io(error) => eprintln!(rt; "{error}"),
         Fault::Note(note) => eprintln!(rt; "{note}"),
     };
-    ExitCode::from(NOT_TOLD)
+    ExitCode::from(Outcome::Trouble.status())
 }
 
 fn main(rt: HostRuntime) -> ExitCode {
     let Some(options) = options_asked(&rt) else {
         let _ = eprintln!(rt; "{USAGE}");
-        return ExitCode::from(NOT_TOLD);
+        return ExitCode::from(Outcome::Trouble.status());
     };
     let alloc = rt.alloc();
     let mut helpers: Vec<Box<dyn Helper>> = Vec::new(alloc);
@@ -88,8 +87,7 @@ fn main(rt: HostRuntime) -> ExitCode {
         Err(Fault::NoMemory)
     };
     match told {
-        Ok(true) => ExitCode::from(MATCHES),
-        Ok(false) => ExitCode::from(NOTHING),
+        Ok(outcome) => ExitCode::from(outcome.status()),
         Err(fault) => give_up(&rt, &fault),
     }
 }

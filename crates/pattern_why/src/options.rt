@@ -4,6 +4,15 @@ use clap::{Arg, ArgAction, ArgMatches, Command};
 use go_base::Colour;
 use std::alloc::{AllocError, Global};
 
+/// What the entries of the file are compared with.
+#[derive(Drop)]
+pub(crate) struct Comparison {
+    /// The file with the new entries.
+    pub(crate) new: String,
+    /// The folder of the records over which they are compared.
+    pub(crate) folder: String,
+}
+
 /// What the words of the command line ask for.
 #[derive(Drop)]
 pub(crate) struct Options {
@@ -13,6 +22,8 @@ pub(crate) struct Options {
     pub(crate) at: Option<String>,
     /// The folder of the records over which entries are counted, if they are.
     pub(crate) coverage: Option<String>,
+    /// What the entries are compared with, if they are.
+    pub(crate) compare: Option<Comparison>,
     /// Whether of each entry one line is told, those of which most parts hold first.
     pub(crate) all: bool,
     /// Whether objects of JSON are printed.
@@ -21,7 +32,7 @@ pub(crate) struct Options {
     pub(crate) record: Option<String>,
     /// How many moves of the record are played; all if there is none.
     pub(crate) moves: Option<u64>,
-    /// The pattern file.
+    /// The pattern file; with a comparison the old one.
     pub(crate) file: String,
     /// The name of the entries that are tried, or one's name and line; all of the file if there is none.
     pub(crate) entry: Option<String>,
@@ -48,8 +59,8 @@ fn value<'a>(alloc: Global, name: &'a str) -> Arg<'a> {
     Arg::new(alloc, name).long(name).action(ArgAction::Set)
 }
 
-/// The pattern file and the entry.
-fn names<'a>(alloc: Global) -> Arg<'a> {
+/// The words that are no options.
+fn plain_words<'a>(alloc: Global) -> Arg<'a> {
     Arg::new(alloc, "names")
         .action(ArgAction::Append)
         .num_args(0..)
@@ -64,11 +75,12 @@ fn command<'a>(alloc: Global) -> Result<Command<'a>, AllocError> {
         .arg(value(alloc, "colour"))?
         .arg(value(alloc, "at"))?
         .arg(value(alloc, "coverage"))?
+        .arg(flag(alloc, "compare"))?
         .arg(flag(alloc, "all"))?
         .arg(flag(alloc, "json"))?
         .arg(value(alloc, "sgf"))?
         .arg(value(alloc, "move"))?
-        .arg(names(alloc))
+        .arg(plain_words(alloc))
 }
 
 /// Whether a flag is set.
@@ -108,35 +120,84 @@ fn moves_in(matches: &ArgMatches<'_>) -> Option<Option<u64>> {
     }
 }
 
+/// The names of the command line.
+#[derive(Drop)]
+struct Names {
+    /// The pattern file.
+    file: String,
+    /// The entry, if one is named.
+    entry: Option<String>,
+    /// What the file is compared with, if it is.
+    compare: Option<Comparison>,
+}
+
+/// The names behind `--compare`: the old file, the new one and the folder. None if they are fewer or more.
+fn compared_names(alloc: Global, names: &[&str]) -> Option<Names> {
+    let [old, new, folder] = names else {
+        return None;
+    };
+    Some(Names {
+        file: String::from_str(alloc, old).ok()?,
+        entry: None,
+        compare: Some(Comparison {
+            new: String::from_str(alloc, new).ok()?,
+            folder: String::from_str(alloc, folder).ok()?,
+        }),
+    })
+}
+
 /// The pattern file and the entry, if one is named. None if there is no file, or a word more.
-fn names_in(alloc: Global, matches: &ArgMatches<'_>) -> Option<(String, Option<String>)> {
-    match matches.get_strs("names")? {
-        [file] => Some((String::from_str(alloc, file).ok()?, None)),
-        [file, entry] => Some((
-            String::from_str(alloc, file).ok()?,
-            Some(String::from_str(alloc, entry).ok()?),
-        )),
-        _ => None,
+fn tried_names(alloc: Global, names: &[&str]) -> Option<Names> {
+    let (file, entry) = match names {
+        [file] => (file, None),
+        [file, entry] => (file, Some(String::from_str(alloc, entry).ok()?)),
+        _ => return None,
+    };
+    Some(Names {
+        file: String::from_str(alloc, file).ok()?,
+        entry,
+        compare: None,
+    })
+}
+
+/// The names of the command line. None if they are too few or too many.
+fn names_in(alloc: Global, matches: &ArgMatches<'_>) -> Option<Names> {
+    let names = matches.get_strs("names")?;
+    if is_set(matches, "compare") {
+        compared_names(alloc, names)
+    } else {
+        tried_names(alloc, names)
     }
 }
 
-/// Whether the options go with each other: `--move` needs `--sgf`, `--all` needs `--at` and takes no entry, and with
-/// `--coverage` only `--colour` goes, and no entry.
+/// Whether the options ask for a position or for something on it.
+fn has_position(options: &Options) -> bool {
+    options.at.is_some() || options.record.is_some() || options.entry.is_some() || options.all
+}
+
+/// Whether the options go with each other: `--move` needs `--sgf`, and `--all` needs `--at` and takes no entry. With
+/// `--coverage` only `--colour` goes, and no entry; with `--compare` only `--colour` and `--json`.
 fn are_together(options: &Options) -> bool {
     let has_record = options.record.is_some() || options.moves.is_none();
     let has_point = !options.all || (options.at.is_some() && options.entry.is_none());
-    let has_position = options.at.is_some() || options.json || options.record.is_some();
-    let is_alone = !has_position && options.entry.is_none();
-    has_record && has_point && (options.coverage.is_none() || is_alone)
+    let is_covered = options.coverage.is_none() || !(has_position(options) || options.json);
+    let is_compared = options.compare.is_none()
+        || !(has_position(options) || options.coverage.is_some());
+    has_record && has_point && is_covered && is_compared
 }
 
 /// What the matches of a command line ask for. None if they do not go with each other.
 fn options_in(alloc: Global, matches: &ArgMatches<'_>) -> Option<Options> {
-    let (file, entry) = names_in(alloc, matches)?;
+    let Names {
+        file,
+        entry,
+        compare,
+    } = names_in(alloc, matches)?;
     let options = Options {
         colour: colour_in(matches)?,
         at: text_in(alloc, matches, "at")?,
         coverage: text_in(alloc, matches, "coverage")?,
+        compare,
         all: is_set(matches, "all"),
         json: is_set(matches, "json"),
         record: text_in(alloc, matches, "sgf")?,

@@ -1,12 +1,14 @@
 //! The program's work: the entries of a file, a position, and what is told of them.
 
 use crate::almost::tell_almost;
+use crate::compare::tell_changes;
 use crate::coverage::tell_coverage;
 use crate::entries::{Entries, entries_of};
 use crate::fault::{Fault, noted};
 use crate::files::text_of;
 use crate::game::game_of;
 use crate::options::Options;
+use crate::outcome::Outcome;
 use crate::task::Task;
 use crate::tries::tell_tries;
 use helpers::{Helper, Helpers};
@@ -52,13 +54,13 @@ fn print_page<R: Print>(rt: &R, page: &str) -> Result<(), Fault> {
     Ok(())
 }
 
-/// Prints why entries do not match on a position, and answers whether one does.
+/// Prints why entries do not match on a position. The outcome is whether one does.
 fn tell_position<R: Files + Input + Print + AllocGlobal>(
     rt: &R,
     options: &Options,
     helpers: &mut Helpers,
     entries: &[Entry<'_>],
-) -> Result<bool, Fault> {
+) -> Result<Outcome, Fault> {
     let game = game_of(rt, options)?;
     let position = game.position();
     let setting = Setting {
@@ -72,22 +74,35 @@ fn tell_position<R: Files + Input + Print + AllocGlobal>(
         tell_tries(&task, helpers, entries)?
     };
     print_page(rt, telling.page.as_str())?;
-    Ok(telling.matches)
+    Ok(Outcome::of(telling.matches))
 }
 
-/// Prints what the options ask for, and answers whether something matches, or whether each entry fits once at least.
+/// Prints what the options ask for. The outcome is whether something matches, whether each entry fits once at least, or
+/// whether nothing changed.
 pub(crate) fn tell<R: Files + Input + Print + Eprint + Clock + AllocGlobal + Clone + Drop>(
     rt: &R,
     options: &Options,
     helpers: Vec<Box<dyn Helper>>,
     is_terminal: bool,
-) -> Result<bool, Fault> {
+) -> Result<Outcome, Fault> {
     let alloc = rt.alloc();
     let mut helpers = Helpers::new(alloc, helpers)?;
     let known = entries_in(rt, &helpers, options.file.as_str())?;
     if let Some(folder) = &options.coverage {
         let folder = folder.as_str();
         return tell_coverage(rt, options, &known, folder, &mut helpers, is_terminal);
+    }
+    if let Some(comparison) = &options.compare {
+        let new = entries_in(rt, &helpers, comparison.new.as_str())?;
+        return tell_changes(
+            rt,
+            options,
+            comparison,
+            known,
+            new,
+            &mut helpers,
+            is_terminal,
+        );
     }
     let entries = entries_asked(alloc, options, &known)?;
     tell_position(rt, options, &mut helpers, entries.as_slice())

@@ -6,9 +6,8 @@ use crate::telling::Telling;
 use go_base::{Colour, Transform};
 use helpers::Helpers;
 use pat_types::mark_count;
-use why_report::{
-    Entry, PARTS, PartCounts, Try, part_name, parts_held, put_block, put_entry, put_json, tried,
-};
+use pattern_coverage::{ENDS, PartCounts};
+use why_report::{Entry, Try, part_name, parts_held, put_block, put_entry, put_json, tried};
 
 /// Puts how many tries of an entry for a colour failed first in each part, and how many matched.
 fn put_counts(
@@ -19,8 +18,8 @@ fn put_counts(
 ) -> Result<(), Fault> {
     put_entry(page, entry, colour)?;
     write!(page, ": {} tries", counts.all())?;
-    for part in 0..PARTS + 1 {
-        write!(page, ", {} {}", part_name(part), counts.in_part(part))?;
+    for part in 0..ENDS {
+        write!(page, ", {} {}", part_name(part), counts.at(part))?;
     }
     page.push_str("\n")?;
     Ok(())
@@ -50,7 +49,7 @@ fn tell_points(
     for at in task.from..task.to {
         if at < task.setting.position.size().points() {
             let one = tried(entry, task.setting, colour, transform, at, helpers);
-            counts.add(one.reason);
+            counts.count(parts_held(one.reason) as usize);
             tell_try(task, telling, &one)?;
         }
     }

@@ -1,7 +1,9 @@
-//! Worked rows of the reasons why patterns do not match, from the text of a database to the reason and to counts. There is no code
-//! here but tests, which cross the crates of the layer.
+//! Worked rows of the reasons why patterns do not match, from the text of a database to the reason and to counts, and of
+//! what a change of patterns changes. There is no code here but tests, which cross the crates of the layer.
 #![tactic(auto)]
 
+#[cfg(test)]
+mod changes;
 #[cfg(test)]
 mod ends;
 #[cfg(test)]

@@ -1,6 +1,6 @@
 //! What a program is told of a try: an object of JSON on a line.
-use crate::counts::part_name;
 use crate::expression::put_expression;
+use crate::parts::part_name;
 use crate::placing::vertex_bytes;
 use crate::tries::{Setting, Try, parts_held};
 use crate::words::{colour_name, letter_of};
@@ -23,8 +23,8 @@ fn put_byte(page: &mut String, byte: u8) -> Result<(), AllocError> {
     }
 }
 
-/// Puts a text; a byte that is no sign of ASCII is the character of its number.
-fn put_text(page: &mut String, text: &[u8]) -> Result<(), AllocError> {
+/// Puts a text of JSON; a byte that is no sign of ASCII is the character of its number.
+pub fn put_text(page: &mut String, text: &[u8]) -> Result<(), AllocError> {
     page.push('"')?;
     for byte in text {
         put_byte(page, *byte)?;

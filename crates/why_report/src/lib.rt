@@ -6,19 +6,19 @@
 #![tactic(auto)]
 
 mod block;
-mod counts;
 mod drawing;
 mod expression;
 mod json;
+mod parts;
 mod placing;
 mod tries;
 mod words;
 
 pub use block::{put_block, put_entry, put_line};
-pub use counts::{PARTS, PartCounts, part_name};
 pub use drawing::put_drawing;
 pub use expression::{function_name, put_expression, put_values};
-pub use json::put_json;
+pub use json::{put_json, put_text};
+pub use parts::{PARTS, part_name};
 pub use pat_types::NoMemory;
 pub use placing::star_from;
 pub use tries::{Entry, Setting, Try, parts_held, tried};

@@ -1,5 +1,6 @@
 use Rattle.std.proofs.Common.{◌≡◌, ℕ, ◌+◌, ◌*◌, ◌<◌, ◌≤◌, ◌^◌, ap, sym, ◌∙◌, subst, arith, rules, length, count_by, List}
 use Rattle.std.specs.List.{All}
+use Rattle.std.proofs.Math.Nat.{min-eq_left}
 use Rattle.go_rules.specs.Board.{largest_points}
 use Rattle.match_rules.specs.Fits.{fits}
 use Rattle.pat_types.specs.Marks.{count_of}
@@ -35,24 +36,30 @@ returns c d advice later =
     ∙ ap (λ points. count_by (λ try. fits p board friend try.0 try.1) (tries_among (count_of p.mark) points))
     c.requires.blocked
     ∙ blocked_ends d advice p board friend in
-    let e2 : c.count_ends-stone.result ≡ ends_at d advice p board friend 2 =
-    c.count_ends-stone.ensures ∙ later 2 (omega arith) (omega arith) in
-    let e3 : c.count_ends-enemy.result ≡ ends_at d advice p board friend 3 =
-    c.count_ends-enemy.ensures ∙ later 3 (omega arith) (omega arith) in
-    let e4 : c.count_ends-constraint.result ≡ ends_at d advice p board friend 4 =
-    c.count_ends-constraint.ensures ∙ later 4 (omega arith) (omega arith) in
-    let e5 : c.count_ends-helper.result ≡ ends_at d advice p board friend 5 =
-    c.count_ends-helper.ensures ∙ later 5 (omega arith) (omega arith) in
-    let e6 : c.count_ends-matched.result ≡ ends_at d advice p board friend 6 =
-    c.count_ends-matched.ensures ∙ later 6 (omega arith) (omega arith) in
     let small : c.tries_of.result < 2 ^ 64 = search rules in
+    let total = all_tries d advice p board friend in
+    let e2 : c.at-stone.result ≡ ends_at d advice p board friend 2 =
+    c.at-stone.ensures (omega arith) ∙ later 2 (omega arith) (omega arith)
+    ∙ min-eq_left (omega (arith, total, small, c.tries_of.ensures)) in
+    let e3 : c.at-enemy.result ≡ ends_at d advice p board friend 3 =
+    c.at-enemy.ensures (omega arith) ∙ later 3 (omega arith) (omega arith)
+    ∙ min-eq_left (omega (arith, total, small, c.tries_of.ensures)) in
+    let e4 : c.at-constraint.result ≡ ends_at d advice p board friend 4 =
+    c.at-constraint.ensures (omega arith) ∙ later 4 (omega arith) (omega arith)
+    ∙ min-eq_left (omega (arith, total, small, c.tries_of.ensures)) in
+    let e5 : c.at-helper.result ≡ ends_at d advice p board friend 5 =
+    c.at-helper.ensures (omega arith) ∙ later 5 (omega arith) (omega arith)
+    ∙ min-eq_left (omega (arith, total, small, c.tries_of.ensures)) in
+    let e6 : c.at-matched.result ≡ ends_at d advice p board friend 6 =
+    c.at-matched.ensures (omega arith) ∙ later 6 (omega arith) (omega arith)
+    ∙ min-eq_left (omega (arith, total, small, c.tries_of.ensures)) in
     let all = rest_is c.tries_of.result c.saturating_sub-diagram.result c.saturating_add.result
     c.saturating_add-2.result c.saturating_add-3.result c.saturating_add-4.result c.saturating_add-others.result
-    c.fits_among-illegal.result c.count_ends-stone.result c.count_ends-enemy.result c.count_ends-constraint.result
-    c.count_ends-helper.result c.count_ends-matched.result small c.saturating_add.ensures c.saturating_add-2.ensures
+    c.fits_among-illegal.result c.at-stone.result c.at-enemy.result c.at-constraint.result
+    c.at-helper.result c.at-matched.result small c.saturating_add.ensures c.saturating_add-2.ensures
     c.saturating_add-3.ensures c.saturating_add-4.ensures c.saturating_add-others.ensures
     c.saturating_sub-diagram.ensures
-    (omega (arith, e1, e2, e3, e4, e5, e6, all_tries d advice p board friend, c.tries_of.ensures)) in
+    (omega (arith, e1, e2, e3, e4, e5, e6, total, c.tries_of.ensures)) in
     seven_ends d advice p board friend c.saturating_sub-diagram.result c.fits_among-illegal.result
-    c.count_ends-stone.result c.count_ends-enemy.result c.count_ends-constraint.result c.count_ends-helper.result
-    c.count_ends-matched.result e1 e2 e3 e4 e5 e6 (all ∙ c.tries_of.ensures)
+    c.at-stone.result c.at-enemy.result c.at-constraint.result c.at-helper.result
+    c.at-matched.result e1 e2 e3 e4 e5 e6 (all ∙ c.tries_of.ensures)

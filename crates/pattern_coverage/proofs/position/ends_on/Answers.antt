@@ -1,4 +1,4 @@
-use Rattle.std.proofs.Common.{◌≡◌, ℕ, ◌<◌, sym, ap, ◌∙◌, subst, length, map, Contains}
+use Rattle.std.proofs.Common.{◌≡◌, ℕ, ◌-◌, ◌<◌, ◌^◌, sym, ap, ◌∙◌, subst, length, map, min, Some, slice_get, Contains}
 use Rattle.helpers.specs.HelperStates.{says_yes}
 use Rattle.helpers.specs.Slots.{states_of}
 use Rattle.dfa_core.specs.States.{IsAutomatonOf}
@@ -26,6 +26,11 @@ ends_of-requires g c z there =
     ∙ of_bare _ advice c.args.position.now c.args.friend c.in_ok-found.found.items c.as_slice.result.now bare
     c.as_slice.ensures.value (c.in_ok-found.ensures.patterns theirs)) there)
 
+-- there are counts for each pattern
+pub ends_of_all-requires-clause-same : goal.ends_of_all-requires-clause-same
+ends_of_all-requires-clause-same g c =
+    ap length c.as_slice-4.ensures.value ∙ c.in_ok-later.ensures.length
+
 -- helpers that were asked about bare patterns and then about what was found say what they said
 pub returns-clause-advice : goal.returns-clause-advice
 returns-clause-advice g c =
@@ -52,6 +57,10 @@ returns-clause-ends g c =
     ∙ ap (map (end_at c.args.depths advice patterns board c.args.friend)) found in
     if_ok _ _ c.ends_of_all.result
     (λ counts all. all c.args.depths advice
-    (λ place p there. later_ends c.args.depths advice p board c.args.friend _ advice patterns bare place
-    c.requires.diagrams.bare there c.as_slice-3.result.now told))
+    (λ place p one there here part high low.
+    c.in_ok-later.ensures.tally place part one (subst (λ l. slice_get l place ≡ Some one) c.as_slice-4.ensures.value here)
+    low
+    ∙ ap (λ n. min n (2 ^ 64 - 1))
+    (later_ends c.args.depths advice p board c.args.friend _ advice patterns bare place
+    c.requires.diagrams.bare there c.as_slice-3.result.now told part high low)))
     c.ends_of_all.ensures

@@ -1,0 +1,4 @@
+pub mod Positions
+pub mod SameMatches
+pub mod InWords
+pub mod Advice

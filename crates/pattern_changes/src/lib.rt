@@ -1,0 +1,13 @@
+//! What a change of a list of patterns changes over the positions of games: the matches that went, and those that came.
+//!
+//! Patterns of the old list and of the new one belong together by their names. A match of the one list is there in the
+//! other one as well if some pattern of the same name matches at the same point under the same transformation. So the
+//! order of the patterns does not count, and patterns of one name in a list count as one.
+#![tactic(auto)]
+
+mod change;
+pub mod laws;
+mod matcher;
+
+pub use change::{Change, Way, changes_over};
+pub use matcher::Matcher;
