@@ -1,0 +1,3 @@
+pub mod NoHelpers
+mod Transcripts
+mod FirstSessions
