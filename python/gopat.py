@@ -425,7 +425,7 @@ class Session(_Held):
         if reply.status == Status.SHORT_BUFFER:
             self._room = ctypes.create_string_buffer(reply.length)
             reply = self._library.gopat_last_reply(self._handle, self._room, len(self._room))
-        return Reply(self._room.raw[: _told(reply).length].decode(), bool(reply.ends))
+        return Reply(self._room.raw[: _told(reply).length].decode("utf-8", "surrogateescape"), bool(reply.ends))
 
     def result(self, line: str | bytes) -> str:
         """The result of a line, without its mark and its id; a line that the session refuses raises `ValueError`."""

@@ -1,5 +1,5 @@
 -- `empty` puts the two fields together, and owns nothing.
-use Rattle.std.proofs.Common.{◌≡◌, List, [], ◌∷◌, ◌++◌, None, refl, sym, subst}
+use Rattle.std.proofs.Common.{List, [], ◌∷◌, ◌++◌, None, refl, sym, subst}
 use mir.Val.{Val, has_ty}
 use base.Logic.{SProp, ent, emp, id⊢}
 use prog.Wp.{WpFn}
