@@ -52,7 +52,7 @@ fn raw_of(text: &[u8]) -> Raw<'_>
 }
 
 /// Answers a line with these helpers, of which there are none.
-fn answer_with(helpers: Helpers, session: HeldSession, text: &[u8], alloc: Global) -> HeldSession
+fn answer_with(alloc: Global, helpers: Helpers, session: HeldSession, text: &[u8]) -> HeldSession
     requires { helpers.slots.items ≡ [] }
     ensures { Answers session text.now result }
 {
@@ -78,7 +78,7 @@ pub fn answer(alloc: Global, session: HeldSession, text: &[u8]) -> Result<HeldSe
         });
     }
     match Helpers::new(alloc, Vec::new(alloc)) {
-        Ok(helpers) => Ok(answer_with(helpers, session, text, alloc)),
+        Ok(helpers) => Ok(answer_with(alloc, helpers, session, text)),
         Err(_) => Err(Unanswered {
             session,
             fault: LineFault::NoMemory,
