@@ -1,3 +1,4 @@
+mod Alone
+mod FirstSessions
 pub mod NoHelpers
 mod Transcripts
-mod FirstSessions
