@@ -9,10 +9,11 @@ questions, matches, proofs and game records, a third of them faulty or no comman
 to the program and, line by line, to the handle from Python; all that the program writes has to be what the handle
 answers, byte by byte. The same lines go to a handle from C, where most buffers are too short at first, and a part of
 them under valgrind. With GOPAT_WIDE every second session is one of the wider tree. Then come options, texts and handles
-that have no answer: each gets the status of its cause. The last lines are figures: readings in a second of the
+that have no answer: each gets the status of its cause; and the examples in the text of python/gopat.py. The last lines are figures: readings in a second of the
 processor, new ones and kept ones. The exit status is 1 where anything differs.
 """
 
+import doctest
 import os
 import pathlib
 import random
@@ -24,7 +25,8 @@ from typing import Iterator, NamedTuple
 
 import command_line
 import gtp
-from try_doors import processor, shared_library
+import try_handles
+from try_doors import processor
 from try_handles import HEAP, PATTERNS, many_states
 
 EXAMPLES = pathlib.Path("docs/examples/doors")
@@ -47,7 +49,7 @@ FAULTY = [
 
 def made(folder: pathlib.Path) -> None:
     """Makes the shared libraries, each named by its variable."""
-    os.environ["GOPAT_LIBRARY"] = str(shared_library(folder))
+    try_handles.made(folder)
     subprocess.run(["rt", "lib"], cwd=CRATE, check=True, stdout=subprocess.DEVNULL, stderr=subprocess.DEVNULL)
     library = folder / "libgopat_session_c.so"
     whole = f"-Wl,--whole-archive,{ARCHIVE},--no-whole-archive"
@@ -261,8 +263,11 @@ def main(gopat_path: str, count: str, seed: str = "1", wide_path: str = "") -> i
                 wrong += from_c([*VALGRIND, command], one, folder, UNDER_VALGRIND)
                 checked += 1
         wrong += [*refusals(gopat), *tree_number(gopat)]
+        documented = doctest.testmod(gopat)
+        wrong += ["an example of python/gopat.py"] * documented.failed
         print(f"{lines} lines, {refused} of them refused, from Python, from C and through a pipe,", end=" ")
-        print(f"{checked * UNDER_VALGRIND} of them under valgrind: {len(wrong)} differ")
+        print(f"{checked * UNDER_VALGRIND} of them under valgrind, and {documented.attempted} examples:", end=" ")
+        print(f"{len(wrong)} differ")
         print("\n".join([*wrong[:20], *figures(gopat, programs[0], folder, command)]))
         return int(bool(wrong) or len(set(said)) != 1)
 
