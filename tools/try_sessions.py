@@ -9,8 +9,9 @@ questions, matches, proofs and game records, a third of them faulty or no comman
 to the program and, line by line, to the handle from Python; all that the program writes has to be what the handle
 answers, byte by byte. The same lines go to a handle from C, where most buffers are too short at first, and a part of
 them under valgrind. With GOPAT_WIDE every second session is one of the wider tree. Then come options, texts and handles
-that have no answer: each gets the status of its cause; and the examples in the text of python/gopat.py. The last lines are figures: readings in a second of the
-processor, new ones and kept ones. The exit status is 1 where anything differs.
+that have no answer, each of which gets the status of its cause, and the examples in the text of python/gopat.py. The
+last lines are figures: readings in a second of the processor, new ones and kept ones. The exit status is 1 where
+anything differs.
 """
 
 import doctest
