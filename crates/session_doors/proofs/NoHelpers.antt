@@ -233,7 +233,7 @@ step_on-alone matcher old file line none =
 -- what a step may give has no helpers
 may-alone : (given : Step Machine) (out : List ℕ) (new : Machine) (ends : Bool) → StepsAlone given
     → MayGive given out new ends → IsAlone new
-may-alone given out new ends alone (inl reply) = ap (λ m. m.helpers) reply.1.0 ∙ alone.next
+may-alone given out new ends alone (inl reply) = ap (λ m. m.helpers) reply.1 ∙ alone.next
 may-alone given out new ends alone (inr excuse) = alone.fallbacks out new excuse.0
 
 -- a machine without helpers has none after it answered a line

@@ -1,5 +1,5 @@
 -- Answers one after another are a run of the plain machine.
-use Rattle.std.proofs.Common.{◌≡◌, ℕ, Bool, true, false, List, [], ◌∷◌, ◌++◌, map, refl, sym, subst}
+use Rattle.std.proofs.Common.{◌≡◌, ◌∙◌, ℕ, Bool, true, false, List, [], ◌∷◌, ◌++◌, map, refl, sym, subst}
 use Rattle.std.proofs.lemmas.List.{append-nil}
 use Rattle.gtp_rules.specs.Lines.{line_of}
 use Rattle.gtp_rules.specs.Transcript.{Answers as answers-by, IsRun}
@@ -17,9 +17,9 @@ answered-by : (matcher : Matcher) (old new : HeldSession) (text : List ℕ) (end
     → matcher_of old.engine ≡ matcher → reply_ends new.reply ≡ ends → Answers old text new
     → answers-by (step matcher empty_files) (machine_alone old.engine) (line_of text) (reply_bytes new.reply)
     (machine_alone new.engine) ends
-answered-by matcher old new text ends same ending answers =
+answered-by matcher old new text ends same told answers =
     subst (λ (e : Bool). answers-by (step matcher empty_files) (machine_alone old.engine) (line_of text)
-    (reply_bytes new.reply) (machine_alone new.engine) e) ending
+    (reply_bytes new.reply) (machine_alone new.engine) e) told
     (subst (λ (m : Matcher). answers-by (step m empty_files) (machine_alone old.engine) (line_of text)
     (reply_bytes new.reply) (machine_alone new.engine) (reply_ends new.reply)) same answers.line.reply)
 
