@@ -1,5 +1,5 @@
 -- A session before its first line, by the automaton of its patterns.
-use Rattle.std.proofs.Common.{◌≡◌, ℕ, List, refl}
+use Rattle.std.proofs.Common.{ℕ, List, refl}
 use Rattle.pat_types.specs.declared.pattern.Pattern.{Pattern}
 use Rattle.dfa_core.specs.Automata.{Row}
 use Rattle.dfa_core.specs.States.{IsAutomatonOf}

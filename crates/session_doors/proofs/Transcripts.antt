@@ -1,5 +1,5 @@
 -- Answers one after another are a run of the plain machine.
-use Rattle.std.proofs.Common.{◌≡◌, ◌∙◌, ℕ, Bool, true, false, List, [], ◌∷◌, ◌++◌, map, refl, sym, subst}
+use Rattle.std.proofs.Common.{◌≡◌, ◌∙◌, ℕ, Bool, true, false, List, [], map, refl, sym, subst}
 use Rattle.std.proofs.lemmas.List.{append-nil}
 use Rattle.gtp_rules.specs.Lines.{line_of}
 use Rattle.gtp_rules.specs.Transcript.{Answers as answers-by, IsRun}

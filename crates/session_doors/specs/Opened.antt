@@ -1,5 +1,5 @@
 -- What a session is that was opened, and why none was.
-use Rattle.std.specs.Prelude.{◌≡◌, ◌≢◌, ℕ, List, length, Option, Some, None}
+use Rattle.std.specs.Prelude.{◌≡◌, ℕ, List, length, Option, Some, None}
 use Rattle.helpers.specs.HelperStates.{SlotState}
 use Rattle.pat_types.specs.declared.pattern.Pattern.{Pattern}
 use Rattle.match_engine.specs.ReadingDepths.{ReadingDepths}
