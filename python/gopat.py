@@ -20,6 +20,14 @@ board. It wants the shared library of the crate `gopat_matches_c`: `GOPAT_MATCHE
     >>> with Patterns("Pattern Edge\\nO*|\\n:8,s\\n") as patterns:
     ...     patterns.matches(Board.of_rows(["...", ".X.", "..."]), BLACK)[:2]
     [Match(pattern=0, move='C2', transform=0), Match(pattern=0, move='B1', transform=1)]
+
+`Session` answers lines of the protocol as the program does, without a pipe, also until `close`. It wants the shared
+library of the crate `gopat_session_c`: `GOPAT_SESSION_LIBRARY` names its file, else `libgopat_session_c.so` stands
+beside this one.
+
+    >>> with Session() as session:
+    ...     session.line("boardsize 9"), session.result("genmove b"), session.line("9 quit")
+    (Reply(text='=\\n\\n', ends=False), 'PASS', Reply(text='=9\\n\\n', ends=True))
 """
 
 import ctypes
@@ -59,6 +67,9 @@ class Status(enum.IntEnum):
     NO_MEMORY = 18
     BAD_TEXT = 19
     TOO_MANY_STATES = 20
+    BAD_CACHE = 21
+    BAD_STATES = 22
+    BAD_LINE = 23
 
 
 class Refused(ValueError):
@@ -99,6 +110,13 @@ class Match(NamedTuple):
     pattern: int
     move: str
     transform: int
+
+
+class Reply(NamedTuple):
+    """The reply to a line, as the program writes it, and whether the line ends the session."""
+
+    text: str
+    ends: bool
 
 
 class _Board(ctypes.Structure):
@@ -158,6 +176,14 @@ class _Match(ctypes.Structure):
 
 class _Found(ctypes.Structure):
     _fields_ = [("status", ctypes.c_uint8), ("number", ctypes.c_size_t)]
+
+
+class _Options(ctypes.Structure):
+    _fields_ = [("depths", _Depths), ("cache", ctypes.c_uint32), ("states", ctypes.c_uint32)]
+
+
+class _Reply(ctypes.Structure):
+    _fields_ = [("status", ctypes.c_uint8), ("ends", ctypes.c_uint8), ("length", ctypes.c_size_t)]
 
 
 def _opened_library(variable: str, name: str) -> ctypes.CDLL:
@@ -359,3 +385,51 @@ class Patterns(_Held):
             room = reply.number
         return [Match(z.pattern, board.vertex(z.at), z.transform) for z in found[: _told(reply).number]]
 
+
+
+class Session(_Held):
+    """A session of the protocol, with the patterns of a pattern file, which name no helper; `count` is their number.
+
+    There are no helpers, and each file that a line names counts as empty."""
+
+    _ends = "gopat_session_close"
+
+    def __init__(
+        self,
+        text: str | bytes = "",
+        plies: int = 10,
+        wide: int = 2,
+        wider: bool = False,
+        cache: int = 4096,
+        states: int = 100_000,
+    ):
+        size = ctypes.c_size_t
+        self._begin(
+            _opened_library("GOPAT_SESSION_LIBRARY", "libgopat_session_c.so"),
+            [
+                ("gopat_session_open", _Opened, [ctypes.c_char_p, size, _Options]),
+                ("gopat_line", _Reply, [ctypes.c_char_p, size, ctypes.c_char_p, size]),
+                ("gopat_last_reply", _Reply, [ctypes.c_char_p, size]),
+                ("gopat_session_close", None, []),
+            ],
+        )
+        data, most = _bytes(text), 2**32 - 1
+        options = _Options(_depths(plies, wide, wider), _fitting(cache, most), _fitting(states, most))
+        self.count = self._opened(self._library.gopat_session_open(self._handle, data, len(data), options))
+        self._room = ctypes.create_string_buffer(4096)
+
+    def line(self, line: str | bytes) -> Reply:
+        """The reply to a line, which stands without its line feed."""
+        data = _bytes(line)
+        reply = self._library.gopat_line(self._handle, data, len(data), self._room, len(self._room))
+        if reply.status == Status.SHORT_BUFFER:
+            self._room = ctypes.create_string_buffer(reply.length)
+            reply = self._library.gopat_last_reply(self._handle, self._room, len(self._room))
+        return Reply(self._room.raw[: _told(reply).length].decode("utf-8", "surrogateescape"), bool(reply.ends))
+
+    def result(self, line: str | bytes) -> str:
+        """The result of a line, without its mark and its id; a line that the session refuses raises `ValueError`."""
+        text = self.line(line).text
+        if not text.startswith("="):
+            raise ValueError(f"{line!r}: {text.strip()}")
+        return text.partition(" ")[2].strip()

@@ -1,7 +1,7 @@
 """Tries gopat's library from outside: builds it, runs the programs of docs/examples/doors, and compares its answers on
 random boards with those of the program and with plain rules in Python.
 
-usage: python3 tools/try_doors.py GOPAT QUESTIONS [SEED]
+usage: python3 tools/try_doors.py GOPAT QUESTIONS [SEED [CHROMIUM]]
 
 It runs at the top of a clone and wants `rt`, a C compiler and Python; GOPAT is the path of the program. `rustc`, `go`
 and `valgrind` are used if they are there. The questions arise in random games on boards of 2 to 13 rows: the moves go
@@ -14,7 +14,9 @@ questions by each way in a second of the processor, that of both ends of a pipe 
 anything differs.
 """
 
+import base64
 import ctypes
+import json
 import os
 import pathlib
 import random
@@ -26,6 +28,8 @@ from typing import Iterable, Iterator, NamedTuple
 
 import command_line
 import gtp
+import make_page
+from browser import Browser
 
 CRATE = pathlib.Path("crates/gopat_c")
 EXAMPLES = pathlib.Path("docs/examples/doors")
@@ -34,6 +38,7 @@ PLAY, ALL, PROOF = 6, 7, 8
 MOST_LIBERTIES = 625
 PROBLEMS = 2  # the examples ask about two, and all that ask about one say the same
 UNDER_VALGRIND = 500
+AT_ONCE = 200  # so many questions the page is asked together
 # Stones around a ko, each a colour, a row and a column; the last one takes.
 KO = [(1, 0, 1), (1, 1, 0), (1, 2, 1), (2, 0, 2), (2, 1, 3), (2, 2, 2), (2, 1, 1), (1, 1, 2)]
 
@@ -467,6 +472,19 @@ def from_c(folder: pathlib.Path, questions: list[Question], before: list[str], t
     return subprocess.run(command, capture_output=True, text=True, check=True).stdout.splitlines()
 
 
+def from_page(chromium: str, questions: list[Question]) -> Iterator[str]:
+    """What the module of the page says to the questions, as ask_door.c prints it."""
+    script = pathlib.Path("tools/page/ask_module.js").read_text(encoding="utf-8")
+    function = script[script.index("(questions)") :].strip()
+    with Browser(chromium) as browser:
+        browser.open(make_page.PAGE)
+        browser.wait("!document.getElementById('app').hidden")
+        for first in range(0, len(questions), AT_ONCE):
+            records = b"".join(map(bytes, questions[first : first + AT_ONCE]))
+            words = json.dumps(base64.b64encode(records).decode())
+            yield from (" ".join(map(str, reply)) for reply in browser.value(f"({function})({words})"))
+
+
 class Timed(NamedTuple):
     """A reading that is timed, the lines that put its stones on an empty board, and the line that asks it."""
 
@@ -527,7 +545,7 @@ def processor() -> float:
     return sum(os.times()[:4])
 
 
-def main(gopat_path: str, count: str, seed: str = "1") -> int:
+def main(gopat_path: str, count: str, seed: str = "1", chromium: str = "") -> int:
     gopat_path = str(pathlib.Path(gopat_path).resolve())
     with tempfile.TemporaryDirectory() as name:
         folder = pathlib.Path(name)
@@ -548,10 +566,12 @@ def main(gopat_path: str, count: str, seed: str = "1") -> int:
         questions = [one.question for one in asked]
         told = [" ".join(map(str, one.reply)) for one in asked]
         wrong += [f"from C {c}, from Python {p}" for c, p in zip(from_c(folder, questions, []), told) if c != p]
+        page = list(from_page(chromium, questions)) if chromium else []
+        wrong += [f"from the page {m}, from Python {p}" for m, p in zip(page, told) if m != p]
         with_status = sum(one.reply[0] > 0 for one in asked)
         print(f"{len(asked)} questions, {with_status} with a status, {games.bans} boards with a ban of a ko,", end=" ")
         print(f"{sum(bool(one.lines) for one in asked)} asked of the program too, {tried} moves tried there:", end=" ")
-        print(f"{len(wrong)} differ")
+        print(f"{len(page)} asked of the page's module, {len(wrong)} differ")
         if shutil.which("valgrind"):
             checked = from_c(folder, questions[:UNDER_VALGRIND], ["valgrind", "-q", "--error-exitcode=1"])
             print(f"{len(checked)} questions under valgrind without an error")

@@ -1,0 +1,5 @@
+mod Alone
+mod Faults
+mod FirstSessions
+pub mod NoHelpers
+mod Transcripts

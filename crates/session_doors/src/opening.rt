@@ -1,0 +1,106 @@
+//! How a session is opened.
+
+ghost use Rattle.std.specs.Prelude.{◌≡◌, true, IfOk, IfErr};
+ghost use Rattle.match_engine.specs.ReadingDepths.{depths_of as depths_seen};
+ghost use Rattle.go_options.specs.Found.{AreInRange};
+ghost use Rattle.session_core.specs.EngineView.{depths_in};
+ghost use Rattle.match_doors.specs.Patterns.{IsRefused};
+ghost use Rattle.session_doors.specs.Opened.{IsFirstOf, IsOpened, IsRefusedAs, Refuses};
+ghost use Rattle.session_doors.specs.Options.{is_cache, are_states};
+
+use crate::held::HeldSession;
+use crate::options::{SessionOptions, are_states, is_cache, program_options};
+use board_doors::depths::depths_of;
+use go_options::Options;
+use helpers::Helpers;
+use match_doors::{PatternFault, Patterns, read_patterns};
+use read_rules::{Depths, Tree};
+use session_core::{Reply, Session};
+use std::alloc::Global;
+
+/// Why no session was opened.
+#[derive(Clone, Copy, Debug, PartialEq, Eq)]
+pub enum OpenFault {
+    /// The plies, the wide plies or the tree are out of their ranges.
+    Depths,
+    /// The number of questions that may be kept is out of its range.
+    Cache,
+    /// The number of states that the automaton may have is out of its range.
+    States,
+    /// The text gives no patterns, or there was no memory.
+    Patterns(PatternFault),
+}
+
+/// A session before its first line, and how many patterns it has.
+#[derive(Drop)]
+pub struct OpenedSession {
+    /// The session.
+    pub session: HeldSession,
+    /// How many patterns it has.
+    pub patterns: usize,
+}
+
+/// A session of the patterns of a text by these options of the program, with readings in this tree; or why there is
+/// none. Takes memory.
+fn first(
+    alloc: Global,
+    text: &[u8],
+    tree: Tree,
+    options: &Options,
+) -> Result<OpenedSession, PatternFault>
+    requires { AreInRange options.now }
+    ensures ok { IfOk result (IsFirstOf text.now options.now.states (depths_in tree options.now) options.now.cache) }
+    ensures err { IfErr result (IsRefused text.now options.now.states) }
+{
+    let Patterns { list, automaton } = read_patterns(alloc, text, options.states)?;
+    let patterns = list.len();
+    let helpers = Helpers::new(alloc, Vec::new(alloc))?;
+    let session = Session::in_tree(alloc, list, automaton, helpers, tree, options)?;
+    let Session { engine, .. } = session;
+    Ok(OpenedSession {
+        session: HeldSession {
+            engine,
+            reply: Reply::Nothing,
+        },
+        patterns,
+    })
+}
+
+/// The same by the numbers of a caller, of which the depths are these.
+fn first_by(
+    alloc: Global,
+    text: &[u8],
+    depths: Depths,
+    cache: u32,
+    states: u32,
+) -> Result<OpenedSession, OpenFault>
+    requires cache { is_cache cache ≡ true }
+    requires states { are_states states ≡ true }
+    ensures ok { IfOk result (IsFirstOf text.now states (depths_seen depths) cache) }
+    ensures err { IfErr result (IsRefusedAs text.now states) }
+{
+    let options = program_options(alloc, depths, cache, states);
+    match first(alloc, text, depths.tree, &options) {
+        Ok(opened) => Ok(opened),
+        Err(fault) => Err(OpenFault::Patterns(fault)),
+    }
+}
+
+/// Opens a session of the patterns of a text, which name no helper, by options that are handed over as numbers; or
+/// tells the first fault: of the depths, of the cache, of the states, then of the text. Want of memory may come in
+/// place of a fault of the text. Takes memory.
+pub fn open(alloc: Global, text: &[u8], options: SessionOptions) -> Result<OpenedSession, OpenFault>
+    ensures ok { IfOk result (IsOpened text.now options) }
+    ensures err { IfErr result (Refuses text.now options) }
+{
+    let Some(depths) = depths_of(options.depths) else {
+        return Err(OpenFault::Depths);
+    };
+    if !is_cache(options.cache) {
+        return Err(OpenFault::Cache);
+    }
+    if !are_states(options.states) {
+        return Err(OpenFault::States);
+    }
+    first_by(alloc, text, depths, options.cache, options.states)
+}
