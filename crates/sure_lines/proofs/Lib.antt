@@ -1,0 +1,5 @@
+pub mod CommandReplies
+pub mod MoveAnswers
+pub mod RecordAnswers
+pub mod StoneAnswers
+pub mod LineAnswers
