@@ -90,9 +90,7 @@ pub fn row_of(
     proves: bool,
 ) -> Result<Row, NoMemory> {
     match problem_of(alloc, text, depths) {
-        Ok(problem) => Ok(Row::Asked(asked_of(
-            alloc, problem, replies, scope, proves,
-        )?)),
+        Ok(problem) => Ok(Row::Asked(asked_of(alloc, problem, replies, scope, proves)?)),
         Err(ProblemError::Lacks(lack)) => Ok(Row::Lacks(lack)),
         Err(ProblemError::NoMemory) => Err(NoMemory),
     }

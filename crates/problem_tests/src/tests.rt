@@ -49,14 +49,7 @@ fn usual() -> Result<Depths, Fail> {
 
 /// The line of a record of the name `r`, of which the moves of the scope are judged against these replies.
 fn line_of(alloc: Global, record: &str, replies: Replies, scope: Scope) -> Result<String, Fail> {
-    let row = row_of(
-        alloc,
-        record.as_bytes(),
-        usual()?,
-        replies,
-        scope,
-        false,
-    )?;
+    let row = row_of(alloc, record.as_bytes(), usual()?, replies, scope, false)?;
     let mut line = String::new(alloc);
     print_row(&mut line, "r", &row)?;
     Ok(line)

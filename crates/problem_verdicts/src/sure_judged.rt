@@ -76,13 +76,7 @@ fn fewest_surely(
 }
 
 /// The fewest plies with which a question has this sure code; `None` for code 0.
-fn fewest_of(
-    position: &Position,
-    kind: Kind,
-    target: Point,
-    depths: Depths,
-    code: u8,
-) -> Option<u8>
+fn fewest_of(position: &Position, kind: Kind, target: Point, depths: Depths, code: u8) -> Option<u8>
     requires on_board { target < position.now.size * position.now.size }
     requires stone { cell_at position.now.cells target ≢ Cell.Empty }
     ensures some { code ≢ 0 → AreFewestSurely position.now kind target depths code result }

@@ -87,7 +87,8 @@ impl SureMachine {
             Parsed::Nothing => Reply::Nothing,
             Parsed::Refused { id, text } => Reply::refused(id, text),
             Parsed::Command { id, command } => {
-                self.obey(alloc, bytes_of(raw), command, files).reply(alloc, id)
+                self.obey(alloc, bytes_of(raw), command, files)
+                    .reply(alloc, id)
             }
         }
     }

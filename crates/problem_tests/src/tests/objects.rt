@@ -57,7 +57,14 @@ static OBJECTS: [(&str, Replies, Scope, &str, &str); 5] = [
 #[test]
 fn rows_as_objects(rt: HostRuntime) -> Result<(), Fail> {
     for (name, replies, scope, record, object) in OBJECTS {
-        let row = row_of(rt.alloc(), record.as_bytes(), usual()?, replies, scope, false)?;
+        let row = row_of(
+            rt.alloc(),
+            record.as_bytes(),
+            usual()?,
+            replies,
+            scope,
+            false,
+        )?;
         let mut line = String::new(rt.alloc());
         print_object(&mut line, name, &row)?;
         assert!(rt; line.as_str() == object, "{name}: {line}");
@@ -68,7 +75,14 @@ fn rows_as_objects(rt: HostRuntime) -> Result<(), Fail> {
 #[test]
 fn rows_with_proofs(rt: HostRuntime) -> Result<(), Fail> {
     let record = "(;SZ[9]AB[df]AW[cf][ef][de]C[gopat: attack D4 depths 1 0 answer D3])";
-    let row = row_of(rt.alloc(), record.as_bytes(), usual()?, Replies::Tried, Scope::Tried, true)?;
+    let row = row_of(
+        rt.alloc(),
+        record.as_bytes(),
+        usual()?,
+        Replies::Tried,
+        Scope::Tried,
+        true,
+    )?;
     let mut line = String::new(rt.alloc());
     print_row(&mut line, "r", &row)?;
     assert!(rt;

@@ -23,9 +23,11 @@ returns-in-Ok-load-clause-answer g c =
     let name : c.in-Ok-from_utf8.name.now ≡ word = c.in-Ok-from_utf8.ensures.cases.0 ∙ same in
     let file = c.as_slice-in-Ok-load.result.now in
     let loaded = loaded-anew contents word c.in-Ok-from_utf8.name.now c.new-2.result.items c.in-Ok-load.contents.items
-    file name c.new-2.ensures.items c.as_slice-in-Ok-load.ensures.value c.in-Ok-load.ensures.loaded in
-    (file, given-file word utf8 contents file loaded,
-    record-loaded word utf8 c.args.self.now file c.set_record.result c.set_record.new.self c.set_record.ensures)
+    file name c.new-2.ensures.items c.as_slice-in-Ok-load.ensures.value c.in-Ok-load.ensures.loaded in (
+      file,
+      given-file word utf8 contents file loaded,
+      record-loaded word utf8 c.args.self.now file c.set_record.result c.set_record.new.self c.set_record.ensures,
+    )
 
 -- the file could not be loaded
 pub returns-in-Err-Failed-clause-answer : goal.returns-in-Err-Failed-clause-answer
