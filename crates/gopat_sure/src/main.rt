@@ -65,9 +65,9 @@ fn main(rt: HostRuntime) -> ExitCode {
     };
     let alloc = rt.alloc();
     let end = match SureMachine::new(alloc, depths) {
-        Ok(machine) => serve(
+        Ok(mut machine) => serve(
             alloc,
-            machine,
+            &mut machine,
             &mut FileLoader::new(alloc, &rt),
             &mut StdSource::new(rt.stdin()),
             &mut StdSink::new(rt.stdout()),

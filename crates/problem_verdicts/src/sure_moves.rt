@@ -64,6 +64,17 @@ fn candidates_on(position: &Position, node: Node) -> PointSet
     points
 }
 
+/// The points that are tried; `None` stands for every point of the board.
+fn tried_points(position: &Position, node: Node) -> Option<PointSet>
+    requires target { node.turn.target < position.now.size * position.now.size }
+    ensures { (p : ℕ) → p < position.now.size * position.now.size → is_in result p ≡ is_tried node position.now p }
+{
+    if node.turn.attacker_to_play {
+        return Some(candidates_on(position, node));
+    }
+    None
+}
+
 /// The points that are looked at; `None` stands for every point of the board.
 fn seen_points(position: &Position, node: Node, scope: Scope) -> Option<PointSet>
     requires target { node.turn.target < position.now.size * position.now.size }
@@ -71,14 +82,8 @@ fn seen_points(position: &Position, node: Node, scope: Scope) -> Option<PointSet
         → is_in result p ≡ is_seen scope node position.now p }
 {
     match scope {
+        Scope::Tried => tried_points(position, node),
         Scope::Anywhere => None,
-        Scope::Tried => {
-            if node.turn.attacker_to_play {
-                Some(candidates_on(position, node))
-            } else {
-                None
-            }
-        }
     }
 }
 

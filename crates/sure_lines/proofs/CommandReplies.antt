@@ -7,16 +7,16 @@ use Rattle.gtp_cmd.specs.declared.refusals.RefuseText.{RefuseText}
 use Rattle.sure_lines.specs.Effects.{Effect, IsExcused, fallback, reply_text, replied}
 use Rattle.sure_lines.specs.Answers.{Succeeds, IsAnswer}
 use Rattle.sure_lines.specs.declared.answer.Answer.TheVariants as answer
-use Rattle.sure_lines.specs.declared.machine.SureMachine.{SureMachine}
+use Rattle.sure_lines.specs.Machine.{Machine}
 
 -- an excuse that was told may stand in place of the reply
-excused-told : (id : Option ℕ) (old : SureMachine) (excuses : List RefuseText) (text : RefuseText)
+excused-told : (id : Option ℕ) (old : Machine) (excuses : List RefuseText) (text : RefuseText)
     → IsExcused excuses text → IsOneOf (map (fallback id old) excuses) (refusal_text id text) old
 excused-told id old [] text is = absurd is
 excused-told id old (excuse ∷ excuses) text (inl is) = inl (ap (refusal_text id) is, refl)
 excused-told id old (excuse ∷ excuses) text (inr is) = inr (excused-told id old excuses text is)
 
-module _ (id : Option ℕ) (effect : Effect) (old new : SureMachine) where
+module _ (id : Option ℕ) (effect : Effect) (old new : Machine) where
   -- a success is told behind the id
   pub gives-success : (result bytes : List ℕ) → bytes ≡ success_text id result → Succeeds effect result new
       → MayGive (replied id old effect) bytes new false

@@ -2,4 +2,3 @@ pub mod CommandReplies
 pub mod MoveAnswers
 pub mod RecordAnswers
 pub mod StoneAnswers
-pub mod LineAnswers

@@ -11,13 +11,12 @@ use Rattle.gtp_cmd.specs.declared.refusals.RefuseText.TheVariants.{IllegalMove, 
 use Rattle.sure_lines.specs.Answers.{IsAnswer}
 use Rattle.sure_lines.specs.BoardCommands.{played, with_move}
 use Rattle.sure_lines.specs.Effects.{Effect, refused, told, growing}
-use Rattle.sure_lines.specs.Machine.{present}
+use Rattle.sure_lines.specs.Machine.{Machine, present}
 use Rattle.sure_lines.specs.declared.answer.Answer.{Answer}
 use Rattle.sure_lines.specs.declared.answer.Answer.TheVariants as answer
-use Rattle.sure_lines.specs.declared.machine.SureMachine.{SureMachine}
 
 -- the machine with another game
-abbrev pub with_game : Game → SureMachine → SureMachine
+abbrev pub with_game : Game → Machine → Machine
 with_game game machine = record machine { game = game }
 
 -- a result that is none of the errors
@@ -34,7 +33,7 @@ equal : (a b : ℕ) → a ≡ b → eqb a b ≡ true
 equal a b same = grind (arith, nat_tests)
 
 -- What a move does to a machine.
-module _ (old : SureMachine) (m : Move) where
+module _ (old : Machine) (m : Move) where
   -- a move that is added, if there is memory
   abbrev added : Effect
   added = growing (told [] (with_move old m))

@@ -17,7 +17,7 @@ use Rattle.sure_lines.specs.Files.{Contents, IsFileOf, named_file, is_utf8}
 use Rattle.sure_lines.specs.RecordCommands.{recorded, loaded, loaded_by}
 use Rattle.sure_lines.specs.declared.answer.Answer.{Answer}
 use Rattle.sure_lines.specs.declared.answer.Answer.TheVariants as answer
-use Rattle.sure_lines.specs.declared.machine.SureMachine.{SureMachine}
+use Rattle.sure_lines.specs.Machine.{Machine}
 
 -- a number is that number
 equal : (a b : ℕ) → a ≡ b → eqb a b ≡ true
@@ -38,7 +38,7 @@ some_file contents None = ([], tt)
 some_file contents (Some name) = some_loaded (contents name)
 
 -- an answer is one too if more is excused
-more-excused : (effect : Effect) (excuses : List RefuseText) (said : Answer) (old new : SureMachine)
+more-excused : (effect : Effect) (excuses : List RefuseText) (said : Answer) (old new : Machine)
     → ((text : RefuseText) → IsExcused effect.excuses text → IsExcused excuses text)
     → IsAnswer effect said old new → IsAnswer (record effect { excuses = excuses }) said old new
 more-excused effect excuses (answer.Told result) old new more is =
@@ -54,7 +54,7 @@ more-excused effect excuses (answer.Refused text) old new more (inr is) = inr (m
 more-excused effect excuses answer.Ended old new more is = is
 
 -- what a record does has no excuse
-none-excused : (old : SureMachine) (game : Result BoardState FaultKind) (text : RefuseText)
+none-excused : (old : Machine) (game : Result BoardState FaultKind) (text : RefuseText)
     → IsExcused (recorded old game).excuses text → ⊥
 none-excused old (Ok board) text is = is
 none-excused old (Err kind) text is = is
@@ -75,13 +75,13 @@ module _ (name : List ℕ) (utf8 : is_utf8 name ≡ true) where
   given-file contents bytes is =
       subst (λ b. IsFileOf contents (cond b (Some name) None) bytes) (sym utf8) is
 
-  module _ (old : SureMachine) (file : List ℕ) where
+  module _ (old : Machine) (file : List ℕ) where
     -- what a load does, if its name is a text or not
     abbrev done : Bool → Effect
     done b = growing (cond b (loaded old file) (refused old SyntaxError))
 
     -- a record's answer is one of its load
-    pub record-loaded : (said : Answer) (new : SureMachine) → IsAnswer (recorded old (game_of file)) said old new
+    pub record-loaded : (said : Answer) (new : Machine) → IsAnswer (recorded old (game_of file)) said old new
         → IsAnswer (loaded_by old name file) said old new
     record-loaded said new is = subst (λ b. IsAnswer (done b) said old new) (sym utf8)
         (more-excused (recorded old (game_of file)) (OutOfMemory ∷ CannotLoadFile ∷ []) said old new

@@ -6,14 +6,13 @@ use Rattle.read_rules.specs.declared.question.Kind.{Kind}
 use Rattle.sure_lines.specs.AnswerText.{answer_text}
 use Rattle.sure_lines.specs.Answers.{IsAnswer}
 use Rattle.sure_lines.specs.Effects.{refused, told}
-use Rattle.sure_lines.specs.Machine.{present}
+use Rattle.sure_lines.specs.Machine.{Machine, present}
 use Rattle.sure_lines.specs.QuestionCommands.{read, sure_reading}
 use Rattle.sure_lines.specs.declared.answer.Answer.{Answer}
 use Rattle.sure_lines.specs.declared.answer.Answer.TheVariants as answer
-use Rattle.sure_lines.specs.declared.machine.SureMachine.{SureMachine}
 
 -- if a stone stands at p, the text of its sure reading is an answer
-pub told-read : (machine : SureMachine) (kind : Kind) (p : ℕ) (text : List ℕ) (said : Answer)
+pub told-read : (machine : Machine) (kind : Kind) (p : ℕ) (text : List ℕ) (said : Answer)
     → is_stone (cell_at (present machine).cells p) ≡ true → said ≡ answer.Told text
     → text ≡ answer_text machine.game.base.size (sure_reading machine kind p)
     → IsAnswer (read machine kind p) said machine machine

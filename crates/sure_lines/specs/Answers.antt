@@ -4,10 +4,10 @@ use Rattle.gtp_cmd.specs.declared.refusals.RefuseText.TheVariants.{OutOfMemory}
 use Rattle.sure_lines.specs.Effects.{Effect, IsExcused}
 use Rattle.sure_lines.specs.declared.answer.Answer.{Answer}
 use Rattle.sure_lines.specs.declared.answer.Answer.TheVariants as answer
-use Rattle.sure_lines.specs.declared.machine.SureMachine.{SureMachine}
+use Rattle.sure_lines.specs.Machine.{Machine}
 
 -- the command succeeds with this result and goes on, and the machine is this one after it
-pub record Succeeds (effect : Effect) (result : List ℕ) (new : SureMachine) : Type 0 where
+pub record Succeeds (effect : Effect) (result : List ℕ) (new : Machine) : Type 0 where
   pub allowed : effect.refusal ≡ None
   pub told : effect.result ≡ result
   pub next : new ≡ effect.next
@@ -16,7 +16,7 @@ pub record Succeeds (effect : Effect) (result : List ℕ) (new : SureMachine) : 
 -- The answer is what the command tells, and the machine is new after it; or it is an excuse that may stand in place of
 -- that, and the machine is the old one. There may be no memory for the reply with a result that took some, and so that
 -- is excused too.
-abbrev pub IsAnswer : Effect → Answer → SureMachine → SureMachine → Type 0
+abbrev pub IsAnswer : Effect → Answer → Machine → Machine → Type 0
 IsAnswer effect (answer.Told result) old new = Succeeds effect result new
 IsAnswer effect (answer.Grown result) old new =
     Succeeds effect result new × IsExcused effect.excuses OutOfMemory × (new ≡ old)

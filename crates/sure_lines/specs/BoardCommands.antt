@@ -7,24 +7,23 @@ use Rattle.go_history.specs.Games.{most_moves, new_game}
 use Rattle.gtp_cmd.specs.declared.refusals.RefuseText.TheVariants.{UnacceptableSize, IllegalMove, HistoryFull}
 use Rattle.gtp_cmd.specs.declared.refusals.RefuseText.TheVariants.{CannotUndo}
 use Rattle.sure_lines.specs.Effects.{Effect, refused, told, growing}
-use Rattle.sure_lines.specs.Machine.{present}
-use Rattle.sure_lines.specs.declared.machine.SureMachine.{SureMachine}
+use Rattle.sure_lines.specs.Machine.{Machine, present}
 
 -- a new size begins again from the empty board of that size, also if it is the present one
-abbrev pub resized : SureMachine → Option ℕ → Effect
+abbrev pub resized : Machine → Option ℕ → Effect
 resized old None = refused old UnacceptableSize
 resized old (Some size) = told [] (record old { game = new_game size })
 
 -- the moves are played from the empty board from now on, whose size stays
-abbrev pub cleared : SureMachine → Effect
+abbrev pub cleared : Machine → Effect
 cleared old = told [] (record old { game = new_game old.game.base.size })
 
 -- the machine with one move more
-abbrev pub with_move : SureMachine → Move → SureMachine
+abbrev pub with_move : Machine → Move → Machine
 with_move old move = record old { game = record old.game { moves = old.game.moves ++ move ∷ [] } }
 
 -- a move is added to the list if it is legal and the list is not full
-abbrev pub played : SureMachine → Move → Effect
+abbrev pub played : Machine → Move → Effect
 played old move =
     if is_ok (moved (present old) move)
     then (if length old.game.moves == most_moves then refused old HistoryFull else growing
@@ -32,11 +31,11 @@ played old move =
     else refused old IllegalMove
 
 -- the last move is taken from the list
-abbrev pub taken_back : SureMachine → List Move → Effect
+abbrev pub taken_back : Machine → List Move → Effect
 taken_back old [] = refused old CannotUndo
 taken_back old (move ∷ moves) =
     told [] (record old { game = record old.game { moves = take (length old.game.moves - 1) old.game.moves } })
 
 -- readings go this deep from now on, in the same tree
-abbrev pub deepened : SureMachine → ℕ → ℕ → Effect
-deepened old plies wide = told [] (record old { depths = record old.depths { plies = plies; wide = wide } })
+abbrev pub deepened : Machine → ℕ → ℕ → Effect
+deepened old plies wide = told [] (record old { plies = plies; wide = wide })

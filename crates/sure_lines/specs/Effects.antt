@@ -4,7 +4,7 @@ use Rattle.gtp_rules.specs.Steps.{Fallback, Step}
 use Rattle.gtp_cmd.specs.Replies.{success_text, refusal_text}
 use Rattle.gtp_cmd.specs.declared.refusals.RefuseText.{RefuseText}
 use Rattle.gtp_cmd.specs.declared.refusals.RefuseText.TheVariants.{OutOfMemory}
-use Rattle.sure_lines.specs.declared.machine.SureMachine.{SureMachine}
+use Rattle.sure_lines.specs.Machine.{Machine}
 
 -- what a command does and tells
 pub record Effect : Type 0 where
@@ -15,20 +15,20 @@ pub record Effect : Type 0 where
   -- the refusals that may stand in place of the reply; the machine then stays
   pub excuses : List RefuseText
   -- the machine after it
-  pub next : SureMachine
+  pub next : Machine
   -- it ends the session
   pub ends : Bool
 
 -- the command is refused, and the machine stays
-abbrev pub refused : SureMachine → RefuseText → Effect
+abbrev pub refused : Machine → RefuseText → Effect
 refused old text = record { refusal = Some text; result = []; excuses = []; next = old; ends = false }
 
 -- it succeeds with this result, and the machine is next after it
-abbrev pub told : List ℕ → SureMachine → Effect
+abbrev pub told : List ℕ → Machine → Effect
 told result next = record { refusal = None; result = result; excuses = []; next = next; ends = false }
 
 -- it succeeds and ends the session, and the machine stays
-abbrev pub ended : SureMachine → Effect
+abbrev pub ended : Machine → Effect
 ended old = record { refusal = None; result = []; excuses = []; next = old; ends = true }
 
 -- there may be no memory for it: then the line counts as not sent
@@ -41,11 +41,11 @@ reply_text id None result = success_text id result
 reply_text id (Some refusal) result = refusal_text id refusal
 
 -- a refusal behind an id, which leaves the machine as it was
-abbrev pub fallback : Option ℕ → SureMachine → RefuseText → Fallback SureMachine
+abbrev pub fallback : Option ℕ → Machine → RefuseText → Fallback Machine
 fallback id old refusal = record { reply = refusal_text id refusal; next = old }
 
 -- the reply to a command with this effect on the old machine, and the machine after it
-abbrev pub replied : Option ℕ → SureMachine → Effect → Step SureMachine
+abbrev pub replied : Option ℕ → Machine → Effect → Step Machine
 replied id old effect = record {
   reply = reply_text id effect.refusal effect.result;
   fallbacks = map (fallback id old) effect.excuses;

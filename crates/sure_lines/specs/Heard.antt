@@ -7,7 +7,7 @@ use Rattle.gtp_cmd.specs.declared.commands.Parsed.{Parsed}
 use Rattle.gtp_cmd.specs.declared.commands.Parsed.TheVariants as parsed
 use Rattle.gtp_cmd.specs.declared.refusals.RefuseText.TheVariants.{LineTooLong, UnknownCommand}
 use Rattle.sure_lines.specs.Names.{is_own}
-use Rattle.sure_lines.specs.declared.machine.SureMachine.{SureMachine}
+use Rattle.sure_lines.specs.Machine.{Machine}
 
 -- the words of a line from its command on, if its first word may be an id
 abbrev pub words_from : Option ℕ → List ℕ → List (List ℕ) → List (List ℕ)
@@ -41,7 +41,7 @@ heard_at s TooLong = parsed.Refused None LineTooLong
 heard_at s (Line text) = own_said text s
 
 -- what a line says to the machine
-abbrev pub heard : SureMachine → RawLine → Parsed
+abbrev pub heard : Machine → RawLine → Parsed
 heard machine line = heard_at machine.game.base.size line
 
 -- the bytes of a line; of one that is too long none count

@@ -1,4 +1,5 @@
 pub mod Machine
+pub mod SeenMachines
 pub mod Effects
 pub mod Answers
 pub mod Replies

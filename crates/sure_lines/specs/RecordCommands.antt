@@ -8,17 +8,17 @@ use Rattle.sgf_rules.specs.Game.{game_of}
 use Rattle.sgf_rules.specs.Kinds.{number_of}
 use Rattle.sure_lines.specs.Effects.{Effect, refused, told, growing}
 use Rattle.sure_lines.specs.Files.{is_utf8}
-use Rattle.sure_lines.specs.declared.machine.SureMachine.{SureMachine}
+use Rattle.sure_lines.specs.Machine.{Machine}
 
 -- the position of a game record is that from which moves are played from now on, or its first fault is told
-abbrev pub recorded : SureMachine → Result BoardState FaultKind → Effect
+abbrev pub recorded : Machine → Result BoardState FaultKind → Effect
 recorded old (Ok board) = told [] (record old { game = game_from board })
 recorded old (Err kind) = refused old (BadSgf (number_of kind))
 
 -- what a text does to the machine that is read as a game record; its file could perhaps not be loaded
-abbrev pub loaded : SureMachine → List ℕ → Effect
+abbrev pub loaded : Machine → List ℕ → Effect
 loaded old file = record (recorded old (game_of file)) { excuses = CannotLoadFile ∷ [] }
 
 -- the file of this name, with this text, is loaded; a name that is no text names none. There may be no memory for that.
-abbrev pub loaded_by : SureMachine → List ℕ → List ℕ → Effect
+abbrev pub loaded_by : Machine → List ℕ → List ℕ → Effect
 loaded_by old name file = growing (if is_utf8 name then loaded old file else refused old SyntaxError)

@@ -17,10 +17,10 @@ use Rattle.sure_lines.specs.Names.{names_text}
 use Rattle.sure_lines.specs.QuestionCommands.{read}
 use Rattle.sure_lines.specs.RecordCommands.{loaded_by}
 use Rattle.sure_lines.specs.Replies.{word_of}
-use Rattle.sure_lines.specs.declared.machine.SureMachine.{SureMachine}
+use Rattle.sure_lines.specs.Machine.{Machine}
 
 -- what a command of this line does to the machine, and what it tells; the file that it loads has this text
-abbrev pub effect_of : SureMachine → List ℕ → List ℕ → Command → Effect
+abbrev pub effect_of : Machine → List ℕ → List ℕ → Command → Effect
 effect_of old line file command.ProtocolVersion = told (codes "2") old
 effect_of old line file command.Name = told (codes "gopat_sure") old
 effect_of old line file command.Version = told (codes "1") old
@@ -40,17 +40,17 @@ effect_of old line file (command.LoadSgf span) = loaded_by old (word_at line spa
 effect_of old line file _ = refused old UnknownCommand
 
 -- the answer to what a line says
-abbrev pub parsed_step : SureMachine → List ℕ → List ℕ → Parsed → Step SureMachine
+abbrev pub parsed_step : Machine → List ℕ → List ℕ → Parsed → Step Machine
 parsed_step old line file parsed.Nothing = record { reply = []; fallbacks = []; next = old; ends = false }
 parsed_step old line file (parsed.Refused id text) = replied id old (refused old text)
 parsed_step old line file (parsed.Command id command) = replied id old (effect_of old line file command)
 
 -- the answer to a line that loads this text, or to one that loads none
-abbrev pub step_on : SureMachine → List ℕ → RawLine → Step SureMachine
+abbrev pub step_on : Machine → List ℕ → RawLine → Step Machine
 step_on old file line = parsed_step old (bytes_in line) file (heard old line)
 
 -- the answer to a line: that on a text which is the contents of the file that it loads
-abbrev pub step : Contents → SureMachine → RawLine → Step SureMachine → Type 0
+abbrev pub step : Contents → Machine → RawLine → Step Machine → Type 0
 step contents old line given =
     (file : List ℕ) × IsFileOf contents (file_said (bytes_in line) (heard old line)) file
     × (given ≡ step_on old file line)

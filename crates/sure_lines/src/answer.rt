@@ -6,7 +6,7 @@ ghost use Rattle.gtp_rules.specs.Transcript.{MayGive};
 ghost use Rattle.sure_lines.specs.Answers.{IsAnswer};
 ghost use Rattle.sure_lines.specs.Effects.{Effect, replied};
 ghost use Rattle.sure_lines.specs.Replies.{reply_bytes, reply_ends};
-ghost use Rattle.sure_lines.specs.declared.machine.SureMachine.{SureMachine};
+ghost use Rattle.sure_lines.specs.Machine.{Machine};
 
 use crate::reply::Reply;
 use go_base::Bytes;
@@ -84,7 +84,7 @@ pub(crate) fn told_text(text: Short) -> Answer
 impl Answer {
     /// The reply that this answer is behind an id. Takes memory for a result that did.
     pub(crate) fn reply(self, alloc: Global, id: Option<u32>) -> Reply
-        ensures { (effect : Effect) (old new : SureMachine) → IsAnswer effect self old new
+        ensures { (effect : Effect) (old new : Machine) → IsAnswer effect self old new
             → MayGive (replied id old effect) (reply_bytes result) new (reply_ends result) }
     {
         match self {

@@ -1,24 +1,33 @@
 //! What is kept from line to line: a game, and how deep readings go.
 
 ghost use Rattle.std.specs.Prelude.{◌≡◌, IfOk};
-ghost use Rattle.go_history.specs.Games.{position_of};
-ghost use Rattle.sure_lines.specs.Machine.{first_machine};
+ghost use Rattle.sure_lines.specs.Machine.{first_machine, present};
 
 use go_base::{NoMemory, Position, Size};
 use go_history::History;
 use read_rules::Depths;
 use std::alloc::Global;
+use std::marker::Model;
 
 /// The size of the board before the first line that says one.
 const FIRST_SIZE: u8 = 19;
 
-/// A game, and how deep readings go on its position.
+/// A game, and how deep readings go on its position, seen by contracts as the `Machine` of the definitions.
 #[derive(Drop)]
 pub struct SureMachine {
     /// The position from which moves are played, and the moves.
-    pub game: History,
+    pub(crate) game: History,
     /// How deep readings go, and which tree has the attacker's candidates.
-    pub depths: Depths,
+    pub(crate) depths: Depths,
+}
+
+impl Model for SureMachine {
+    ghost use Rattle.sure_lines.specs.Machine.{Machine};
+    ghost use Rattle.sure_lines.specs.SeenMachines.{seen};
+
+    ghost Value = { Machine };
+
+    ghost view = { seen };
 }
 
 impl SureMachine {
@@ -35,8 +44,8 @@ impl SureMachine {
 
     /// The position after the moves.
     pub(crate) fn position(&self) -> Position
-        ensures value { result ≡ position_of self.now.game }
-        ensures size { (position_of self.now.game).size ≡ self.now.game.base.size }
+        ensures value { result ≡ present self.now }
+        ensures size { (present self.now).size ≡ self.now.game.base.size }
     {
         self.game.position()
     }

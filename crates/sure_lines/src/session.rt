@@ -1,6 +1,11 @@
 //! The loop of a session: the lines of a source, and their replies to a sink.
 
-ghost use Rattle.std.specs.Prelude.{◌≡◌, ◌≤◌, length};
+ghost use Rattle.std.specs.Prelude.{◌≡◌, ◌≤◌, ◌<◌, false, length, IfOk, OnOk};
+ghost use Rattle.gtp_cmd.specs.Rooms.{longest_line};
+ghost use Rattle.gtp_lex.specs.LinesTaken.{taken_of, given_state};
+ghost use Rattle.gtp_lex.specs.Raw.{raw_line};
+ghost use Rattle.gtp_rules.specs.Lines.{RawLine};
+ghost use Rattle.sure_lines.specs.Heard.{bytes_in};
 
 use crate::machine::SureMachine;
 use crate::reply::Reply;
@@ -32,10 +37,10 @@ pub enum End {
 
 /// Puts all bytes.
 fn put_all<K: Sink>(output: &mut K, bytes: &[u8]) -> Result<(), Failed> {
-    let mut rest = bytes;
-    'puts: while !rest.is_empty() {
-        let count = output.put(rest)?;
-        rest = &rest[count..];
+    let mut done = 0;
+    'puts: while done < bytes.len() {
+        let count = output.put(&bytes[done..])?;
+        done += count;
     }
     Ok(())
 }
@@ -60,59 +65,97 @@ fn send<K: Sink>(output: &mut K, reply: Reply) -> Result<bool, Failed> {
     }
 }
 
-/// What a session works with: its machine, the line that its input has come to, and where memory is taken.
-#[derive(Drop)]
-struct Session {
+/// Answers one line: whether it ends the session.
+fn answer<L: Loader, K: Sink>(
     alloc: Global,
-    machine: SureMachine,
-    lines: Lines,
+    machine: &mut SureMachine,
+    raw: Raw<'_>,
+    files: &mut L,
+    output: &mut K,
+) -> Result<bool, Failed>
+    requires { length (bytes_in (raw_line raw)) ≤ longest_line }
+{
+    let reply = machine.line(alloc, raw, files);
+    send(output, reply)
 }
 
-impl Session {
-    /// Answers the line that was taken: whether it ends the session.
-    fn answer_taken<L: Loader, K: Sink>(
-        &mut self,
-        taken: Taken,
-        files: &mut L,
-        output: &mut K,
-    ) -> Result<bool, Failed> {
-        let raw = match taken {
-            Taken::Line => Raw::Line(self.lines.bytes()),
-            Taken::TooLong => Raw::TooLong,
-        };
-        send(output, self.machine.line(self.alloc, raw, files))
+/// Answers the line that was taken: whether it ends the session.
+fn answer_taken<L: Loader, K: Sink>(
+    alloc: Global,
+    machine: &mut SureMachine,
+    lines: &Lines,
+    taken: Taken,
+    files: &mut L,
+    output: &mut K,
+) -> Result<bool, Failed>
+    requires { (held : RawLine) × (lines.now ≡ given_state held) × (taken ≡ taken_of held) }
+{
+    match taken {
+        Taken::Line => answer(alloc, machine, Raw::Line(lines.bytes()), files, output),
+        Taken::TooLong => answer(alloc, machine, Raw::TooLong, files, output),
     }
+}
 
-    /// Answers the lines that end in a piece, each before the next is looked at: whether one of them ends the session.
-    fn answer_piece<L: Loader, K: Sink>(
-        &mut self,
-        piece: &[u8],
-        files: &mut L,
-        output: &mut K,
-    ) -> Result<bool, Failed> {
-        let mut rest = piece;
-        'lines: while !rest.is_empty() {
-            let count = self.lines.feed(rest);
-            rest = &rest[count..];
-            if let Some(taken) = self.lines.take() {
-                if self.answer_taken(taken, files, output)? {
-                    return Ok(true);
-                }
-            }
+/// Takes bytes up to and with the first line feed, and answers the line that it ends, if it came: how many bytes were
+/// taken, and whether the line ends the session.
+fn answer_next<L: Loader, K: Sink>(
+    alloc: Global,
+    machine: &mut SureMachine,
+    lines: &mut Lines,
+    rest: &[u8],
+    files: &mut L,
+    output: &mut K,
+) -> Result<(usize, bool), Failed>
+    requires { lines.old.waits ≡ false }
+    ensures bound { IfOk result (λ turn. (turn.0 ≤ length rest.now) × (0 < length rest.now → 0 < turn.0)) }
+    ensures waits { OnOk result (lines.new.waits ≡ false) }
+{
+    let count = lines.feed(rest);
+    match lines.take() {
+        Some(taken) => {
+            let ended = answer_taken(alloc, machine, lines, taken, files, output)?;
+            Ok((count, ended))
         }
-        Ok(false)
+        None => Ok((count, false)),
     }
+}
 
-    /// Answers what stands behind the last line feed as a last line, if anything does.
-    fn answer_rest<L: Loader, K: Sink>(
-        &mut self,
-        files: &mut L,
-        output: &mut K,
-    ) -> Result<bool, Failed> {
-        match self.lines.finish() {
-            Some(taken) => self.answer_taken(taken, files, output),
-            None => Ok(false),
+/// Answers the lines that end in a piece, each before the next is looked at: whether one of them ends the session.
+fn answer_piece<L: Loader, K: Sink>(
+    alloc: Global,
+    machine: &mut SureMachine,
+    lines: &mut Lines,
+    piece: &[u8],
+    files: &mut L,
+    output: &mut K,
+) -> Result<bool, Failed>
+    requires { lines.old.waits ≡ false }
+    ensures { OnOk result (lines.new.waits ≡ false) }
+{
+    let mut rest = piece;
+    'lines: while !rest.is_empty() {
+        let (count, ended) = answer_next(alloc, machine, lines, rest, files, output)?;
+        if ended {
+            return Ok(true);
         }
+        rest = &rest[count..];
+    }
+    Ok(false)
+}
+
+/// Answers what stands behind the last line feed as a last line, if anything does.
+fn answer_rest<L: Loader, K: Sink>(
+    alloc: Global,
+    machine: &mut SureMachine,
+    lines: &mut Lines,
+    files: &mut L,
+    output: &mut K,
+) -> Result<bool, Failed>
+    requires { lines.old.waits ≡ false }
+{
+    match lines.finish() {
+        Some(taken) => answer_taken(alloc, machine, lines, taken, files, output),
+        None => Ok(false),
     }
 }
 
@@ -120,18 +163,13 @@ impl Session {
 /// next line is looked at. Takes memory for the line.
 pub fn serve<L: Loader, S: Source, K: Sink>(
     alloc: Global,
-    machine: SureMachine,
+    machine: &mut SureMachine,
     files: &mut L,
     input: &mut S,
     output: &mut K,
 ) -> End {
-    let Ok(lines) = Lines::new(alloc) else {
+    let Ok(mut lines) = Lines::new(alloc) else {
         return End::NoMemory;
-    };
-    let mut session = Session {
-        alloc,
-        machine,
-        lines,
     };
     let mut buf = [0u8; PIECE];
     let mut room = MOST_TAKEN;
@@ -141,13 +179,13 @@ pub fn serve<L: Loader, S: Source, K: Sink>(
             return End::InputFault;
         };
         if count == 0 {
-            return match session.answer_rest(files, output) {
+            return match answer_rest(alloc, machine, &mut lines, files, output) {
                 Ok(_) => End::Done,
                 Err(_) => End::OutputFault,
             };
         }
         room -= count;
-        match session.answer_piece(&buf[..count], files, output) {
+        match answer_piece(alloc, machine, &mut lines, &buf[..count], files, output) {
             Ok(false) => {}
             Ok(true) => return End::Done,
             Err(_) => return End::OutputFault,

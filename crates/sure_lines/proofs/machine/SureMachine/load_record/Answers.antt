@@ -11,7 +11,7 @@ pub returns-in_default-clause-answer : goal.returns-in_default-clause-answer
 returns-in_default-clause-answer g c =
     let file = some_file (g.L.Loader.contents c.args.files.now)
     (named_file (word_at c.args.line.now c.args.span)) in
-    (file.0, file.1, inl refl, refl)
+    (file.0, file.1, (inl refl, refl))
 
 -- the loader gave the file's text, and it was read as a record
 pub returns-in-Ok-load-clause-answer : goal.returns-in-Ok-load-clause-answer
@@ -43,4 +43,4 @@ pub returns-clause-answer : goal.returns-clause-answer
 returns-clause-answer g c =
     let file = some_file (g.L.Loader.contents c.args.files.now)
     (named_file (word_at c.args.line.now c.args.span)) in
-    (file.0, file.1, inl refl, refl)
+    (file.0, file.1, (inl refl, refl))
