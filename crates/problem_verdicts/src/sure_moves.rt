@@ -3,7 +3,7 @@
 ghost use Rattle.std.specs.Prelude.{◌≡◌, ◌-◌, ◌*◌, ◌<◌, ◌&&◌};
 ghost use Rattle.std.specs.FinSet as set;
 ghost use Rattle.read_rules.specs.Answer.{first_node};
-ghost use Rattle.sure_rules.specs.Nodes.{is_attackers};
+ghost use Rattle.read_rules.specs.Candidates.{is_candidate};
 ghost use Rattle.sure_rules.specs.SureTree.{is_tried, surely_wins};
 ghost use Rattle.sure_rules.specs.SureAnswer.{surely_succeeds, pass_holds};
 ghost use Rattle.problem_verdicts.specs.SureQuestions.{is_seen, is_in, surely_attains_at, surely_attains_by_pass};
@@ -52,11 +52,10 @@ fn pass_holds(position: &Position, node: Node, plies: u8) -> bool
     !surely_wins(&new, next, plies)
 }
 
-/// The attacker's candidates.
+/// The candidates at a node.
 fn candidates_on(position: &Position, node: Node) -> PointSet
     requires target { node.turn.target < position.now.size * position.now.size }
-    requires turn { is_attackers node ≡ true }
-    ensures { (p : ℕ) → set.contains result p ≡ is_tried node position.now p }
+    ensures { (p : ℕ) → set.contains result p ≡ is_candidate node.turn position.now p }
 {
     let mut board = Trial::new(Watch::new(position));
     let points = candidates(&mut board, node.turn);
