@@ -2,3 +2,4 @@ pub mod CommandReplies
 pub mod MoveAnswers
 pub mod RecordAnswers
 pub mod StoneAnswers
+pub mod LineAnswers

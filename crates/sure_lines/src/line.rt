@@ -1,13 +1,15 @@
 //! The answer to a line.
 
-ghost use Rattle.std.specs.Prelude.{◌≡◌, ◌≤◌, ℕ, List, length};
+ghost use Rattle.std.specs.Prelude.{◌≡◌, ◌≤◌, ℕ, List, length, IfOk};
 ghost use Rattle.gtp_cmd.specs.Rooms.{longest_line};
 ghost use Rattle.gtp_cmd.specs.Within.{IsWithin, IsWithinLine};
 ghost use Rattle.gtp_lex.specs.Raw.{raw_line};
 ghost use Rattle.gtp_rules.specs.Transcript.{MayGive, Answers};
 ghost use Rattle.sure_lines.specs.Answers.{IsAnswer};
+ghost use Rattle.sure_lines.specs.Effects.{growing, told};
 ghost use Rattle.sure_lines.specs.Files.{file_of, IsFileOf};
 ghost use Rattle.sure_lines.specs.Heard.{bytes_in};
+ghost use Rattle.sure_lines.specs.Machine.{Machine};
 ghost use Rattle.sure_lines.specs.Replies.{reply_bytes, reply_ends, word_of};
 ghost use Rattle.sure_lines.specs.SureStep.{effect_of, step};
 
@@ -33,7 +35,10 @@ fn word(known: bool) -> &'static [u8]
 }
 
 /// A success with a result that took memory, if it was found.
-fn grown(text: Result<Bytes, NoMemory>) -> Answer {
+fn grown(text: Result<Bytes, NoMemory>) -> Answer
+    ensures { (old : Machine) (result_of : List ℕ) → IfOk text (λ bytes. bytes ≡ result_of)
+        → IsAnswer (growing (told result_of old)) result old old }
+{
     match text {
         Ok(text) => Answer::Grown(text),
         Err(_) => Answer::NoMemory,

@@ -120,7 +120,13 @@ fn is_right(alloc: Global, row: &Row) -> Option<bool> {
     );
     let fails = Vec::from_slice(alloc, row.output_fails).ok()?;
     let mut page = Page::new(alloc, ROOM, ROOM, fails).ok()?;
-    let end = serve(alloc, &mut machine, &mut shelf(alloc)?, &mut feed, &mut page);
+    let end = serve(
+        alloc,
+        &mut machine,
+        &mut shelf(alloc)?,
+        &mut feed,
+        &mut page,
+    );
     Some(end == row.end && page.bytes() == row.put)
 }
 
