@@ -1,7 +1,8 @@
 //! All moves by which a question has its sure code.
 
-ghost use Rattle.std.specs.Prelude.{◌≡◌, ◌-◌, ◌*◌, ◌<◌, ◌&&◌};
+ghost use Rattle.std.specs.Prelude.{◌≡◌, ℕ, ◌-◌, ◌*◌, ◌<◌, ◌&&◌};
 ghost use Rattle.std.specs.FinSet as set;
+ghost use Rattle.go_rules.specs.Board.{largest_points};
 ghost use Rattle.read_rules.specs.Answer.{first_node};
 ghost use Rattle.read_rules.specs.Candidates.{is_candidate};
 ghost use Rattle.sure_rules.specs.SureTree.{is_tried, surely_wins};
@@ -88,6 +89,7 @@ fn seen_points(position: &Position, node: Node, scope: Scope) -> Option<PointSet
 
 /// Whether p is one of the points, of which `None` stands for every point.
 fn is_in(points: &Option<PointSet>, p: Point) -> bool
+    requires { p < largest_points }
     ensures { result ≡ is_in points.now p }
 {
     match points {
@@ -108,6 +110,7 @@ fn is_success(
     requires on_board { p < position.now.size * position.now.size }
     ensures { result ≡ (is_in points.now p && surely_succeeds plies node position.now p) }
 {
+    let _ = position.size().points();
     is_in(points, p) && succeeds(position, node, p, plies)
 }
 
