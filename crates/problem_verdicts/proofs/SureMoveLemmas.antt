@@ -1,5 +1,5 @@
 -- The points that are looked at, and those of them at which a play succeeds.
-use Rattle.std.proofs.Common.{◌≡◌, ◌∙◌, ℕ, ◌*◌, ◌<◌, ◌≤◌, ◌&&◌, Bool, true, false, nat_lt, ltb, sym, ap, arith, inl, inr}
+use Rattle.std.proofs.Common.{◌≡◌, ◌∙◌, ℕ, ◌*◌, ◌<◌, ◌≤◌, ◌&&◌, Bool, true, false, nat_lt, ltb, refl, sym, ap, arith, inl, inr}
 use Rattle.std.proofs.Common.{Option, None, Some, is_some}
 use Rattle.std.specs.Prelude.{MatchOption}
 use mathlib.Core.Bool.{beq}
@@ -69,3 +69,8 @@ all_found scope node pos wins found has q = elim (cases_lt q (pos.size * pos.siz
   | inr off ↦ has q ∙ ap (λ b. b && (is_seen scope node pos q && wins q)) (le-ltb q (pos.size * pos.size) off)
       ∙ sym (ap (λ b. b && wins q) (not_seen scope node pos q off))
 ]
+
+-- nothing attains code 0
+pub none_attains : (seen : Bool) (code : ℕ) (wins : Bool) → code ≡ 0 → false ≡ (seen && (nat_lt 0 code && wins))
+none_attains true code wins zero = sym (ap (λ b. b && wins) (le-ltb 0 code (omega (arith, zero))))
+none_attains false code wins zero = refl

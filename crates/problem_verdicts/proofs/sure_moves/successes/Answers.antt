@@ -1,5 +1,5 @@
 -- The points are found one after another.
-use Rattle.std.proofs.Common.{◌≡◌, ◌∙◌, ◌&&◌, ◌*◌, ◌<◌, true, refl, sym, ap, subst, arith, rules}
+use Rattle.std.proofs.Common.{◌≡◌, ◌∙◌, ℕ, Bool, ◌&&◌, ◌*◌, ◌<◌, true, refl, sym, ap, subst, arith, rules}
 use Rattle.sure_rules.specs.SureAnswer.{surely_succeeds}
 use Rattle.read_all.proofs.FoundMoves.{HasBelow, none_below, one_more, no_more}
 use Rattle.problem_verdicts.specs.SureQuestions.{is_seen}
@@ -20,7 +20,7 @@ pub points-preserved : goal.points-preserved
 points-preserved c =
     let p = c.points.p in
     let on : p < c.args.position.now.size * c.args.position.now.size = search rules in
-    let wins = λ q. is_seen c.args.scope c.args.node c.args.position.now q
+    let wins : ℕ → Bool = λ q. is_seen c.args.scope c.args.node c.args.position.now q
     && surely_succeeds c.args.plies c.args.node c.args.position.now q in
     let test = c.is_success.ensures
     ∙ ap (λ b. b && surely_succeeds c.args.plies c.args.node c.args.position.now p)
@@ -38,7 +38,7 @@ pub returns : goal.returns
 returns c =
     let size = c.args.position.now.size in
     let ended : c.points.p ≡ size * size = search rules in
-    let wins = λ q. surely_succeeds c.args.plies c.args.node c.args.position.now q in
+    let wins : ℕ → Bool = λ q. surely_succeeds c.args.plies c.args.node c.args.position.now q in
     all_found c.args.scope c.args.node c.args.position.now wins c.points.found
     (subst (λ n. HasBelow (λ q. true) (λ q. is_seen c.args.scope c.args.node c.args.position.now q && wins q) n
     c.points.found) ended c.points.invariant)
