@@ -3,3 +3,5 @@ pub mod MoveAnswers
 pub mod RecordAnswers
 pub mod StoneAnswers
 pub mod LineAnswers
+pub mod TakenLines
+pub mod SessionLemmas

@@ -11,3 +11,4 @@ pub mod AnswerText
 pub mod QuestionCommands
 pub mod RecordCommands
 pub mod SureStep
+pub mod Sessions

@@ -2,7 +2,8 @@
 //!
 //! A line means what it means to gopat, if its command is one of this program's: `boardsize`, `clear_board`, `play`,
 //! `undo`, `loadsgf`, `depths`, `attack`, `defend` and those that ask about the program. The code and the move of an
-//! answer are those of `sure_rules` on the present position. Nothing is kept from question to question.
+//! answer are those of `sure_rules` on the present position. Nothing is kept from question to question. What a session
+//! puts for its lines is a transcript by this machine, by the clause of `serve`.
 #![tactic(auto)]
 
 mod answer;
