@@ -1,6 +1,7 @@
 /* A plain tactical reader that speaks a few commands of the protocol: it follows the definitions of the candidates, the
  * game tree and the codes word for word, with no pruning, no order and no table, and shares nothing with gopat.
  * compare_plain.py puts it beside gopat. It reads the stated tree, and with the word `wider` behind its name the wider.
+ * With `sure` or `sure-wider` the attacker tries the candidates of that tree, and the defender every point of the board.
  *
  * commands: boardsize S, clear_board, depths PLIES WIDE, play C VERTEX, attack VERTEX, defend VERTEX, quit
  */
@@ -13,7 +14,7 @@ enum { EMPTY, BLACK, WHITE, POINTS = 81 };
 typedef struct { signed char cell[POINTS]; int ban, banned; } Position;
 typedef struct { int target, defender, attacks, wide, attacker_ko, defender_ko; } Node;
 
-static int size = 9, points = 81, plies = 10, wide = 2, wider = 0;
+static int size = 9, points = 81, plies = 10, wide = 2, wider = 0, sure = 0;
 
 static int neighbours(int p, int *q) {
   int n = 0, row = p / size, column = p % size;
@@ -242,10 +243,11 @@ static void further(const Node *node, const Position *pos, char *is) {
   }
 }
 
-/* the candidates at the node */
-static void candidates(const Node *node, const Position *pos, char *is) {
+/* the points that are tried at the node: the candidates, and in a sure tree every point at the defender's turn */
+static void tried(const Node *node, const Position *pos, char *is) {
   int target = node->target;
-  memset(is, 0, POINTS);
+  memset(is, sure && !node->attacks, POINTS);
+  if (sure && !node->attacks) return;
   add_own(pos, target, is);
   add_captures(pos, target, is);
   if (node->wide > 0) {
@@ -290,7 +292,7 @@ static int attacker_wins(int n, const Node *node, const Position *pos) {
     pass(node, pos, &next, &new);
     if (!attacker_wins(n - 1, &next, &new)) return 0;
   }
-  candidates(node, pos, is);
+  tried(node, pos, is);
   for (int p = 0; p < points; p++)
     if (is[p] && child(node, pos, p, &next, &new) && attacker_wins(n - 1, &next, &new) == node->attacks)
       return node->attacks;
@@ -306,7 +308,7 @@ static int first_move(const Node *node, const Position *pos) {
     pass(node, pos, &next, &new);
     if (!attacker_wins(plies - 1, &next, &new)) return -1;
   }
-  candidates(node, pos, is);
+  tried(node, pos, is);
   for (int p = 0; p < points; p++)
     if (is[p] && child(node, pos, p, &next, &new) && attacker_wins(plies - 1, &next, &new) == node->attacks) return p;
   return -2;
@@ -334,7 +336,8 @@ static int point(const char *vertex) {
 int main(int words_given, char **word) {
   static Position pos, new;
   char line[200], command[50], a[50], b[50];
-  wider = words_given > 1 && !strcmp(word[1], "wider");
+  wider = words_given > 1 && (!strcmp(word[1], "wider") || !strcmp(word[1], "sure-wider"));
+  sure = words_given > 1 && !strncmp(word[1], "sure", 4);
   pos.ban = -1;
   while (fgets(line, sizeof line, stdin)) {
     int words = sscanf(line, "%49s %49s %49s", command, a, b), ok = 1;

@@ -1,8 +1,8 @@
 //! A checker for authors of problem sets: tells of each record the code of its question, all moves that attain it, the
 //! fewest plies with which they do, and whether that is what the author expects.
 //!
-//! `check_problems [--depths PLIES WIDE] [--tree stated|wider] [--anywhere] [--only NAME] [--proof] [--json]
-//! FOLDER|FILE...`. The exit status is 0 if all is as expected, 1 if something is not, and 2 if the words are no
+//! `check_problems [--depths PLIES WIDE] [--tree stated|wider|sure|sure-wider] [--anywhere] [--only NAME] [--proof]
+//! [--json] FOLDER|FILE...`. The exit status is 0 if all is as expected, 1 if something is not, and 2 if the words are no
 //! command line or name no record, or a folder cannot be listed, or there is no memory.
 #![tactic(auto)]
 
@@ -24,7 +24,7 @@ use std::{env, fs, io};
 
 /// The note of a faulty command line.
 const USAGE: &str =
-    "usage: check_problems [--depths PLIES WIDE] [--tree stated|wider] [--anywhere] [--only NAME] \
+    "usage: check_problems [--depths PLIES WIDE] [--tree stated|wider|sure|sure-wider] [--anywhere] [--only NAME] \
 [--proof] [--json] FOLDER|FILE...";
 
 /// The exit status if something is not as expected.
@@ -47,6 +47,7 @@ fn row_at<R: Files + AllocGlobal>(rt: &R, options: &Options, name: &str) -> io::
                 rt.alloc(),
                 text,
                 options.depths,
+                options.replies,
                 options.scope,
                 options.proof,
             )

@@ -1,7 +1,7 @@
 //! What the words of the command line ask for.
 
 use clap::{Arg, ArgAction, ArgMatches, Command};
-use problem_verdicts::{Depths, Scope, Tree};
+use problem_verdicts::{Depths, Replies, Scope, Tree};
 use std::alloc::{AllocError, Global};
 
 /// The plies of a question whose record tells no depths.
@@ -15,6 +15,8 @@ const USUAL_WIDE: u8 = 2;
 pub(crate) struct Options {
     /// The depths of a question whose record tells none, and the tree of all questions.
     pub(crate) depths: Depths,
+    /// Against which replies an answer holds.
+    pub(crate) replies: Replies,
     /// Which moves of a question are judged.
     pub(crate) scope: Scope,
     /// The file name of the records that are checked, if not all are.
@@ -76,11 +78,14 @@ fn depths_in(matches: &ArgMatches<'_>) -> Option<Depths> {
     }
 }
 
-/// The tree. None if the word names none.
-fn tree_in(matches: &ArgMatches<'_>) -> Option<Tree> {
+/// Against which replies answers hold, and the tree: in a sure one it has the attacker's candidates. None if the word
+/// names no tree.
+fn tree_in(matches: &ArgMatches<'_>) -> Option<(Replies, Tree)> {
     match matches.get_str("tree") {
-        None | Some("stated") => Some(Tree::Stated),
-        Some("wider") => Some(Tree::Wider),
+        None | Some("stated") => Some((Replies::Tried, Tree::Stated)),
+        Some("wider") => Some((Replies::Tried, Tree::Wider)),
+        Some("sure") => Some((Replies::Every, Tree::Stated)),
+        Some("sure-wider") => Some((Replies::Every, Tree::Wider)),
         Some(_) => None,
     }
 }
@@ -111,9 +116,14 @@ fn only_in(alloc: Global, matches: &ArgMatches<'_>) -> Option<Option<String>> {
     }
 }
 
-/// What the matches of a command line ask for. None if it names no folder and no file.
+/// What the matches of a command line ask for. None if it names no folder and no file, or asks for the proof of a sure
+/// code, which has none.
 fn options_in(alloc: Global, matches: &ArgMatches<'_>) -> Option<Options> {
-    let tree = tree_in(matches)?;
+    let (replies, tree) = tree_in(matches)?;
+    let proof = is_set(matches, "proof");
+    if proof && replies == Replies::Every {
+        return None;
+    }
     let depths = depths_in(matches)?.in_tree(tree);
     let places = places_in(alloc, matches)?;
     if places.is_empty() {
@@ -121,9 +131,10 @@ fn options_in(alloc: Global, matches: &ArgMatches<'_>) -> Option<Options> {
     }
     Some(Options {
         depths,
+        replies,
         scope: scope_in(matches),
         only: only_in(alloc, matches)?,
-        proof: is_set(matches, "proof"),
+        proof,
         json: is_set(matches, "json"),
         places,
     })

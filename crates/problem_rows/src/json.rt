@@ -1,9 +1,9 @@
 //! The line of a record as an object of JSON.
 
-use crate::page::{kind_word, print_bytes, print_moves, verdict_words};
+use crate::page::{kind_word, print_bytes, print_moves, tree_word, verdict_words};
 use crate::row::{Asked, Row};
 use go_base::Size;
-use problem_verdicts::{Moves, Scope, Tree, Verdict};
+use problem_verdicts::{Moves, Scope, Verdict};
 use std::alloc::AllocError;
 use std::fmt::Display;
 use vertices::vertex_text;
@@ -20,14 +20,6 @@ fn print_text(page: &mut String, text: &str) -> Result<(), AllocError> {
         }
     }
     page.push_str("\"")
-}
-
-/// The word of a tree.
-fn tree_word(tree: Tree) -> &'static str {
-    match tree {
-        Tree::Stated => "stated",
-        Tree::Wider => "wider",
-    }
 }
 
 /// The word of a scope.
@@ -68,7 +60,7 @@ fn print_question(page: &mut String, asked: &Asked) -> Result<(), AllocError> {
         "\",\"plies\":{},\"wide\":{},\"tree\":\"{}\",\"scope\":\"{}\"",
         problem.depths.plies,
         problem.depths.wide,
-        tree_word(problem.depths.tree),
+        tree_word(asked.replies, problem.depths.tree),
         scope_word(asked.scope)
     )
 }

@@ -2,7 +2,7 @@
 
 use crate::row::{Asked, Row};
 use go_base::Size;
-use problem_verdicts::{Kind, Moves, Scope, Verdict};
+use problem_verdicts::{Kind, Moves, Replies, Scope, Tree, Verdict};
 use std::alloc::AllocError;
 use std::fmt::Display;
 use vertices::vertex_text;
@@ -15,6 +15,17 @@ pub(crate) fn kind_word(kind: Kind) -> &'static str {
     match kind {
         Kind::Attack => "attack",
         Kind::Defend => "defend",
+    }
+}
+
+/// The word of a tree: of a sure answer that of its replies, with the tree of the attacker's candidates if it is the
+/// wider one.
+pub(crate) fn tree_word(replies: Replies, tree: Tree) -> &'static str {
+    match (replies, tree) {
+        (Replies::Tried, Tree::Stated) => "stated",
+        (Replies::Tried, Tree::Wider) => "wider",
+        (Replies::Every, Tree::Stated) => "sure",
+        (Replies::Every, Tree::Wider) => "sure-wider",
     }
 }
 
@@ -78,6 +89,9 @@ fn print_question(page: &mut String, asked: &Asked) -> Result<(), AllocError> {
         " depths {} {}",
         problem.depths.plies, problem.depths.wide
     )?;
+    if asked.replies == Replies::Every {
+        write!(page, " {}", tree_word(asked.replies, problem.depths.tree))?;
+    }
     match asked.scope {
         Scope::Tried => Ok(()),
         Scope::Anywhere => page.push_str(" anywhere"),

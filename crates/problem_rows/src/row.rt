@@ -2,7 +2,7 @@
 
 use go_base::{Bytes, NoMemory};
 use problem_records::{Lack, Problem, ProblemError, problem_of};
-use problem_verdicts::{Depths, Judged, Scope, Verdict, judge};
+use problem_verdicts::{Depths, Judged, Replies, Scope, Verdict, judge};
 use std::alloc::Global;
 use write_proof::{ProofError, first_proof};
 
@@ -11,11 +11,13 @@ use write_proof::{ProofError, first_proof};
 pub struct Asked {
     /// What it asks.
     pub problem: Problem,
+    /// Against which replies the answer holds.
+    pub replies: Replies,
     /// Which moves are judged.
     pub scope: Scope,
     /// What is found, and the verdict.
     pub judged: Judged,
-    /// The first proof behind the code, if it is asked for; `None` in it if the proof is too long.
+    /// The first proof behind a code that is not a sure one, if it is asked for; `None` in it if the proof is too long.
     pub proof: Option<Option<Bytes>>,
 }
 
@@ -45,10 +47,11 @@ fn proof_of(alloc: Global, problem: &Problem) -> Result<Option<Bytes>, NoMemory>
     }
 }
 
-/// What a problem comes to by the moves of the scope, with its proof if it is asked for.
+/// What a problem comes to against these replies and by the moves of the scope, with its proof if it is asked for.
 fn asked_of(
     alloc: Global,
     problem: Problem,
+    replies: Replies,
     scope: Scope,
     proves: bool,
 ) -> Result<Asked, NoMemory> {
@@ -57,16 +60,18 @@ fn asked_of(
         problem.kind,
         problem.target,
         problem.depths,
+        replies,
         scope,
         &problem.expected,
     );
-    let proof = if proves {
+    let proof = if proves && replies == Replies::Tried {
         Some(proof_of(alloc, &problem)?)
     } else {
         None
     };
     Ok(Asked {
         problem,
+        replies,
         scope,
         judged,
         proof,
@@ -74,16 +79,18 @@ fn asked_of(
 }
 
 /// What is told of the record with this text, whose question has these depths if the record tells none, and of which
-/// the moves of the scope are judged; with the proof behind the code, if it is asked for. Takes memory.
+/// the moves of the scope are judged, against these replies; with the proof behind the code, if it is asked for. A sure
+/// code has none. Takes memory.
 pub fn row_of(
     alloc: Global,
     text: &[u8],
     depths: Depths,
+    replies: Replies,
     scope: Scope,
     proves: bool,
 ) -> Result<Row, NoMemory> {
     match problem_of(alloc, text, depths) {
-        Ok(problem) => Ok(Row::Asked(asked_of(alloc, problem, scope, proves)?)),
+        Ok(problem) => Ok(Row::Asked(asked_of(alloc, problem, replies, scope, proves)?)),
         Err(ProblemError::Lacks(lack)) => Ok(Row::Lacks(lack)),
         Err(ProblemError::NoMemory) => Err(NoMemory),
     }

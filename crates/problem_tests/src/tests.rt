@@ -6,11 +6,12 @@ mod counted;
 mod lacks;
 mod marks;
 mod objects;
+mod surely;
 mod verdicts;
 
 use go_base::NoMemory;
 use problem_rows::{print_row, row_of};
-use problem_verdicts::{Depths, Scope, Tree};
+use problem_verdicts::{Depths, Replies, Scope, Tree};
 use std::alloc::{AllocError, Global};
 use std::process::Abort;
 
@@ -46,26 +47,37 @@ fn usual() -> Result<Depths, Fail> {
     }
 }
 
-/// The line of a record of the name `r`, of which the moves of the scope are judged.
-fn line_of(alloc: Global, record: &str, scope: Scope) -> Result<String, Fail> {
-    let row = row_of(alloc, record.as_bytes(), usual()?, scope, false)?;
+/// The line of a record of the name `r`, of which the moves of the scope are judged against these replies.
+fn line_of(alloc: Global, record: &str, replies: Replies, scope: Scope) -> Result<String, Fail> {
+    let row = row_of(alloc, record.as_bytes(), usual()?, replies, scope, false)?;
     let mut line = String::new(alloc);
     print_row(&mut line, "r", &row)?;
     Ok(line)
 }
 
-/// Compares the lines of records with what is expected, if the moves of this scope are judged.
+/// Compares the lines of records with what is expected, if the moves of this scope are judged against these replies.
+fn compare_against<R: Abort + AllocGlobal>(
+    rt: &R,
+    replies: Replies,
+    scope: Scope,
+    records: &[Record],
+) -> Result<(), Fail> {
+    for &(what, record, columns) in records {
+        let line = line_of(rt.alloc(), record, replies, scope)?;
+        let want = format!(in rt.alloc(); "r\t{columns}\n")?;
+        assert!(rt; line == want, "{what}: {line}");
+    }
+    Ok(())
+}
+
+/// Compares the lines of records with what is expected, if the moves of this scope are judged against the replies that
+/// the tree tries.
 fn compare_in<R: Abort + AllocGlobal>(
     rt: &R,
     scope: Scope,
     records: &[Record],
 ) -> Result<(), Fail> {
-    for &(what, record, columns) in records {
-        let line = line_of(rt.alloc(), record, scope)?;
-        let want = format!(in rt.alloc(); "r\t{columns}\n")?;
-        assert!(rt; line == want, "{what}: {line}");
-    }
-    Ok(())
+    compare_against(rt, Replies::Tried, scope, records)
 }
 
 /// Compares the lines of records with what is expected, if the moves that the tree tries are judged.

@@ -1,2 +1,3 @@
+pub mod SureMoveLemmas
 pub mod MoveSetLemmas
 pub mod VerdictLemmas

@@ -1,3 +1,4 @@
 pub mod MoveSets
 pub mod Verdicts
 pub mod Questions
+pub mod SureQuestions

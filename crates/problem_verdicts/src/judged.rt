@@ -5,11 +5,14 @@ ghost use Rattle.go_rules.specs.Strings.{cell_at};
 ghost use Rattle.read_rules.specs.Answer.{asked_in};
 ghost use Rattle.read_all.specs.FewestPlies.{AreFewest};
 ghost use Rattle.problem_verdicts.specs.Questions.{other_kind, code_of, is_needless, AreMovesOf, IsFound};
+ghost use Rattle.problem_verdicts.specs.SureQuestions.{IsFoundAgainst};
 ghost use Rattle.problem_verdicts.specs.Verdicts.{verdict_on};
 
 use crate::expected::Expected;
 use crate::moves::Moves;
+use crate::replies::Replies;
 use crate::scope::Scope;
+use crate::sure_judged::find_surely;
 use crate::verdict::{Verdict, verdict_of};
 use go_base::{Cell, Look, Point, Position, Watch};
 use read_all::{AllMoves, Depths, Kind, all_moves, fewest_plies, moves_anywhere};
@@ -38,7 +41,7 @@ pub struct Judged {
 }
 
 /// The question of the other side about the same string.
-fn other_kind(kind: Kind) -> Kind
+pub(crate) fn other_kind(kind: Kind) -> Kind
     ensures { result ≡ other_kind kind }
 {
     match kind {
@@ -121,22 +124,42 @@ fn find(pos: &Position, kind: Kind, target: Point, depths: Depths, scope: Scope)
     }
 }
 
-/// What is found of the question, whether the string at `target` can be captured or saved with these depths, and by
-/// which moves of the scope; and what its author is told, who expects this.
+/// What is found of a question by the answers that hold against these replies, with the moves of the scope.
+fn find_against(
+    pos: &Position,
+    kind: Kind,
+    target: Point,
+    depths: Depths,
+    replies: Replies,
+    scope: Scope,
+) -> Found
+    requires on_board { target < pos.now.size * pos.now.size }
+    requires stone { cell_at pos.now.cells target ≢ Cell.Empty }
+    ensures { IsFoundAgainst replies scope pos.now kind target depths result }
+{
+    match replies {
+        Replies::Tried => find(pos, kind, target, depths, scope),
+        Replies::Every => find_surely(pos, kind, target, depths, scope),
+    }
+}
+
+/// What is found of the question, whether the string at `target` can be captured or saved with these depths against
+/// these replies, and by which moves of the scope; and what its author is told, who expects this.
 pub fn judge(
     pos: &Position,
     kind: Kind,
     target: Point,
     depths: Depths,
+    replies: Replies,
     scope: Scope,
     expected: &Expected,
 ) -> Judged
     requires on_board { target < pos.now.size * pos.now.size }
     requires stone { cell_at pos.now.cells target ≢ Cell.Empty }
-    ensures found { IsFound scope pos.now kind target depths result.found }
+    ensures found { IsFoundAgainst replies scope pos.now kind target depths result.found }
     ensures verdict { result.verdict ≡ verdict_on expected.now result.found }
 {
-    let found = find(pos, kind, target, depths, scope);
+    let found = find_against(pos, kind, target, depths, replies, scope);
     let verdict = verdict_of(expected, &found);
     Judged { found, verdict }
 }

@@ -2,7 +2,7 @@
 
 use super::{Fail, usual};
 use problem_rows::{Counts, Row, row_of};
-use problem_verdicts::Scope;
+use problem_verdicts::{Replies, Scope};
 
 /// A record of each kind, and one answer in three of them.
 static RECORDS: [&str; 6] = [
@@ -19,7 +19,14 @@ fn records_of_each_kind(rt: HostRuntime) -> Result<(), Fail> {
     let mut counts = Counts::new();
     assert!(rt; counts.is_all_as_expected());
     for record in RECORDS {
-        counts.count(&row_of(rt.alloc(), record.as_bytes(), usual()?, Scope::Tried, false)?);
+        counts.count(&row_of(
+            rt.alloc(),
+            record.as_bytes(),
+            usual()?,
+            Replies::Tried,
+            Scope::Tried,
+            false,
+        )?);
     }
     counts.count(&Row::NotLoaded);
     let text = format!(in rt.alloc(); "{counts}")?;

@@ -2,13 +2,14 @@
 
 use super::{Fail, usual};
 use problem_rows::{print_object, print_row, row_of};
-use problem_verdicts::Scope;
+use problem_verdicts::{Replies, Scope};
 
-/// A name, which moves are judged, a record, and the object without a proof. In the last one White captures
-/// Black D1 at D2, and by the nets at D3 and E2, which the tree does not try.
-static OBJECTS: [(&str, Scope, &str, &str); 4] = [
+/// A name, against which replies an answer holds, which moves are judged, a record, and the object without a proof. In
+/// the fourth one White captures Black D1 at D2, and by the nets at D3 and E2, which the tree does not try.
+static OBJECTS: [(&str, Replies, Scope, &str, &str); 5] = [
     (
         "a.sgf",
+        Replies::Tried,
         Scope::Tried,
         "(;SZ[9]AB[bh]AW[ai]C[gopat: attack A1 answer B1 A2 only])",
         "{\"record\":\"a.sgf\",\"kind\":\"attack\",\"target\":\"A1\",\"plies\":3,\"wide\":2,\"tree\":\"stated\",\
@@ -17,6 +18,7 @@ static OBJECTS: [(&str, Scope, &str, &str); 4] = [
     ),
     (
         "b\"\\\t.sgf",
+        Replies::Tried,
         Scope::Tried,
         "(;SZ[9]AB[bh]AW[ai]C[gopat: attack A1 depths 2 0])",
         "{\"record\":\"b\\\"\\\\\\u0009.sgf\",\"kind\":\"attack\",\"target\":\"A1\",\"plies\":2,\"wide\":0,\
@@ -25,6 +27,7 @@ static OBJECTS: [(&str, Scope, &str, &str); 4] = [
     ),
     (
         "c.sgf",
+        Replies::Tried,
         Scope::Anywhere,
         "(;SZ[9]AB[bh]AW[ai])",
         "{\"record\":\"c.sgf\",\"kind\":null,\"target\":null,\"plies\":null,\"wide\":null,\"tree\":null,\
@@ -33,18 +36,35 @@ static OBJECTS: [(&str, Scope, &str, &str); 4] = [
     ),
     (
         "d.sgf",
+        Replies::Tried,
         Scope::Anywhere,
         "(;SZ[9]AB[di]AW[ci][ei][ch]C[gopat: attack D1 depths 3 0 answer D2 only])",
         "{\"record\":\"d.sgf\",\"kind\":\"attack\",\"target\":\"D1\",\"plies\":3,\"wide\":0,\"tree\":\"stated\",\
          \"scope\":\"anywhere\",\"expected\":[\"D2\"],\"code\":3,\"moves\":[\"D3\",\"D2\",\"E2\"],\"fewest\":1,\
          \"verdict\":\"other answers too\"}\n",
     ),
+    (
+        "e.sgf",
+        Replies::Every,
+        Scope::Tried,
+        "(;SZ[5]AB[ae]AW[bd]C[gopat: attack A1 answer A2 B1 only])",
+        "{\"record\":\"e.sgf\",\"kind\":\"attack\",\"target\":\"A1\",\"plies\":3,\"wide\":2,\"tree\":\"sure\",\
+         \"scope\":\"tried\",\"expected\":[\"A2\",\"B1\"],\"code\":3,\"moves\":[\"A2\",\"B1\"],\"fewest\":3,\
+         \"verdict\":\"as expected\"}\n",
+    ),
 ];
 
 #[test]
 fn rows_as_objects(rt: HostRuntime) -> Result<(), Fail> {
-    for (name, scope, record, object) in OBJECTS {
-        let row = row_of(rt.alloc(), record.as_bytes(), usual()?, scope, false)?;
+    for (name, replies, scope, record, object) in OBJECTS {
+        let row = row_of(
+            rt.alloc(),
+            record.as_bytes(),
+            usual()?,
+            replies,
+            scope,
+            false,
+        )?;
         let mut line = String::new(rt.alloc());
         print_object(&mut line, name, &row)?;
         assert!(rt; line.as_str() == object, "{name}: {line}");
@@ -55,7 +75,14 @@ fn rows_as_objects(rt: HostRuntime) -> Result<(), Fail> {
 #[test]
 fn rows_with_proofs(rt: HostRuntime) -> Result<(), Fail> {
     let record = "(;SZ[9]AB[df]AW[cf][ef][de]C[gopat: attack D4 depths 1 0 answer D3])";
-    let row = row_of(rt.alloc(), record.as_bytes(), usual()?, Scope::Tried, true)?;
+    let row = row_of(
+        rt.alloc(),
+        record.as_bytes(),
+        usual()?,
+        Replies::Tried,
+        Scope::Tried,
+        true,
+    )?;
     let mut line = String::new(rt.alloc());
     print_row(&mut line, "r", &row)?;
     assert!(rt;

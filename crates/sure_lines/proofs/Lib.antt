@@ -1,0 +1,7 @@
+pub mod CommandReplies
+pub mod MoveAnswers
+pub mod RecordAnswers
+pub mod StoneAnswers
+pub mod LineAnswers
+pub mod TakenLines
+pub mod SessionLemmas

@@ -1,0 +1,93 @@
+-- What is answered if a game record is loaded, by what the loader says of its file.
+use Rattle.std.proofs.Common.{◌≡◌, ℕ, Bool, true, cond, eqb, List, [], ◌∷◌, ◌++◌, length, Option, Some, None}
+use Rattle.std.proofs.Common.{Result, Ok, Err, inl, inr, refl, sym, ap, subst, ◌∙◌, arith}
+use Rattle.std.proofs.lemmas.Bool.Decides.{nat_tests}
+use Rattle.std.proofs.lemmas.Str.{utf8_valid_len-IsUtf8}
+use Rattle.std.specs.Prelude.{IsUtf8}
+use Rattle.std.specs.Str.Lossy.{utf8_valid_len}
+use Rattle.go_rules.specs.Position.{BoardState}
+use Rattle.sgf_rules.specs.declared.kind.FaultKind.{FaultKind}
+use Rattle.sgf_rules.specs.Game.{game_of}
+use Rattle.gtp_cmd.specs.declared.refusals.RefuseText.{RefuseText}
+use Rattle.gtp_cmd.specs.declared.refusals.RefuseText.TheVariants.{CannotLoadFile, SyntaxError, OutOfMemory}
+use Rattle.gtp_io.specs.Loading.{IsLoaded}
+use Rattle.sure_lines.specs.Answers.{IsAnswer}
+use Rattle.sure_lines.specs.Effects.{Effect, IsExcused, refused, growing}
+use Rattle.sure_lines.specs.Files.{Contents, IsFileOf, named_file, is_utf8}
+use Rattle.sure_lines.specs.RecordCommands.{recorded, loaded, loaded_by}
+use Rattle.sure_lines.specs.declared.answer.Answer.{Answer}
+use Rattle.sure_lines.specs.declared.answer.Answer.TheVariants as answer
+use Rattle.sure_lines.specs.Machine.{Machine}
+
+-- a number is that number
+equal : (a b : ℕ) → a ≡ b → eqb a b ≡ true
+equal a b same = grind (arith, nat_tests)
+
+-- all bytes of a text are its longest front that is a text
+pub text-is_utf8 : (bytes : List ℕ) → IsUtf8 bytes → is_utf8 bytes ≡ true
+text-is_utf8 bytes is = equal (utf8_valid_len bytes) (length bytes) (utf8_valid_len-IsUtf8 bytes is)
+
+-- some text may be loaded under each name
+some_loaded : (contents : Option (List ℕ)) → (file : List ℕ) × IsLoaded contents [] file
+some_loaded None = ([], ([], refl))
+some_loaded (Some text) = (text, refl)
+
+-- a text for what is loaded, if anything is
+pub some_file : (contents : Contents) (name : Option (List ℕ)) → (file : List ℕ) × IsFileOf contents name file
+some_file contents None = ([], tt)
+some_file contents (Some name) = some_loaded (contents name)
+
+-- an answer is one too if more is excused
+more-excused : (effect : Effect) (excuses : List RefuseText) (said : Answer) (old new : Machine)
+    → ((text : RefuseText) → IsExcused effect.excuses text → IsExcused excuses text)
+    → IsAnswer effect said old new → IsAnswer (record effect { excuses = excuses }) said old new
+more-excused effect excuses (answer.Told result) old new more is =
+    record { allowed = is.allowed; told = is.told; next = is.next; goes_on = is.goes_on }
+more-excused effect excuses (answer.Grown result) old new more is = (
+  record { allowed = is.0.allowed; told = is.0.told; next = is.0.next; goes_on = is.0.goes_on },
+  more OutOfMemory is.1,
+  is.2,
+)
+more-excused effect excuses answer.NoMemory old new more is = (more OutOfMemory is.0, is.1)
+more-excused effect excuses (answer.Refused text) old new more (inl is) = inl is
+more-excused effect excuses (answer.Refused text) old new more (inr is) = inr (more text is.0, is.1)
+more-excused effect excuses answer.Ended old new more is = is
+
+-- what a record does has no excuse
+none-excused : (old : Machine) (game : Result BoardState FaultKind) (text : RefuseText)
+    → IsExcused (recorded old game).excuses text → ⊥
+none-excused old (Ok board) text is = is
+none-excused old (Err kind) text is = is
+
+-- what was loaded by a name, behind nothing, is what the loader gives by the word that the name is
+pub loaded-anew : (contents : Contents) (word name into bytes file : List ℕ) → name ≡ word → into ≡ [] → file ≡ bytes
+    → IsLoaded (contents name) into bytes → IsLoaded (contents word) [] file
+loaded-anew contents word name into bytes file same empty is loaded =
+    subst (λ text. IsLoaded (contents word) [] text) (sym is)
+    (subst (λ front. IsLoaded (contents word) front bytes) empty
+    (subst (λ known. IsLoaded (contents known) into bytes) same loaded))
+
+-- What is loaded by a name that is a text.
+module _ (name : List ℕ) (utf8 : is_utf8 name ≡ true) where
+  -- what the loader gave is the text of the file
+  pub given-file : (contents : Contents) (bytes : List ℕ) → IsLoaded (contents name) [] bytes
+      → IsFileOf contents (named_file name) bytes
+  given-file contents bytes is =
+      subst (λ b. IsFileOf contents (cond b (Some name) None) bytes) (sym utf8) is
+
+  module _ (old : Machine) (file : List ℕ) where
+    -- what a load does, if its name is a text or not
+    abbrev done : Bool → Effect
+    done b = growing (cond b (loaded old file) (refused old SyntaxError))
+
+    -- a record's answer is one of its load
+    pub record-loaded : (said : Answer) (new : Machine) → IsAnswer (recorded old (game_of file)) said old new
+        → IsAnswer (loaded_by old name file) said old new
+    record-loaded said new is = subst (λ b. IsAnswer (done b) said old new) (sym utf8)
+        (more-excused (recorded old (game_of file)) (OutOfMemory ∷ CannotLoadFile ∷ []) said old new
+        (λ text excused. absurd (none-excused old (game_of file) text excused)) is)
+
+    -- so is that its file could not be loaded
+    pub file-not-loaded : IsAnswer (loaded_by old name file) (answer.Refused CannotLoadFile) old old
+    file-not-loaded = subst (λ b. IsAnswer (done b) (answer.Refused CannotLoadFile) old old) (sym utf8)
+        (inr (inr (inl refl), refl))

@@ -1,0 +1,14 @@
+pub mod Machine
+pub mod SeenMachines
+pub mod Effects
+pub mod Answers
+pub mod Replies
+pub mod Names
+pub mod Heard
+pub mod Files
+pub mod BoardCommands
+pub mod AnswerText
+pub mod QuestionCommands
+pub mod RecordCommands
+pub mod SureStep
+pub mod Sessions

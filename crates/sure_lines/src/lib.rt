@@ -1,0 +1,24 @@
+//! The machine of `gopat_sure`: protocol lines that set up a position, and questions about sure captures on it.
+//!
+//! A line means what it means to gopat, if its command is one of this program's: `boardsize`, `clear_board`, `play`,
+//! `undo`, `loadsgf`, `depths`, `attack`, `defend` and those that ask about the program. The code and the move of an
+//! answer are those of `sure_rules` on the present position. Nothing is kept from question to question. What a session
+//! puts for its lines is a transcript by this machine, by the clause of `serve`.
+#![tactic(auto)]
+
+mod answer;
+mod answer_text;
+mod board_commands;
+mod heard;
+mod line;
+mod machine;
+mod names;
+mod question_commands;
+mod record_commands;
+mod reply;
+mod session;
+
+pub use machine::SureMachine;
+pub use read_rules::{Depths, Tree};
+pub use reply::Reply;
+pub use session::{End, serve};

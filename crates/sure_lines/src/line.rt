@@ -1,0 +1,100 @@
+//! The answer to a line.
+
+ghost use Rattle.std.specs.Prelude.{◌≡◌, ◌≤◌, ℕ, List, length, IfOk};
+ghost use Rattle.gtp_cmd.specs.Rooms.{longest_line};
+ghost use Rattle.gtp_cmd.specs.Within.{IsWithin, IsWithinLine};
+ghost use Rattle.gtp_lex.specs.Raw.{raw_line};
+ghost use Rattle.gtp_rules.specs.Transcript.{MayGive, Answers};
+ghost use Rattle.sure_lines.specs.Answers.{IsAnswer};
+ghost use Rattle.sure_lines.specs.Effects.{growing, told};
+ghost use Rattle.sure_lines.specs.Files.{file_of, IsFileOf};
+ghost use Rattle.sure_lines.specs.Heard.{bytes_in};
+ghost use Rattle.sure_lines.specs.Machine.{Machine};
+ghost use Rattle.sure_lines.specs.Replies.{reply_bytes, reply_ends, word_of};
+ghost use Rattle.sure_lines.specs.SureStep.{effect_of, step};
+
+use crate::answer::{Answer, told};
+use crate::heard::{bytes_of, heard, knows_argument};
+use crate::machine::SureMachine;
+use crate::names::names_text;
+use crate::reply::Reply;
+use go_base::{Bytes, NoMemory};
+use go_history::Move;
+use gtp_cmd::{Command, Parsed, RefuseText};
+use gtp_io::Loader;
+use gtp_lex::Raw;
+use read_rules::Kind;
+use std::alloc::Global;
+
+/// `true` or `false`.
+fn word(known: bool) -> &'static [u8]
+    ensures text { result.now ≡ word_of known }
+    ensures short { length result.now ≤ 5 }
+{
+    if known { b"true" } else { b"false" }
+}
+
+/// A success with a result that took memory, if it was found.
+fn grown(text: Result<Bytes, NoMemory>) -> Answer
+    ensures { (old : Machine) (result_of : List ℕ) → IfOk text (λ bytes. bytes ≡ result_of)
+        → IsAnswer (growing (told result_of old)) result old old }
+{
+    match text {
+        Ok(text) => Answer::Grown(text),
+        Err(_) => Answer::NoMemory,
+    }
+}
+
+impl SureMachine {
+    /// Does what a command says.
+    fn obey<L: Loader>(
+        &mut self,
+        alloc: Global,
+        line: &[u8],
+        command: Command,
+        files: &mut L,
+    ) -> Answer
+        requires within { IsWithin self.old.game.base.size command }
+        requires spans { IsWithinLine line.now command }
+        ensures answer { (file : List ℕ) × IsFileOf (L.contents files.old) (file_of line.now command) file
+            × IsAnswer (effect_of self.old line.now file command) result self.old self.new }
+        ensures contents { L.contents files.new ≡ L.contents files.old }
+    {
+        match command {
+            Command::ProtocolVersion => told(b"2"),
+            Command::Name => told(b"gopat_sure"),
+            Command::Version => told(b"1"),
+            Command::KnownCommand(_) => told(word(knows_argument(line))),
+            Command::ListCommands => grown(names_text(alloc)),
+            Command::Quit => Answer::Ended,
+            Command::BoardSize(size) => self.resize(size),
+            Command::ClearBoard => self.clear(),
+            Command::Komi(_) => told(b""),
+            Command::Play(colour, at) => self.play(Move { colour, at }),
+            Command::Undo => self.undo(),
+            Command::Attack(p) => self.read(Kind::Attack, p),
+            Command::Defend(p) => self.read(Kind::Defend, p),
+            Command::Depths { plies, wide } => self.deepen(plies, wide),
+            Command::LoadSgf(span) => self.load_record(alloc, line, span, files),
+            _ => Answer::Refused(RefuseText::UnknownCommand),
+        }
+    }
+
+    /// Answers one line: the code and the move of a question are those of `sure_rules` on the present position. A file
+    /// that the line names is loaded from `files`. A refused line changes nothing, and nor does one without memory.
+    pub fn line<L: Loader>(&mut self, alloc: Global, raw: Raw<'_>, files: &mut L) -> Reply
+        requires short { length (bytes_in (raw_line raw)) ≤ longest_line }
+        ensures answers { Answers (step (L.contents files.old)) self.old (raw_line raw.entry) (reply_bytes result)
+            self.new (reply_ends result) }
+        ensures contents { L.contents files.new ≡ L.contents files.old }
+    {
+        match heard(raw, self.game.size()) {
+            Parsed::Nothing => Reply::Nothing,
+            Parsed::Refused { id, text } => Reply::refused(id, text),
+            Parsed::Command { id, command } => {
+                self.obey(alloc, bytes_of(raw), command, files)
+                    .reply(alloc, id)
+            }
+        }
+    }
+}

@@ -1,0 +1,59 @@
+//! The command that makes a game record the position.
+
+ghost use Rattle.std.specs.Prelude.{◌≡◌, ℕ, List};
+ghost use Rattle.gtp_cmd.specs.Spans.{IsSpanOf};
+ghost use Rattle.sgf_rules.specs.Game.{game_of};
+ghost use Rattle.sure_lines.specs.Answers.{IsAnswer};
+ghost use Rattle.sure_lines.specs.Files.{named_file, IsFileOf, word_at};
+ghost use Rattle.sure_lines.specs.RecordCommands.{loaded_by, recorded};
+
+use crate::answer::{Answer, told};
+use crate::machine::SureMachine;
+use go_base::Bytes;
+use gtp_cmd::{RefuseText, Span, text};
+use gtp_io::{LoadError, Loader};
+use sgf_read::read;
+use std::alloc::Global;
+use std::str::from_utf8;
+
+impl SureMachine {
+    /// Makes the game record in a file the position, whose name stands in this part of the line. The name and what the
+    /// file holds take memory.
+    pub(crate) fn load_record<L: Loader>(
+        &mut self,
+        alloc: Global,
+        line: &[u8],
+        span: Span,
+        files: &mut L,
+    ) -> Answer
+        requires { IsSpanOf line.now span }
+        ensures answer { (file : List ℕ) × IsFileOf (L.contents files.old) (named_file (word_at line.now span)) file
+            × IsAnswer (loaded_by self.old (word_at line.now span) file) result self.old self.new }
+        ensures contents { L.contents files.new ≡ L.contents files.old }
+    {
+        let Ok(word) = text(line, span, Bytes::new(alloc)) else {
+            return Answer::NoMemory;
+        };
+        let Ok(name) = from_utf8(word.as_slice()) else {
+            return Answer::Refused(RefuseText::SyntaxError);
+        };
+        match files.load(name, Vec::new(alloc)) {
+            Ok(contents) => self.set_record(contents.as_slice()),
+            Err(LoadError::Failed) => Answer::Refused(RefuseText::CannotLoadFile),
+            Err(LoadError::NoMemory) => Answer::NoMemory,
+        }
+    }
+
+    /// Makes the position of a game record that from which moves are played, or tells its first fault.
+    fn set_record(&mut self, contents: &[u8]) -> Answer
+        ensures { IsAnswer (recorded self.old (game_of contents.now)) result self.old self.new }
+    {
+        match read(contents) {
+            Ok(position) => {
+                self.game.start(&position);
+                told(b"")
+            }
+            Err(error) => Answer::Refused(RefuseText::BadSgf(error.kind)),
+        }
+    }
+}

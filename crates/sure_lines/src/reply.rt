@@ -1,0 +1,32 @@
+//! What the machine answers to a line.
+
+ghost use Rattle.std.specs.Prelude.{◌≡◌, false};
+ghost use Rattle.gtp_cmd.specs.Replies.{refusal_text};
+
+use go_base::Bytes;
+use gtp_cmd::{RefuseText, Short, refusal};
+
+/// The answer to one line.
+#[derive(Drop)]
+pub enum Reply {
+    /// The line has no words, and nothing is put.
+    Nothing,
+    /// A text that takes no memory; `quit` says whether it ends the session.
+    Short { text: Short, quit: bool },
+    /// A text that took memory.
+    Text { bytes: Bytes },
+    /// There was no memory: the refusal `out of memory` is put, and the line counts as not sent.
+    NoMemory { id: Option<u32> },
+}
+
+impl Reply {
+    /// A refusal.
+    pub(crate) fn refused(id: Option<u32>, text: RefuseText) -> Reply
+        ensures { result ≡ Reply.Short (refusal_text id text) false }
+    {
+        Reply::Short {
+            text: refusal(id, text),
+            quit: false,
+        }
+    }
+}

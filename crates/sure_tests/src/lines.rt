@@ -1,0 +1,139 @@
+//! Sessions of `gopat_sure` over a source, a sink and files in memory.
+
+use gtp_io::{Feed, Page, Shelf};
+use std::alloc::Global;
+use sure_lines::{Depths, End, SureMachine, serve};
+
+/// The most bytes that the source gives at once.
+const PIECE: usize = 7;
+
+/// The most bytes that the sink takes, and takes at once.
+const ROOM: usize = 1000;
+
+/// The name of the one file.
+const NAME: &str = "corner.sgf";
+
+/// A stone in the corner: black A1, white B2.
+const RECORD: &[u8] = b"(;SZ[5]AB[ae]AW[bd])";
+
+/// Lines, the numbers of the calls of source and sink that fail, what is put, and how the session ends.
+struct Row {
+    /// What it shows.
+    name: &'static str,
+    /// The bytes of the lines.
+    lines: &'static [u8],
+    /// The numbers of the calls of the source that fail.
+    input_fails: &'static [u64],
+    /// The numbers of the calls of the sink that fail.
+    output_fails: &'static [u64],
+    /// The bytes that are put.
+    put: &'static [u8],
+    /// How the session ends.
+    end: End,
+}
+
+/// Sessions by what they show.
+static ROWS: [Row; 8] = [
+    Row {
+        name: "a last line without a line feed is answered",
+        lines: b"boardsize 5\nplay b A1\nplay w B2\n\n# a comment\ndepths 3 0\n1 attack a1",
+        input_fails: &[],
+        output_fails: &[],
+        put: b"=\n\n=\n\n=\n\n=\n\n=1 3 A2\n\n",
+        end: End::Done,
+    },
+    Row {
+        name: "a game record is loaded, and its position is asked about",
+        lines: b"2 loadsgf corner.sgf\n3 undo\ndepths 4 0\n4 defend A1\n",
+        input_fails: &[],
+        output_fails: &[],
+        put: b"=2\n\n?3 cannot undo\n\n=\n\n=4 0\n\n",
+        end: End::Done,
+    },
+    Row {
+        name: "another record is not there",
+        lines: b"loadsgf edge.sgf\nattack A1\n",
+        input_fails: &[],
+        output_fails: &[],
+        put: b"? cannot load file\n\n? vertex must not be empty\n\n",
+        end: End::Done,
+    },
+    Row {
+        name: "a command of gopat alone is unknown, whatever its arguments are",
+        lines: b"5 genmove b\n6 genmove\n7 attack_proof A1\n8 known_command genmove\n9 known_command\n10\n",
+        input_fails: &[],
+        output_fails: &[],
+        put: b"?5 unknown command\n\n?6 unknown command\n\n?7 unknown command\n\n=8 false\n\n\
+            ?9 syntax error\n\n?10 unknown command\n\n",
+        end: End::Done,
+    },
+    Row {
+        name: "depths are kept with the board, and a refused line changes nothing",
+        lines: b"loadsgf corner.sgf\ndepths 2 0\nattack A1\ndepths 0 0\ndepths 3 13\nboardsize 26\nattack A1\n",
+        input_fails: &[],
+        output_fails: &[],
+        put: b"=\n\n=\n\n= 0\n\n? syntax error\n\n? syntax error\n\n? unacceptable size\n\n= 0\n\n",
+        end: End::Done,
+    },
+    Row {
+        name: "behind quit nothing is answered",
+        lines: b"name\nquit\nname\n",
+        input_fails: &[],
+        output_fails: &[],
+        put: b"= gopat_sure\n\n=\n\n",
+        end: End::Done,
+    },
+    Row {
+        name: "the source fails",
+        lines: b"name\nname\n",
+        input_fails: &[2],
+        output_fails: &[],
+        put: b"= gopat_sure\n\n",
+        end: End::InputFault,
+    },
+    Row {
+        name: "the sink fails",
+        lines: b"name\nname\n",
+        input_fails: &[],
+        output_fails: &[2],
+        put: b"= gopat_sure\n\n",
+        end: End::OutputFault,
+    },
+];
+
+/// The shelf with the one file.
+fn shelf(alloc: Global) -> Option<Shelf> {
+    let mut names = Vec::new(alloc);
+    names.push(String::from_str(alloc, NAME).ok()?).ok()?;
+    let mut contents = Vec::new(alloc);
+    contents.push(Vec::from_slice(alloc, RECORD).ok()?).ok()?;
+    Some(Shelf::new(names, contents, Vec::new(alloc)))
+}
+
+/// Whether a row's session puts what it says, and ends so.
+fn is_right(alloc: Global, row: &Row) -> Option<bool> {
+    let mut machine = SureMachine::new(alloc, Depths::new(10, 2)?).ok()?;
+    let mut feed = Feed::new(
+        Vec::from_slice(alloc, row.lines).ok()?,
+        PIECE,
+        Vec::from_slice(alloc, row.input_fails).ok()?,
+    );
+    let fails = Vec::from_slice(alloc, row.output_fails).ok()?;
+    let mut page = Page::new(alloc, ROOM, ROOM, fails).ok()?;
+    let end = serve(
+        alloc,
+        &mut machine,
+        &mut shelf(alloc)?,
+        &mut feed,
+        &mut page,
+    );
+    Some(end == row.end && page.bytes() == row.put)
+}
+
+#[test]
+fn sessions_of_sure_questions(rt: HostRuntime) {
+    for row in &ROWS {
+        let right = is_right(rt.alloc(), row);
+        assert!(rt; right == Some(true), "{}", row.name);
+    }
+}
