@@ -1,5 +1,8 @@
 -- A session without helpers and files answers a line, and has neither afterwards.
-use Rattle.std.proofs.Common.{◌≡◌, ℕ, List, [], map, ap, refl, subst}
+use Rattle.std.proofs.Common.{◌≡◌, ◌∙◌, ℕ, List, [], Some, map, ap, refl, subst}
+use Rattle.std.specs.Prelude.{unwrap_or}
+use Rattle.gtp_io.specs.Loading.{named}
+use Rattle.gtp_io.specs.Memory.{SureShelfState}
 use Rattle.gtp_rules.specs.Lines.{RawLine}
 use Rattle.helpers.specs.HelperStates.{HelperState, SlotState}
 use Rattle.helpers.specs.Slots.{slot_state}
@@ -49,3 +52,16 @@ answers-held state contents old new missed now said line reply files none before
     (kept_of state new now)) is answers in
     answers-line-alone contents old.engine new.engine _ _ missed now line reply files
     (ap (λ slots. map (slot_state (λ b. state (b.vtable, b.value))) slots) none) before later by_line
+
+-- what a shelf holds by name; it is empty for every other name
+abbrev on_shelf : SureShelfState → Contents
+on_shelf shelf name = Some (unwrap_or (named shelf.names shelf.contents name) [])
+
+-- on a shelf that was made of no names each file is empty
+pub on_empty_shelf : {A B : Type 0} (text : A → List ℕ) (bytes : B → List ℕ) (names : List A) (contents : List B)
+    (shelf : SureShelfState) → shelf ≡ record { names = map text names; contents = map bytes contents } → names ≡ []
+    → contents ≡ [] → on_shelf shelf ≡ empty_files
+on_empty_shelf {A} {B} text bytes names contents shelf is nameless bare =
+    ap on_shelf is
+    ∙ ap (λ (ns : List A). on_shelf (record { names = map text ns; contents = map bytes contents })) nameless
+    ∙ ap (λ (cs : List B). on_shelf (record { names = []; contents = map bytes cs })) bare

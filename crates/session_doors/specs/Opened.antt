@@ -39,7 +39,7 @@ pub record IsFirstOf (text : List ℕ) (states : ℕ) (depths : ReadingDepths) (
 
 -- the options have no fault, and the session is the first one by them with the patterns of the text
 pub record IsOpened (text : List ℕ) (options : SessionOptions) (opened : OpenedSession) : Type 0 where
-  pub options : options_fault options ≡ None
+  pub faultless : options_fault options ≡ None
   pub first : IsFirstOf text options.states (depths_named options.depths) options.cache opened
 
 -- the fault is one of the text, which gives no patterns with at most so many states

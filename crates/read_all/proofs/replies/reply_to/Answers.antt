@@ -2,6 +2,8 @@
 use Rattle.go_base.specs.Facts.{agrees_before}
 use Rattle.trial_board.specs.Trials.{after}
 use Rattle.read_all.proofs.ReplyLemmas.{reply_made, reply_refused}
+use Rattle.read_tree.proofs.TableLemmas.{table_more}
+use Rattle.read_tree.proofs.NodeLemmas.{same_table}
 use Rattle.read_all.proofs.replies.reply_to.Goals as goal
 
 -- the play is made
@@ -18,3 +20,9 @@ pub returns-in-None-clause-over : goal.returns-in-None-clause-over
 returns-in-None-clause-over g c = λ pos a.
     reply_refused c.args.plies c.args.node (after pos c.args.board.now.moves) c.args.p
     (after pos c.make_at.new.board.moves) c.make_at.result (c.make_at.ensures.over pos a) c.in-None.is
+
+-- the table is true in the same reading
+pub reply_unless-reply-requires-clause-table : goal.reply_unless-reply-requires-clause-table
+reply_unless-reply-requires-clause-table g c =
+    same_table c.args.node c.in-Some.next c.in-Some.ensures.same
+    (table_more c.requires.table c.make_at.ensures.grows)

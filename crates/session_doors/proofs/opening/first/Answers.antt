@@ -1,5 +1,5 @@
 -- The automaton is that of the patterns, and the session is the first one with them.
-use Rattle.std.proofs.Common.{sym, subst}
+use Rattle.std.proofs.Common.{arith, sym, subst}
 use Rattle.session_core.specs.EngineView.{EngineView, depths_in}
 use Rattle.session_core.specs.declared.reply.Reply.TheVariants.{Nothing}
 use Rattle.session_doors.specs.Opened.{IsFirst}
@@ -8,11 +8,11 @@ use Rattle.session_doors.proofs.opening.first.Goals as goal
 
 -- the automaton accepts numbers of the patterns alone
 pub in_tree-requires-clause-numbers : goal.in_tree-requires-clause-numbers
-in_tree-requires-clause-numbers g c = c.in_ok-list.ensures.ok.numbers
+in_tree-requires-clause-numbers c = c.in_ok-list.ensures.ok.numbers
 
 -- the patterns were read, and the session is the first one
 pub returns-clause-ok : goal.returns-clause-ok
-returns-clause-ok g c =
+returns-clause-ok c =
     let read = c.in_ok-list.ensures.ok in
     let list = c.in_ok-list.field-0.list.items in
     let depths = depths_in c.args.tree c.args.options.now in
@@ -24,5 +24,5 @@ returns-clause-ok g c =
           (λ (engine : EngineView). IsFirst list depths cache (record { engine = engine; reply = Nothing }))
           (sym c.in_ok-session.ensures.engine)
           (first-held list c.in_ok-list.field-0.automaton depths cache read.automaton);
-      count = c.len.ensures;
+      count = omega (arith, c.len-patterns.ensures, c.in_ok-list.field-0.list.ok);
     }

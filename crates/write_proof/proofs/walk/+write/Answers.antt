@@ -407,3 +407,21 @@ write-returns-clause-puts g t c = λ same ko asked.
     (subst (λ (p : BoardState). c.write_pass.new.out ≡ c.put_word.new.out ++ passed p) looked first.0)
     (subst (λ (p : BoardState). Puts c.write_pass.new.out (played p) c.write_plays.new.out c.write_plays.result) walked
     (c.write_plays.ensures.puts same ko asked))))
+
+-- after a legal play the table is true of what was seen
+pub write_play-write-done-requires : goal.write_play-write-done-requires
+write_play-write-done-requires g t c κs within =
+    let table = table_more c.requires.table c.make.ensures.grows in
+    search rules
+
+-- and after one by the own allowance
+pub write_play-write-done-requires-in-Allowed : goal.write_play-write-done-requires-in-Allowed
+write_play-write-done-requires-in-Allowed g t c κs within =
+    let table = table_more c.requires.table c.make.ensures.grows in
+    search rules
+
+-- it stays so where nothing is written
+pub write_play-returns-then-not-is_own_alone-clause-table : goal.write_play-returns-then-not-is_own_alone-clause-table
+write_play-returns-then-not-is_own_alone-clause-table g t c =
+    let table = table_more c.requires.table c.make.ensures.grows in
+    search rules
