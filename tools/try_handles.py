@@ -44,11 +44,14 @@ XX.
 O*X
 :8,-
 Pattern Jump
-O.*
+O.
+.*
 :|,s
-:
-O.a
-;attack(*)==0
+
+a.
+.*
+
+;attack(a)==0
 Pattern Corner
 ..|
 *.|

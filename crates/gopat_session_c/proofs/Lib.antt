@@ -1,1 +1,3 @@
 pub mod AsBox
+mod Told
+mod Unopened

@@ -17,7 +17,7 @@ use Rattle.session_doors.specs.Replies.{line_reply, fault_reply, refused_reply}
 pub record OpensWith (text : List ℕ) (options : SessionOptions) (reply : OpenReply) (held : HeldSession) : Type 0 where
   pub count : ℕ
   pub opened : IsOpened text options (record { session = held; patterns = count })
-  pub reply : reply ≡ opened_reply count
+  pub told : reply ≡ opened_reply count
 
 -- the handle holds the session of the text and the options; or it holds nothing, and the reply tells their first fault
 abbrev pub Opens : List ℕ → SessionOptions → OpenReply → Option HeldSession → Type 0
