@@ -1,5 +1,7 @@
 //! What a change of a pattern file changes over the records of a folder.
 
+ghost use Rattle.std.specs.Prelude.{⊤};
+
 use crate::entries::Entries;
 use crate::fault::Fault;
 use crate::files::text_of;
@@ -216,7 +218,9 @@ fn compare_record<R: Files + Print + Eprint + Clock + AllocGlobal>(
     totals: &mut Totals,
     progress: &mut Progress,
     name: &str,
-) -> Result<(), Fault> {
+) -> Result<(), Fault>
+    requires { ⊤ }
+{
     let alloc = rt.alloc();
     let record = text_of(rt, name)?;
     let line = main_line(alloc, name, record.as_slice())?;
@@ -252,7 +256,9 @@ fn compare_records<R: Files + Print + Eprint + Clock + AllocGlobal>(
     helpers: &mut Helpers,
     names: &[String],
     is_terminal: bool,
-) -> Result<Totals, Fault> {
+) -> Result<Totals, Fault>
+    requires { ⊤ }
+{
     let alloc = rt.alloc();
     let mut readings = Readings::new(alloc, depths_at_first(alloc)?, KEPT_READINGS)?;
     let mut totals = Totals::new();
@@ -283,7 +289,9 @@ pub(crate) fn tell_changes<R: Files + Print + Eprint + Clock + AllocGlobal + Clo
     new: Entries,
     helpers: &mut Helpers,
     is_terminal: bool,
-) -> Result<Outcome, Fault> {
+) -> Result<Outcome, Fault>
+    requires { ⊤ }
+{
     let alloc = rt.alloc();
     let both = Both {
         old: Side::new(alloc, options.file.as_str(), old)?,
