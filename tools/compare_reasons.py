@@ -1,11 +1,12 @@
 """Compares the answers of pattern_why with the matches of gopat: a try has no reason exactly if it is a match.
 
-usage: python3 tools/compare_reasons.py GOPAT PATTERN_WHY TRIES [SEED [PATTERNS]]
+usage: python3 tools/compare_reasons.py GOPAT PATTERN_WHY TRIES [SEED [PATTERNS [RECORDS]]]
 
-Each round takes a dozen entries and a position of random plays, and compares each try: each entry, colour,
-transformation and point. The entries are random ones of every mark and class, with edges, constraints and helpers; or
-some of the file PATTERNS, whose names differ. Rounds go on until so many tries were compared. How many of them failed
-first in each part is told too. The exit status is 1 if a try differs.
+Each round takes a dozen entries and a position, and compares each try: each entry, colour, transformation and point.
+The entries are random ones of every mark and class, with edges, constraints and helpers; or some of the file PATTERNS,
+each with its number in the file behind its name. The position comes of random plays; or it is one of a game record of
+the folder RECORDS, after some moves of the main line. Rounds go on until so many tries were compared. How many of them
+failed first in each part is told too. The exit status is 1 if a try differs.
 """
 
 import collections
@@ -19,6 +20,7 @@ from typing import NamedTuple
 
 import command_line
 import gtp
+import sgf
 
 ENTRIES = 12
 FUNCTIONS = ["lib", "xlib", "olib", "attack", "defend", "ko", "safe_xmove", "safe_omove", "legal_xmove", "legal_omove"]
@@ -85,17 +87,36 @@ def entry(luck: random.Random, number: int) -> str:
 
 
 def entries_of(path: str) -> list[str]:
-    """The entries of a file."""
-    text = pathlib.Path(path).read_text(encoding="utf-8")
-    return re.findall(r"^Pattern .*?(?=^Pattern |\Z)", text, re.DOTALL | re.MULTILINE)
+    """The entries of a file, each with its number behind its name."""
+    text = pathlib.Path(path).read_text(encoding="latin-1")
+    found = re.findall(r"^Pattern .*?(?=^Pattern |\Z)", text, re.DOTALL | re.MULTILINE)
+    return [re.sub(r"\APattern +(\S+)", rf"Pattern \1/{at}", one) for at, one in enumerate(found, 1)]
 
 
-def lines_of(luck: random.Random) -> list[str]:
-    """The lines that set up a random position."""
+def random_plays(luck: random.Random) -> list[str]:
+    """The lines of a board with random plays."""
     size = luck.choice([3, 5, 5, 7, 9])
     vertices = gtp.vertices(size)
     plays = [f"play {luck.choice('bw')} {luck.choice(vertices)}" for _ in range(luck.randint(0, size * size * 2))]
-    return [f"boardsize {size}", f"depths {luck.randint(1, 8)} {luck.randint(0, 1)}", *plays]
+    return [f"boardsize {size}", *plays]
+
+
+def recorded_plays(luck: random.Random, records: list[sgf.Record]) -> list[str]:
+    """The lines of a board with some of the moves of a record."""
+    record = luck.choice(records)
+    moves = record.moves[: luck.randint(0, len(record.moves))]
+    return [f"boardsize {record.size}", *(f"play {move}" for move in moves)]
+
+
+def records_of(folder: str) -> list[sgf.Record]:
+    """The records of a folder, but for those whose main line is no row of plays."""
+    found = []
+    for path in sorted(pathlib.Path(folder).glob("*.sgf")):
+        try:
+            found.append(sgf.read(str(path)))
+        except sgf.NotPlayable:
+            continue
+    return found
 
 
 def matches(gopat: str, folder: str, lines: list[str]) -> tuple[list[str], set[Try]]:
@@ -120,18 +141,23 @@ def told(program: str, folder: str, lines: list[str]) -> dict[Try, str | None]:
     return {Try(one["entry"], one["colour"], one["transformation"], one["at"]): one["fails"] for one in objects}
 
 
-def main(gopat: str, program: str, tries: str, seed: str = "1", patterns: str | None = None) -> int:
+def main(
+    gopat: str, program: str, tries: str, seed: str = "1", patterns: str | None = None, folder: str | None = None
+) -> int:
     luck = random.Random(int(seed))
     listed = entries_of(patterns) if patterns else []
+    records = records_of(folder) if folder else []
     parts: collections.Counter[str] = collections.Counter()
     gopat, program = (str(pathlib.Path(path).resolve()) for path in (gopat, program))
     compared = rounds = different = 0
-    with tempfile.TemporaryDirectory() as folder:
+    with tempfile.TemporaryDirectory() as room:
         while compared < int(tries):
             texts = luck.sample(listed, min(ENTRIES, len(listed))) or [entry(luck, at) for at in range(ENTRIES)]
-            (pathlib.Path(folder) / "patterns.db").write_text("".join(texts), encoding="utf-8")
-            lines, wanted = matches(gopat, folder, lines_of(luck))
-            reasons = told(program, folder, lines)
+            (pathlib.Path(room) / "patterns.db").write_text("".join(texts), encoding="latin-1")
+            board, *plays = recorded_plays(luck, records) if records else random_plays(luck)
+            depths = f"depths {luck.randint(1, 8)} {luck.randint(0, 1)}"
+            lines, wanted = matches(gopat, room, [board, depths, *plays])
+            reasons = told(program, room, lines)
             wrong = wanted ^ {one for one, fails in reasons.items() if fails is None}
             for one in sorted(wrong):
                 print(f"differs: {one}, told {reasons.get(one, 'nothing')}: {lines}\n{''.join(texts)}")
