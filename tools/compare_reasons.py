@@ -4,9 +4,10 @@ usage: python3 tools/compare_reasons.py GOPAT PATTERN_WHY TRIES [SEED [PATTERNS 
 
 Each round takes a dozen entries and a position, and compares each try: each entry, colour, transformation and point.
 The entries are random ones of every mark and class, with edges, constraints and helpers; or some of the file PATTERNS,
-each with its number in the file behind its name. The position comes of random plays; or it is one of a game record of
-the folder RECORDS, after some moves of the main line. Rounds go on until so many tries were compared. How many of them
-failed first in each part is told too. The exit status is 1 if a try differs.
+each with its number in the file behind its name, up to half of them such as match on the position. The position comes
+of random plays; or it is one of a game record of the folder RECORDS, after some moves of the main line. Rounds go on
+until so many tries were compared. How many of them failed first in each part is told too. The exit status is 1 if a try
+differs.
 """
 
 import collections
@@ -23,6 +24,7 @@ import gtp
 import sgf
 
 ENTRIES = 12
+MOST_STATES = "1000000"
 FUNCTIONS = ["lib", "xlib", "olib", "attack", "defend", "ko", "safe_xmove", "safe_omove", "legal_xmove", "legal_omove"]
 PAIRS = ["same_worm", "does_attack", "does_defend", "odefend_against", "xdefend_against"]
 OPERATORS = ["||", "&&", "==", "!=", "<", "<=", ">", ">=", "+", "-"]
@@ -119,9 +121,12 @@ def records_of(folder: str) -> list[sgf.Record]:
     return found
 
 
-def matches(gopat: str, folder: str, lines: list[str]) -> tuple[list[str], set[Try]]:
-    """The lines that gopat takes, and its matches for both colours."""
-    replies, _ = gtp.session([gopat, "patterns.db"], [*lines, "match_patterns b", "match_patterns w"], folder)
+def matches(gopat: str, room: pathlib.Path, texts: list[str], lines: list[str]) -> tuple[list[str], set[Try]]:
+    """The lines that gopat takes, and the matches of these entries for both colours."""
+    path = room / "patterns.db"
+    path.write_text("".join(texts), encoding="latin-1")
+    command = [gopat, "--states", MOST_STATES, str(path)]
+    replies, _ = gtp.session(command, [*lines, "match_patterns b", "match_patterns w"])
     found = set()
     for colour, reply in zip(["black", "white"], replies[-2:]):
         for line in reply.text.splitlines():
@@ -130,11 +135,19 @@ def matches(gopat: str, folder: str, lines: list[str]) -> tuple[list[str], set[T
     return [line for line, reply in zip(lines, replies) if reply.ok], found
 
 
-def told(program: str, folder: str, lines: list[str]) -> dict[Try, str | None]:
-    """The part that fails first of each try, by pattern_why; `None` for a match."""
-    done = subprocess.run(
-        [program, "--json", "patterns.db"], input="\n".join(lines), capture_output=True, text=True, check=False, cwd=folder
-    )
+def some_of(luck: random.Random, listed: list[str], matching: set[Try]) -> list[str]:
+    """A dozen of these entries, up to half of them such as match."""
+    numbers = sorted({int(one.entry.rpartition("/")[2]) - 1 for one in matching})
+    numbers = luck.sample(numbers, min(ENTRIES // 2, len(numbers)))
+    others = [at for at in range(len(listed)) if at not in numbers]
+    numbers += luck.sample(others, min(ENTRIES - len(numbers), len(others)))
+    return [listed[at] for at in numbers]
+
+
+def told(program: str, room: pathlib.Path, lines: list[str]) -> dict[Try, str | None]:
+    """The part that fails first of each try of the entries that gopat had last, by pattern_why; `None` for a match."""
+    command = [program, "--json", str(room / "patterns.db")]
+    done = subprocess.run(command, input="\n".join(lines), capture_output=True, text=True, check=False)
     if done.returncode == 2:
         raise RuntimeError(done.stderr)
     objects = [json.loads(line) for line in done.stdout.splitlines()]
@@ -150,13 +163,15 @@ def main(
     parts: collections.Counter[str] = collections.Counter()
     gopat, program = (str(pathlib.Path(path).resolve()) for path in (gopat, program))
     compared = rounds = different = 0
-    with tempfile.TemporaryDirectory() as room:
+    with tempfile.TemporaryDirectory() as place:
+        room = pathlib.Path(place)
         while compared < int(tries):
-            texts = luck.sample(listed, min(ENTRIES, len(listed))) or [entry(luck, at) for at in range(ENTRIES)]
-            (pathlib.Path(room) / "patterns.db").write_text("".join(texts), encoding="latin-1")
+            texts = [entry(luck, at) for at in range(ENTRIES)]
             board, *plays = recorded_plays(luck, records) if records else random_plays(luck)
-            depths = f"depths {luck.randint(1, 8)} {luck.randint(0, 1)}"
-            lines, wanted = matches(gopat, room, [board, depths, *plays])
+            lines = [board, f"depths {luck.randint(1, 8)} {luck.randint(0, 1)}", *plays]
+            if listed:
+                texts = some_of(luck, listed, matches(gopat, room, listed, lines)[1])
+            lines, wanted = matches(gopat, room, texts, lines)
             reasons = told(program, room, lines)
             wrong = wanted ^ {one for one, fails in reasons.items() if fails is None}
             for one in sorted(wrong):
