@@ -58,9 +58,9 @@ def git(*words: str) -> str:
 
 
 def sources() -> list[str]:
-    """The folders of the crates that the module is made from."""
+    """The folders that the module is made from: those of its crates but for wrong bodies."""
     line = LINE.search(pathlib.Path("crates.txt").read_text(encoding="utf-8"))
-    return [f"crates/{name}" for name in [CRATE, *line[1].split()]]
+    return [f"crates/{name}/{part}" for name in [CRATE, *line[1].split()] for part in ("src", "specs", "proofs")]
 
 
 def made(room: pathlib.Path) -> Module:
