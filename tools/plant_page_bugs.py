@@ -4,8 +4,10 @@ usage: python3 tools/plant_page_bugs.py CHROMIUM [QUESTIONS]
 
 It runs at the top of a clone and wants `rt` and a C compiler, by which try_doors.py makes the library, unless
 GOPAT_LIBRARY names the shared library. Each bug changes one place of a file of tools/page in a copy; the page of the
-copy is put together with the module that docs/page/gopat.html has, and try_page.py asks it about QUESTIONS strings, 20
-without a number. Prints a line for each bug with the first difference. The exit status is 1 if a bug was not seen.
+copy is put together with the module that docs/page/gopat.html has, and what try_page.py does is done with it, until
+something differs: it asks about QUESTIONS strings, 20 without a number, and tries the rest. First the page without a
+bug is tried whole: nothing may differ. Prints a line for each bug with the first difference. The exit status is 1 if a
+bug was not seen, or if the page without one differs.
 """
 
 import os
@@ -17,6 +19,8 @@ import tempfile
 from typing import NamedTuple
 
 import command_line
+import try_page
+from browser import Browser, Failed
 from try_doors import shared_library
 
 
@@ -74,22 +78,39 @@ def copied(folder: pathlib.Path) -> pathlib.Path:
     return copy
 
 
-def seen(copy: pathlib.Path, bug: Bug, chromium: str, questions: str) -> str | None:
-    """The first difference that try_page.py tells of a page with the bug."""
-    script = copy / "tools" / "page" / bug.file
+class Differs(Exception):
+    """Something differs; the text says what."""
+
+
+class Trial(try_page.Trial):
+    """What try_page.py tries, until something differs."""
+
+    def compare(self, what: str, got: object, wanted: object):
+        super().compare(what, got, wanted)
+        if self.wrong:
+            raise Differs(self.wrong[0])
+
+
+def difference(gopat, chromium: str, questions: int) -> str | None:
+    """The first difference that try_page.py tells of the page of this folder."""
+    with Browser(chromium) as browser:
+        browser.screen(1200, 1000)
+        try:
+            Trial(gopat, try_page.Person(browser), 1).all(questions, [])
+        except (Differs, Failed) as why:
+            return str(why)
+    return None
+
+
+def planted(bug: Bug) -> None:
+    """Puts the page of this folder together with the bug."""
+    script = pathlib.Path("tools/page") / bug.file
     whole = script.read_text(encoding="utf-8")
     if whole.count(bug.old) != 1:
         raise ValueError(f"{bug.file} does not have {bug.old!r} once")
     script.write_text(whole.replace(bug.old, bug.new), encoding="utf-8")
-    page = copy / "docs" / "page" / "gopat.html"
-    before = page.read_bytes()
-    subprocess.run([sys.executable, "tools/make_page.py", "--same-module"], cwd=copy, check=True, capture_output=True)
-    tried = [sys.executable, "tools/try_page.py", chromium, questions]
-    done = subprocess.run(tried, cwd=copy, capture_output=True, text=True, check=False)
+    subprocess.run([sys.executable, "tools/make_page.py", "--same-module"], check=True, capture_output=True)
     script.write_text(whole, encoding="utf-8")
-    page.write_bytes(before)
-    said = (done.stdout + done.stderr).splitlines()
-    return said[min(1, len(said) - 1)][:100] if done.returncode else None
 
 
 def main(chromium: str, questions: str = "20") -> int:
@@ -97,14 +118,19 @@ def main(chromium: str, questions: str = "20") -> int:
         folder = pathlib.Path(name)
         if "GOPAT_LIBRARY" not in os.environ:
             os.environ["GOPAT_LIBRARY"] = str(shared_library(folder).resolve())
-        copy = copied(folder)
+        gopat, here = try_page.library(folder), pathlib.Path.cwd()
+        os.chdir(copied(folder))
+        sound = difference(gopat, chromium, int(questions))
+        print(f"without a bug: {sound or 'nothing differs'}", flush=True)
         unseen = 0
         for bug in BUGS:
-            difference = seen(copy, bug, chromium, questions)
-            unseen += difference is None
-            print(f"{bug.name}: {difference or 'NOT SEEN'}", flush=True)
+            planted(bug)
+            told = difference(gopat, chromium, int(questions))
+            unseen += told is None
+            print(f"{bug.name}: {told[:100] if told else 'NOT SEEN'}", flush=True)
+        os.chdir(here)
         print(f"{len(BUGS)} bugs, {unseen} not seen")
-        return int(unseen > 0)
+        return int(unseen > 0 or sound is not None)
 
 
 if __name__ == "__main__":

@@ -3,15 +3,15 @@ random boards with those of the program and with plain rules in Python.
 
 usage: python3 tools/try_doors.py GOPAT QUESTIONS [SEED [CHROMIUM]]
 
-It runs at the top of a clone and wants `rt`, a C compiler and Python; GOPAT is the path of the program. `rustc`, `go`
-and `valgrind` are used if they are there. The questions arise in random games on boards of 2 to 13 rows: the moves go
-to the program line by line and to the library as boards, so that bans are those of real kos. A third of the questions
-have one argument broken, or a ban that no game left: their status is compared with that of the rules in this file. Each
-move that the library tells as one that attains a code, and each liberty of the target, is played in the program too,
-which then says what the other side attains. Proofs are compared with those that the program prints. The same questions
-go to the library once more from C, and a part of them under valgrind. The last lines are figures:
-questions by each way in a second of the processor, that of both ends of a pipe together. The exit status is 1 where
-anything differs.
+It runs at the top of a clone and wants `rt`, a C compiler and Python; GOPAT is the path of the program. `rustc`, `go`,
+`valgrind` and the sanitizers of the C compiler are used if they are there. The questions arise in random games on
+boards of 2 to 13 rows: the moves go to the program line by line and to the library as boards, so that bans are those of
+real kos. A third of the questions have one argument broken, or a ban that no game left: their status is compared with
+that of the rules in this file. Each move that the library tells as one that attains a code, and each liberty of the
+target, is played in the program too, which then says what the other side attains. Proofs are compared with those that
+the program prints. With CHROMIUM the page's module gets the questions too. The same questions go to the library once
+more from C, also with the sanitizers, and a part of them under valgrind. The last lines are figures: questions by each
+way in a second of the processor, that of both ends of a pipe together. The exit status is 1 where anything differs.
 """
 
 import base64
@@ -38,6 +38,8 @@ PLAY, ALL, PROOF = 6, 7, 8
 MOST_LIBERTIES = 625
 PROBLEMS = 2  # the examples ask about two, and all that ask about one say the same
 UNDER_VALGRIND = 500
+VALGRIND = ["valgrind", "-q", "--error-exitcode=1", "--leak-check=full"]
+SANITIZERS = ["-fsanitize=address,undefined", "-fno-sanitize-recover=all"]
 AT_ONCE = 200  # so many questions the page is asked together
 # Stones around a ko, each a colour, a row and a column; the last one takes.
 KO = [(1, 0, 1), (1, 1, 0), (1, 2, 1), (2, 0, 2), (2, 1, 3), (2, 2, 2), (2, 1, 1), (1, 1, 2)]
@@ -461,14 +463,37 @@ def differences(gopat_path: str, steps: list[Step]) -> Iterator[str]:
             yield f"{step_lines[-1]}: {reply}, the library says {asked.reply}"
 
 
-def from_c(folder: pathlib.Path, questions: list[Question], before: list[str], times: int | None = None) -> list[str]:
+def has_sanitizers(folder: pathlib.Path) -> bool:
+    """Whether the C compiler links a program with the sanitizers."""
+    source = folder / "nothing.c"
+    source.write_text("int main(void) { return 0; }\n", encoding="utf-8")
+    command = ["cc", *SANITIZERS, "-o", str(folder / "nothing"), str(source)]
+    return subprocess.run(command, capture_output=True, check=False).returncode == 0
+
+
+def compiled(folder: pathlib.Path, more: list[str]) -> str:
+    """The program of ask_door.c, compiled with these flags too."""
+    program = str(folder / ("ask_door" + "_checked" * bool(more)))
+    flags = ["-O2", "-Wall", "-Wextra", f"-I{CRATE}", *more]
+    subprocess.run(["cc", *flags, "-o", program, "tools/ask_door.c", str(CRATE / "out" / "libgopat_c.a")], check=True)
+    return program
+
+
+def ways_of_c(folder: pathlib.Path, number: int) -> Iterator[tuple[str, int, list[str]]]:
+    """The ways to ask from C: a name, how many questions of this number are asked, and the command."""
+    command = compiled(folder, [])
+    yield "from C", number, [command]
+    if has_sanitizers(folder):
+        yield "from C with the sanitizers", number, [compiled(folder, SANITIZERS)]
+    if shutil.which(VALGRIND[0]):
+        yield "from C under valgrind", UNDER_VALGRIND, [*VALGRIND, command]
+
+
+def from_c(folder: pathlib.Path, questions: list[Question], command: list[str], times: int | None = None) -> list[str]:
     """What ask_door.c prints for the questions."""
-    made, kept = folder / "ask_door", folder / "questions"
-    flags = ["-O2", "-Wall", "-Wextra", f"-I{CRATE}"]
-    archive = str(CRATE / "out" / "libgopat_c.a")
-    subprocess.run(["cc", *flags, "-o", str(made), "tools/ask_door.c", archive], check=True)
+    kept = folder / "questions"
     kept.write_bytes(b"".join(map(bytes, questions)))
-    command = [*before, str(made), str(kept), *([str(times)] if times else [])]
+    command = [*command, str(kept), *([str(times)] if times else [])]
     return subprocess.run(command, capture_output=True, text=True, check=True).stdout.splitlines()
 
 
@@ -515,7 +540,8 @@ def readings(gopat, choose: random.Random) -> Iterator[Timed]:
 def figures(folder: pathlib.Path, gopat, gopat_path: str, seed: int) -> Iterator[str]:
     """Questions a second by each way."""
     some = list(readings(gopat, random.Random(seed)))
-    seconds = float(from_c(folder, [one.question for one in some], [], 5)[0].split()[0]) / 5
+    program = compiled(folder, [])
+    seconds = float(from_c(folder, [one.question for one in some], [program], 5)[0].split()[0]) / 5
     yield f"{len(some)} readings: from C {len(some) / seconds:.0f} a second"
     start = processor()
     for one in some:
@@ -565,16 +591,16 @@ def main(gopat_path: str, count: str, seed: str = "1", chromium: str = "") -> in
             wrong += differences(gopat_path, steps)
         questions = [one.question for one in asked]
         told = [" ".join(map(str, one.reply)) for one in asked]
-        wrong += [f"from C {c}, from Python {p}" for c, p in zip(from_c(folder, questions, []), told) if c != p]
+        for way, some, command in ways_of_c(folder, len(questions)):
+            replies = from_c(folder, questions[:some], command)
+            wrong += [f"{way} {c}, from Python {p}" for c, p in zip(replies, told) if c != p]
+            print(f"{len(replies)} questions {way}")
         page = list(from_page(chromium, questions)) if chromium else []
         wrong += [f"from the page {m}, from Python {p}" for m, p in zip(page, told) if m != p]
         with_status = sum(one.reply[0] > 0 for one in asked)
         print(f"{len(asked)} questions, {with_status} with a status, {games.bans} boards with a ban of a ko,", end=" ")
         print(f"{sum(bool(one.lines) for one in asked)} asked of the program too, {tried} moves tried there:", end=" ")
         print(f"{len(page)} asked of the page's module, {len(wrong)} differ")
-        if shutil.which("valgrind"):
-            checked = from_c(folder, questions[:UNDER_VALGRIND], ["valgrind", "-q", "--error-exitcode=1"])
-            print(f"{len(checked)} questions under valgrind without an error")
         print("\n".join([*wrong[:20], *figures(folder, gopat, gopat_path, int(seed))]))
         lines_said = {line.split(": ", 1)[1] for line in said if ": not run" not in line}
         return int(bool(wrong) or len(lines_said) != PROBLEMS)

@@ -4,11 +4,12 @@ that they tell as numbers with those that the program lists.
 usage: python3 tools/try_handles.py GOPAT QUESTIONS [SEED]
 
 It runs at the top of a clone and wants `rt`, a C compiler and Python; GOPAT is the path of the program, and `valgrind`
-is used if it is there. The boards are those of random games with the patterns below, so that bans are those of real
-kos. A third of the questions have something broken: a byte of the board, the colour, the depths, or a room that is too
-short; their status is compared with that of the rules in this file. The same questions go to a handle once more from
-C, and a part of them under valgrind, with handles that are closed and opened between them. The last lines are figures:
-questions in a second of the processor. The exit status is 1 where anything differs.
+and the sanitizers of the C compiler are used if they are there. The boards are those of random games with the patterns
+below, so that bans are those of real kos. A third of the questions have something broken: a byte of the board, the
+colour, the depths, or a room that is too short; their status is compared with that of the rules in this file. The same
+questions go to a handle once more from C, also with the sanitizers, and a part of them under valgrind, with handles
+that are closed and opened between them. The last lines are figures: questions in a second of the processor. The exit
+status is 1 where anything differs.
 """
 
 import ctypes
@@ -23,14 +24,13 @@ from typing import Iterator
 
 import command_line
 import gtp
-from try_doors import processor, shared_library
+from try_doors import SANITIZERS, VALGRIND, has_sanitizers, processor, shared_library
 
 EXAMPLES = pathlib.Path("docs/examples/doors")
 CRATE = pathlib.Path("crates/gopat_matches_c")
 ARCHIVE = CRATE / "out" / "libgopat_matches_c.a"
 HEAP = CRATE / "heap.c"
 UNDER_VALGRIND = 300
-VALGRIND = ["valgrind", "-q", "--error-exitcode=1", "--leak-check=full"]
 MOST_ROOM = 700
 # Patterns of all sorts: a mark, an edge, a class, a constraint that reads, a corner.
 PATTERNS = """Pattern Beside
@@ -70,10 +70,10 @@ def made(folder: pathlib.Path) -> None:
     os.environ["GOPAT_MATCHES_LIBRARY"] = str(library)
 
 
-def compiled(folder: pathlib.Path, source: str) -> str:
-    """The program that a source in C is compiled to."""
-    program = folder / pathlib.Path(source).stem
-    flags = ["-O2", "-Wall", "-Wextra", "-Werror", "-Icrates/gopat_c", f"-I{CRATE}"]
+def compiled(folder: pathlib.Path, source: str, *more: str) -> str:
+    """The program that a source in C is compiled to, with these flags too."""
+    program = folder / (pathlib.Path(source).stem + "_checked" * bool(more))
+    flags = ["-O2", "-Wall", "-Wextra", "-Werror", "-Icrates/gopat_c", f"-I{CRATE}", *more]
     subprocess.run(["cc", *flags, "-o", str(program), source, str(HEAP), str(ARCHIVE)], check=True)
     return str(program)
 
@@ -251,21 +251,26 @@ def main(gopat_path: str, count: str, seed: str = "1") -> int:
             asked.ask()
         program.end()
         wrong = [*asked.wrong, *refusals(gopat)]
-        command = compiled(folder, "tools/ask_handles.c")
-        for some, before in [(len(asked.told), []), (UNDER_VALGRIND, VALGRIND)]:
-            if before and not shutil.which(before[0]):
-                continue
+        for way, some, command in ways_of_c(folder, len(asked.told)):
             records.write_bytes(b"".join(asked.questions[:some]))
-            done = subprocess.run(
-                [*before, command, str(kept), str(records)], capture_output=True, text=True, check=False
-            )
+            done = subprocess.run([*command, str(kept), str(records)], capture_output=True, text=True, check=False)
             if done.returncode or done.stdout.splitlines() != asked.told[:some]:
-                wrong.append(f"{before[:1]} from C: status {done.returncode}, {done.stderr[-300:]}")
-            print(f"{min(some, len(asked.told))} questions from C{', under valgrind' if before else ''}")
+                wrong.append(f"{way}: status {done.returncode}, {done.stderr[-300:]}")
+            print(f"{min(some, len(asked.told))} questions {way}")
         print(f"{len(asked.told)} questions, {asked.refused} of them with something broken, {asked.matches} matches:")
         print(f"{len(wrong)} differ")
         print("\n".join([*wrong[:20], *figures(gopat)]))
         return int(bool(wrong) or len(set(said)) != 1)
+
+
+def ways_of_c(folder: pathlib.Path, number: int) -> Iterator[tuple[str, int, list[str]]]:
+    """The ways to ask from C: a name, how many questions of this number are asked, and the command."""
+    command = compiled(folder, "tools/ask_handles.c")
+    yield "from C", number, [command]
+    if has_sanitizers(folder):
+        yield "from C with the sanitizers", number, [compiled(folder, "tools/ask_handles.c", *SANITIZERS)]
+    if shutil.which(VALGRIND[0]):
+        yield "from C under valgrind", UNDER_VALGRIND, [*VALGRIND, command]
 
 
 def figures(gopat) -> Iterator[str]:

@@ -248,6 +248,18 @@ class Trial:
             self.compare(f"{record_of(board)} {kind} {a} {b} {plies}", told[kind], wanted)
             self.compare(f"{record_of(board)} {kind} {a} {b}", told["refused"], refused)
 
+    def all(self, questions: int, programs: list[str]) -> int:
+        """Asks about so many strings, and then tries what else a person does. Answers the number of boards."""
+        self.person.open()
+        number = 0
+        while self.counts["strings"] < questions:
+            self.board(number)
+            number += 1
+        self.programs(programs)
+        for one in (tried_keys, tried_rules, tried_faults, tried_limits, tried_browsers, tried_looks):
+            one(self)
+        return number
+
     def programs(self, paths: list[str]) -> None:
         """What the programs say otherwise."""
         for path, lines, expected in zip(paths, self.lines, self.expected):
@@ -473,14 +485,7 @@ def main(chromium: str, questions: str, seed: str = "1", *programs: str) -> int:
     with tempfile.TemporaryDirectory() as room, Browser(chromium) as browser:
         browser.screen(1200, 1000)
         trial = Trial(library(pathlib.Path(room)), Person(browser), int(seed))
-        trial.person.open()
-        number = 0
-        while trial.counts["strings"] < int(questions):
-            trial.board(number)
-            number += 1
-        trial.programs(list(programs))
-        for one in (tried_keys, tried_rules, tried_faults, tried_limits, tried_browsers, tried_looks):
-            one(trial)
+        number = trial.all(int(questions), list(programs))
     print(f"{number} boards, " + ", ".join(f"{count} {name}" for name, count in trial.counts.items()), end="")
     print(f": {len(trial.wrong)} differ")
     print("\n".join(trial.wrong[:20]))

@@ -4,14 +4,14 @@ answers to lines with what the program writes.
 usage: python3 tools/try_sessions.py GOPAT LINES [SEED [GOPAT_WIDE]]
 
 It runs at the top of a clone and wants `rt`, a C compiler and Python; GOPAT is the path of the program, and `valgrind`
-is used if it is there. The lines are those of random games on boards of 2 to 25 rows with the patterns below: plays,
-questions, matches, proofs and game records, a third of them faulty or no command at all. Each session of 400 lines goes
-to the program and, line by line, to the handle from Python; all that the program writes has to be what the handle
-answers, byte by byte. The same lines go to a handle from C, where most buffers are too short at first, and a part of
-them under valgrind. With GOPAT_WIDE every second session is one of the wider tree. Then come options, texts and handles
-that have no answer, each of which gets the status of its cause, and the examples in the text of python/gopat.py. The
-last lines are figures: readings in a second of the processor, new ones and kept ones. The exit status is 1 where
-anything differs.
+and the sanitizers of the C compiler are used if they are there. The lines are those of random games on boards of 2 to
+25 rows with the patterns below: plays, questions, matches, proofs and game records, a third of them faulty or no
+command at all. Each session of 400 lines goes to the program and, line by line, to the handle from Python; all that the
+program writes has to be what the handle answers, byte by byte. The same lines go to a handle from C, where most buffers
+are too short at first, also with the sanitizers, and a part of them under valgrind. With GOPAT_WIDE every second
+session is one of the wider tree. Then come options, texts and handles that have no answer, each of which gets the
+status of its cause, and the examples in the text of python/gopat.py. The last lines are figures: readings in a second
+of the processor, new ones and kept ones. The exit status is 1 where anything differs.
 """
 
 import doctest
@@ -27,14 +27,13 @@ from typing import Iterator, NamedTuple
 import command_line
 import gtp
 import try_handles
-from try_doors import processor
+from try_doors import SANITIZERS, VALGRIND, has_sanitizers, processor
 from try_handles import HEAP, PATTERNS, many_states
 
 EXAMPLES = pathlib.Path("docs/examples/doors")
 CRATE = pathlib.Path("crates/gopat_session_c")
 ARCHIVE = CRATE / "out" / "libgopat_session_c.a"
 INCLUDES = ["-Icrates/gopat_c", "-Icrates/gopat_matches_c", f"-I{CRATE}"]
-VALGRIND = ["valgrind", "-q", "--error-exitcode=1", "--leak-check=full"]
 TOGETHER, UNDER_VALGRIND = 400, 200
 COMMANDS = ["name", "version", "protocol_version", "list_commands", "list_patterns", "showboard", "get_komi", "komi 6"]
 # Lines that are refused, or have no words.
@@ -58,10 +57,10 @@ def made(folder: pathlib.Path) -> None:
     os.environ["GOPAT_SESSION_LIBRARY"] = str(library)
 
 
-def compiled(folder: pathlib.Path, source: str) -> str:
-    """The program that a source in C is compiled to."""
-    program = folder / pathlib.Path(source).stem
-    flags = ["-O2", "-Wall", "-Wextra", "-Werror", *INCLUDES]
+def compiled(folder: pathlib.Path, source: str, *more: str) -> str:
+    """The program that a source in C is compiled to, with these flags too."""
+    program = folder / (pathlib.Path(source).stem + "_checked" * bool(more))
+    flags = ["-O2", "-Wall", "-Wextra", "-Werror", *INCLUDES, *more]
     subprocess.run(["cc", *flags, "-o", str(program), source, str(HEAP), str(ARCHIVE)], check=True)
     return str(program)
 
@@ -253,6 +252,7 @@ def main(gopat_path: str, count: str, seed: str = "1", wide_path: str = "") -> i
         (folder / "empty").write_bytes(b"")
         choose, wrong, lines, refused = random.Random(int(seed)), [], 0, 0
         command, checked = compiled(folder, "tools/ask_lines.c"), 0
+        sanitized = compiled(folder, "tools/ask_lines.c", *SANITIZERS) if has_sanitizers(folder) else None
         while lines < int(count):
             which = lines // TOGETHER % len(programs)
             one = asked(gopat, choose, which == 1, [str(folder / "empty")])
@@ -260,6 +260,7 @@ def main(gopat_path: str, count: str, seed: str = "1", wide_path: str = "") -> i
             refused += sum(reply[:1] == b"?" for reply in one.replies)
             wrong += differences(one, programs[which], str(folder / "patterns"))
             wrong += from_c([command], one, folder, TOGETHER)
+            wrong += from_c([sanitized], one, folder, TOGETHER) if sanitized else []
             if shutil.which(VALGRIND[0]) and checked < 5:
                 wrong += from_c([*VALGRIND, command], one, folder, UNDER_VALGRIND)
                 checked += 1
@@ -267,8 +268,8 @@ def main(gopat_path: str, count: str, seed: str = "1", wide_path: str = "") -> i
         documented = doctest.testmod(gopat)
         wrong += ["an example of python/gopat.py"] * documented.failed
         print(f"{lines} lines, {refused} of them refused, from Python, from C and through a pipe,", end=" ")
-        print(f"{checked * UNDER_VALGRIND} of them under valgrind, and {documented.attempted} examples:", end=" ")
-        print(f"{len(wrong)} differ")
+        print(f"{lines if sanitized else 0} of them with the sanitizers, {checked * UNDER_VALGRIND} under", end=" ")
+        print(f"valgrind, and {documented.attempted} examples: {len(wrong)} differ")
         print("\n".join([*wrong[:20], *figures(gopat, programs[0], folder, command)]))
         return int(bool(wrong) or len(set(said)) != 1)
 

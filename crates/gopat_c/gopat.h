@@ -3,7 +3,7 @@
    Each call is a question of its own: nothing is kept from one call to the next, no memory is taken, and calls may run
    in several threads at once. Every argument may hold any number. If the status of a reply is not GOPAT_OK, it says
    what was wrong with them; of several faults the one is told that comes first in the comment of the call.
-   A call needs less than 1 MB of stack, and with fewer than 12 plies less than 64 KB; gopat_proof 120 KB more.
+   A call needs less than 1.5 MB of stack. With fewer than 12 plies it needs less than 64 KB, gopat_proof 160 KB.
 
    A point is row * size + column. Row 0 is the top row and column 0 the left one, so on a board of 9 rows the vertex
    E5 is point 40. */

@@ -5,7 +5,7 @@
    gopat_patterns_open gives it the patterns of a text, and gopat_patterns_close frees them. Nobody but these calls
    changes or copies it. Two handles may be used by two threads at once; one handle by one call at a time.
 
-   A call may take memory by malloc, and 1 MB of stack. */
+   A call may take memory by malloc, and 2 MB of stack. */
 #ifndef GOPAT_MATCHES_H
 #define GOPAT_MATCHES_H
 
