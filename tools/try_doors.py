@@ -20,6 +20,7 @@ import json
 import os
 import pathlib
 import random
+import resource
 import shutil
 import subprocess
 import sys
@@ -568,7 +569,8 @@ def waiting(gopat_path: str, lines: list[str]) -> float:
 
 def processor() -> float:
     """The processor's seconds of this script and of the programs that it started and that have ended."""
-    return sum(os.times()[:4])
+    parts = [resource.getrusage(who) for who in (resource.RUSAGE_SELF, resource.RUSAGE_CHILDREN)]
+    return sum(part.ru_utime + part.ru_stime for part in parts)
 
 
 def main(gopat_path: str, count: str, seed: str = "1", chromium: str = "") -> int:

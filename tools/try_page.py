@@ -256,7 +256,7 @@ class Trial:
             self.board(number)
             number += 1
         self.programs(programs)
-        for one in (tried_keys, tried_rules, tried_faults, tried_limits, tried_browsers, tried_looks):
+        for one in (tried_keys, tried_rules, tried_proofs, tried_faults, tried_limits, tried_browsers, tried_looks):
             one(self)
         return number
 
@@ -319,6 +319,19 @@ def tried_rules(trial: Trial) -> None:
     trial.compare("the eraser", stones(person.read(), 5)[2], ".X..O")
     person.click("#clear")
     trial.compare("Clear", stones(person.read(), 5), ["....."] * 5)
+
+
+def tried_proofs(trial: Trial) -> None:
+    """Proofs in which backfilling moves are tried."""
+    person, board = trial.person, trial.gopat.Board.of_rows([".X.X", "....", "....", "X.OO"])
+    person.open()
+    person.paste(rows(Setting(board, [])))
+    person.read()
+    person.depths(6, 2, 0)
+    person.mode("ask")
+    person.click_on(4, "B4")
+    person.read()
+    trial.proofs(board, "backfilling moves", ("B4", 6, 2, False), 0)
 
 
 def tried_faults(trial: Trial) -> None:

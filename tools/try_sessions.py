@@ -6,12 +6,12 @@ usage: python3 tools/try_sessions.py GOPAT LINES [SEED [GOPAT_WIDE]]
 It runs at the top of a clone and wants `rt`, a C compiler and Python; GOPAT is the path of the program, and `valgrind`
 and the sanitizers of the C compiler are used if they are there. The lines are those of random games on boards of 2 to
 25 rows with the patterns below: plays, questions, matches, proofs and game records, a third of them faulty or no
-command at all. Each session of 400 lines goes to the program and, line by line, to the handle from Python; all that the
-program writes has to be what the handle answers, byte by byte. The same lines go to a handle from C, where most buffers
-are too short at first, also with the sanitizers, and a part of them under valgrind. With GOPAT_WIDE every second
-session is one of the wider tree. Then come options, texts and handles that have no answer, each of which gets the
-status of its cause, and the examples in the text of python/gopat.py. The last lines are figures: readings in a second
-of the processor, new ones and kept ones. The exit status is 1 where anything differs.
+command at all. Each session of 400 lines, of which the last one ends it, goes to the program and, line by line, to the
+handle from Python; all that the program writes has to be what the handle answers, byte by byte. The same lines go to a
+handle from C, where most buffers are too short at first, also with the sanitizers, and a part of them under valgrind.
+With GOPAT_WIDE every second session is one of the wider tree. Then come options, texts and handles that have no answer,
+each of which gets the status of its cause, and the examples in the text of python/gopat.py. The last lines are figures:
+readings in a second of the processor, new ones and kept ones. The exit status is 1 where anything differs.
 """
 
 import doctest
@@ -35,6 +35,7 @@ CRATE = pathlib.Path("crates/gopat_session_c")
 ARCHIVE = CRATE / "out" / "libgopat_session_c.a"
 INCLUDES = ["-Icrates/gopat_c", "-Icrates/gopat_matches_c", f"-I{CRATE}"]
 TOGETHER, UNDER_VALGRIND = 400, 200
+END = b"quit now"
 COMMANDS = ["name", "version", "protocol_version", "list_commands", "list_patterns", "showboard", "get_komi", "komi 6"]
 # Lines that are refused, or have no words.
 FAULTY = [
@@ -42,7 +43,7 @@ FAULTY = [
     b"boardsize 1", b"boardsize 26", b"boardsize x", b"komi", b"attack", b"attack A1 A2", b"depths 0 0",
     b"depths 201 1", b"depths 3 13", b"undo 1", b"helper_calls nobody", b"helper_off nobody", b"helper_drop nobody",
     b"\xff\xfe", b"name\r", b"12345678901 name", b"4294967295 name", b"4294967296 name", b"name # told", b"\0\1name",
-    b"check_proof attack A1 3 W A2 .", b"check_proof attack A1 4 .", b"known_command", b"quit now", b"loadsgf",
+    b"check_proof attack A1 3 W A2 .", b"check_proof attack A1 4 .", b"known_command", b"loadsgf",
     b"match_patterns", b"genmove x", b"connect A1", b"disconnect A1 A1", b"x" * 70000, b"name " * 13107,
 ]  # fmt: skip
 
@@ -109,29 +110,30 @@ def game(choose: random.Random, files: list[str]) -> Iterator[bytes]:
 
 
 class Asked(NamedTuple):
-    """The lines of a session, the depths that it begins with, and what the handle answers to each line."""
+    """The lines of a session, the depths that it begins with, what the handle answers to each line, and at which lines
+    it says that the session ends."""
 
     lines: list[bytes]
     depths: tuple[int, int]
     wider: bool
     replies: list[bytes]
-
-
-def raw_reply(session, line: bytes) -> bytes:
-    """The bytes that a session answers to a line."""
-    return session.line(line).text.encode("utf-8", "surrogateescape")
+    ends: list[int]
 
 
 def asked(gopat, choose: random.Random, wider: bool, files: list[str]) -> Asked:
     """A session that is asked from Python."""
-    lines = [line for line, _ in zip(game(choose, files), range(TOGETHER))]
+    lines = [*(line for line, _ in zip(game(choose, files), range(TOGETHER - 1))), END]
     depths = choose.choice([(3, 0), (5, 1), (8, 2)])
     with gopat.Session(PATTERNS, *depths, wider) as session:
-        return Asked(lines, depths, wider, [raw_reply(session, line) for line in lines])
+        told = [session.line(line) for line in lines]
+    replies = [one.text.encode("utf-8", "surrogateescape") for one in told]
+    return Asked(lines, depths, wider, replies, [at for at, one in enumerate(told) if one.ends])
 
 
 def differences(one: Asked, program: str, patterns: str) -> Iterator[str]:
-    """Where the program writes something else."""
+    """Where the program writes something else, or the handle does not say that the last line alone ends the session."""
+    if one.ends != [len(one.lines) - 1]:
+        yield f"lines {one.ends} are said to end a session of {len(one.lines)} lines"
     command = [program, f"--depth={one.depths[0]}", f"--branch={one.depths[1]}", patterns]
     done = subprocess.run(command, input=b"".join(line + b"\n" for line in one.lines), capture_output=True, check=False)
     at = 0
