@@ -1,3 +1,4 @@
 pub mod SureMoveLemmas
 pub mod MoveSetLemmas
+pub mod CodeLemmas
 pub mod VerdictLemmas

@@ -1,8 +1,8 @@
 //! What a reading finds of a problem's question.
 
-ghost use Rattle.std.specs.Prelude.{◌≡◌, ◌≢◌, ◌*◌, ◌<◌, None};
+ghost use Rattle.std.specs.Prelude.{◌≡◌, ◌≢◌, ◌*◌, ◌<◌, ◌==◌, not, None};
 ghost use Rattle.go_rules.specs.Strings.{cell_at};
-ghost use Rattle.read_rules.specs.Answer.{asked_in};
+ghost use Rattle.read_rules.specs.Answer.{asked_in, attains_code};
 ghost use Rattle.read_all.specs.FewestPlies.{AreFewest};
 ghost use Rattle.problem_verdicts.specs.Questions.{other_kind, code_of, is_needless, AreMovesOf, IsFound};
 ghost use Rattle.problem_verdicts.specs.SureQuestions.{IsFoundAgainst};
@@ -16,7 +16,9 @@ use crate::sure_judged::find_surely;
 use crate::verdict::{Verdict, verdict_of};
 use go_base::{Cell, Look, Point, Position, Watch};
 use read_all::{AllMoves, Depths, Kind, all_moves, fewest_plies, moves_anywhere};
-use read_tree::{attack, defend};
+use read_proof::codes::{first_node, question_on};
+use read_tree::{NodeAt, wins};
+use trial_board::Trial;
 
 /// What is found of a question.
 #[derive(Debug, Drop)]
@@ -50,27 +52,58 @@ pub(crate) fn other_kind(kind: Kind) -> Kind
     }
 }
 
-/// The code of a question.
-fn code_of(pos: &Position, kind: Kind, target: Point, depths: Depths) -> u8
+/// Whether the question attains this code.
+fn attains(pos: &Position, kind: Kind, target: Point, depths: Depths, code: u8) -> bool
     requires on_board { target < pos.now.size * pos.now.size }
-    requires stone { cell_at pos.now.cells target ≢ Cell.Empty }
-    ensures { result ≡ code_of pos.now kind target depths }
+    ensures { result
+        ≡ attains_code (asked_in depths.tree pos.now kind target depths.plies depths.wide) pos.now code }
 {
-    let look = Watch::new(pos);
+    let node = first_node(&question_on(pos, kind, target, depths), code);
+    let mut board = Trial::new(Watch::new(pos));
+    let won = wins(
+        &mut board,
+        NodeAt {
+            tree: node.turn.tree,
+            target: node.turn.target,
+            defender: node.turn.defender,
+            attacker_turn: node.turn.attacker_to_play,
+            n: depths.plies,
+            k: node.turn.wide,
+            a: node.attacker_ko,
+            d: node.defender_ko,
+        },
+    );
+    let _look = board.finish();
     match kind {
-        Kind::Attack => attack(look, target, depths).answer.code,
-        Kind::Defend => defend(look, target, depths).answer.code,
+        Kind::Attack => won,
+        Kind::Defend => !won,
     }
 }
 
-/// Whether no move is needed for a question with this code.
+/// Whether the question has a code above 0. Code 1 is asked first: it lets the side that is asked about ignore the ban.
+fn has_code(pos: &Position, kind: Kind, target: Point, depths: Depths) -> bool
+    requires on_board { target < pos.now.size * pos.now.size }
+    requires stone { cell_at pos.now.cells target ≢ Cell.Empty }
+    ensures { result ≡ not (code_of pos.now kind target depths == 0) }
+{
+    if attains(pos, kind, target, depths, 1) {
+        return true;
+    }
+    if attains(pos, kind, target, depths, 2) {
+        return true;
+    }
+    attains(pos, kind, target, depths, 3)
+}
+
+/// Whether no move is needed for a question with this code. Of the other side it is asked only whether it has its way,
+/// which takes less than its code and its first move.
 fn is_needless(pos: &Position, kind: Kind, target: Point, depths: Depths, code: u8) -> bool
     requires on_board { target < pos.now.size * pos.now.size }
     requires stone { cell_at pos.now.cells target ≢ Cell.Empty }
     requires code { code ≡ code_of pos.now kind target depths }
     ensures { result ≡ is_needless pos.now kind target depths }
 {
-    code > 0 && code_of(pos, other_kind(kind), target, depths) == 0
+    code > 0 && !has_code(pos, other_kind(kind), target, depths)
 }
 
 /// The fewest plies with which a question has this code; `None` for code 0.
