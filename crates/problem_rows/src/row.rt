@@ -1,5 +1,8 @@
 //! What is told of a record.
 
+ghost use Rattle.std.specs.Prelude.{◌≡◌, IfOk};
+ghost use Rattle.problem_rows.specs.Rows.{IsJudged, IsRowOf, verdict_in, has_one_answer};
+
 use go_base::{Bytes, NoMemory};
 use problem_records::{Lack, Problem, ProblemError, problem_of};
 use problem_verdicts::{Depths, Judged, Replies, Scope, Verdict, judge};
@@ -54,7 +57,9 @@ fn asked_of(
     replies: Replies,
     scope: Scope,
     proves: bool,
-) -> Result<Asked, NoMemory> {
+) -> Result<Asked, NoMemory>
+    ensures { IfOk result (λ told. IsJudged problem replies scope told) }
+{
     let judged = judge(
         &problem.position,
         problem.kind,
@@ -88,7 +93,9 @@ pub fn row_of(
     replies: Replies,
     scope: Scope,
     proves: bool,
-) -> Result<Row, NoMemory> {
+) -> Result<Row, NoMemory>
+    ensures { IfOk result (λ row. IsRowOf text.now depths replies scope row) }
+{
     match problem_of(alloc, text, depths) {
         Ok(problem) => Ok(Row::Asked(asked_of(alloc, problem, replies, scope, proves)?)),
         Err(ProblemError::Lacks(lack)) => Ok(Row::Lacks(lack)),
@@ -98,7 +105,9 @@ pub fn row_of(
 
 impl Row {
     /// The verdict on the record.
-    pub fn verdict(&self) -> Verdict {
+    pub fn verdict(&self) -> Verdict
+        ensures { result ≡ verdict_in self.now }
+    {
         match self {
             Row::Asked(asked) => asked.judged.verdict,
             Row::Lacks(_) | Row::NotLoaded => Verdict::NotTold,
@@ -106,7 +115,9 @@ impl Row {
     }
 
     /// Whether exactly one move attains the code.
-    pub fn has_one_answer(&self) -> bool {
+    pub fn has_one_answer(&self) -> bool
+        ensures { result ≡ has_one_answer self.now }
+    {
         match self {
             Row::Asked(asked) => asked.judged.found.moves.count() == 1,
             Row::Lacks(_) | Row::NotLoaded => false,
