@@ -1,5 +1,5 @@
 -- The replies that have to be read, point by point of a zone.
-use Rattle.std.proofs.Common.{◌≡◌, ◌∙◌, ℕ, ◌+◌, ◌<◌, ◌≤◌, Bool, true, false}
+use Rattle.std.proofs.Common.{◌≡◌, ◌∙◌, ℕ, zero, suc, ◌+◌, ◌*◌, ◌<◌, ◌≤◌, ◌&&◌, Bool, true, false, not, List}
 use Rattle.std.proofs.Common.{sym, ap, arith, inl, inr, ltb}
 use Rattle.std.proofs.lemmas.Bool.{cases_eq, cases_lt, both_ways, and_parts, and_from, lt-ltb, ltb-true, eq-eqb}
 use Rattle.std.proofs.Common.{◌⊎◌}
@@ -7,6 +7,13 @@ use Rattle.std.proofs.lemmas.Bool.{or_cases, or_left, or_right}
 use Rattle.std.specs.Ordering.{nat_cmp}
 use Rattle.std.specs.Cmp.{nat_cmp_total}
 use Rattle.std.specs.FinSet as sets
+use Rattle.std.proofs.lemmas.Bool.{cases_Bool, false_from_ne_true}
+use Rattle.go_rules.specs.declared.Cell.{Cell}
+use Rattle.go_rules.specs.Below.{count_below}
+use Rattle.go_rules.specs.Rules.{IsOnlyLiberty}
+use Rattle.go_rules.specs.Strings.{is_liberty, liberties}
+use Rattle.go_rules.proofs.Counts.{count_below_none}
+use Rattle.go_rules.proofs.Paths.{IsLiberty-from_test}
 use Rattle.go_base.specs.Views.{alone}
 use Rattle.go_rules.specs.Position.{BoardState}
 use Rattle.read_rules.specs.declared.node.Node.{Node}
@@ -68,3 +75,25 @@ module _ (first second all : sets.FinSet nat_cmp) (p : ℕ) (joined : all ≡ se
   pub in_second : sets.contains second p ≡ true → sets.contains all p ≡ true
   in_second inside = ap (λ s. sets.contains s p) joined ∙ sets.contains-union nat_cmp_total first second p
       ∙ or_right (sets.contains first p) (sets.contains second p) inside
+
+-- no more than one number passes a test that only k passes
+at_most_one : (n : ℕ) (test : ℕ → Bool) (k : ℕ) → ((j : ℕ) → j < n → test j ≡ true → j ≡ k) → count_below n test ≤ 1
+at_most_one zero test k only = omega arith
+at_most_one (suc n) test k only = elim (cases_Bool (test n)) [
+  | inl t ↦
+      let none : count_below n test ≡ 0 = count_below_none n test (λ j l. false_from_ne_true (test j)
+      (λ h. let a = only j (omega arith) h in let b = only n (omega arith) t in omega (arith, a, b, l))) in
+      rw (t, none) (omega arith)
+  | inr f ↦ let less = at_most_one n test k (λ j l. only j (omega arith)) in rw f (omega (arith, less))
+]
+
+-- a string with an only liberty has no more than one
+pub only_liberty_few : (s : ℕ) (cells : List Cell) (q p : ℕ) → IsOnlyLiberty s cells q p → liberties s cells q ≤ 1
+unfolding liberties
+only_liberty_few s cells q p only =
+    at_most_one (s * s) (is_liberty s cells q) p (λ j l h. only.only j (IsLiberty-from_test s cells q j h))
+
+-- what is left of a set without another
+pub in_rest : (all gone rest : sets.FinSet nat_cmp) (q : ℕ) → rest ≡ sets.difference all gone
+    → sets.contains rest q ≡ (sets.contains all q && not (sets.contains gone q))
+in_rest all gone rest q e = ap (λ t. sets.contains t q) e ∙ sets.contains-difference nat_cmp_total all gone q

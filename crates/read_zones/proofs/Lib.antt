@@ -4,3 +4,4 @@ pub mod SeenLemmas
 pub mod TreeLemmas
 pub mod UnreadLemmas
 pub mod AnswerLemmas
+pub mod TakingLemmas

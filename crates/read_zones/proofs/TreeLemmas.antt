@@ -1,6 +1,9 @@
 -- The zones of a node, by those of its plays and replies.
 use Rattle.std.proofs.Common.{◌≡◌, ◌∙◌, ℕ, suc, ◌+◌, ◌*◌, ◌<◌, ◌≤◌, ◌&&◌, Bool, true, false, Option, Some, None}
 use Rattle.std.proofs.Common.{refl, sym, ap, subst, inl, inr, add-one}
+use Rattle.std.specs.Prelude.{MatchOption}
+use Rattle.std.specs.FinSet as sets
+use Rattle.std.specs.Ordering.{nat_cmp}
 use Rattle.std.proofs.lemmas.Bool.{cases_Bool, cases_lt, both_ways, and_from}
 use Rattle.go_rules.specs.Position.{BoardState, IsPosition}
 use Rattle.go_rules.specs.Play.{pass}
@@ -18,7 +21,7 @@ use Rattle.sure_rules.specs.SureInWords.{EveryReplyFails}
 use Rattle.sure_rules.specs.Zones.{points_of, WhereverAgrees, IsZone}
 use Rattle.sure_rules.proofs.SureLemmas.{sure-captured, sure_attacker_gives, sure_attacker_from, sure_defender_gives}
 use Rattle.sure_rules.proofs.ZoneLemmas.{zone_defender}
-use Rattle.read_zones.specs.Alike.{AreAlikeChildren, IsGuarded}
+use Rattle.read_zones.specs.Alike.{AreAlikeChildren, AreCandidates, IsGuarded}
 
 -- positions that agree on more points agree on fewer
 pub agree_less : {Y Z : ℕ → Bool} {a b : BoardState} → ((q : ℕ) → Y q ≡ true → Z q ≡ true)
@@ -98,8 +101,7 @@ some_there n (Some child) h = (child.0, child.1, refl, h)
 -- the attacker's turn, by a candidate that captures on every position that agrees
 pub attacker_has : (n : ℕ) (node : Node) (pos : BoardState) (points Y W Z : ℕ → Bool) (p : ℕ)
     → is_attackers node ≡ true → points p ≡ true
-    → WhereverAgrees pos Y (λ here. (has_too_many node here ≡ false)
-    × ((q : ℕ) → points q ≡ is_candidate node.turn here q))
+    → AreCandidates node pos points Y
     → WhereverAgrees pos W (λ here. some_child (surely_wins n) (child_of node here p) ≡ true)
     → ((q : ℕ) → Y q ≡ true → Z q ≡ true) → ((q : ℕ) → W q ≡ true → Z q ≡ true) → IsZone (n + 1) node pos Z
 attacker_has n node pos points Y W Z p turn inside shown captures y_in w_in = λ here sound same.
@@ -114,27 +116,40 @@ attacker_has n node pos points Y W Z p turn inside shown captures y_in w_in = λ
               point = p;
               next = w.0;
               new = w.1;
-              candidate = sym (few.1 p) ∙ inside;
+              candidate = few.1 p inside;
               child = child_gives node here p w.0 w.1 w.2;
               wins = w.3;
             },
           )
     ]
 
--- no candidate captures
-pub attacker_none : (n : ℕ) (node : Node) (pos : BoardState) (points : ℕ → Bool) → is_attackers node ≡ true
-    → is_gone node pos ≡ false → ((q : ℕ) → points q ≡ is_candidate node.turn pos q)
-    → ((q : ℕ) → (points q && some_child (surely_wins n) (child_of node pos q)) ≡ false)
+-- no candidate captures, if none of the first ones does and none of the others
+pub attacker_none : (n : ℕ) (node : Node) (pos : BoardState) (first others : ℕ → Bool) → is_attackers node ≡ true
+    → is_gone node pos ≡ false
+    → ((q : ℕ) → is_candidate node.turn pos q ≡ true → first q ≡ false → others q ≡ true)
+    → ((q : ℕ) → (first q && some_child (surely_wins n) (child_of node pos q)) ≡ false)
+    → ((q : ℕ) → (others q && some_child (surely_wins n) (child_of node pos q)) ≡ false)
     → surely_wins (n + 1) node pos ≡ false
-attacker_none n node pos points turn stands are none =
+attacker_none n node pos first others turn stands are none none_other =
     ap (λ m. surely_wins m node pos) (add-one n) ∙ elim (cases_Bool (surely_wins (suc n) node pos)) [
       | inr f ↦ f
       | inl sure ↦
           let w = (sure_attacker_gives n node pos stands turn sure).1 in
-          absurd (both_ways (points w.point && some_child (surely_wins n) (child_of node pos w.point)) (none w.point)
-          (and_from _ _ (are w.point ∙ w.candidate)
-          (ap (some_child (surely_wins n)) (child_from node pos w.point w.next w.new w.child) ∙ w.wins)))
+          let captures : some_child (surely_wins n) (child_of node pos w.point) ≡ true =
+          ap (some_child (surely_wins n)) (child_from node pos w.point w.next w.new w.child) ∙ w.wins in
+          elim (cases_Bool (first w.point)) [
+            | inl is ↦ absurd (both_ways (first w.point && some_child (surely_wins n) (child_of node pos w.point))
+                (none w.point) (and_from _ _ is captures))
+            | inr isnt ↦ absurd (both_ways (others w.point && some_child (surely_wins n) (child_of node pos w.point))
+                (none_other w.point) (and_from _ _ (are w.point w.candidate isnt) captures))
+          ]
     ]
+
+-- an answer of which none tells this tells by none what follows from it
+pub none_gives : (A B : Type 0) (P : sets.FinSet nat_cmp → Type 0) (o : Option (sets.FinSet nat_cmp)) → (A → B)
+    → MatchOption o A P → MatchOption o B P
+none_gives A B P None gives a = gives a
+none_gives A B P (Some zone) gives p = p
 
 -- the target has too many liberties
 pub attacker_barred : (n : ℕ) (node : Node) (pos : BoardState) → is_attackers node ≡ true → is_gone node pos ≡ false

@@ -1,5 +1,5 @@
 -- Positions that look the same at some points, and the replies that a capture needs read.
-use Rattle.std.specs.Prelude.{◌≡◌, ℕ, Bool, true, Option, Some, None}
+use Rattle.std.specs.Prelude.{◌≡◌, ℕ, Bool, true, false, Option, Some, None}
 use Rattle.go_rules.specs.declared.Cell.TheVariants.{Empty}
 use Rattle.go_rules.specs.declared.Colour.{Colour}
 use Rattle.go_rules.specs.Strings.{cell_at}
@@ -7,11 +7,19 @@ use Rattle.go_rules.specs.Position.{BoardState, other, stone_of, is_banned}
 use Rattle.go_rules.specs.Rules.{IsOnlyLiberty}
 use Rattle.read_rules.specs.declared.node.Node.{Node}
 use Rattle.read_rules.specs.Turns.{mover_of}
+use Rattle.read_rules.specs.Candidates.{is_candidate}
+use Rattle.sure_rules.specs.Nodes.{has_too_many}
+use Rattle.sure_rules.specs.Zones.{WhereverAgrees}
 
 -- at the points of the set both positions have the same cells and the same plays that the ban forbids
 pub record AreAlike (Z : ℕ → Bool) (a b : BoardState) : Type 0 where
   pub cells : (q : ℕ) → Z q ≡ true → cell_at a.cells q ≡ cell_at b.cells q
   pub bans : (q : ℕ) (c : Colour) → Z q ≡ true → is_banned a.ban c q ≡ is_banned b.ban c q
+
+-- on every position that agrees on the zone the target has not too many liberties, and each of the points is a candidate
+abbrev pub AreCandidates : Node → BoardState → (ℕ → Bool) → (ℕ → Bool) → Type 0
+AreCandidates node pos points zone = WhereverAgrees pos zone (λ here. (has_too_many node here ≡ false)
+    × ((p : ℕ) → points p ≡ true → is_candidate node.turn here p ≡ true))
 
 -- among the replies are each empty point of the set, and the only liberty of each attacker's string with a stone in it
 pub record IsGuarded (node : Node) (Z : ℕ → Bool) (here : BoardState) (replies : ℕ → Bool) : Type 0 where

@@ -109,7 +109,8 @@ fn move_under(position: &Position, question: &ReadingQuestion, code: u8) -> Opti
     }
 }
 
-/// The sure answer to a question. Each code lies within the one below it, so a question without code 1 has none.
+/// The sure answer to a question. The code that most answers have is read first. Each code lies within the one below it,
+/// so a question without code 1 has none.
 fn answer_on(position: &Position, question: &ReadingQuestion) -> Answer
     requires target { question.now.target < position.now.size * position.now.size }
     requires plies { 0 < question.now.plies }
@@ -119,15 +120,15 @@ fn answer_on(position: &Position, question: &ReadingQuestion) -> Answer
     ensures on_board { IfSome result.at (IsOnBoard position.now.size) }
     ensures answer { result ≡ sure_answer_of question.now position.now }
 {
-    let Some(first) = move_under(position, question, 1) else {
-        return Answer { code: 0, at: None };
-    };
     if let Some(spot) = move_under(position, question, 3) {
         return Answer {
             code: 3,
             at: Some(spot),
         };
     }
+    let Some(first) = move_under(position, question, 1) else {
+        return Answer { code: 0, at: None };
+    };
     if let Some(spot) = move_under(position, question, 2) {
         return Answer {
             code: 2,

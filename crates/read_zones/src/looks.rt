@@ -5,6 +5,7 @@ ghost use Rattle.std.specs.FinSet as set;
 ghost use Rattle.go_rules.specs.Position.{BoardState};
 ghost use Rattle.go_base.specs.Facts.{Agrees, Grows};
 ghost use Rattle.trial_board.specs.Trials.{Stays, most_moves, after};
+ghost use Rattle.read_rules.specs.Candidates.{is_candidate};
 ghost use Rattle.read_rules.specs.GameTree.{child_of};
 ghost use Rattle.read_rules.specs.GoodMoves.{is_barred};
 ghost use Rattle.read_rules.specs.Trees.{most_narrow};
@@ -51,6 +52,16 @@ pub fn is_barred<L: Look>(board: &mut Trial<L>, node: Node) -> bool
     )
 }
 
+/// The liberties of the target, which are the first candidates of either side.
+pub fn liberties_to_try<L: Look>(board: &mut Trial<L>, node: Node) -> PointSet
+    requires target { IsPointOf L.shows board.old node.turn.target }
+    ensures stays { Stays L.shows L.seen board.old board.new }
+    ensures over { OnEachAgreeing L.seen board.old board.new (λ here. (p : ℕ) → set.contains result p ≡ true
+        → is_candidate node.turn here p ≡ true) }
+{
+    board.liberties(node.turn.target)
+}
+
 /// Looks at the cells and the bans of these points, after the moves that stand.
 fn look_at<L: Look>(board: &mut Trial<L>, points: &PointSet)
     requires on_board { (q : ℕ) → set.contains points.now q ≡ true → IsPointOf L.shows board.old q }
@@ -94,23 +105,8 @@ pub fn one_point(p: Point) -> PointSet
     points
 }
 
-/// The liberty, if it is the only one.
-fn last_of(liberties: &PointSet) -> PointSet
-    ensures last { (l : ℕ) → set.contains liberties.now l ≡ true
-        → ((k : ℕ) → set.contains liberties.now k ≡ true → k ≡ l) → set.contains result l ≡ true }
-    ensures within { (l : ℕ) → set.contains result l ≡ true → set.contains liberties.now l ≡ true }
-{
-    match liberties.first_from(0) {
-        Some(l) => match liberties.first_from(l + 1) {
-            Some(_) => PointSet::new(),
-            None => one_point(l),
-        },
-        None => PointSet::new(),
-    }
-}
-
 /// The replies that have to be read for one point of a zone: the point if it is empty, and if it holds a stone of the
-/// attacker the only liberty of its string.
+/// attacker the only liberty of its string. A string that has shown two liberties is not searched further.
 fn replies_for<L: Look>(board: &mut Trial<L>, node: Node, q: Point) -> PointSet
     requires on_board { IsPointOf L.shows board.old q }
     ensures stays { Stays L.shows L.seen board.old board.new }
@@ -125,7 +121,11 @@ fn replies_for<L: Look>(board: &mut Trial<L>, node: Node, q: Point) -> PointSet
     if cell != node.mover().other().cell() {
         return PointSet::new();
     }
-    last_of(&board.liberties(q))
+    let liberties = board.some_liberties(q, 1);
+    if liberties.count() > 1 {
+        return PointSet::new();
+    }
+    liberties
 }
 
 /// The replies that have to be read for a zone of the defender's pass: its empty points, and the only liberties of the

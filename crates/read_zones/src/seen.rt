@@ -9,11 +9,13 @@ ghost use Rattle.go_base.specs.Watches.{shown_by, facts_of};
 ghost use Rattle.read_rules.specs.ActiveArea.{AgreeOn};
 ghost use Rattle.read_rules.specs.Candidates.{is_candidate};
 ghost use Rattle.read_rules.specs.GameTree.{child_of};
+ghost use Rattle.read_tree.specs.Steps.{IsTaken};
 ghost use Rattle.sure_rules.specs.Nodes.{is_attackers, has_too_many};
 ghost use Rattle.sure_rules.specs.Zones.{points_of, WhereverAgrees};
-ghost use Rattle.read_zones.specs.Alike.{AreAlikeChildren, IsGuarded};
+ghost use Rattle.read_zones.specs.Alike.{AreAlikeChildren, AreCandidates, IsGuarded};
 
-use crate::looks::{is_barred, look_at_play, replies_to_read};
+use crate::looks::{is_barred, liberties_to_try, look_at_play, replies_to_read};
+use crate::taking::takes;
 use go_base::{Point, PointSet, Position, Watch};
 use read_moves::candidates;
 use read_rules::Node;
@@ -57,6 +59,49 @@ pub fn candidates_shown(position: &Position, node: Node) -> Option<Shown>
         return None;
     }
     let points = candidates(&mut board, node.turn);
+    Some(Shown {
+        points,
+        zone: points_seen(board),
+    })
+}
+
+/// The points on which it rests that the attacker takes the target at once, by its only liberty; none if he may not, or
+/// if it is not told.
+pub fn taking_shown(position: &Position, node: Node) -> Option<PointSet>
+    requires target { node.turn.target < position.now.size * position.now.size }
+    requires turn { is_attackers node ≡ true }
+    ensures shown { IfSome result (λ zone. WhereverAgrees position.now (set.contains zone) (λ here.
+        (has_too_many node here ≡ false) × IsTaken node.turn here)) }
+    ensures on_board { IfSome result (λ zone. (q : ℕ) → set.contains zone q ≡ true
+        → q < position.now.size * position.now.size) }
+{
+    let mut board = Trial::new(Watch::new(position));
+    if is_barred(&mut board, node) {
+        let _look = board.finish();
+        return None;
+    }
+    if takes(&mut board, node.turn) {
+        return Some(points_seen(board));
+    }
+    let _look = board.finish();
+    None
+}
+
+/// The liberties of the target, which are the attacker's first candidates; none if they are too many for him.
+pub fn liberties_shown(position: &Position, node: Node) -> Option<Shown>
+    requires target { node.turn.target < position.now.size * position.now.size }
+    requires turn { is_attackers node ≡ true }
+    ensures shown { MatchOption result (has_too_many node position.now ≡ true)
+        (λ shown. AreCandidates node position.now (set.contains shown.points) (set.contains shown.zone)) }
+    ensures on_board { IfSome result (λ shown. (q : ℕ) → set.contains shown.zone q ≡ true
+        → q < position.now.size * position.now.size) }
+{
+    let mut board = Trial::new(Watch::new(position));
+    if is_barred(&mut board, node) {
+        let _look = board.finish();
+        return None;
+    }
+    let points = liberties_to_try(&mut board, node);
     Some(Shown {
         points,
         zone: points_seen(board),

@@ -1,15 +1,19 @@
 //! Whether a string is surely captured at a node, and the points on which that rests.
 
-ghost use Rattle.std.specs.Prelude.{◌≡◌, ℕ, ◌+◌, ◌*◌, ◌<◌, true, false, MatchOption, IsTrue, IfSome};
+ghost use Rattle.std.specs.Prelude.{◌≡◌, ℕ, ◌+◌, ◌*◌, ◌<◌, ◌&&◌, true, false, MatchOption, IsTrue, IfSome};
 ghost use Rattle.std.specs.FinSet as set;
 ghost use Rattle.go_rules.specs.Position.{BoardState};
 ghost use Rattle.read_rules.specs.GameTree.{child_of, some_child, each_child};
 ghost use Rattle.sure_rules.specs.Nodes.{is_attackers, is_gone};
 ghost use Rattle.sure_rules.specs.SureTree.{surely_wins};
 ghost use Rattle.sure_rules.specs.Zones.{IsZone, WhereverAgrees};
+ghost use Rattle.read_zones.specs.Alike.{AreCandidates};
 
 use crate::looks::one_point;
-use crate::seen::{candidates_shown, play_shown, replies_shown};
+use crate::outlook::is_lost;
+use crate::seen::{
+    Shown, candidates_shown, liberties_shown, play_shown, replies_shown, taking_shown,
+};
 use go_base::{Cell, Point, PointSet, Position};
 use read_proof::children::{child_of, passed};
 use read_rules::Node;
@@ -52,7 +56,36 @@ fn reply_zone(position: &Position, node: Node, p: Point, plies: u8) -> Option<Po
     }
 }
 
-/// The zone at the attacker's turn, with `plies` plies left after his move.
+/// The zone that shows that the attacker's play at one of these candidates captures, with `plies` plies left after it;
+/// none if none of them does.
+#[cycle(zones)]
+fn some_zone(position: &Position, node: Node, shown: &Shown, plies: u8) -> Option<PointSet>
+    requires target { node.turn.target < position.now.size * position.now.size }
+    requires turn { is_attackers node ≡ true }
+    requires shown { AreCandidates node position.now (set.contains shown.now.points) (set.contains shown.now.zone) }
+    requires on_board { (q : ℕ) → set.contains shown.now.zone q ≡ true → q < position.now.size * position.now.size }
+    ensures zone { MatchOption result
+        ((q : ℕ) → (set.contains shown.now.points q
+        && some_child (surely_wins plies) (child_of node position.now q)) ≡ false)
+        (λ zone. IsZone (plies + 1) node position.now (set.contains zone)) }
+    ensures on_board { IfSome result (λ zone. (q : ℕ) → set.contains zone q ≡ true
+        → q < position.now.size * position.now.size) }
+{
+    let _ = position.size();
+    let mut from = 0;
+    'plays: while let Some(p) = shown.points.first_from(from) {
+        if let Some(zone) = play_zone(position, node, p, plies) {
+            let mut all = zone;
+            all.join(&shown.zone);
+            return Some(all);
+        }
+        from = p + 1;
+    }
+    None
+}
+
+/// The zone at the attacker's turn, with `plies` plies left after his move. A target in atari is taken at once. The
+/// liberties of the target are read before the other candidates: it rests on few points that they are candidates.
 #[cycle(zones)]
 fn attacker_zone(position: &Position, node: Node, plies: u8) -> Option<PointSet>
     requires target { node.turn.target < position.now.size * position.now.size }
@@ -64,17 +97,20 @@ fn attacker_zone(position: &Position, node: Node, plies: u8) -> Option<PointSet>
         → q < position.now.size * position.now.size) }
 {
     let _ = position.size();
-    let shown = candidates_shown(position, node)?;
-    let mut from = 0;
-    'plays: while let Some(p) = shown.points.first_from(from) {
-        if let Some(zone) = play_zone(position, node, p, plies) {
-            let mut all = shown.zone;
-            all.join(&zone);
-            return Some(all);
-        }
-        from = p + 1;
+    if let Some(zone) = taking_shown(position, node) {
+        return Some(zone);
     }
-    None
+    let nearest = liberties_shown(position, node)?;
+    if let Some(zone) = some_zone(position, node, &nearest, plies) {
+        return Some(zone);
+    }
+    let all = candidates_shown(position, node)?;
+    let rest = all.points.difference(&nearest.points);
+    let others = Shown {
+        points: rest,
+        zone: all.zone,
+    };
+    some_zone(position, node, &others, plies)
 }
 
 /// The zone at the defender's turn, with `plies` plies left after his move.
@@ -116,6 +152,9 @@ pub fn zone_of(position: &Position, node: Node, plies: u8) -> Option<PointSet>
         return Some(one_point(node.turn.target));
     }
     if plies == 0 {
+        return None;
+    }
+    if is_lost(position, node, plies) {
         return None;
     }
     if node.turn.attacker_to_play {

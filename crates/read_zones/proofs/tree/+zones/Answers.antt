@@ -1,18 +1,21 @@
 -- The recursion, by the zones of plays and replies.
-use Rattle.std.proofs.Common.{◌≡◌, ◌∙◌, ◌*◌, ◌<◌, ℕ, true, refl, sym}
+use Rattle.std.proofs.Common.{◌≡◌, ◌∙◌, ◌+◌, ◌*◌, ◌<◌, ℕ, true, not, refl, sym}
 use Rattle.std.proofs.Common.{ap, subst, arith, inl, inr, rules}
 use Rattle.std.specs.FinSet as set
 use Rattle.std.specs.Ordering.{nat_cmp}
-use Rattle.std.proofs.lemmas.Bool.{both_ways, cases_eq, cases_lt, eq-eqb, eqb-true}
+use Rattle.std.proofs.lemmas.Bool.{and_parts, and_from, both_ways, cases_eq, cases_lt, eq-eqb, eqb-true}
 use Rattle.go_rules.specs.declared.Cell.TheVariants.{Empty}
 use Rattle.go_rules.specs.Strings.{same_cell}
 use Rattle.go_rules.proofs.Cells.{eq_is_same_cell}
 use Rattle.sure_rules.proofs.SureLemmas.{sure-no_plies}
 use Rattle.sure_rules.proofs.ZoneLemmas.{zone_captured}
-use Rattle.read_zones.proofs.GuardLemmas.{in_either, in_first, in_second}
+use Rattle.sure_rules.specs.Zones.{IsZone}
+use Rattle.read_zones.proofs.GuardLemmas.{in_either, in_first, in_second, in_rest}
 use Rattle.read_zones.proofs.TreeLemmas.{some_shown, each_shown, agree_less, agree_self, attacker_has}
 use Rattle.read_zones.proofs.TreeLemmas.{attacker_none, attacker_barred, defender_passes, defender_replies, defender_has}
-use Rattle.read_zones.proofs.TreeLemmas.{child_size, none_left}
+use Rattle.read_zones.proofs.TreeLemmas.{child_size, none_left, none_gives}
+use Rattle.read_zones.specs.Alike.{AreCandidates}
+use Rattle.read_zones.proofs.TakingLemmas.{taken_zone}
 use Rattle.read_rules.specs.GameTree.{child_of, some_child, each_child}
 use Rattle.read_rules.proofs.CandidateLaws.{candidate_on}
 use Rattle.sure_rules.specs.SureTree.{surely_wins}
@@ -49,14 +52,14 @@ reply_zone-returns-in_ok-after-in-Some-clause-zone t c =
     (set.contains c.in_ok-after-in-Some.after) (set.contains c.play_shown.result) c.requires.on_board
     (sym c.child_of.ensures.value ∙ c.in-Some.is) c.in_ok-after-in-Some.ensures.zone c.play_shown.ensures.shown
 
--- the candidate is on the board
-pub attacker_zone-returns-in-Some-play_zone-clause-zone : goal.attacker_zone-returns-in-Some-play_zone-clause-zone
-attacker_zone-returns-in-Some-play_zone-clause-zone t c =
-    attacker_has c.args.plies c.args.node c.args.position.now (set.contains c.in_ok-shown.shown.points)
-    (set.contains c.in_ok-shown.shown.zone) (set.contains c.in-Some-play_zone.zone) (set.contains c.join.new.self)
-    c.in-Some.p c.requires.turn c.in-Some.ensures.some.2 c.in_ok-shown.ensures.shown c.in-Some-play_zone.ensures.zone
-    (λ q. in_first c.in_ok-shown.shown.zone c.in-Some-play_zone.zone c.join.new.self q c.join.ensures)
-    (λ q. in_second c.in_ok-shown.shown.zone c.in-Some-play_zone.zone c.join.new.self q c.join.ensures)
+-- a candidate that captures
+pub some_zone-returns-in-Some-play_zone-clause-zone : goal.some_zone-returns-in-Some-play_zone-clause-zone
+some_zone-returns-in-Some-play_zone-clause-zone t c =
+    attacker_has c.args.plies c.args.node c.args.position.now (set.contains c.args.shown.now.points)
+    (set.contains c.args.shown.now.zone) (set.contains c.in-Some-play_zone.zone) (set.contains c.join.new.self)
+    c.in-Some.p c.requires.turn c.in-Some.ensures.some.2 c.requires.shown c.in-Some-play_zone.ensures.zone
+    (λ q. in_second c.in-Some-play_zone.zone c.args.shown.now.zone c.join.new.self q c.join.ensures)
+    (λ q. in_first c.in-Some-play_zone.zone c.args.shown.now.zone c.join.new.self q c.join.ensures)
 
 -- a target that is captured
 pub zone_of-returns-then-plies-eq0-clause-zone : goal.zone_of-returns-then-plies-eq0-clause-zone
@@ -66,36 +69,74 @@ zone_of-returns-then-plies-eq0-clause-zone t c =
     ∙ c.if-eq.false) c.if-plies-eq0.true
 
 -- the target has too many liberties
-pub attacker_zone-returns-in_err-shown-clause-zone : goal.attacker_zone-returns-in_err-shown-clause-zone
-attacker_zone-returns-in_err-shown-clause-zone t c =
+pub attacker_zone-returns-in_err-nearest-clause-zone : goal.attacker_zone-returns-in_err-nearest-clause-zone
+attacker_zone-returns-in_err-nearest-clause-zone t c =
     let none = attacker_barred c.args.plies c.args.node c.args.position.now c.requires.turn c.requires.stands
-    c.in_err-shown.ensures.shown in
+    c.in_err-nearest.ensures.shown in
     search rules
 
--- the candidate is on the board
-pub attacker_zone-play_zone-requires : goal.attacker_zone-play_zone-requires
-attacker_zone-play_zone-requires t c =
-    let on = candidate_on c.args.node.turn c.args.position.now c.in-Some.p
-    (sym ((c.in_ok-shown.ensures.shown c.args.position.now c.size.ensures.position
-    (agree_self c.args.position.now)).1 c.in-Some.p) ∙ c.in-Some.ensures.some.2) in
+-- the target is taken at once
+pub attacker_zone-returns-in-Some-clause-zone : goal.attacker_zone-returns-in-Some-clause-zone
+attacker_zone-returns-in-Some-clause-zone t c =
+    taken_zone c.args.plies c.args.node c.args.position.now (set.contains c.in-Some.zone) c.requires.target
+    c.in-Some.ensures.shown
+
+-- so of the other candidates
+pub attacker_zone-returns-in_err-all-clause-zone : goal.attacker_zone-returns-in_err-all-clause-zone
+attacker_zone-returns-in_err-all-clause-zone t c =
+    let none = attacker_barred c.args.plies c.args.node c.args.position.now c.requires.turn c.requires.stands
+    c.in_err-all.ensures.shown in
     search rules
 
--- both zones are on the board
-pub attacker_zone-returns-in-Some-play_zone-clause-on_board : goal.attacker_zone-returns-in-Some-play_zone-clause-on_board
-attacker_zone-returns-in-Some-play_zone-clause-on_board t c = λ q inside.
-    elim (in_either c.in_ok-shown.shown.zone c.in-Some-play_zone.zone c.join.new.self q c.join.ensures inside) [
-      | inl first ↦ c.in_ok-shown.ensures.on_board q first
-      | inr second ↦ c.in-Some-play_zone.ensures.on_board q second
-    ]
+-- the candidates that are left are candidates
+pub attacker_zone-some_zone-requires-2 : goal.attacker_zone-some_zone-requires-2
+attacker_zone-some_zone-requires-2 t c =
+    let rest = set.contains c.difference-rest.result in
+    let shown : AreCandidates c.args.node c.args.position.now rest (set.contains c.in_ok-all.all.zone) =
+    λ here sound same. (
+      (c.in_ok-all.ensures.shown here sound same).0,
+      λ p inside. sym ((c.in_ok-all.ensures.shown here sound same).1 p) ∙ (and_parts _ _
+          (sym (in_rest c.in_ok-all.all.points c.in_ok-nearest.nearest.points c.difference-rest.result p
+          c.difference-rest.ensures) ∙ inside)).0,
+    ) in
+    let on_board = c.in_ok-all.ensures.on_board in
+    search rules
 
 -- no candidate captures
 pub attacker_zone-returns-clause-zone : goal.attacker_zone-returns-clause-zone
 attacker_zone-returns-clause-zone t c =
-    let points = set.contains c.in_ok-shown.shown.points in
-    attacker_none c.args.plies c.args.node c.args.position.now points c.requires.turn c.requires.stands
-    (c.in_ok-shown.ensures.shown c.args.position.now c.size.ensures.position (agree_self c.args.position.now)).1
-    (λ q. none_left points (λ r. some_child (surely_wins c.args.plies) (child_of c.args.node c.args.position.now r))
-    c.plays.from c.plays.invariant c.in_default.ensures.none q)
+    let first = set.contains c.in_ok-nearest.nearest.points in
+    let others = set.contains c.difference-rest.result in
+    let told = c.in_ok-all.ensures.shown c.args.position.now c.size.ensures.position (agree_self c.args.position.now) in
+    none_gives _ _ (λ zone. IsZone (c.args.plies + 1) c.args.node c.args.position.now (set.contains zone))
+    c.some_zone-2.result (λ none_other. attacker_none c.args.plies c.args.node c.args.position.now first others
+    c.requires.turn c.requires.stands
+    (λ q candidate is_other. in_rest c.in_ok-all.all.points c.in_ok-nearest.nearest.points c.difference-rest.result q
+    c.difference-rest.ensures ∙ and_from _ _ (told.1 q ∙ candidate) (ap not is_other))
+    c.in_default-some_zone.ensures.zone none_other) c.some_zone-2.ensures.zone
+
+-- the candidate is on the board
+pub some_zone-play_zone-requires : goal.some_zone-play_zone-requires
+some_zone-play_zone-requires t c =
+    let on = candidate_on c.args.node.turn c.args.position.now c.in-Some.p
+    ((c.requires.shown c.args.position.now c.size.ensures.position
+    (agree_self c.args.position.now)).1 c.in-Some.p c.in-Some.ensures.some.2) in
+    search rules
+
+-- both zones are on the board
+pub some_zone-returns-in-Some-play_zone-clause-on_board : goal.some_zone-returns-in-Some-play_zone-clause-on_board
+some_zone-returns-in-Some-play_zone-clause-on_board t c = λ q inside.
+    elim (in_either c.in-Some-play_zone.zone c.args.shown.now.zone c.join.new.self q c.join.ensures inside) [
+      | inl first ↦ c.in-Some-play_zone.ensures.on_board q first
+      | inr second ↦ c.requires.on_board q second
+    ]
+
+-- no candidate captures
+pub some_zone-returns-clause-zone : goal.some_zone-returns-clause-zone
+some_zone-returns-clause-zone t c =
+    let points = set.contains c.args.shown.now.points in
+    λ q. none_left points (λ r. some_child (surely_wins c.args.plies) (child_of c.args.node c.args.position.now r))
+    c.plays.from c.plays.invariant c.in_default.ensures.none q
 
 -- the pass holds
 pub defender_zone-returns-in_err-zone-clause-zone : goal.defender_zone-returns-in_err-zone-clause-zone

@@ -19,22 +19,26 @@ decreases-play_zone l = 8 * l.plies + 1
 abbrev pub decreases-reply_zone : goal.decreases-reply_zone
 decreases-reply_zone l = 8 * l.plies + 1
 
--- the attacker's turn is one step above his plays
+-- candidates are one step above their plays
+abbrev pub decreases-some_zone : goal.decreases-some_zone
+decreases-some_zone l = 8 * l.plies + 2
+
+-- the attacker's turn is one step above his candidates
 abbrev pub decreases-attacker_zone : goal.decreases-attacker_zone
-decreases-attacker_zone l = 8 * l.plies + 2
+decreases-attacker_zone l = 8 * l.plies + 3
 
 -- and the defender's above his replies
 abbrev pub decreases-defender_zone : goal.decreases-defender_zone
 decreases-defender_zone l = 8 * l.plies + 2
 
 -- no candidate so far captures
-abbrev pub invariant-attacker_zone-plays : goal.invariant-attacker_zone-plays
-invariant-attacker_zone-plays l = (q : ℕ) → q < l.from
+abbrev pub invariant-some_zone-plays : goal.invariant-some_zone-plays
+invariant-some_zone-plays l = (q : ℕ) → q < l.from
     → (set.contains l.shown.points q && some_child (surely_wins l.plies) (child_of l.node l.position q)) ≡ false
 
 -- how many points are left
-abbrev pub decreases-attacker_zone-plays : goal.decreases-attacker_zone-plays
-decreases-attacker_zone-plays l = largest_points - l.from
+abbrev pub decreases-some_zone-plays : goal.decreases-some_zone-plays
+decreases-some_zone-plays l = largest_points - l.from
 
 -- the zone has what it began with, lies on the board, and shows that each reply so far fails
 abbrev pub invariant-defender_zone-replies : goal.invariant-defender_zone-replies
