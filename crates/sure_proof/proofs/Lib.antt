@@ -1,0 +1,4 @@
+pub mod ShownLemmas
+pub mod PlayLemmas
+pub mod SoundLemmas
+pub mod ProofLemmas

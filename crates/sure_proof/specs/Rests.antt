@@ -1,0 +1,97 @@
+-- The points on which the parts of a sure capture rest, each found on the position before the play.
+use Rattle.std.specs.Prelude.{ℕ, zero, suc, ◌*◌, ◌&&◌, Bool, true, nat_lt, List, Option, None, Some, if◌then◌else◌}
+use Rattle.std.specs.Option.{option_map, option_and_then}
+use Rattle.std.specs.Ordering.{nat_cmp}
+use Rattle.std.specs.FinSet as set
+use Rattle.go_rules.specs.declared.Cell.{Cell}
+use Rattle.go_rules.specs.declared.Cell.TheVariants.{Empty}
+use Rattle.go_rules.specs.declared.Colour.{Colour}
+use Rattle.go_rules.specs.Below.{first_below, set_below}
+use Rattle.go_rules.specs.Board.{largest_points}
+use Rattle.go_rules.specs.Strings.{cell_at, same_cell, is_liberty, liberties, string_at, liberty_points}
+use Rattle.go_rules.specs.Position.{BoardState, stone_of}
+use Rattle.go_base.specs.Floods.{enemy_points}
+use Rattle.go_base.specs.Sides.{neighbour_at}
+use Rattle.read_rules.specs.Candidates.{is_empty_beside}
+use Rattle.read_rules.specs.declared.turn.Turn.{Turn}
+
+-- a set of points
+abbrev pub Points : Type 0
+Points = set.FinSet nat_cmp
+
+-- the points of the sets of the numbers below n
+abbrev pub union_below : ℕ → (ℕ → Points) → Points
+union_below zero sets = set.empty
+union_below (suc n) sets = set.union (union_below n sets) (sets n)
+
+-- the two least points of a set, if it has two
+abbrev pub first_two : Points → Option (ℕ × ℕ)
+first_two S = option_and_then
+    (λ l. option_map (λ k. (l, k)) (first_below largest_points (λ k. nat_lt l k && set.contains S k)))
+    (first_below largest_points (set.contains S))
+
+-- the string of q and all its neighbours
+unfoldable pub close_to : ℕ → List Cell → ℕ → Points
+close_to s cells q = set.union (set.union (string_at s cells q) (liberty_points s cells q)) (enemy_points s cells q)
+
+-- the stones and these two liberties; if there are no two, the stones, the liberties and the enemies next to them
+abbrev pub shown_by : Points → Points → Points → Option (ℕ × ℕ) → Points
+shown_by stones liberties enemies None = set.union (set.union stones liberties) enemies
+shown_by stones liberties enemies (Some two) = set.insert (set.insert stones two.0) two.1
+
+-- what shows whether the string of q is in atari: q, and the string with its first two liberties in reading order, or
+-- with all its neighbours if it has no two
+unfoldable pub shows_atari : ℕ → List Cell → ℕ → Points
+shows_atari s cells q = set.insert (shown_by (string_at s cells q) (liberty_points s cells q) (enemy_points s cells q)
+    (first_two (liberty_points s cells q))) q
+
+-- what shows whether the string of a neighbour is in atari; nothing beyond the edge
+abbrev pub shows_neighbour : ℕ → List Cell → Option ℕ → Points
+shows_neighbour s cells None = set.empty
+shows_neighbour s cells (Some q) = shows_atari s cells q
+
+-- what a play at p rests on: p, and what shows of each neighbour whether its string is in atari. It tells whether the
+-- play can be made, what it captures and which ban it leaves
+unfoldable pub play_rests_on : ℕ → List Cell → ℕ → Points
+play_rests_on s cells p = set.insert (union_below 4 (λ side. shows_neighbour s cells (neighbour_at s p side))) p
+
+-- all points of a board of s rows
+abbrev pub all_points : ℕ → Points
+all_points s = set_below (s * s) (λ q. true)
+
+-- what shows that p is a candidate at the turn and that the target has not too many liberties. A liberty of the target
+-- rests on the target's string and its neighbours, and a point beside a liberty on p too; every other candidate rests on
+-- all points of the board
+unfoldable pub candidate_rests_on : Turn → BoardState → ℕ → Points
+candidate_rests_on turn pos p =
+    if is_liberty pos.size pos.cells turn.target p then close_to pos.size pos.cells turn.target
+    else if (nat_lt 0 turn.wide && nat_lt (liberties pos.size pos.cells turn.target) 3)
+    && is_empty_beside pos.size pos.cells (is_liberty pos.size pos.cells turn.target) p
+    then set.insert (close_to pos.size pos.cells turn.target) p
+    else all_points pos.size
+
+-- what guards q of the zone Z: if q holds a stone of c, what shows whether its string is in atari
+abbrev pub guard_at : ℕ → List Cell → Colour → Points → ℕ → Points
+guard_at s cells c Z q =
+    if set.contains Z q && same_cell (cell_at cells q) (stone_of c) then shows_atari s cells q else set.empty
+
+-- what shows of each string of c with a stone in Z whether it is in atari
+unfoldable pub guard_of : ℕ → List Cell → Colour → Points → Points
+guard_of s cells c Z = union_below (s * s) (guard_at s cells c Z)
+
+-- these liberties, if there are no two
+abbrev pub last_of : Points → Option (ℕ × ℕ) → Points
+last_of liberties None = liberties
+last_of liberties (Some two) = set.empty
+
+-- the reply that q of Z asks for: q if it is empty, and the only liberty of its string if it holds a stone of c
+abbrev pub asked_at : ℕ → List Cell → Colour → Points → ℕ → Points
+asked_at s cells c Z q =
+    if set.contains Z q && same_cell (cell_at cells q) Empty then set.insert set.empty q
+    else if set.contains Z q && same_cell (cell_at cells q) (stone_of c)
+    then last_of (liberty_points s cells q) (first_two (liberty_points s cells q))
+    else set.empty
+
+-- the replies that Z asks for: its empty points, and the only liberty of each string of c that has a stone in Z
+unfoldable pub asked_of : ℕ → List Cell → Colour → Points → Points
+asked_of s cells c Z = union_below (s * s) (asked_at s cells c Z)

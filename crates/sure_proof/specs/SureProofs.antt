@@ -1,0 +1,137 @@
+-- When words prove that a string is surely captured, and the points on which the proof rests.
+use Rattle.std.specs.Prelude.{◌≡◌, ℕ, zero, suc, ◌*◌, ◌==◌, ◌||◌, Bool, false, List, [], ◌∷◌, Option, None, Some}
+use Rattle.std.specs.Prelude.{if◌then◌else◌, codes}
+use Rattle.std.specs.List.{range_with_len, filter}
+use Rattle.std.specs.Option.{option_and_then, option_map}
+use Rattle.std.specs.FinSet as set
+use Rattle.std.specs.Str.{bytes_eq}
+use Rattle.go_rules.specs.Position.{BoardState, other}
+use Rattle.go_rules.specs.Play.{pass}
+use Rattle.vertices.specs.Vertices.{target_of as target_named}
+use Rattle.read_rules.specs.declared.node.Node.{Node}
+use Rattle.read_rules.specs.declared.question.Spot.TheVariants.{At}
+use Rattle.read_rules.specs.GameTree.{allowance_of, next_node, child_of}
+use Rattle.read_rules.specs.Turns.{mover_of}
+use Rattle.read_proof.specs.Tokens.{Word}
+use Rattle.read_proof.specs.Proves.{child_after}
+use Rattle.sure_rules.specs.Nodes.{is_attackers, is_gone, has_too_many, target_of}
+use Rattle.sure_proof.specs.Rests.{Points, play_rests_on, candidate_rests_on, guard_of, asked_of}
+
+-- what words proved: the words behind the proof, and the points on which it rests
+pub record Proved : Type 0 where
+  pub rest : List Word
+  pub zone : Points
+
+-- these words behind the proof, and these points
+abbrev pub proved_by : List Word → Points → Proved
+proved_by rest zone = record { rest = rest; zone = zone }
+
+-- how the first of these words prove that the target is surely captured at a node; nothing if they do not
+abbrev pub Prover : Type 0
+Prover = Node → BoardState → List Word → Option Proved
+
+-- the same with further points
+abbrev pub with_points : Points → Proved → Proved
+with_points more found = record { rest = found.rest; zone = set.union more found.zone }
+
+-- the words behind the first, if this is it
+abbrev pub behind_word : Word → List Word → Option (List Word)
+behind_word word [] = None
+behind_word word (first ∷ rest) = if bytes_eq first word then Some rest else None
+
+-- the move is to p
+abbrev pub is_to : Option (Option ℕ) → ℕ → Bool
+is_to None p = false
+is_to (Some None) p = false
+is_to (Some (Some q)) p = q == p
+
+-- the words behind the first, if it is the vertex of p on a board of size s
+abbrev pub behind_vertex : ℕ → ℕ → List Word → Option (List Word)
+behind_vertex s p [] = None
+behind_vertex s p (first ∷ rest) = if is_to (target_named s first) p then Some rest else None
+
+-- `.` proves that the target is captured if its point is empty, and rests on this point
+abbrev pub by_capture : Node → BoardState → List Word → Option Proved
+by_capture node pos rest = if is_gone node pos
+    then Some (record { rest = rest; zone = set.insert set.empty (target_of node) })
+    else None
+
+-- a vertex proves a sure capture if the attacker can play there and the proof of the child follows. It rests on what
+-- shows that the point is a candidate, on what the play rests on, and on what the proof of the child rests on
+abbrev pub by_child : Prover → Node → BoardState → ℕ → Option (Node × BoardState) → List Word → Option Proved
+by_child prove node pos p None rest = None
+by_child prove node pos p (Some child) rest =
+    option_map (with_points (set.union (candidate_rests_on node.turn pos p) (play_rests_on pos.size pos.cells p)))
+    (prove child.0 child.1 rest)
+
+-- so it does if the word is the vertex of a candidate that can be played
+abbrev pub by_move : Prover → Node → BoardState → Option (Option ℕ) → List Word → Option Proved
+by_move prove node pos None rest = None
+by_move prove node pos (Some None) rest = None
+by_move prove node pos (Some (Some p)) rest = by_child prove node pos p (child_after node pos (At p)) rest
+
+-- the words behind one reply, and the points so far with those on which the reply rests: what the play rests on, and
+-- if it can be played, which its vertex says, what the proof of its child rests on
+abbrev pub at_reply : Prover → BoardState → ℕ → Option (Node × BoardState) → Proved → Option Proved
+at_reply prove pos p None so_far =
+    Some (record { rest = so_far.rest; zone = set.union so_far.zone (play_rests_on pos.size pos.cells p) })
+at_reply prove pos p (Some child) so_far =
+    option_map (with_points (set.union so_far.zone (play_rests_on pos.size pos.cells p)))
+    (option_and_then (prove child.0 child.1) (behind_vertex pos.size p so_far.rest))
+
+-- the same of some replies, one after another
+abbrev pub at_replies : Prover → Node → BoardState → List ℕ → Proved → Option Proved
+at_replies prove node pos [] so_far = Some so_far
+at_replies prove node pos (p ∷ more) so_far =
+    option_and_then (at_replies prove node pos more) (at_reply prove pos p (child_of node pos p) so_far)
+
+-- the points of a set on a board of s rows, in reading order
+abbrev pub points_in : ℕ → Points → List ℕ
+points_in s Z = filter (set.contains Z) (range_with_len 0 (s * s))
+
+-- the replies that the zone asks for, in reading order
+abbrev pub replies_to : Node → BoardState → Points → List ℕ
+replies_to node pos Z = points_in pos.size (asked_of pos.size pos.cells (other (mover_of node.turn)) Z)
+
+-- the words behind the `;` that ends the replies
+abbrev pub at_end : Proved → Option Proved
+at_end found = option_map (λ rest. record { rest = rest; zone = found.zone }) (behind_word (codes ";") found.rest)
+
+-- the words behind the replies that the pass's zone asks for and the `;` that ends them; the proof rests on the zone, on
+-- what guards it, and on what the replies rest on
+abbrev pub behind_pass : Prover → Node → BoardState → Proved → Option Proved
+behind_pass prove node pos passed =
+    option_and_then at_end (at_replies prove node pos (replies_to node pos passed.zone)
+    (record {
+      rest = passed.rest;
+      zone = set.union passed.zone
+          (guard_of pos.size pos.cells (other (mover_of node.turn)) passed.zone);
+    }))
+
+-- `*` proves a sure capture at the defender's turn if the proof after the pass follows, and then the replies
+abbrev pub by_replies : Prover → Node → BoardState → List Word → Option Proved
+by_replies prove node pos rest =
+    option_and_then (behind_pass prove node pos) (prove (next_node node (allowance_of node)) (pass pos) rest)
+
+-- what the first word proves with plies left: a vertex at the attacker's turn, if the target stands and has not too many
+-- liberties, and `*` at the defender's
+abbrev pub by_turn : Prover → Node → BoardState → Word → List Word → Option Proved
+by_turn prove node pos word rest =
+    if is_attackers node
+    then (if is_gone node pos || has_too_many node pos then None
+    else by_move prove node pos (target_named pos.size word) rest)
+    else if bytes_eq word (codes "*") then by_replies prove node pos rest
+    else None
+
+-- the proof, in front of these words, that with n plies left the target is surely captured at the node
+unfoldable pub proves_surely : ℕ → Prover
+proves_surely n node pos [] = None
+proves_surely zero node pos (word ∷ rest) = if bytes_eq word (codes ".") then by_capture node pos rest else None
+proves_surely (suc n) node pos (word ∷ rest) =
+    if bytes_eq word (codes ".") then by_capture node pos rest
+    else by_turn (proves_surely n) node pos word rest
+
+-- the text proves that with n plies left the target is surely captured at the node: no word is left behind its proof
+abbrev pub IsSureProof : ℕ → Node → BoardState → List Word → Type 0
+IsSureProof n node pos words = (zone : Points)
+    × (proves_surely n node pos words ≡ Some (record { rest = []; zone = zone }))
