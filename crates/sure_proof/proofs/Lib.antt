@@ -2,3 +2,5 @@ pub mod ShownLemmas
 pub mod PlayLemmas
 pub mod SoundLemmas
 pub mod ProofLemmas
+pub mod StepLemmas
+pub mod RestLemmas

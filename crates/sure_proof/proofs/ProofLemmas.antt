@@ -60,26 +60,26 @@ cells_same Z pos here good sound same within =
 
 -- p is a wide candidate by the target's liberties: a wide ply is left, the target has at most two, and p is empty and
 -- next to one
-abbrev is_wide : Turn → BoardState → ℕ → Bool
+abbrev pub is_wide : Turn → BoardState → ℕ → Bool
 is_wide turn pos p = (ltb 0 turn.wide && ltb (liberties pos.size pos.cells turn.target) 3)
     && is_empty_beside pos.size pos.cells (is_liberty pos.size pos.cells turn.target) p
 
 -- What a candidate rests on.
 module _ (turn : Turn) (pos : BoardState) (p : ℕ) where
   -- a liberty rests on what is close to the target
-  rests_liberty : is_liberty pos.size pos.cells turn.target p ≡ true
+  pub rests_liberty : is_liberty pos.size pos.cells turn.target p ≡ true
       → candidate_rests_on turn pos p ≡ close_to pos.size pos.cells turn.target
   unfolding candidate_rests_on
   rests_liberty t = rw t refl
 
   -- a point beside a liberty on itself too
-  rests_wide : is_liberty pos.size pos.cells turn.target p ≡ false → is_wide turn pos p ≡ true
+  pub rests_wide : is_liberty pos.size pos.cells turn.target p ≡ false → is_wide turn pos p ≡ true
       → candidate_rests_on turn pos p ≡ sets.insert (close_to pos.size pos.cells turn.target) p
   unfolding candidate_rests_on
   rests_wide f t = rw (f, t) refl
 
   -- any other on all points
-  rests_all : is_liberty pos.size pos.cells turn.target p ≡ false → is_wide turn pos p ≡ false
+  pub rests_all : is_liberty pos.size pos.cells turn.target p ≡ false → is_wide turn pos p ≡ false
       → candidate_rests_on turn pos p ≡ all_points pos.size
   unfolding candidate_rests_on
   rests_all f g = rw (f, g) refl

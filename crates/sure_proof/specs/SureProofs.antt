@@ -131,7 +131,6 @@ proves_surely (suc n) node pos (word ∷ rest) =
     if bytes_eq word (codes ".") then by_capture node pos rest
     else by_turn (proves_surely n) node pos word rest
 
--- the text proves that with n plies left the target is surely captured at the node: no word is left behind its proof
+-- the words prove that with n plies left the target is surely captured at the node: no word is left behind the proof
 abbrev pub IsSureProof : ℕ → Node → BoardState → List Word → Type 0
-IsSureProof n node pos words = (zone : Points)
-    × (proves_surely n node pos words ≡ Some (record { rest = []; zone = zone }))
+IsSureProof n node pos words = option_map (λ (found : Proved). found.rest) (proves_surely n node pos words) ≡ Some []

@@ -1,0 +1,120 @@
+-- The sets of points as loops and looks find them.
+use Rattle.std.proofs.Common.{◌≡◌, ◌∙◌, ℕ, suc, ◌+◌, ◌*◌, ◌<◌, ◌≤◌, ◌&&◌, Bool, true, false, cond, List, Option, Some, None}
+use Rattle.std.proofs.Common.{refl, sym, ap, inl, inr, arith, ltb, add-one}
+use Rattle.std.specs.Option.{option_map, option_and_then}
+use Rattle.std.specs.FinSet as sets
+use Rattle.std.proofs.lemmas.Bool.{cases_Bool, and_from, lt-ltb, ltb-true}
+use Rattle.go_rules.specs.declared.Cell.{Cell}
+use Rattle.go_rules.specs.Below.{any_below, first_below}
+use Rattle.go_rules.specs.Board.{largest_points, are_neighbours}
+use Rattle.go_rules.specs.declared.Cell.TheVariants.{Empty, Black, White}
+use Rattle.go_rules.specs.declared.Colour.TheVariants.{Black as black, White as white}
+use Rattle.go_rules.specs.declared.Colour.{Colour}
+use Rattle.go_rules.specs.Position.{stone_of}
+use Rattle.go_rules.specs.Strings.{cell_at, same_cell, is_liberty, string_at, liberty_points, liberties}
+use Rattle.go_base.specs.Floods.{enemy_points}
+use Rattle.read_rules.specs.Candidates.{is_empty_beside}
+use Rattle.go_rules.proofs.Counts.{first_below_is, first_below_none, any_below_same}
+use Rattle.go_rules.proofs.Sets.{contains-set_below, len-set_below}
+use Rattle.sure_proof.specs.Rests.{Points, union_below, first_two, shown_by, shows_atari, last_of, asked_at}
+
+-- A set, and its first point.
+module _ (S : Points) where
+  -- an empty set has no two points
+  pub two_none : ((r : ℕ) → 0 ≤ r → sets.contains S r ≡ false) → first_two S ≡ None
+  two_none none = ap (option_and_then (λ l. option_map {T = ℕ} {U = ℕ × ℕ} (λ k. (l, k))
+      (first_below largest_points (λ k. ltb l k && sets.contains S k))))
+      (first_below_none largest_points (sets.contains S) (λ k less. none k (omega arith)))
+
+  module _ (l : ℕ) (low : l < largest_points) (here : sets.contains S l ≡ true)
+      (before : (r : ℕ) → 0 ≤ r → r < l → sets.contains S r ≡ false) where
+    -- the second is the first behind it
+    by_second : first_two S
+        ≡ option_map {T = ℕ} {U = ℕ × ℕ} (λ k. (l, k)) (first_below largest_points (λ k. ltb l k && sets.contains S k))
+    by_second = ap (option_and_then (λ m. option_map {T = ℕ} {U = ℕ × ℕ} (λ k. (m, k))
+        (first_below largest_points (λ k. ltb m k && sets.contains S k))))
+        (first_below_is largest_points (sets.contains S) l low here (λ r less. before r (omega arith) less))
+
+    -- a set of one point has no two
+    pub two_one : ((r : ℕ) → l + 1 ≤ r → sets.contains S r ≡ false) → first_two S ≡ None
+    two_one left = by_second ∙ ap (option_map {T = ℕ} {U = ℕ × ℕ} (λ k. (l, k)))
+        (first_below_none largest_points (λ k. ltb l k && sets.contains S k) (λ k less. elim (cases_Bool (ltb l k)) [
+          | inl t ↦ ap (λ b. b && sets.contains S k) t ∙ left k (let more = ltb-true l k t in omega (arith, more))
+          | inr f ↦ ap (λ b. b && sets.contains S k) f
+        ]))
+
+    -- the first two points of a set that has them
+    pub two_both : (k : ℕ) → l + 1 ≤ k → k < largest_points → sets.contains S k ≡ true
+        → ((r : ℕ) → l + 1 ≤ r → r < k → sets.contains S r ≡ false) → first_two S ≡ Some (l, k)
+    two_both k behind k_low k_here between = by_second ∙ ap (option_map {T = ℕ} {U = ℕ × ℕ} (λ j. (l, j)))
+        (first_below_is largest_points (λ j. ltb l j && sets.contains S j) k k_low
+        (and_from (ltb l k) (sets.contains S k) (lt-ltb l k (omega (arith, behind))) k_here)
+        (λ r less. elim (cases_Bool (ltb l r)) [
+          | inl t ↦ ap (λ b. b && sets.contains S r) t ∙ between r (let more = ltb-true l r t in omega (arith, more)) less
+          | inr f ↦ ap (λ b. b && sets.contains S r) f
+        ]))
+
+-- one more set
+pub union_more : (n : ℕ) (each : ℕ → Points) → sets.union (union_below n each) (each n) ≡ union_below (n + 1) each
+union_more n each = sym (ap (λ m. union_below m each) (add-one n))
+
+-- the set of the liberties has a point exactly if it is a liberty
+pub in_liberties : (s : ℕ) (cells : List Cell) (q l : ℕ) → l < s * s
+    → sets.contains (liberty_points s cells q) l ≡ is_liberty s cells q l
+unfolding liberty_points
+in_liberties s cells q l on =
+    contains-set_below (s * s) (is_liberty s cells q) l ∙ ap (λ b. b && is_liberty s cells q l) (lt-ltb l (s * s) on)
+
+-- it has as many points as the string has liberties
+pub liberties_in : (s : ℕ) (cells : List Cell) (q : ℕ) → sets.len (liberty_points s cells q) ≡ liberties s cells q
+unfolding liberty_points liberties
+liberties_in s cells q = len-set_below (s * s) (is_liberty s cells q)
+
+-- a point is next to a liberty exactly if it is next to a point of their set
+pub beside_same : (s : ℕ) (cells : List Cell) (q p : ℕ)
+    → any_below (s * s) (λ l. sets.contains (liberty_points s cells q) l && are_neighbours s l p)
+    ≡ any_below (s * s) (λ l. is_liberty s cells q l && are_neighbours s l p)
+beside_same s cells q p = any_below_same (s * s) (λ l. sets.contains (liberty_points s cells q) l && are_neighbours s l p)
+    (λ l. is_liberty s cells q l && are_neighbours s l p)
+    (λ l on. ap (λ b. b && are_neighbours s l p) (in_liberties s cells q l on))
+
+-- a point of the board is empty and next to a liberty exactly if nothing stands there and a neighbour is in their set
+pub empty_beside : (s : ℕ) (cells : List Cell) (q p : ℕ) → p < s * s
+    → is_empty_beside s cells (is_liberty s cells q) p ≡ (same_cell (cell_at cells p) Empty
+    && any_below (s * s) (λ l. sets.contains (liberty_points s cells q) l && are_neighbours s l p))
+unfolding is_empty_beside
+empty_beside s cells q p on =
+    ap (λ b. b && same_cell (cell_at cells p) Empty
+    && any_below (s * s) (λ l. is_liberty s cells q l && are_neighbours s l p)) (lt-ltb p (s * s) on)
+    ∙ ap (λ v. same_cell (cell_at cells p) Empty && v) (sym (beside_same s cells q p))
+
+-- a stone of c is no empty point
+pub stone_stands : (c : Colour) (k : Cell) → same_cell k (stone_of c) ≡ true → same_cell k Empty ≡ false
+stone_stands black Empty h = absurd (let wrong = h in cc)
+stone_stands white Empty h = absurd (let wrong = h in cc)
+stone_stands c Black h = refl
+stone_stands c White h = refl
+
+-- what is said together with what is false is false
+no_both : (b : Bool) → (b && false) ≡ false
+no_both true = refl
+no_both false = refl
+
+-- a stone of c in the zone asks for its last liberty
+pub asked_stone : (s : ℕ) (cells : List Cell) (c : Colour) (Z : Points) (q : ℕ) → sets.contains Z q ≡ true
+    → same_cell (cell_at cells q) (stone_of c) ≡ true
+    → asked_at s cells c Z q ≡ last_of (liberty_points s cells q) (first_two (liberty_points s cells q))
+asked_stone s cells c Z q inside own =
+    let last = last_of (liberty_points s cells q) (first_two (liberty_points s cells q)) in
+    ap (λ v. cond v (sets.insert sets.empty q)
+    (cond (sets.contains Z q && same_cell (cell_at cells q) (stone_of c)) last sets.empty))
+    (ap (λ v. sets.contains Z q && v) (stone_stands c (cell_at cells q) own) ∙ no_both (sets.contains Z q))
+    ∙ ap (λ v. cond v last sets.empty)
+    (and_from (sets.contains Z q) (same_cell (cell_at cells q) (stone_of c)) inside own)
+
+-- what shows whether a string is in atari, written out
+pub shows_is : (s : ℕ) (cells : List Cell) (q : ℕ) → shows_atari s cells q
+    ≡ sets.insert (shown_by (string_at s cells q) (liberty_points s cells q) (enemy_points s cells q)
+    (first_two (liberty_points s cells q))) q
+unfolding shows_atari
+shows_is s cells q = refl

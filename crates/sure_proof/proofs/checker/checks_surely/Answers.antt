@@ -1,0 +1,12 @@
+-- The node is the first of the question.
+use Rattle.sure_proof.proofs.checker.checks_surely.Goals as goal
+
+-- the text is a proof there
+pub returns-clause-proof : goal.returns-clause-proof
+returns-clause-proof c =
+    rw c.question_on-question.ensures at (rw c.first_node.ensures at c.check_node.ensures.proof)
+
+-- and the target is surely captured there
+pub returns-clause-sound : goal.returns-clause-sound
+returns-clause-sound c =
+    rw c.question_on-question.ensures at (rw c.first_node.ensures at c.check_node.ensures.sound)

@@ -1,0 +1,16 @@
+-- The loop over the four sides.
+use Rattle.std.proofs.Common.{◌∙◌, ap}
+use Rattle.std.specs.FinSet as set
+use Rattle.go_base.specs.Sides.{neighbour_at}
+use Rattle.sure_proof.specs.Rests.{union_below, shows_neighbour}
+use Rattle.sure_proof.proofs.RestLemmas.{union_more}
+use Rattle.sure_proof.proofs.play.play_rests_on.Goals as goal
+
+-- the next side comes
+pub sides-preserved : goal.sides-preserved
+sides-preserved c =
+    let pos = c.args.pos.now in
+    c.join.ensures ∙ ap (λ s. set.union s c.shows_side.result) c.sides.invariant
+    ∙ ap (set.union (union_below c.sides.side
+    (λ k. shows_neighbour pos.size pos.cells (neighbour_at pos.size c.args.p k)))) c.shows_side.ensures
+    ∙ union_more c.sides.side (λ k. shows_neighbour pos.size pos.cells (neighbour_at pos.size c.args.p k))

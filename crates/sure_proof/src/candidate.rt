@@ -1,0 +1,105 @@
+//! What shows that a point is a candidate of the attacker, and that the target has not too many liberties.
+
+ghost use Rattle.std.specs.Prelude.{◌≡◌, ◌*◌, ◌<◌, ◌&&◌, ◌||◌, ◌==◌, nat_lt, IsTrue, ℕ, false, Some};
+ghost use Rattle.std.specs.FinSet as set;
+ghost use Rattle.go_rules.specs.Below.{any_below};
+ghost use Rattle.go_rules.specs.Board.{largest_points, are_neighbours};
+ghost use Rattle.go_rules.specs.Strings.{liberties as liberties_at, liberty_points, is_liberty};
+ghost use Rattle.go_base.specs.Sides.{neighbour_at};
+ghost use Rattle.read_rules.specs.Candidates.{is_empty_beside};
+ghost use Rattle.sure_proof.specs.Rests.{all_points, candidate_rests_on};
+
+use crate::shown::close_to;
+use go_base::sides::neighbour;
+use go_base::{Cell, Point, PointSet, Position, Size};
+use read_rules::Turn;
+
+/// With so many liberties or more the empty points next to a target's liberties are not tried.
+const MANY: u16 = 3;
+
+/// All points of a board.
+fn all_points(size: Size) -> PointSet
+    ensures { result ≡ all_points size }
+{
+    let mut points = PointSet::new();
+    'points: for p in 0..size.points() {
+        points.add(p);
+    }
+    points
+}
+
+/// Whether the point at a side of q is in the set.
+fn has_side(size: Size, points: &PointSet, q: Point, side: u8) -> bool
+    requires on_board { q < size * size }
+    requires side { side < 4 }
+    ensures yes { IsTrue result → (l : ℕ) × (neighbour_at size q side ≡ Some l) × IsTrue (set.contains points.now l) }
+    ensures no { result ≡ false → (l : ℕ) → neighbour_at size q side ≡ Some l → set.contains points.now l ≡ false }
+{
+    match neighbour(size, q, side) {
+        Some(l) => points.has(l),
+        None => false,
+    }
+}
+
+/// Whether some neighbour of q is in the set.
+fn is_beside(pos: &Position, points: &PointSet, q: Point) -> bool
+    requires { q < pos.now.size * pos.now.size }
+    ensures { result ≡ any_below (pos.now.size * pos.now.size)
+        (λ l. set.contains points.now l && are_neighbours pos.now.size l q) }
+{
+    let size = pos.size();
+    for side in 0..4 {
+        if has_side(size, points, q, side) {
+            return true;
+        }
+    }
+    false
+}
+
+/// Whether p is empty and next to one of these liberties of the target.
+fn is_empty_beside(pos: &Position, target: Point, liberties: &PointSet, p: Point) -> bool
+    requires on_board { p < pos.now.size * pos.now.size }
+    requires liberties { liberties.now ≡ liberty_points pos.now.size pos.now.cells target }
+    ensures { result ≡ is_empty_beside pos.now.size pos.now.cells (is_liberty pos.now.size pos.now.cells target) p }
+{
+    let beside = is_beside(pos, liberties, p);
+    pos.cell(p) == Cell::Empty && beside
+}
+
+/// Whether all three are so.
+fn are_all(first: bool, second: bool, third: bool) -> bool
+    ensures { result ≡ ((first && second) && third) }
+{
+    first && second && third
+}
+
+/// Whether p is a wide candidate by these liberties of the target: a wide ply is left, they are at most two, and p is
+/// empty and next to one of them.
+fn is_wide(pos: &Position, turn: Turn, liberties: &PointSet, p: Point) -> bool
+    requires on_board { p < pos.now.size * pos.now.size }
+    requires liberties { liberties.now ≡ liberty_points pos.now.size pos.now.cells turn.target }
+    ensures { result ≡ ((nat_lt 0 turn.wide && nat_lt (liberties_at pos.now.size pos.now.cells turn.target) 3)
+        && is_empty_beside pos.now.size pos.now.cells (is_liberty pos.now.size pos.now.cells turn.target) p) }
+{
+    let beside = is_empty_beside(pos, turn.target, liberties, p);
+    are_all(turn.wide > 0, liberties.count() < MANY, beside)
+}
+
+/// What shows that p is a candidate at the turn, and that the target has not too many liberties.
+pub(crate) fn candidate_rests_on(pos: &Position, turn: Turn, p: Point) -> PointSet
+    requires target { turn.target < pos.now.size * pos.now.size }
+    requires on_board { p < pos.now.size * pos.now.size }
+    requires small { p < largest_points }
+    ensures { result ≡ candidate_rests_on turn pos.now p }
+{
+    let liberties = pos.liberty_points(turn.target);
+    if liberties.has(p) {
+        return close_to(pos, turn.target);
+    }
+    if is_wide(pos, turn, &liberties, p) {
+        let mut points = close_to(pos, turn.target);
+        points.add(p);
+        return points;
+    }
+    all_points(pos.size())
+}

@@ -1,0 +1,261 @@
+//! The walk over a proof: it reads the text from the left, a word at a node, and gathers the points on which the proof
+//! rests.
+
+ghost use Rattle.std.specs.Prelude.{◌≡◌, ◌*◌, ◌<◌, ◌||◌, None, Some, MatchOption};
+ghost use Rattle.go_rules.specs.Board.{largest_points};
+ghost use Rattle.read_rules.specs.Trees.{most_narrow};
+ghost use Rattle.vertices.specs.Words.{kept};
+ghost use Rattle.read_rules.specs.GameTree.{child_of};
+ghost use Rattle.read_proof.specs.Tokens.{words_in};
+ghost use Rattle.read_proof.specs.Proves.{child_after};
+ghost use Rattle.sure_rules.specs.Nodes.{is_gone, has_too_many};
+ghost use Rattle.sure_proof.specs.SureProofs.{by_capture, by_child, by_move, at_reply, at_replies};
+ghost use Rattle.sure_proof.specs.SureProofs.{by_replies, by_turn, proves_surely, proved_by, points_in};
+
+use crate::candidate::candidate_rests_on;
+use crate::guard::{asked_of, guard_of};
+use crate::play::play_rests_on;
+use crate::words::{behind_end, behind_vertex};
+use go_base::{Cell, Point, PointSet, Position};
+use read_proof::children::{child_after, child_of, passed};
+use read_rules::{Node, Spot, Tree};
+use vertices::{next_word, spells, target_named};
+
+/// Whether the target's point is empty.
+fn is_gone(pos: &Position, node: Node) -> bool
+    requires { node.turn.target < pos.now.size * pos.now.size }
+    ensures { result ≡ is_gone node pos.now }
+{
+    pos.cell(node.turn.target) == Cell::Empty
+}
+
+/// How many liberties a target of the tree may have at the end of the wide plies.
+fn most_narrow(tree: Tree) -> u16
+    ensures { result ≡ most_narrow tree }
+{
+    match tree {
+        Tree::Stated => 2,
+        Tree::Wider => 4,
+    }
+}
+
+/// Whether the target has more liberties than the attacker may play at.
+#[tactic(auto, unfolding(read_rules::specs::GameTree::has_many_liberties))]
+fn has_too_many(pos: &Position, node: Node) -> bool
+    requires { node.turn.target < pos.now.size * pos.now.size }
+    ensures { result ≡ has_too_many node pos.now }
+{
+    let liberties = pos.liberties(node.turn.target);
+    liberties > 4 || (node.turn.wide == 0 && liberties > most_narrow(node.turn.tree))
+}
+
+/// Whether the attacker may not play: the target is gone, or has too many liberties.
+fn is_barred(pos: &Position, node: Node) -> bool
+    requires { node.turn.target < pos.now.size * pos.now.size }
+    ensures { result ≡ (is_gone node pos.now || has_too_many node pos.now) }
+{
+    let many = has_too_many(pos, node);
+    is_gone(pos, node) || many
+}
+
+/// The text behind `.`, if the target's point is empty. The proof rests on this point.
+fn capture_proved<'a>(
+    pos: &Position,
+    node: Node,
+    text: &'a [u8],
+    zone: &mut PointSet,
+) -> Option<&'a [u8]>
+    requires target { node.turn.target < pos.now.size * pos.now.size }
+    ensures { MatchOption result (by_capture node pos.now (words_in text.now) ≡ None)
+        (λ left. by_capture node pos.now (words_in text.now) ≡ Some (proved_by (words_in left.now) zone.new)) }
+{
+    let _ = pos.size().points();
+    if !is_gone(pos, node) {
+        return None;
+    }
+    let mut points = PointSet::new();
+    points.add(node.turn.target);
+    *zone = points;
+    Some(text)
+}
+
+/// The text behind the proof of the node after the attacker's play at p, with `plies` plies left there, and the points
+/// on which the play and this proof rest.
+#[cycle(proof)]
+fn play_proved<'a>(
+    pos: &Position,
+    node: Node,
+    plies: u8,
+    p: Point,
+    text: &'a [u8],
+    zone: &mut PointSet,
+) -> Option<&'a [u8]>
+    requires target { node.turn.target < pos.now.size * pos.now.size }
+    requires on_board { p < pos.now.size * pos.now.size }
+    requires small { p < largest_points }
+    ensures { MatchOption result (by_child (proves_surely plies) node pos.now p (child_after node pos.now (Spot.At p)) (words_in text.now) ≡ None)
+        (λ left. by_child (proves_surely plies) node pos.now p (child_after node pos.now (Spot.At p)) (words_in text.now) ≡ Some (proved_by (words_in left.now) zone.new)) }
+{
+    let (next, new) = child_after(pos, node, Spot::At(p))?;
+    let mut points = candidate_rests_on(pos, node.turn, p);
+    points.join(&play_rests_on(pos, p));
+    let left = proved(&new, next, plies, text, zone)?;
+    points.join(zone);
+    *zone = points;
+    Some(left)
+}
+
+/// The text behind the proof of the node after the attacker's move, which is named, with `plies` plies left there.
+#[cycle(proof)]
+fn move_proved<'a>(
+    pos: &Position,
+    node: Node,
+    plies: u8,
+    at: Option<Option<Point>>,
+    text: &'a [u8],
+    zone: &mut PointSet,
+) -> Option<&'a [u8]>
+    requires target { node.turn.target < pos.now.size * pos.now.size }
+    ensures { MatchOption result (by_move (proves_surely plies) node pos.now at (words_in text.now) ≡ None)
+        (λ left. by_move (proves_surely plies) node pos.now at (words_in text.now) ≡ Some (proved_by (words_in left.now) zone.new)) }
+{
+    let spot = at?;
+    let p = spot?;
+    if p >= pos.size().points() {
+        return None;
+    }
+    play_proved(pos, node, plies, p, text, zone)
+}
+
+/// The text behind one reply, with `plies` plies left after it: if it can be made, its vertex comes, and the proof of
+/// the node after it. The points on which it rests come to the zone.
+#[cycle(proof)]
+fn reply_proved<'a>(
+    pos: &Position,
+    node: Node,
+    plies: u8,
+    p: Point,
+    text: &'a [u8],
+    zone: &mut PointSet,
+) -> Option<&'a [u8]>
+    requires target { node.turn.target < pos.now.size * pos.now.size }
+    requires on_board { p < pos.now.size * pos.now.size }
+    requires small { p < largest_points }
+    ensures { MatchOption result (at_reply (proves_surely plies) pos.now p (child_of node pos.now p) (proved_by (words_in text.now) zone.old) ≡ None)
+        (λ left. at_reply (proves_surely plies) pos.now p (child_of node pos.now p) (proved_by (words_in text.now) zone.old) ≡ Some (proved_by (words_in left.now) zone.new)) }
+{
+    zone.join(&play_rests_on(pos, p));
+    match child_of(pos, node, p) {
+        Some(child) => {
+            let left = behind_vertex(text, pos.size(), p)?;
+            let mut inner = PointSet::new();
+            let rest = proved(&child.1, child.0, plies, left, &mut inner)?;
+            zone.join(&inner);
+            Some(rest)
+        }
+        None => Some(text),
+    }
+}
+
+/// The text behind the replies that are asked for, one after another, with `plies` plies left after each. The points on
+/// which they rest come to the zone.
+#[cycle(proof)]
+fn replies_proved<'a>(
+    pos: &Position,
+    node: Node,
+    plies: u8,
+    asked: &PointSet,
+    text: &'a [u8],
+    zone: &mut PointSet,
+) -> Option<&'a [u8]>
+    requires target { node.turn.target < pos.now.size * pos.now.size }
+    ensures { MatchOption result (at_replies (proves_surely plies) node pos.now (points_in pos.now.size asked.now) (proved_by (words_in text.now) zone.old) ≡ None)
+        (λ left. at_replies (proves_surely plies) node pos.now (points_in pos.now.size asked.now) (proved_by (words_in text.now) zone.old) ≡ Some (proved_by (words_in left.now) zone.new)) }
+{
+    let mut left = text;
+    let mut from = 0;
+    'replies: while let Some(p) = asked.first_from(from) {
+        if p >= pos.size().points() {
+            return Some(left);
+        }
+        left = reply_proved(pos, node, plies, p, left, zone)?;
+        from = p + 1;
+    }
+    Some(left)
+}
+
+/// The text behind the proof of the node after the defender's pass, with `plies` plies left there, and behind the
+/// replies that its zone asks for and the `;` that ends them.
+#[cycle(proof)]
+fn defence_proved<'a>(
+    pos: &Position,
+    node: Node,
+    plies: u8,
+    text: &'a [u8],
+    zone: &mut PointSet,
+) -> Option<&'a [u8]>
+    requires target { node.turn.target < pos.now.size * pos.now.size }
+    ensures { MatchOption result (by_replies (proves_surely plies) node pos.now (words_in text.now) ≡ None)
+        (λ left. by_replies (proves_surely plies) node pos.now (words_in text.now) ≡ Some (proved_by (words_in left.now) zone.new)) }
+{
+    let (next, new) = passed(pos, node);
+    let left = proved(&new, next, plies, text, zone)?;
+    let enemy = node.mover().other();
+    let asked = asked_of(pos, enemy, zone);
+    let guard = guard_of(pos, enemy, zone);
+    zone.join(&guard);
+    let more = replies_proved(pos, node, plies, &asked, left, zone)?;
+    let rest = behind_end(more)?;
+    Some(rest)
+}
+
+/// The text behind what the first word proves with `plies` plies left after the move: a vertex at the attacker's turn,
+/// and `*` at the defender's.
+#[cycle(proof)]
+fn turn_proved<'a>(
+    pos: &Position,
+    node: Node,
+    plies: u8,
+    word: &[u8],
+    text: &'a [u8],
+    zone: &mut PointSet,
+) -> Option<&'a [u8]>
+    requires target { node.turn.target < pos.now.size * pos.now.size }
+    ensures { MatchOption result (by_turn (proves_surely plies) node pos.now (kept word.now) (words_in text.now) ≡ None)
+        (λ left. by_turn (proves_surely plies) node pos.now (kept word.now) (words_in text.now) ≡ Some (proved_by (words_in left.now) zone.new)) }
+{
+    if node.turn.attacker_to_play {
+        if is_barred(pos, node) {
+            return None;
+        }
+        return move_proved(pos, node, plies, target_named(word, pos.size()), text, zone);
+    }
+    if !spells(word, b"*") {
+        return None;
+    }
+    defence_proved(pos, node, plies, text, zone)
+}
+
+/// The text behind the proof, in front of it, that with `plies` plies left the target is surely captured at the node,
+/// and the points on which the proof rests in place of the zone.
+#[cycle(proof)]
+pub(crate) fn proved<'a>(
+    pos: &Position,
+    node: Node,
+    plies: u8,
+    text: &'a [u8],
+    zone: &mut PointSet,
+) -> Option<&'a [u8]>
+    requires target { node.turn.target < pos.now.size * pos.now.size }
+    ensures { MatchOption result (proves_surely plies node pos.now (words_in text.now) ≡ None)
+        (λ left. proves_surely plies node pos.now (words_in text.now) ≡ Some (proved_by (words_in left.now) zone.new)) }
+{
+    let (word, rest) = next_word(text)?;
+    if spells(word, b".") {
+        return capture_proved(pos, node, rest, zone);
+    }
+    if plies == 0 {
+        return None;
+    }
+    turn_proved(pos, node, plies - 1, word, rest, zone)
+}

@@ -1,0 +1,356 @@
+//! Texts on small positions. Each proof is from a second plain program, which finds strings, replies and points by
+//! itself; the texts that are refused are these proofs with one thing changed.
+
+ghost use Rattle.std.specs.Prelude.{◌≡◌, ◌≢◌, ◌*◌, ◌<◌, IfSome};
+ghost use Rattle.go_rules.specs.Strings.{cell_at};
+
+use go_base::{Cell, Colour, Point, Position, Size};
+use read_rules::Depths;
+use read_rules::Kind::{self, Attack, Defend};
+use sure_proof::checks_surely;
+use vertices::vertex_named;
+
+/// A text about a question on a position.
+struct Row {
+    /// What it shows.
+    name: &'static str,
+    /// The size of the board.
+    size: u8,
+    /// Black's stones.
+    black: &'static str,
+    /// White's stones, played after black's; the last one may leave a ban.
+    white: &'static str,
+    /// Who plays first.
+    of: Kind,
+    /// The vertex of the stone.
+    target: &'static str,
+    /// The plies, and how many of them are wide.
+    depths: (u8, u8),
+    /// The code under whose ko allowances the proof is read.
+    code: u8,
+    /// The text.
+    text: &'static str,
+    /// Whether it is a proof.
+    proves: bool,
+}
+
+/// Rows by what they show.
+static ROWS: [Row; 21] = [
+    Row {
+        name: "a stone in the corner is taken",
+        size: 5,
+        black: "A1",
+        white: "B2",
+        of: Attack,
+        target: "A1",
+        depths: (3, 0),
+        code: 3,
+        text: "A2 * B1 . A3 B1 . B3 B1 . B1 C1 . C1 B1 . ;",
+        proves: true,
+    },
+    Row {
+        name: "lower case and tabs are read too",
+        size: 5,
+        black: "A1",
+        white: "B2",
+        of: Attack,
+        target: "A1",
+        depths: (3, 0),
+        code: 3,
+        text: "a2\t*  b1 . A3 b1 . B3 b1 . B1 c1 . C1 b1 . ;",
+        proves: true,
+    },
+    Row {
+        name: "a ply less is too few",
+        size: 5,
+        black: "A1",
+        white: "B2",
+        of: Attack,
+        target: "A1",
+        depths: (2, 0),
+        code: 3,
+        text: "A2 * B1 . A3 B1 . B3 B1 . B1 C1 . C1 B1 . ;",
+        proves: false,
+    },
+    Row {
+        name: "a ply more does no harm",
+        size: 5,
+        black: "A1",
+        white: "B2",
+        of: Attack,
+        target: "A1",
+        depths: (4, 0),
+        code: 3,
+        text: "A2 * B1 . A3 B1 . B3 B1 . B1 C1 . C1 B1 . ;",
+        proves: true,
+    },
+    Row {
+        name: "a word is left",
+        size: 5,
+        black: "A1",
+        white: "B2",
+        of: Attack,
+        target: "A1",
+        depths: (3, 0),
+        code: 3,
+        text: "A2 * B1 . A3 B1 . B3 B1 . B1 C1 . C1 B1 . ; .",
+        proves: false,
+    },
+    Row {
+        name: "the last word is missing",
+        size: 5,
+        black: "A1",
+        white: "B2",
+        of: Attack,
+        target: "A1",
+        depths: (3, 0),
+        code: 3,
+        text: "A2 * B1 . A3 B1 . B3 B1 . B1 C1 . C1 B1 .",
+        proves: false,
+    },
+    Row {
+        name: "a reply is missing",
+        size: 5,
+        black: "A1",
+        white: "B2",
+        of: Attack,
+        target: "A1",
+        depths: (3, 0),
+        code: 3,
+        text: "A2 * B1 . A3 B1 . B3 B1 . C1 B1 . ;",
+        proves: false,
+    },
+    Row {
+        name: "a reply that is not asked for",
+        size: 5,
+        black: "A1",
+        white: "B2",
+        of: Attack,
+        target: "A1",
+        depths: (3, 0),
+        code: 3,
+        text: "A2 * B1 . A3 B1 . B3 B1 . C3 B1 . B1 C1 . C1 B1 . ;",
+        proves: false,
+    },
+    Row {
+        name: "replies in another order",
+        size: 5,
+        black: "A1",
+        white: "B2",
+        of: Attack,
+        target: "A1",
+        depths: (3, 0),
+        code: 3,
+        text: "A2 * B1 . B3 B1 . A3 B1 . B1 C1 . C1 B1 . ;",
+        proves: false,
+    },
+    Row {
+        name: "the proof after the pass is missing",
+        size: 5,
+        black: "A1",
+        white: "B2",
+        of: Attack,
+        target: "A1",
+        depths: (3, 0),
+        code: 3,
+        text: "A2 * A3 B1 . B3 B1 . B1 C1 . C1 B1 . ;",
+        proves: false,
+    },
+    Row {
+        name: "the end comes for the replies",
+        size: 5,
+        black: "A1",
+        white: "B2",
+        of: Attack,
+        target: "A1",
+        depths: (3, 0),
+        code: 3,
+        text: "A2 * B1 . ;",
+        proves: false,
+    },
+    Row {
+        name: "the target stands",
+        size: 5,
+        black: "A1",
+        white: "B2",
+        of: Attack,
+        target: "A1",
+        depths: (3, 0),
+        code: 3,
+        text: ".",
+        proves: false,
+    },
+    Row {
+        name: "an attacker has no star",
+        size: 5,
+        black: "A1",
+        white: "B2",
+        of: Attack,
+        target: "A1",
+        depths: (3, 0),
+        code: 3,
+        text: "* A2 * B1 . A3 B1 . B3 B1 . B1 C1 . C1 B1 . ; ;",
+        proves: false,
+    },
+    Row {
+        name: "an attacker has no pass",
+        size: 5,
+        black: "A1",
+        white: "B2",
+        of: Attack,
+        target: "A1",
+        depths: (3, 0),
+        code: 3,
+        text: "PASS A2 * B1 . A3 B1 . B3 B1 . B1 C1 . C1 B1 . ;",
+        proves: false,
+    },
+    Row {
+        name: "a point that is no candidate",
+        size: 5,
+        black: "A1",
+        white: "B2",
+        of: Attack,
+        target: "A1",
+        depths: (3, 0),
+        code: 3,
+        text: "D4 * B1 . ;",
+        proves: false,
+    },
+    Row {
+        name: "no word",
+        size: 5,
+        black: "A1",
+        white: "B2",
+        of: Attack,
+        target: "A1",
+        depths: (3, 0),
+        code: 3,
+        text: "",
+        proves: false,
+    },
+    Row {
+        name: "at the edge the second liberty is the last",
+        size: 2,
+        black: "A1",
+        white: "B1",
+        of: Attack,
+        target: "A1",
+        depths: (1, 0),
+        code: 2,
+        text: "A2 .",
+        proves: true,
+    },
+    Row {
+        name: "after the pass no ply is left for the play",
+        size: 2,
+        black: "A1",
+        white: "B1",
+        of: Defend,
+        target: "A1",
+        depths: (1, 0),
+        code: 2,
+        text: "* A2 . ;",
+        proves: false,
+    },
+    Row {
+        name: "a stone in atari in the open",
+        size: 5,
+        black: "C3",
+        white: "C2 B3 D3",
+        of: Attack,
+        target: "C3",
+        depths: (1, 0),
+        code: 2,
+        text: "C4 .",
+        proves: true,
+    },
+    Row {
+        name: "the corner stone cannot be saved",
+        size: 5,
+        black: "A1",
+        white: "B2",
+        of: Defend,
+        target: "A1",
+        depths: (4, 0),
+        code: 3,
+        text: "* A2 * B1 . A3 B1 . B3 B1 . B1 C1 . C1 B1 . ; A4 A2 * B1 . A3 B1 . B3 B1 . B1 C1 . C1 B1 . ; B4 A2 * B1 . A3 B1 . B3 B1 . B1 C1 . C1 B1 . ; A3 A2 * B1 . B3 B1 . C2 B1 . B1 C1 . C1 B1 . ; B3 A2 * B1 . A3 B1 . C2 B1 . B1 C1 . C1 B1 . ; C3 A2 * B1 . A3 B1 . B3 B1 . B1 C1 . C1 B1 . ; A2 A3 * B1 . B3 B1 . C2 B1 . B1 C1 . C1 B1 . ; C2 A2 * B1 . A3 B1 . B3 B1 . B1 C1 . C1 B1 . ; B1 C1 * A2 . A3 A2 . B3 A2 . A2 A3 . ; C1 B1 * A2 . A3 A2 . B3 A2 . A2 A3 . ; D1 A2 * B1 . A3 B1 . B3 B1 . B1 C1 . C1 B1 . ; ;",
+        proves: true,
+    },
+    Row {
+        name: "only the pass of it is proved",
+        size: 5,
+        black: "A1",
+        white: "B2",
+        of: Defend,
+        target: "A1",
+        depths: (4, 0),
+        code: 3,
+        text: "* A2 * B1 . A3 B1 . B3 B1 . B1 C1 . C1 B1 . ; ;",
+        proves: false,
+    },
+];
+
+/// The point of a vertex.
+fn vertex(size: Size, name: &str) -> Option<Point>
+    ensures { IfSome result (λ p. p < size * size) }
+{
+    let p = vertex_named(name.as_bytes(), size)?;
+    if p < size.points() { Some(p) } else { None }
+}
+
+/// The point of a vertex where a stone stands.
+fn stone(position: &Position, name: &str) -> Option<Point>
+    ensures on_board { IfSome result (λ p. p < position.now.size * position.now.size) }
+    ensures stone { IfSome result (λ p. cell_at position.now.cells p ≢ Cell.Empty) }
+{
+    let p = vertex(position.size(), name)?;
+    if position.cell(p) == Cell::Empty {
+        return None;
+    }
+    Some(p)
+}
+
+/// The position with these stones more.
+fn with_stones(position: Position, colour: Colour, names: &str) -> Option<Position> {
+    let mut position = position;
+    for name in names.split_whitespace() {
+        let p = vertex(position.size(), name)?;
+        position = position.play(colour, p).ok()?;
+    }
+    Some(position)
+}
+
+/// The position of a row.
+fn position(row: &Row) -> Option<Position> {
+    let position = Position::new(Size::new(row.size)?);
+    with_stones(
+        with_stones(position, Colour::Black, row.black)?,
+        Colour::White,
+        row.white,
+    )
+}
+
+/// Whether the checker says of the row's text what the row says.
+fn is_right(row: &Row) -> Option<bool> {
+    let position = position(row)?;
+    let target = stone(&position, row.target)?;
+    let (plies, wide) = row.depths;
+    let depths = Depths::new(plies, wide)?;
+    let told = checks_surely(
+        &position,
+        row.of,
+        target,
+        depths,
+        row.code,
+        row.text.as_bytes(),
+    );
+    Some(told == row.proves)
+}
+
+#[test]
+fn texts_are_told_from_proofs(rt: HostRuntime) {
+    for row in &ROWS {
+        let right = is_right(row);
+        assert!(rt; right == Some(true), "{}", row.name);
+    }
+}
