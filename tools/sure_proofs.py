@@ -1,234 +1,220 @@
-"""Printed proofs of sure captures by plain rules: a writer, a checker, and a drawing of what a proof rests on.
+"""Proofs of sure captures, apart from the proved checker: a writer, a checker, and a drawing of what a proof rests on.
 
-    python3 sure_proofs.py SIZE BLACK WHITE attack|defend TARGET PLIES WIDE [ATTACKER_KO DEFENDER_KO]
+    python3 tools/sure_proofs.py SIZE BLACK WHITE attack|defend TARGET PLIES WIDE [ATTACKER_KO DEFENDER_KO]
 
 BLACK and WHITE are vertices parted by commas; white's stones are played after black's, so that the last may leave a ban.
-It prints the proof, whether the checker accepts it, how many words it has, and the points on which it rests. It reads the
-stated tree alone, and is slow. It shares no code with the crates.
+It prints the proof, whether its checker accepts it, how many words it has, and the points on which it rests, in brackets.
+It reads the stated tree alone, and is slow.
 """
-import os
+
 import sys
 
-sys.path.insert(0, os.environ.get("GOBOARD", "/work/shared/design/drafts/sure"))
-from goboard import Board, Illegal, p2v, v2p
-
-OTHER = {"b": "w", "w": "b"}
+import go_rules
+from go_rules import EMPTY, Position, neighbours, other
 
 
 class Refused(Exception):
-    pass
+    """Why a text is no proof."""
 
 
-def close(b, q):
+def string(b: Position, q: int) -> tuple[set[int], set[int]]:
+    """The stones of the string of q, and its liberties."""
+    return go_rules.string_at(b.size, b.cells, q)
+
+
+def beside(b: Position, q: int) -> tuple[int, ...]:
+    """The neighbours of q."""
+    return neighbours(b.size)[q]
+
+
+def close(b: Position, q: int) -> set[int]:
     """The string of q and all its neighbours."""
-    stones, _ = b.string(q)
-    return set(stones) | {x for s in stones for x in b.nb(s)}
+    stones = string(b, q)[0]
+    return stones | {x for s in stones for x in beside(b, s)}
 
 
-def first_two(b, q):
-    liberties = sorted(b.string(q)[1])
+def first_two(b: Position, q: int) -> list[int] | None:
+    """The first two liberties of the string of q; none if it has no two."""
+    liberties = sorted(string(b, q)[1])
     return liberties[:2] if len(liberties) >= 2 else None
 
 
-def shows_atari(b, q):
-    if q not in b.c:
+def shows_atari(b: Position, q: int) -> set[int]:
+    """What shows whether the string of q is in atari."""
+    if b.cells[q] == EMPTY:
         return {q}
     two = first_two(b, q)
-    return set(b.string(q)[0]) | set(two) if two else close(b, q)
+    return string(b, q)[0] | set(two) if two else close(b, q)
 
 
-def play_rests_on(b, p):
-    zone = {p}
-    for q in b.nb(p):
-        zone |= shows_atari(b, q)
-    return zone
+def play_rests_on(b: Position, p: int) -> set[int]:
+    """What a play at p rests on."""
+    return {p}.union(*(shows_atari(b, q) for q in beside(b, p)))
 
 
-def child(b, colour, p, allowance):
-    """The board after the play and what is left of the allowance; none if it cannot be made."""
-    new = b.copy()
-    try:
-        new.play(colour, p)
+def child(b: Position, colour: int, p: int, allowance: int) -> tuple[Position, int] | None:
+    """The position after the play, and what is left of the allowance; none if it cannot be made."""
+    new = go_rules.play(b, colour, p)
+    if new:
         return new, allowance
-    except Illegal as why:
-        if str(why) != "ko" or not allowance:
-            return None
-    new = b.copy()
-    new.ban = None
-    try:
-        new.play(colour, p)
-        return new, allowance - 1
-    except Illegal:
-        return None
+    new = go_rules.play_free(b, colour, p)
+    return (new, allowance - 1) if new and allowance else None
 
 
 class Reading:
-    def __init__(self, b, target):
+    """The reading of one string."""
+
+    def __init__(self, b: Position, target: int) -> None:
         self.target = target
-        self.defender = b.c[target]
-        self.attacker = OTHER[self.defender]
+        self.defender = b.cells[target]
+        self.attacker = other(self.defender)
 
-    def beside_liberty(self, b, p, wide):
-        liberties = b.string(self.target)[1]
-        return wide and len(liberties) <= 2 and p not in b.c and any(q in liberties for q in b.nb(p))
+    def is_beside_liberty(self, b: Position, p: int, wide: int) -> bool:
+        """Whether p is a wide candidate next to a liberty."""
+        liberties = string(b, self.target)[1]
+        return wide > 0 and len(liberties) <= 2 and b.cells[p] == EMPTY and any(q in liberties for q in beside(b, p))
 
-    def candidates(self, b, wide):
-        stones, liberties = b.string(self.target)
+    def candidates(self, b: Position, wide: int) -> list[int]:
+        """The attacker's candidates in the stated tree, in reading order."""
+        stones, liberties = string(b, self.target)
         found = set(liberties)
-        for q in {x for s in stones for x in b.nb(s) if b.c.get(x) == self.attacker}:
-            last = b.string(q)[1]
-            if len(last) == 1:
-                found |= last
+        for q in {x for s in stones for x in beside(b, s) if b.cells[x] == self.attacker}:
+            last = string(b, q)[1]
+            found |= last if len(last) == 1 else set()
         if wide:
-            if len(liberties) <= 2:
-                found |= {p for q in liberties for p in b.nb(q) if p not in b.c}
+            found |= {p for p in range(len(b.cells)) if self.is_beside_liberty(b, p, wide)}
             for q in liberties:
-                new = b.copy()
-                new.ban = None
-                try:
-                    new.play(self.attacker, q)
-                except Illegal:
-                    continue
-                last = new.string(q)[1]
-                if len(last) == 1:
-                    found |= {p for p in last if p not in b.c}
+                new = go_rules.play_free(b, self.attacker, q)
+                last = string(new, q)[1] if new else set()
+                found |= {p for p in last if len(last) == 1 and b.cells[p] == EMPTY}
         return sorted(found)
 
-    def candidate_rests_on(self, b, p, wide):
-        liberties = b.string(self.target)[1]
-        if p in liberties:
+    def candidate_rests_on(self, b: Position, p: int, wide: int) -> set[int]:
+        """What shows that p is a candidate, and that the target has not too many liberties."""
+        if p in string(b, self.target)[1]:
             return close(b, self.target)
-        if self.beside_liberty(b, p, wide):
+        if self.is_beside_liberty(b, p, wide):
             return close(b, self.target) | {p}
-        return {(r, c) for r in range(b.size) for c in range(b.size)}
+        return set(range(len(b.cells)))
 
-    def too_many(self, b, wide):
-        liberties = len(b.string(self.target)[1])
+    def has_too_many(self, b: Position, wide: int) -> bool:
+        """Whether the target has more liberties than the attacker may play at."""
+        liberties = len(string(b, self.target)[1])
         return liberties > 4 or (wide == 0 and liberties > 2)
 
-    def asked(self, b, zone):
-        replies = set()
+    def asked(self, b: Position, zone: set[int]) -> list[int]:
+        """The replies that the zone of the pass asks for, in reading order."""
+        replies = {q for q in zone if b.cells[q] == EMPTY}
         for q in zone:
-            if q not in b.c:
-                replies.add(q)
-            elif b.c[q] == self.attacker and not first_two(b, q):
-                replies |= b.string(q)[1]
+            if b.cells[q] == self.attacker and not first_two(b, q):
+                replies |= string(b, q)[1]
         return sorted(replies)
 
-    def guard(self, b, zone):
-        found = set()
-        for q in zone:
-            if b.c.get(q) == self.attacker:
-                found |= shows_atari(b, q)
-        return found
+    def guard(self, b: Position, zone: set[int]) -> set[int]:
+        """What guards the zone against the other replies."""
+        return set().union(*(shows_atari(b, q) for q in zone if b.cells[q] == self.attacker))
 
-    def write(self, b, attacks, plies, wide, ako, dko):
-        """The first proof and its zone; none if there is no sure capture."""
-        if self.target not in b.c:
+    def write(self, b: Position, attacks: bool, plies: int, wide: int, ako: int, dko: int):
+        """The first proof and the points on which it rests; none if the string is not surely captured."""
+        if b.cells[self.target] == EMPTY:
             return ["."], {self.target}
         if not plies:
             return None
         less = max(0, wide - 1)
         if attacks:
-            if self.too_many(b, wide):
+            if self.has_too_many(b, wide):
                 return None
             for p in self.candidates(b, wide):
                 new = child(b, self.attacker, p, ako)
                 found = new and self.write(new[0], False, plies - 1, less, new[1], dko)
                 if found:
-                    return ([p2v(p, b.size)] + found[0],
-                            self.candidate_rests_on(b, p, wide) | play_rests_on(b, p) | found[1])
+                    points = self.candidate_rests_on(b, p, wide) | play_rests_on(b, p) | found[1]
+                    return [go_rules.vertex_of(b.size, p)] + found[0], points
             return None
-        passed = b.copy()
-        passed.play(self.defender, None)
-        found = self.write(passed, True, plies - 1, less, ako, dko)
+        found = self.write(go_rules.play(b, self.defender, None), True, plies - 1, less, ako, dko)
         if not found:
             return None
-        words, zone = ["*"] + found[0], set(found[1]) | self.guard(b, found[1])
+        words, zone = ["*"] + found[0], found[1] | self.guard(b, found[1])
         for p in self.asked(b, found[1]):
-            zone |= play_rests_on(b, p)
+            zone = zone | play_rests_on(b, p)
             new = child(b, self.defender, p, dko)
             if new:
                 reply = self.write(new[0], True, plies - 1, less, ako, new[1])
                 if not reply:
                     return None
-                words += [p2v(p, b.size)] + reply[0]
-                zone |= reply[1]
+                words += [go_rules.vertex_of(b.size, p)] + reply[0]
+                zone = zone | reply[1]
         return words + [";"], zone
 
-    def check(self, b, attacks, plies, wide, ako, dko, words):
-        """The words behind the proof, and its zone."""
+    def check(self, b: Position, attacks: bool, plies: int, wide: int, ako: int, dko: int, words: list[str]):
+        """The words behind the proof in front of these, and the points on which it rests."""
         if not words:
             raise Refused("no word")
         word, rest = words[0], words[1:]
         if word == ".":
-            if self.target in b.c:
+            if b.cells[self.target] != EMPTY:
                 raise Refused("the target stands")
             return rest, {self.target}
         if not plies:
             raise Refused("no ply is left")
         less = max(0, wide - 1)
         if attacks:
-            if self.target not in b.c or self.too_many(b, wide):
+            move = go_rules.move_of(b.size, word)
+            if b.cells[self.target] == EMPTY or self.has_too_many(b, wide) or not move or move.point is None:
                 raise Refused("no play")
-            try:
-                p = v2p(word, b.size)
-            except (ValueError, IndexError):
-                raise Refused("no vertex")
-            if p not in self.candidates(b, wide):
+            if move.point not in self.candidates(b, wide):
                 raise Refused("no candidate")
-            new = child(b, self.attacker, p, ako)
+            new = child(b, self.attacker, move.point, ako)
             if not new:
                 raise Refused("the play cannot be made")
-            rest, zone = self.check(new[0], False, plies - 1, less, new[1], dko, rest)
-            return rest, self.candidate_rests_on(b, p, wide) | play_rests_on(b, p) | zone
+            left, zone = self.check(new[0], False, plies - 1, less, new[1], dko, rest)
+            return left, self.candidate_rests_on(b, move.point, wide) | play_rests_on(b, move.point) | zone
         if word != "*":
             raise Refused("no *")
-        passed = b.copy()
-        passed.play(self.defender, None)
-        rest, first = self.check(passed, True, plies - 1, less, ako, dko, rest)
-        zone = set(first) | self.guard(b, first)
-        for p in self.asked(b, first):
-            zone |= play_rests_on(b, p)
+        left, passed = self.check(go_rules.play(b, self.defender, None), True, plies - 1, less, ako, dko, rest)
+        zone = passed | self.guard(b, passed)
+        for p in self.asked(b, passed):
+            zone = zone | play_rests_on(b, p)
             new = child(b, self.defender, p, dko)
             if new:
-                if not rest or rest[0] != p2v(p, b.size):
+                if not left or go_rules.move_of(b.size, left[0]) != go_rules.Move(p):
                     raise Refused("a reply is missing")
-                rest, more = self.check(new[0], True, plies - 1, less, ako, new[1], rest[1:])
-                zone |= more
-        if not rest or rest[0] != ";":
+                left, more = self.check(new[0], True, plies - 1, less, ako, new[1], left[1:])
+                zone = zone | more
+        if not left or left[0] != ";":
             raise Refused("no ;")
-        return rest[1:], zone
+        return left[1:], zone
 
 
-def draw(b, zone):
+def draw(b: Position, zone: set[int]) -> str:
+    """The board, with the points of a zone in brackets."""
+    size = b.size
     rows = []
-    for r in range(b.size):
-        row = ""
-        for c in range(b.size):
-            mark = {"b": "X", "w": "O", None: "."}[b.c.get((r, c))]
-            row += ("[" + mark + "]") if (r, c) in zone else (" " + mark + " ")
-        rows.append("%3d %s" % (b.size - r, row))
-    return "\n".join(rows) + "\n    " + "".join(" %s " % "ABCDEFGHJKLMNOPQRSTUVWXYZ"[c] for c in range(b.size))
+    for row in range(size):
+        points = range(row * size, (row + 1) * size)
+        marks = ("[%s]" if p in zone else " %s " for p in points)
+        rows.append(f"{size - row:3} " + "".join(m % ".XO"[b.cells[p]] for m, p in zip(marks, points)))
+    return "\n".join(rows + ["    " + "".join(f" {go_rules.gtp.COLUMNS[c]} " for c in range(size))])
 
 
-def main(args):
-    b = Board(int(args[0]))
-    for colour, stones in (("b", args[1]), ("w", args[2])):
-        for v in filter(None, stones.split(",")):
-            b.play(colour, v2p(v, b.size))
-    reading = Reading(b, v2p(args[4], b.size))
-    ako, dko = (int(args[7]), int(args[8])) if len(args) > 8 else (0, 0)
-    question = (b, args[3] == "attack", int(args[5]), int(args[6]), ako, dko)
+def main(size: str, black: str, white: str, kind: str, target: str, plies: str, wide: str, *kos: str) -> None:
+    b = go_rules.empty(int(size))
+    for colour, stones in ((go_rules.BLACK, black), (go_rules.WHITE, white)):
+        for word in filter(None, stones.split(",")):
+            b = go_rules.play(b, colour, go_rules.move_of(b.size, word).point)
+    reading = Reading(b, go_rules.move_of(b.size, target).point)
+    ako, dko = map(int, kos) if kos else (0, 0)
+    question = (b, kind == "attack", int(plies), int(wide), ako, dko)
     found = reading.write(*question)
     if not found:
         print("not surely captured")
         return
     print(" ".join(found[0]))
-    rest, zone = reading.check(*question, found[0])
-    print("accepted" if not rest and zone == found[1] else "not accepted", len(found[0]), "words,", len(zone), "points")
+    left, zone = reading.check(*question, found[0])
+    accepted = "accepted" if not left and zone == found[1] else "not accepted"
+    print(f"{accepted}, {len(found[0])} words, {len(zone)} points")
     print(draw(b, zone))
 
 
 if __name__ == "__main__":
-    main(sys.argv[1:])
+    main(*sys.argv[1:])
