@@ -11,5 +11,6 @@ pub mod reach;
 pub mod stages;
 
 pub use moves::{add_sides, empty_sides};
+pub use quiet::is_quiet;
 pub use read_rules::Depths;
 pub use stages::{candidates, later_candidates};

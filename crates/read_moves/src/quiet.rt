@@ -43,7 +43,7 @@ fn lives_without<L: Look>(board: &mut Trial<L>, c: Colour, l: Point, q: Point) -
 }
 
 /// Whether a stone of the colour at l takes nothing: each enemy string next to it has another liberty.
-pub(crate) fn is_quiet<L: Look>(board: &mut Trial<L>, c: Colour, l: Point) -> bool
+pub fn is_quiet<L: Look>(board: &mut Trial<L>, c: Colour, l: Point) -> bool
     requires { l < (L.shows board.old.look).size * (L.shows board.old.look).size }
     ensures stays { Stays L.shows L.seen board.old board.new }
     ensures over { (pos : BoardState) → Agrees (L.seen board.new.look) pos → result ≡ true

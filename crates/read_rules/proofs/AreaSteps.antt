@@ -1,6 +1,8 @@
 -- The neighbourhood of a string, taken several times, by steps from the string.
 use Rattle.std.proofs.Common.{◌≡◌, ℕ, zero, suc, ◌*◌, ◌<◌, ◌⊎◌, Bool, true, List}
 use Rattle.std.proofs.Common.{refl, sym, subst, inl, inr}
+use Rattle.std.proofs.lemmas.Bool.{eqb-true, eq-eqb}
+use Rattle.go_base.specs.Views.{alone}
 use Rattle.go_rules.specs.declared.Cell.{Cell}
 use Rattle.go_rules.specs.Strings.{is_in_string, IsInString}
 use Rattle.go_rules.specs.Neighbourhood.{whole_strings_of, neighbourhood_of}
@@ -62,3 +64,22 @@ module _ (s : ℕ) (cells : List Cell) where
   steps_from t on {p = p} (at_string i) = is_is_in_string-from_fact s cells t p on i
   steps_from t on (one_more {n} {q} {p} r step) =
       let before = steps_from t on r in step_from (closed t n) q p (closed_on t n q on before) before step
+
+  -- what lies in the second neighbourhood of a point is two steps from it
+  pub two_steps-give : (t p : ℕ) → t < s * s → neighbourhood_of s cells (neighbourhood_of s cells (alone t)) p ≡ true
+      → (q : ℕ) × (q < s * s) × IsOneStep s cells t q × IsOneStep s cells q p
+  two_steps-give t p on h =
+      let second = step_gives (neighbourhood_of s cells (alone t)) p h in
+      let first = step_gives (alone t) second.0 second.1 in (
+        second.0,
+        neighbourhood_of-on_board s cells (alone t) second.0 second.1,
+        subst (λ x. IsOneStep s cells x second.0) (eqb-true first.0 t first.1) first.2,
+        second.2,
+      )
+
+  -- what is two steps from a point lies in its second neighbourhood
+  pub two_steps-from : (t q p : ℕ) → t < s * s → q < s * s → IsOneStep s cells t q → IsOneStep s cells q p
+      → neighbourhood_of s cells (neighbourhood_of s cells (alone t)) p ≡ true
+  two_steps-from t q p t_on q_on a b =
+      step_from (neighbourhood_of s cells (alone t)) q p q_on
+      (step_from (alone t) t q t_on (eq-eqb t t refl) a) b

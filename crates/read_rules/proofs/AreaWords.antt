@@ -18,12 +18,13 @@ use Rattle.read_rules.specs.declared.question.ReadingQuestion.{ReadingQuestion}
 use Rattle.read_rules.specs.GameTree.{is_captured, has_many_liberties}
 use Rattle.read_rules.specs.Rules.{HasManyLiberties, node_under}
 use Rattle.read_rules.specs.Answer.{first_node}
-use Rattle.read_rules.specs.ActiveArea.{reach_of, IsUndecided, IsNodeOf, first, by_play, by_pass}
-use Rattle.read_rules.specs.ActiveArea.{InActiveArea}
-use Rattle.read_rules.specs.AreaInWords.{IsReachedIn, IsFirstOf}
-use Rattle.read_rules.specs.AreaInWords.{IsNextOf, IsLookedAt}
-use Rattle.read_rules.proofs.AreaSteps.{steps_give, steps_from}
-use Rattle.read_rules.proofs.RuleLemmas.{many_gives, many_from, child_gives, child_from}
+use Rattle.read_rules.specs.ActiveArea.{reach_of, IsUndecided, IsNodeOf, first, by_play, by_pass, by_taking_back}
+use Rattle.read_rules.specs.ActiveArea.{IsNearTarget, in_reach, by_loss, InActiveArea}
+use Rattle.read_rules.specs.AreaInWords.{IsReachedIn, IsFirstOf, IsByMove, IsNextOf, IsAroundTarget, IsAroundLoss}
+use Rattle.read_rules.specs.AreaInWords.{IsLookedAt}
+use Rattle.read_rules.proofs.AreaSteps.{steps_give, steps_from, two_steps-give, two_steps-from}
+use Rattle.read_rules.proofs.RuleLemmas.{many_gives, many_from, child_gives, child_from, lost_gives, lost_from}
+use Rattle.read_rules.proofs.RuleLemmas.{takes_back_gives, takes_back_from}
 use Rattle.read_rules.proofs.LibertyLemmas.{child_free, play_size}
 
 -- the reach of a string is what the steps of the tree lead to
@@ -53,8 +54,33 @@ tree_on on (by_play {n} {node} {here} tree undecided p c next new child) =
     subst (λ m. next.turn.target < m * m) (sym size)
     (subst (λ (m : Node). m.turn.target < here.size * here.size) (sym free.2) (tree_on on tree))
 tree_on on (by_pass tree undecided turn) = tree_on on tree
+tree_on on (by_taking_back {n} {node} {here} tree next new back) =
+    let w = takes_back_gives node here next new back in
+    let free = child_free node here node.turn.target next new w.child in
+    let size = play_size here (mover_of node.turn) node.turn.target new free.1 in
+    subst (λ m. next.turn.target < m * m) (sym size)
+    (subst (λ (m : Node). m.turn.target < here.size * here.size) (sym free.2) (tree_on on tree))
 
--- a point of the active area is reached by the steps of the tree from the target's string at some node of the question
+-- what is near a target at a node is reached by steps from it
+around_gives : (node : Node) (here : BoardState) (p : ℕ) → node.turn.target < here.size * here.size
+    → IsNearTarget node here p → IsAroundTarget node here p ⊎ IsAroundLoss node here p
+around_gives node here p on (in_reach stands near) = inl (record {
+  stands = stands_gives here node.turn.target stands;
+  reached = (reach-is node.turn.tree here.size here.cells node.turn.target p on).0 near;
+})
+around_gives node here p on (by_loss lost near) =
+    let w = two_steps-give here.size here.cells node.turn.target p on near in
+    inr (record { lost = lost_gives node here lost; between = w.0; on_board = w.1; first = w.2; second = w.3 })
+
+-- and what these steps reach is near it
+around_from : (node : Node) (here : BoardState) (p : ℕ) → node.turn.target < here.size * here.size
+    → IsAroundTarget node here p ⊎ IsAroundLoss node here p → IsNearTarget node here p
+around_from node here p on (inl w) = in_reach (stands_from here node.turn.target w.stands)
+    ((reach-is node.turn.tree here.size here.cells node.turn.target p on).1 w.reached)
+around_from node here p on (inr w) = by_loss (lost_from node here w.lost)
+    (two_steps-from here.size here.cells node.turn.target w.between p on w.on_board w.first w.second)
+
+-- a point of the active area is reached by steps from the target at some node of the question
 area_gives : (q : ReadingQuestion) (pos : BoardState) (p : ℕ) → q.target < pos.size * pos.size
     → InActiveArea q pos p → IsLookedAt q pos p
 area_gives q pos p on h = record {
@@ -62,25 +88,21 @@ area_gives q pos p on h = record {
   node = h.node;
   here = h.here;
   in_tree = h.in_tree;
-  stands = stands_gives h.here h.node.turn.target h.near.stands;
-  reached = (reach-is h.node.turn.tree h.here.size h.here.cells h.node.turn.target p (tree_on on h.in_tree)).0 h.near.near;
+  around = around_gives h.node h.here p (tree_on on h.in_tree) h.near;
 }
 
 -- what these steps reach is in the active area
 area_from : (q : ReadingQuestion) (pos : BoardState) (p : ℕ) → q.target < pos.size * pos.size
     → IsLookedAt q pos p → InActiveArea q pos p
-area_from q pos p on h =
-    let stands = stands_from h.here h.node.turn.target h.stands in
-    let reach = reach-is h.node.turn.tree h.here.size h.here.cells h.node.turn.target p (tree_on on h.in_tree) in
-    record {
-      plies = h.plies;
-      node = h.node;
-      here = h.here;
-      in_tree = h.in_tree;
-      near = record { stands = stands; near = reach.1 h.reached };
-    }
+area_from q pos p on h = record {
+  plies = h.plies;
+  node = h.node;
+  here = h.here;
+  in_tree = h.in_tree;
+  near = around_from h.node h.here p (tree_on on h.in_tree) h.around;
+}
 
--- a point of the active area is the steps of the tree from the target's string at some node of the question
+-- the active area is what these steps reach
 pub area-is : (q : ReadingQuestion) (pos : BoardState) (p : ℕ) → q.target < pos.size * pos.size
     → InActiveArea q pos p ↔ IsLookedAt q pos p
 area-is q pos p on = (area_gives q pos p on, area_from q pos p on)
@@ -180,7 +202,7 @@ undecided_from node here stands few = record {
   ];
 }
 
--- a node of a question is a first one, or comes of an undecided one by a move
+-- a node of a question is a first one, or comes of another by a move
 pub node_gives : {q : ReadingQuestion} {pos : BoardState} {n : ℕ} {node : Node} {here : BoardState}
     → IsNodeOf q pos n node here → IsFirstOf q pos n node here ⊎ IsNextOf q pos n node here
 node_gives {q} {pos} (first code lo hi) = inl (first_gives q pos code lo hi)
@@ -188,17 +210,27 @@ node_gives {q} {pos} (by_play {n} {node} {here} tree undecided p c next new chil
   before = node;
   there = here;
   in_tree = tree;
-  stands = stands_gives here node.turn.target undecided.stands;
-  few = few_gives node here undecided;
-  move = inl (record { point = p; candidate = c; child = child_gives node here p next new child });
+  move = inl (record {
+    stands = stands_gives here node.turn.target undecided.stands;
+    few = few_gives node here undecided;
+    move = inl (record { point = p; candidate = c; child = child_gives node here p next new child });
+  });
 })
 node_gives {q} {pos} (by_pass {n} {node} {here} tree undecided turn) = inr (record {
   before = node;
   there = here;
   in_tree = tree;
-  stands = stands_gives here node.turn.target undecided.stands;
-  few = few_gives node here undecided;
-  move = inr (record { defender_to_play = turn; node_is = refl; here_is = refl });
+  move = inl (record {
+    stands = stands_gives here node.turn.target undecided.stands;
+    few = few_gives node here undecided;
+    move = inr (record { defender_to_play = turn; node_is = refl; here_is = refl });
+  });
+})
+node_gives {q} {pos} (by_taking_back {n} {node} {here} tree next new back) = inr (record {
+  before = node;
+  there = here;
+  in_tree = tree;
+  move = inr (takes_back_gives node here next new back);
 })
 
 -- a first node is a node of the question
@@ -211,9 +243,9 @@ first_is q pos n node here w =
     (first_from q pos w.attacker_ko w.defender_ko w.one_at_most)))
 
 -- what comes of an undecided node by a move is one
-next_is : (q : ReadingQuestion) (pos : BoardState) (n : ℕ) (node : Node) (here : BoardState)
-    → IsNextOf q pos n node here → IsNodeOf q pos n node here
-next_is q pos n node here w = let undecided = undecided_from w.before w.there w.stands w.few in elim w.move [
+moved_is : (q : ReadingQuestion) (pos : BoardState) (n : ℕ) (node : Node) (here : BoardState) (w : IsNextOf q pos n node here)
+    → IsByMove w.before w.there node here → IsNodeOf q pos n node here
+moved_is q pos n node here w by = let undecided = undecided_from w.before w.there by.stands by.few in elim by.move [
   | inl m ↦ by_play w.in_tree undecided m.point m.candidate node here
       (child_from w.before w.there m.point node here m.child)
   | inr m ↦ subst (λ (b : BoardState). IsNodeOf q pos n node b) (sym m.here_is)
@@ -221,7 +253,15 @@ next_is q pos n node here w = let undecided = undecided_from w.before w.there w.
       (by_pass w.in_tree undecided m.defender_to_play))
 ]
 
--- a first node, and what comes of an undecided one by a move, is a node of the question
+-- what comes of a node of the question is one
+next_is : (q : ReadingQuestion) (pos : BoardState) (n : ℕ) (node : Node) (here : BoardState)
+    → IsNextOf q pos n node here → IsNodeOf q pos n node here
+next_is q pos n node here w = elim w.move [
+  | inl by ↦ moved_is q pos n node here w by
+  | inr back ↦ by_taking_back w.in_tree node here (takes_back_from w.before w.there node here back)
+]
+
+-- a first node, and what comes of another by a move, is a node of the question
 pub node_from : (q : ReadingQuestion) (pos : BoardState) (n : ℕ) (node : Node) (here : BoardState)
     → IsFirstOf q pos n node here ⊎ IsNextOf q pos n node here → IsNodeOf q pos n node here
 node_from q pos n node here (inl w) = first_is q pos n node here w

@@ -1,5 +1,6 @@
 -- With more plies the attacker wins where he won; and where the ban forbids no candidate, the allowances do not matter.
-use Rattle.std.proofs.Common.{◌≡◌, ℕ, zero, suc, ◌+◌, true, Ok, refl, sym, ap, inl, inr, ◌∙◌, add-one}
+use Rattle.std.proofs.Common.{◌≡◌, ℕ, zero, suc, ◌+◌, true, Option, Some, None, Ok, refl, sym, ap, subst, inl, inr, ◌∙◌}
+use Rattle.std.proofs.Common.{add-one, arith}
 use Rattle.std.proofs.lemmas.Bool.{cases_Bool, both_ways}
 use Rattle.go_rules.proofs.Tests.{same_tests}
 use Rattle.go_rules.specs.Position.{BoardState}
@@ -7,11 +8,13 @@ use Rattle.go_rules.specs.Play.{play, pass}
 use Rattle.read_rules.specs.Turns.{mover_of}
 use Rattle.read_rules.specs.Candidates.{is_candidate}
 use Rattle.read_rules.specs.declared.node.Node.{Node}
-use Rattle.read_rules.specs.GameTree.{is_captured, allowance_of, next_node, attacker_wins}
+use Rattle.read_rules.specs.GameTree.{is_captured, allowance_of, next_node, attacker_wins, has_lost_one_stone}
+use Rattle.read_rules.specs.GameTree.{taking_back}
 use Rattle.read_rules.specs.Rules.{IsChild}
-use Rattle.read_rules.specs.BanFree.{with_allowances, IsFreeHere, IsBanFree}
-use Rattle.read_rules.proofs.WinLemmas.{wins-captured, wins-no_plies}
+use Rattle.read_rules.specs.BanFree.{with_allowances, IsFreeHere, IsFreeToTakeBack, IsBanFree}
+use Rattle.read_rules.proofs.WinLemmas.{some_or_none, wins-captured, wins-none_left, wins-taken_back, wins-no_plies}
 use Rattle.read_rules.proofs.RuleLemmas.{attacker_gives, attacker_from, defender_gives, defender_from}
+use Rattle.read_rules.proofs.RuleLemmas.{child_gives, child_from, taking_back_gives, taking_back_from}
 
 -- the same with the next number written as a sum
 as_sum : (n : ℕ) (node : Node) (pos : BoardState) → attacker_wins (suc n) node pos ≡ true
@@ -27,11 +30,18 @@ as_next n node pos h = ap (λ m. attacker_wins m node pos) (sym (add-one n)) ∙
 pub one_more : (n : ℕ) (node : Node) (pos : BoardState) → attacker_wins n node pos ≡ true
     → attacker_wins (suc n) node pos ≡ true
 one_more zero node pos h = elim (cases_Bool (is_captured pos node.turn.target)) [
-  | inl t ↦ wins-captured 1 node pos t
+  | inl t ↦ elim (some_or_none (taking_back node pos)) [
+    | inl none ↦ wins-captured 1 node pos t none
+    | inr back ↦ absurd (both_ways (attacker_wins 0 node pos) (wins-none_left node pos back.0 back.1) h)
+  ]
   | inr f ↦ absurd (both_ways (attacker_wins 0 node pos) (wins-no_plies 0 node pos f refl) h)
 ]
 one_more (suc n) node pos h = elim (cases_Bool (is_captured pos node.turn.target)) [
-  | inl t ↦ wins-captured (suc (suc n)) node pos t
+  | inl t ↦ elim (some_or_none (taking_back node pos)) [
+    | inl none ↦ wins-captured (suc (suc n)) node pos t none
+    | inr back ↦ wins-taken_back (suc n) node pos back.0 t back.1
+        ∙ one_more n back.0.0 back.0.1 (sym (wins-taken_back n node pos back.0 t back.1) ∙ h)
+  ]
   | inr stands ↦ elim (cases_Bool node.turn.attacker_to_play) [
     | inl turn ↦
         let w = attacker_gives n node pos stands turn (as_sum n node pos h) in
@@ -67,18 +77,79 @@ legal_child : {below : Node → BoardState → Type 0} {node : Node} {pos : Boar
 legal_child free p next new candidate a d (inl w) = (w.legal, w.next_is)
 legal_child free p next new candidate a d (inr w) = absurd (free.none p candidate w.banned)
 
+-- whether the defender has lost a lone stone does not hang on the allowances
+lost_under : (node : Node) (pos : BoardState) (a d : ℕ)
+    → has_lost_one_stone (with_allowances node a d) pos ≡ has_lost_one_stone node pos
+lost_under node pos a d = refl
+
+-- where the ban does not forbid to take back, the child is one by a legal play
+back_child : {below : Node → BoardState → Type 0} {node : Node} {pos : BoardState}
+    → (has_lost_one_stone node pos ≡ true → IsFreeToTakeBack below node pos) → (a d : ℕ) (child : Node × BoardState)
+    → taking_back (with_allowances node a d) pos ≡ Some child
+    → (has_lost_one_stone node pos ≡ true) × (play pos (mover_of node.turn) node.turn.target ≡ Ok child.1)
+    × (child.0 ≡ other_child node a d)
+back_child {node = node} {pos = pos} free a d child e =
+    let w = taking_back_gives (with_allowances node a d) pos child e in
+    elim (child_gives (with_allowances node a d) pos node.turn.target child.0 child.1 w.1) [
+      | inl legal ↦ (w.0, legal.legal, legal.next_is)
+      | inr allowed ↦ absurd ((free w.0).none allowed.banned)
+    ]
+
+-- and so there is one under other allowances
+back_child_from : (node : Node) (pos : BoardState) (x y : ℕ) (new : BoardState) → has_lost_one_stone node pos ≡ true
+    → play pos (mover_of node.turn) node.turn.target ≡ Ok new
+    → taking_back (with_allowances node x y) pos ≡ Some (other_child node x y, new)
+back_child_from node pos x y new lost legal =
+    taking_back_from (with_allowances node x y) pos (other_child node x y, new) lost
+    (child_from (with_allowances node x y) pos node.turn.target (other_child node x y) new
+    (inl (record { legal = legal; next_is = refl })))
+
+-- If the defender takes back under the one pair of allowances only where he does under the other, and the attacker wins
+-- the child, he wins.
+same_taken : (n : ℕ) (node : Node) (pos : BoardState) → IsBanFree n node pos → (a d x y : ℕ)
+    → is_captured pos node.turn.target ≡ true
+    → attacker_wins n (with_allowances node a d) pos ≡ true
+    → ((m : ℕ) (new : BoardState) → n ≡ suc m → play pos (mover_of node.turn) node.turn.target ≡ Ok new
+    → has_lost_one_stone node pos ≡ true → attacker_wins m (other_child node a d) new ≡ true
+    → attacker_wins m (other_child node x y) new ≡ true)
+    → attacker_wins n (with_allowances node x y) pos ≡ true
+same_taken zero node pos free a d x y t h below =
+    elim (some_or_none (taking_back (with_allowances node x y) pos)) [
+      | inl none ↦ wins-captured zero (with_allowances node x y) pos t none
+      | inr back ↦
+          let w = back_child free x y back.0 back.1 in
+          absurd (both_ways (attacker_wins 0 (with_allowances node a d) pos)
+          (wins-none_left (with_allowances node a d) pos _ (back_child_from node pos a d back.0.1 w.0 w.1)) h)
+    ]
+same_taken (suc n) node pos free a d x y t h below =
+    elim (some_or_none (taking_back (with_allowances node x y) pos)) [
+      | inl none ↦ wins-captured (suc n) (with_allowances node x y) pos t none
+      | inr back ↦
+          let w = back_child free.1 x y back.0 back.1 in
+          let before = sym (wins-taken_back n (with_allowances node a d) pos _ t
+          (back_child_from node pos a d back.0.1 w.0 w.1)) ∙ h in
+          wins-taken_back n (with_allowances node x y) pos back.0 t back.1
+          ∙ ap (λ (m : Node). attacker_wins n m back.0.1) w.2
+          ∙ below n back.0.1 refl w.1 w.0 before
+    ]
+
 -- The attacker wins under these allowances exactly where he wins under others.
 pub same_winner : (n : ℕ) (node : Node) (pos : BoardState) → IsBanFree n node pos → (a d x y : ℕ)
     → attacker_wins n (with_allowances node a d) pos ≡ true → attacker_wins n (with_allowances node x y) pos ≡ true
 same_winner zero node pos free a d x y h = elim (cases_Bool (is_captured pos node.turn.target)) [
-  | inl t ↦ wins-captured 0 (with_allowances node x y) pos t
+  | inl t ↦ same_taken zero node pos free a d x y t h (λ m new e. cc)
   | inr f ↦ absurd (both_ways (attacker_wins 0 (with_allowances node a d) pos)
       (wins-no_plies 0 (with_allowances node a d) pos f refl) h)
 ]
 same_winner (suc n) node pos free a d x y h = elim (cases_Bool (is_captured pos node.turn.target)) [
-  | inl t ↦ wins-captured (suc n) (with_allowances node x y) pos t
+  | inl t ↦ same_taken (suc n) node pos free a d x y t h (λ m new e legal lost won.
+      let k : n ≡ m = omega (arith, e) in
+      let below = next_node node (allowance_of node) in
+      subst (λ m. attacker_wins m (other_child node x y) new ≡ true) k
+      (same_winner n below new ((free.1 lost).played new legal) _ _ _ _
+      (subst (λ m. attacker_wins m (other_child node a d) new ≡ true) (sym k) won)))
   | inr stands ↦
-      let here = free stands in
+      let here = free.0 stands in
       let below = next_node node (allowance_of node) in
       elim (cases_Bool node.turn.attacker_to_play) [
         | inl turn ↦

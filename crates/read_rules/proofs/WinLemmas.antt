@@ -1,7 +1,7 @@
 -- Who wins at a node, by the first move that suits the side to play.
 use Rattle.std.proofs.Common.{◌≡◌, ◌≢◌, ℕ, zero, suc, ◌+◌, ◌-◌, ◌*◌, ◌<◌, ◌≤◌, Bool, true, false, not, ◌&&◌, ◌||◌, cond}
 use Rattle.std.proofs.Common.{List, [], ◌∷◌, Option, Some, None, refl, ap, sym, ◌∙◌, arith, is_some, is_none, inl}
-use Rattle.std.proofs.Common.{inr}
+use Rattle.std.proofs.Common.{inr, ◌⊎◌}
 use Rattle.std.specs.List.{range_with_len, filter, find, list_any, list_all}
 use mathlib.Core.Bool.{beq}
 use Rattle.std.proofs.lemmas.Bool.{cases_Bool, cases_eq, cases_lt, and_parts}
@@ -13,7 +13,7 @@ use Rattle.read_rules.specs.declared.node.Node.{Node}
 use Rattle.read_rules.specs.declared.question.Spot.{Spot}
 use Rattle.read_rules.specs.declared.question.Spot.TheVariants.{Pass}
 use Rattle.read_rules.specs.GameTree.{attacker_wins, child_of, next_node, allowance_of, suits, succeeds, first_success}
-use Rattle.read_rules.specs.GameTree.{at_point, is_captured, has_many_liberties, some_child, each_child}
+use Rattle.read_rules.specs.GameTree.{at_point, is_captured, has_many_liberties, some_child, each_child, taking_back}
 use Rattle.read_rules.specs.GoodMoves.{good_move}
 
 -- a number that fails a test is passed over
@@ -75,18 +75,41 @@ all-first : (n : ℕ) (f : ℕ → Option (Node × BoardState)) (ps : List ℕ)
 all-first n f ps = none-first (λ p. some_child (λ s pos. not (attacker_wins n s pos)) (f p))
     (λ p. each_child (attacker_wins n) (f p)) ps (λ p. lost_child n (f p))
 
--- the target is captured
+-- there is no child, or there is one
+pub some_or_none : (o : Option (Node × BoardState)) → (o ≡ None) ⊎ ((child : Node × BoardState) × (o ≡ Some child))
+some_or_none None = inl refl
+some_or_none (Some child) = inr (child, refl)
+
+-- the target is taken, and is not taken back
 pub wins-captured : (n : ℕ) (node : Node) (pos : BoardState) → is_captured pos node.turn.target ≡ true
-    → attacker_wins n node pos ≡ true
+    → taking_back node pos ≡ None → attacker_wins n node pos ≡ true
 unfolding attacker_wins
-wins-captured zero node pos h = h
-wins-captured (suc n) node pos h = rw h refl
+wins-captured zero node pos h none = rw (h, none) refl
+wins-captured (suc n) node pos h none = rw (h, none) refl
+
+-- the target is taken, and can be taken back, but no ply is left for it
+pub wins-none_left : (node : Node) (pos : BoardState) (child : Node × BoardState) → taking_back node pos ≡ Some child
+    → attacker_wins zero node pos ≡ false
+unfolding attacker_wins
+wins-none_left node pos child some = by (is_captured pos node.turn.target) (taking_back node pos) some
+  where
+    by : (c : Bool) (o : Option (Node × BoardState)) → o ≡ Some child → (c && is_none o) ≡ false
+    by true (Some x) e = refl
+    by true None e = cc
+    by false o e = refl
+
+-- the target is taken, and the defender takes it back
+pub wins-taken_back : (n : ℕ) (node : Node) (pos : BoardState) (child : Node × BoardState)
+    → is_captured pos node.turn.target ≡ true → taking_back node pos ≡ Some child
+    → attacker_wins (suc n) node pos ≡ attacker_wins n child.0 child.1
+unfolding attacker_wins
+wins-taken_back n node pos child h some = rw (h, some) refl
 
 -- it stands, and no ply is left
 pub wins-no_plies : (n : ℕ) (node : Node) (pos : BoardState) → is_captured pos node.turn.target ≡ false → n ≡ 0
     → attacker_wins n node pos ≡ false
 unfolding attacker_wins
-wins-no_plies zero node pos h e = h
+wins-no_plies zero node pos h e = rw h refl
 wins-no_plies (suc n) node pos h e = cc
 
 -- it stands, and it is the attacker's turn
@@ -95,10 +118,10 @@ pub wins-attacker : (n : ℕ) (node : Node) (pos : BoardState) → is_captured p
     → attacker_wins (suc n) node pos ≡ (not (has_many_liberties node.turn pos)
     && list_any (λ p. some_child (attacker_wins n) (child_of node pos p)) (candidates_of node.turn pos))
 unfolding attacker_wins
-wins-attacker n node pos h e = choose (is_captured pos node.turn.target) node.turn.attacker_to_play true _ _ h e
+wins-attacker n node pos h e = choose (is_captured pos node.turn.target) node.turn.attacker_to_play true _ _ _ h e
   where
-    choose : (c turn b x y : Bool) → c ≡ false → turn ≡ b → (c || cond turn x y) ≡ cond b x y
-    choose c turn b x y h e = ap (λ v. v || cond turn x y) h ∙ ap (λ v. cond v x y) e
+    choose : (c turn b z x y : Bool) → c ≡ false → turn ≡ b → cond c z (cond turn x y) ≡ cond b x y
+    choose c turn b z x y h e = ap (λ v. cond v z (cond turn x y)) h ∙ ap (λ v. cond v x y) e
 
 -- it stands, and it is the defender's turn
 pub wins-defender : (n : ℕ) (node : Node) (pos : BoardState) → is_captured pos node.turn.target ≡ false
@@ -106,10 +129,10 @@ pub wins-defender : (n : ℕ) (node : Node) (pos : BoardState) → is_captured p
     → attacker_wins (suc n) node pos ≡ (attacker_wins n (next_node node (allowance_of node)) (pass pos)
     && list_all (λ p. each_child (attacker_wins n) (child_of node pos p)) (candidates_of node.turn pos))
 unfolding attacker_wins
-wins-defender n node pos h e = choose (is_captured pos node.turn.target) node.turn.attacker_to_play false _ _ h e
+wins-defender n node pos h e = choose (is_captured pos node.turn.target) node.turn.attacker_to_play false _ _ _ h e
   where
-    choose : (c turn b x y : Bool) → c ≡ false → turn ≡ b → (c || cond turn x y) ≡ cond b x y
-    choose c turn b x y h e = ap (λ v. v || cond turn x y) h ∙ ap (λ v. cond v x y) e
+    choose : (c turn b z x y : Bool) → c ≡ false → turn ≡ b → cond c z (cond turn x y) ≡ cond b x y
+    choose c turn b z x y h e = ap (λ v. cond v z (cond turn x y)) h ∙ ap (λ v. cond v x y) e
 
 -- a move at a point is there exactly where the point is
 some-at_point : (o : Option ℕ) → is_some (at_point o) ≡ is_some o

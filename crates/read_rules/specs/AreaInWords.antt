@@ -11,7 +11,7 @@ use Rattle.read_rules.specs.Candidates.{is_candidate}
 use Rattle.read_rules.specs.declared.node.Node.{Node}
 use Rattle.read_rules.specs.declared.question.ReadingQuestion.{ReadingQuestion}
 use Rattle.read_rules.specs.GameTree.{allowance_of, next_node}
-use Rattle.read_rules.specs.Rules.{HasManyLiberties, IsChild, node_under}
+use Rattle.read_rules.specs.Rules.{HasManyLiberties, HasLostStones, IsChild, TakesBack, node_under}
 use Rattle.read_rules.specs.ActiveArea.{IsNodeOf}
 
 -- a step leads from q to p: to q itself or to a stone of its string, or to a neighbour of one of these
@@ -46,22 +46,37 @@ pub record IsByPass (before : Node) (there : BoardState) (node : Node) (here : B
   pub node_is : node ≡ next_node before (allowance_of before)
   pub here_is : here ≡ pass there
 
--- a play at a candidate, or the defender's pass, leads to the node from one of the question with a ply more, whose
--- target stands and, at the attacker's turn, has not too many liberties
-pub record IsNextOf (q : ReadingQuestion) (pos : BoardState) (n : ℕ) (node : Node) (here : BoardState) : Type 0 where
-  pub before : Node
-  pub there : BoardState
-  pub in_tree : IsNodeOf q pos (suc n) before there
+-- a move leads to the node from one whose target stands and, at the attacker's turn, has not too many liberties
+pub record IsByMove (before : Node) (there : BoardState) (node : Node) (here : BoardState) : Type 0 where
   pub stands : cell_at there.cells before.turn.target ≢ Empty
   pub few : before.turn.attacker_to_play ≡ true → HasManyLiberties before.turn there → ⊥
   pub move : IsByPlay before there node here ⊎ IsByPass before there node here
 
--- at a node of the question whose target stands, five steps, or six in the wider tree, lead from the target's string to
--- p
+-- the node leads on from one of the question with a ply more: by a play at a candidate, by the defender's pass, or by a
+-- play of his that takes back a lone stone
+pub record IsNextOf (q : ReadingQuestion) (pos : BoardState) (n : ℕ) (node : Node) (here : BoardState) : Type 0 where
+  pub before : Node
+  pub there : BoardState
+  pub in_tree : IsNodeOf q pos (suc n) before there
+  pub move : IsByMove before there node here ⊎ TakesBack before there node here
+
+-- the target stands, and five steps, or six in the wider tree, lead from its string to p
+pub record IsAroundTarget (node : Node) (here : BoardState) (p : ℕ) : Type 0 where
+  pub stands : cell_at here.cells node.turn.target ≢ Empty
+  pub reached : IsReachedIn here.size here.cells node.turn.target (steps_of node.turn.tree) p
+
+-- in the wider tree the target is taken, it is the defender's turn, and two steps lead from its point to p
+pub record IsAroundLoss (node : Node) (here : BoardState) (p : ℕ) : Type 0 where
+  pub lost : HasLostStones node here
+  pub between : ℕ
+  pub on_board : between < here.size * here.size
+  pub first : IsOneStep here.size here.cells node.turn.target between
+  pub second : IsOneStep here.size here.cells between p
+
+-- p is looked at at some node of the question
 pub record IsLookedAt (q : ReadingQuestion) (pos : BoardState) (p : ℕ) : Type 0 where
   pub plies : ℕ
   pub node : Node
   pub here : BoardState
   pub in_tree : IsNodeOf q pos plies node here
-  pub stands : cell_at here.cells node.turn.target ≢ Empty
-  pub reached : IsReachedIn here.size here.cells node.turn.target (steps_of node.turn.tree) p
+  pub around : IsAroundTarget node here p ⊎ IsAroundLoss node here p

@@ -1,11 +1,11 @@
--- Trees in which the ban forbids no candidate, and a node under other ko allowances.
-use Rattle.std.specs.Prelude.{◌≡◌, ◌≢◌, ℕ, zero, suc, false, IsTrue, Ok, Err}
+-- Trees in which the ban forbids no move, and a node under other ko allowances.
+use Rattle.std.specs.Prelude.{◌≡◌, ◌≢◌, ℕ, zero, suc, true, false, IsTrue, Ok, Err}
 use Rattle.go_rules.specs.declared.Illegal.TheVariants.{Ko}
 use Rattle.go_rules.specs.Position.{BoardState}
 use Rattle.go_rules.specs.Play.{play, pass}
 use Rattle.read_rules.specs.Candidates.{is_candidate}
 use Rattle.read_rules.specs.declared.node.Node.{Node}
-use Rattle.read_rules.specs.GameTree.{is_captured, allowance_of, next_node}
+use Rattle.read_rules.specs.GameTree.{is_captured, allowance_of, next_node, has_lost_one_stone}
 use Rattle.read_rules.specs.Turns.{mover_of}
 
 -- the node under other ko allowances of attacker and defender
@@ -21,7 +21,15 @@ pub record IsFreeHere (below : Node → BoardState → Type 0) (node : Node) (po
       → below (next_node node (allowance_of node)) new
   pub passed : node.turn.attacker_to_play ≡ false → below (next_node node (allowance_of node)) (pass pos)
 
--- with n plies left the ban forbids no candidate in the tree of the node
+-- the ban does not forbid the defender to take back, and the same holds of the node that this leads to, by the test
+pub record IsFreeToTakeBack (below : Node → BoardState → Type 0) (node : Node) (pos : BoardState) : Type 0 where
+  pub none : play pos (mover_of node.turn) node.turn.target ≢ Err Ko
+  pub played : (new : BoardState) → play pos (mover_of node.turn) node.turn.target ≡ Ok new
+      → below (next_node node (allowance_of node)) new
+
+-- with n plies left the ban forbids no candidate, and does not forbid to take back a lone stone, in the tree of the node
 abbrev pub IsBanFree : ℕ → Node → BoardState → Type 0
-IsBanFree zero node pos = Unit {0}
-IsBanFree (suc n) node pos = is_captured pos node.turn.target ≡ false → IsFreeHere (IsBanFree n) node pos
+IsBanFree zero node pos = has_lost_one_stone node pos ≡ true
+    → IsFreeToTakeBack (λ (next : Node) (new : BoardState). Unit {0}) node pos
+IsBanFree (suc n) node pos = (is_captured pos node.turn.target ≡ false → IsFreeHere (IsBanFree n) node pos)
+    × (has_lost_one_stone node pos ≡ true → IsFreeToTakeBack (IsBanFree n) node pos)

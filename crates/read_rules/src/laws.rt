@@ -19,9 +19,11 @@ ghost use Rattle.read_rules.specs.declared.turn.Turn.{Turn};
 ghost use Rattle.read_rules.specs.declared.question.ReadingQuestion.{ReadingQuestion};
 ghost use Rattle.read_rules.specs.declared.question.Spot.{Spot};
 ghost use Rattle.read_rules.specs.GameTree.{is_captured, has_many_liberties, child_of, can_play, attacker_wins};
+ghost use Rattle.read_rules.specs.GameTree.{has_lost_stones, taking_back};
 ghost use Rattle.read_rules.specs.BanFree.{with_allowances, IsBanFree};
 ghost use Rattle.read_rules.specs.Answer.{attains_code, is_about, code_of, first_node, answer_of};
 ghost use Rattle.read_rules.specs.Rules.{HasManyLiberties, IsChild, SomeChildWins, EachChildWins};
+ghost use Rattle.read_rules.specs.Rules.{HasLostStones, TakesBack};
 ghost use Rattle.read_rules.specs.Rules.{IsFirstMove, node_under, IsGreatestCode};
 
 use crate::question::Kind;
@@ -51,7 +53,8 @@ pub fn candidates_come_in_stages()
         ≡ is_further_always turn.attacker_to_play pos.size pos.cells turn.target p }
 {}
 
-/// Where a node is captured, where its target has too many liberties, and which children it has.
+/// Where a target is taken, where it has too many liberties, which children a node has, and where the defender takes
+/// back.
 pub fn nodes_are_by_the_rules()
     ensures captured { (pos : BoardState) (target : ℕ)
         → IsTrue (is_captured pos target) ↔ (cell_at pos.cells target ≡ Cell.Empty) }
@@ -59,14 +62,24 @@ pub fn nodes_are_by_the_rules()
         → IsTrue (has_many_liberties turn pos) ↔ HasManyLiberties turn pos }
     ensures child { (node : Node) (pos : BoardState) (p : ℕ) (next : Node) (new : BoardState) →
         (child_of node pos p ≡ Some (next, new)) ↔ IsChild node pos p next new }
+    ensures lost { (node : Node) (pos : BoardState)
+        → IsTrue (has_lost_stones node pos) ↔ HasLostStones node pos }
+    ensures taking_back { (node : Node) (pos : BoardState) (next : Node) (new : BoardState) →
+        (taking_back node pos ≡ Some (next, new)) ↔ TakesBack node pos next new }
     ensures can_play { (node : Node) (pos : BoardState) (p : ℕ) →
         IsTrue (can_play node pos p) ↔ ((next : Node) × (new : BoardState) × IsChild node pos p next new) }
 {}
 
-/// The four rules that say who wins, in their order.
+/// The four rules that say who wins, in their order. A target that is taken is captured, but if the defender can take
+/// back the lone stone it is only captured if a ply is left for it and the attacker wins after it.
 pub fn the_tree_is_by_four_rules()
     ensures captured { (n : ℕ) (node : Node) (pos : BoardState) → IsTrue (is_captured pos node.turn.target)
+        → ((next : Node) (new : BoardState) → TakesBack node pos next new → ⊥)
         → IsTrue (attacker_wins n node pos) }
+    ensures taken_back { (n : ℕ) (node : Node) (pos : BoardState) (next : Node) (new : BoardState)
+        → TakesBack node pos next new → attacker_wins (n + 1) node pos ≡ attacker_wins n next new }
+    ensures none_left { (node : Node) (pos : BoardState) (next : Node) (new : BoardState)
+        → TakesBack node pos next new → attacker_wins 0 node pos ≡ false }
     ensures out_of_plies { (node : Node) (pos : BoardState) → is_captured pos node.turn.target ≡ false
         → attacker_wins 0 node pos ≡ false }
     ensures attacker_to_play { (n : ℕ) (node : Node) (pos : BoardState) → is_captured pos node.turn.target ≡ false
@@ -84,7 +97,8 @@ pub fn winning_is_monotone_in_the_plies()
         → IsTrue (attacker_wins (n + 1) node pos) }
 {}
 
-/// A tree in which the ban forbids no candidate has the same winner under every pair of ko allowances.
+/// A tree in which the ban forbids no candidate and no taking back has the same winner under every pair of ko
+/// allowances.
 pub fn trees_without_a_ban_have_one_winner()
     ensures allowances { (n : ℕ) (node : Node) (pos : BoardState) (a d : ℕ) → IsBanFree n node pos
         → attacker_wins n (with_allowances node a d) pos ≡ attacker_wins n node pos }
@@ -134,8 +148,9 @@ pub fn many_liberties_stand()
 
 /// How far the active area of a question reaches: its points are those that five steps, or six in the wider tree, lead
 /// to from the target's string at some node whose target stands, each to a point of the same string or to a neighbour
-/// of one. The nodes are the first ones under the three pairs of ko allowances, and what a play at a candidate, or the
-/// defender's pass, leads to from a node that is left undecided.
+/// of one; and those that two steps lead to from its point where it is taken in the wider tree at the defender's turn.
+/// The nodes are the first ones under the three pairs of ko allowances, what a play at a candidate, or the defender's
+/// pass, leads to from a node that is left undecided, and what the defender's play leads to that takes back.
 pub fn the_active_area_is_reached_by_steps()
     ensures area { (q : ReadingQuestion) (pos : BoardState) (p : ℕ) → q.target < pos.size * pos.size →
         InActiveArea q pos p ↔ IsLookedAt q pos p }

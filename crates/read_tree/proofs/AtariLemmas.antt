@@ -40,7 +40,7 @@ use Rattle.go_base.proofs.Liberties.{len-liberty_points}
 use Rattle.read_rules.specs.declared.turn.Turn.{Turn}
 use Rattle.read_tree.specs.Allowances.{Ko, under}
 use Rattle.read_tree.specs.Stages.{is_capture}
-use Rattle.read_tree.specs.Steps.{IsTaken, IsInAtari, is_off_liberties}
+use Rattle.read_tree.specs.Steps.{IsTakenForGood, in_stated, with_neighbour, IsTaken, IsInAtari, is_off_liberties}
 use Rattle.read_tree.proofs.AllowanceLemmas.{and_parts_not, and_false_right}
 use Rattle.read_rules.proofs.LibertyLemmas.{child_free, counts_but_one, play_size}
 use Rattle.read_tree.proofs.TakeLemmas.{taking_wins}
@@ -87,12 +87,16 @@ module _ (here : BoardState) (c : Colour) (p : ℕ) (new : BoardState) (t : ℕ)
   liberty_apart x lib e = both_ways (is_liberty s here.cells t x) (ap (is_liberty s here.cells t) e ∙ off)
       (is_liberty-from_fact s here.cells t x on lib)
 
-  -- the stone at t stands
+  -- each stone of c stands
+  own_stands : (x : ℕ) → x < s * s → cell_at here.cells x ≡ stone_of c → cell_at new.cells x ≡ stone_of c
+  own_stands x x_on stone =
+      let before = at_put_other here.cells p x (stone_of c) (apart x stone) ∙ stone in
+      ap (λ (b : BoardState). cell_at b.cells x) (done_state here c p new legal).1 ∙ at_after s put c x x_on
+      ∙ ap (λ b. cond b Empty (cell_at put x)) (own_not_taken s put c x before) ∙ before
+
+  -- and so the stone at t
   stands : cell_at new.cells t ≡ stone_of c
-  stands =
-      let before = at_put_other here.cells p t (stone_of c) (apart t own) ∙ own in
-      ap (λ (x : BoardState). cell_at x.cells t) (done_state here c p new legal).1 ∙ at_after s put c t on
-      ∙ ap (λ b. cond b Empty (cell_at put t)) (own_not_taken s put c t before) ∙ before
+  stands = own_stands t on own
 
   -- a neighbour of the string as it was is not the point of the play, where that was empty
   beside_apart : (y x : ℕ) → Path s here.cells t y → are_neighbours s y x ≡ true → x ≢ p
@@ -258,6 +262,15 @@ module _ (n : ℕ) (turn : Turn) (here : BoardState) (on : turn.target < here.si
         (IsLiberty-from_test here.size new.cells turn.target x
         (ap (λ m. is_liberty m new.cells turn.target x) (sym kept_size) ∙ h)))
 
+    -- a stone beside it still stands
+    still_for_good : IsTakenForGood (next_turn turn) new
+    still_for_good = elim atari.for_good [
+      | in_stated e ↦ in_stated e
+      | with_neighbour q q_on near stone ↦ with_neighbour q (subst (λ m. q < m * m) (sym kept_size) q_on)
+          (ap (λ m. are_neighbours m turn.target q) kept_size ∙ near)
+          (own_stands here turn.defender p new turn.target atari.sound p_on on legal atari.own off last q q_on stone)
+    ]
+
     -- so the attacker takes the target
     is_taken : (left : ℕ) → IsTaken (next_turn turn) new
     is_taken left = record {
@@ -267,6 +280,7 @@ module _ (n : ℕ) (turn : Turn) (here : BoardState) (on : turn.target < here.si
       liberty = still_liberty;
       only = still_only;
       free = unbanned here turn.defender p new turn.target atari.sound p_on on legal atari.own off last only.0 only.1;
+      for_good = still_for_good;
     }
 
     -- and wins, whatever allowance is left to the defender
@@ -307,6 +321,10 @@ module _ (n : ℕ) (turn : Turn) (here : BoardState) (on : turn.target < here.si
     only = λ x h. only_liberty here.size here.cells turn.target on atari.one only.0 x only.1
         (IsLiberty-from_test here.size here.cells turn.target x h);
     free = refl;
+    for_good = elim atari.for_good [
+      | in_stated e ↦ in_stated e
+      | with_neighbour q q_on near stone ↦ with_neighbour q q_on near stone
+    ];
   }
 
   -- so the pass does not save it either

@@ -8,7 +8,7 @@ use Rattle.go_base.specs.Facts.{Fact}
 use Rattle.read_rules.specs.declared.node.Node.{Node}
 use Rattle.read_rules.specs.declared.turn.Turn.{Turn}
 use Rattle.read_rules.specs.declared.question.ReadingQuestion.{ReadingQuestion}
-use Rattle.read_rules.specs.ActiveArea.{IsNodeOf, first, by_play, by_pass, InActiveArea, AddsNear}
+use Rattle.read_rules.specs.ActiveArea.{IsNodeOf, first, by_play, by_pass, by_taking_back, InActiveArea, AddsNear}
 use Rattle.read_rules.specs.GameTree.{child_of, suits, succeeds}
 use Rattle.read_rules.proofs.AreaLemmas.{AddsNear-mono}
 use Rattle.read_rules.proofs.PlyLaws.{one_more}
@@ -49,6 +49,10 @@ sooner {q} {root} d {n} (by_pass before und defends) few =
     let one : suc n - d ≡ suc (n - d) = omega (arith, few) in
     let less : d ≤ suc n = omega (arith, few) in
     by_pass (moved one (sooner d before less)) und defends
+sooner {q} {root} d {n} (by_taking_back before next new back) few =
+    let one : suc n - d ≡ suc (n - d) = omega (arith, few) in
+    let less : d ≤ suc n = omega (arith, few) in
+    by_taking_back (moved one (sooner d before less)) next new back
 
 -- a node of the question with fewer plies is one of the question, with as many more
 later : {q : ReadingQuestion} {root : BoardState} (d : ℕ) → d ≤ q.plies → {n : ℕ} {node : Node} {here : BoardState}
@@ -62,6 +66,9 @@ later {q} {root} d few {n} (by_play before und p candidate next new child) =
 later {q} {root} d few {n} (by_pass before und defends) =
     let one : suc n + d ≡ suc (n + d) = omega arith in
     by_pass (moved one (later d few before)) und defends
+later {q} {root} d few {n} (by_taking_back before next new back) =
+    let one : suc n + d ≡ suc (n + d) = omega arith in
+    by_taking_back (moved one (later d few before)) next new back
 
 -- a node has no more plies left than the question
 left_at_most : {q : ReadingQuestion} {root : BoardState} {n : ℕ} {node : Node} {here : BoardState}
@@ -69,6 +76,7 @@ left_at_most : {q : ReadingQuestion} {root : BoardState} {n : ℕ} {node : Node}
 left_at_most (first code low high) = omega arith
 left_at_most {q} {root} {n} (by_play before und p candidate next new child) = omega (arith, left_at_most before)
 left_at_most {q} {root} {n} (by_pass before und defends) = omega (arith, left_at_most before)
+left_at_most {q} {root} {n} (by_taking_back before next new back) = omega (arith, left_at_most before)
 
 -- the active area of the question with fewer plies lies in that of the question
 area_later : {q : ReadingQuestion} {root : BoardState} (d : ℕ) → d ≤ q.plies → (p : ℕ)

@@ -2,6 +2,7 @@ pub mod ChildLemmas
 pub mod AllowanceLemmas
 pub mod BestLemmas
 pub mod TurnBounds
+pub mod TakingLemmas
 pub mod TakeLemmas
 pub mod StageLemmas
 pub mod CarryLemmas

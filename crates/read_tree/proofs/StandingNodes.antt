@@ -1,7 +1,7 @@
 -- The looks at a node of a question's trees whose target stands: they lie in the question's active area.
 use Rattle.std.proofs.Common.{◌≡◌, ◌⊎◌, ℕ, suc, ◌*◌, ◌<◌, ◌&&◌, ◌||◌, Bool, true, false, List, ap, inl, inr}
-use Rattle.std.proofs.Common.{◌∙◌, refl, arith}
-use Rattle.std.proofs.lemmas.Bool.{and_from, and_parts, or_cases, or_left, or_right, eqb-true}
+use Rattle.std.proofs.Common.{◌∙◌, refl, arith, sym, subst}
+use Rattle.std.proofs.lemmas.Bool.{and_from, and_parts, or_cases, or_left, or_right, eqb-true, eq-eqb}
 use Rattle.std.specs.Ordering.{nat_cmp}
 use Rattle.std.specs.FinSet as sets
 use Rattle.go_rules.specs.Below.{any_below}
@@ -11,6 +11,7 @@ use Rattle.go_rules.specs.Position.{BoardState}
 use Rattle.go_rules.proofs.Counts.{any_below_gives, any_below_from}
 use Rattle.go_base.specs.Facts.{Fact, SizeIs, Agrees, AddsIn, same_size}
 use Rattle.go_base.specs.Views.{alone, neighbours_of}
+use Rattle.go_base.proofs.PointNeighbourhoods.{close_alone, close_again}
 use Rattle.trial_board.specs.declared.moves.TrialMove.{TrialMove}
 use Rattle.trial_board.specs.Overlays.{neighbourhood_twice}
 use Rattle.trial_board.specs.Trials.{Trying, after}
@@ -21,9 +22,9 @@ use Rattle.read_rules.specs.ActiveArea.{IsNodeOf, IsUndecided, first as by_code,
 use Rattle.read_rules.specs.Answer.{is_about, first_node}
 use Rattle.read_rules.proofs.AnswerLemmas.{about_stands}
 use Rattle.read_rules.specs.Candidates.{near_candidates}
-use Rattle.read_rules.specs.GameTree.{is_captured}
+use Rattle.read_rules.specs.GameTree.{is_captured, has_lost_stones}
 use Rattle.read_rules.proofs.AreaLemmas.{AddsNear-in, AddsNear-trans, AddsNear-mono, area_target, area_once}
-use Rattle.read_rules.proofs.AreaLemmas.{area_candidates, area_play, target_on}
+use Rattle.read_rules.proofs.AreaLemmas.{area_candidates, area_play, area_loss, target_on}
 use Rattle.read_moves.proofs.CandidateLemmas.{near_twice, near_liberties}
 use Rattle.read_tree.specs.declared.table.Entry.{Entry}
 use Rattle.read_rules.specs.declared.turn.Turn.{Turn}
@@ -33,6 +34,7 @@ use Rattle.read_tree.specs.Steps.{AreNodesOf}
 use Rattle.read_tree.specs.Walk.{IsReady}
 use Rattle.read_tree.proofs.AllowanceLemmas.{some_of}
 use Rattle.read_tree.proofs.TakeLemmas.{near_liberty}
+use Rattle.read_tree.proofs.TakingLemmas.{near_sides as beside_point}
 
 -- under some allowance the turn's node on the position here, with n plies left, is one of the question's trees, and its
 -- target stands on a board of size s
@@ -177,6 +179,68 @@ module _ {q : ReadingQuestion} {root here : BoardState} {n s : ℕ} {turn : Turn
       → AddsIn c d (neighbourhood_of s here.cells (alone turn.target)) → AddsNear a d (InActiveArea q root)
   near_outlook first liberties outlook =
       AddsNear-trans (near_target first) (AddsNear-trans (near_beside liberties) (near_beside outlook))
+
+-- under some allowance the turn's node on the position here, with n plies left, is one of the question's trees, and its
+-- target was just taken on a board of size s, at the defender's turn in the wider tree
+pub record IsLostNode (q : ReadingQuestion) (root here : BoardState) (n s : ℕ) (turn : Turn) : Type 0 where
+  pub ko : Ko
+  pub tree : IsNodeOf q root n (under turn ko) here
+  pub size : here.size ≡ s
+  pub inside : turn.target < s * s
+  pub lost : has_lost_stones (under turn neither_may) here ≡ true
+
+-- so is a node under asked allowances after the moves, on a position that agrees with what was seen
+pub lost_node : {q : ReadingQuestion} {root pos : BoardState} {n : ℕ} {turn : Turn} {asked : Allowances}
+    {seen : Fact → Bool} (s : ℕ) → seen (SizeIs s) ≡ true → Agrees seen pos → (moves : List TrialMove)
+    → turn.target < s * s → has_some asked ≡ true → AreNodesOf q root n turn asked (after pos moves)
+    → has_lost_stones (under turn neither_may) (after pos moves) ≡ true
+    → IsLostNode q root (after pos moves) n pos.size turn
+lost_node {pos} {turn} {asked} s told agrees moves target some nodes lost =
+    let one = some_of asked some in
+    record {
+      ko = one.0;
+      tree = nodes.each one.0 one.1;
+      size = size-after pos moves;
+      inside = target_on pos.size s turn.target (same_size told agrees) target;
+      lost = lost;
+    }
+
+-- What is looked at there.
+module _ {q : ReadingQuestion} {root here : BoardState} {n s : ℕ} {turn : Turn}
+    (node : IsLostNode q root here n s turn) where
+  -- what a play at the target's point looks at lies in the area
+  loss_in : (p : ℕ) → neighbourhood_twice s here.cells turn.target p ≡ true → InActiveArea q root p
+  loss_in p h = area_loss q root here n (under turn node.ko) node.tree node.lost p
+      (subst (λ m. neighbourhood_twice m here.cells turn.target p ≡ true) (sym node.size) h)
+
+  -- and so do its looks
+  pub near_loss : {a b : Fact → Bool} → AddsIn a b (neighbourhood_twice s here.cells turn.target)
+      → AddsNear a b (InActiveArea q root)
+  near_loss looks = AddsNear-in (InActiveArea q root) looks loss_in
+
+  -- looks beside the target's point do
+  pub near_loss_sides : {a b : Fact → Bool} → AddsIn a b (neighbours_of s turn.target)
+      → AddsNear a b (InActiveArea q root)
+  near_loss_sides looks = AddsNear-in (InActiveArea q root) looks (λ p h. loss_in p
+      (close_again s here.cells (alone turn.target) p (beside_point s here.cells turn.target node.inside p h)))
+
+  -- the target's point lies in the area
+  target_lost : (p : ℕ) → p ≡ turn.target → InActiveArea q root p
+  target_lost p e = loss_in p (close_again s here.cells (alone turn.target) p
+      (close_alone s here.cells turn.target p node.inside (eq-eqb p turn.target e)))
+
+  -- a look at the target, and then those at the node where it was taken back
+  pub near_back : {a b c : Fact → Bool} → AddsIn a b (alone turn.target)
+      → AddsNear b c (λ p. (p ≡ turn.target) ⊎ InActiveArea q root p) → AddsNear a c (InActiveArea q root)
+  near_back first below = AddsNear-trans
+      (AddsNear-in (InActiveArea q root) first (λ p h. target_lost p (eqb-true p turn.target h)))
+      (AddsNear-mono (λ p. (p ≡ turn.target) ⊎ InActiveArea q root p) (InActiveArea q root) below
+      (λ p h. elim h [ inl e ↦ target_lost p e | inr i ↦ i ]))
+
+-- a look at the target's point lies there
+pub near_cell : {a b : Fact → Bool} (t : ℕ) (S : ℕ → Type 0) → AddsIn a b (alone t)
+    → AddsNear a b (λ p. (p ≡ t) ⊎ S p)
+near_cell t S looks = AddsNear-in (λ p. (p ≡ t) ⊎ S p) looks (λ p h. inl (eqb-true p t h))
 
 -- a look at the target of a question lies in its active area on a position that it is about
 pub near_asked : {a b : Fact → Bool} (q : ReadingQuestion) (pos : BoardState) → q.target < pos.size * pos.size

@@ -13,7 +13,7 @@ use Rattle.go_rules.specs.declared.Cell.{Cell}
 use Rattle.go_rules.specs.declared.Cell.TheVariants.{Empty}
 use Rattle.go_rules.specs.declared.Colour.{Colour}
 use Rattle.go_rules.specs.declared.Colour.TheVariants.{Black as black, White as white}
-use Rattle.go_rules.specs.Strings.{cell_at, Path, is_stone, start, IsLiberty, is_liberty, liberties}
+use Rattle.go_rules.specs.Strings.{cell_at, Path, is_stone, start, step, IsLiberty, is_liberty, liberties}
 use Rattle.go_rules.specs.Strings.{liberty_points}
 use Rattle.go_rules.specs.Position.{BoardState, other, stone_of}
 use Rattle.go_rules.specs.Play.{play, cells_after, is_taken}
@@ -30,12 +30,15 @@ use Rattle.read_rules.specs.declared.node.Node.{Node}
 use Rattle.read_rules.specs.declared.turn.Turn.{Turn}
 use Rattle.read_moves.proofs.WholeBoards.{IsWhole}
 use Rattle.read_rules.specs.GameTree.{is_captured, has_many_liberties, attacker_wins, next_node, allowance_of}
+use Rattle.read_rules.specs.GameTree.{has_lost_one_stone, is_walled_in}
 use Rattle.read_rules.specs.Rules.{SomeChildWins}
 use Rattle.read_rules.proofs.AnswerLemmas.{stone_stands}
 use Rattle.read_tree.specs.Allowances.{Ko, under}
-use Rattle.read_tree.specs.Steps.{IsTaken}
+use Rattle.read_tree.specs.Steps.{IsTaken, in_stated, with_neighbour}
 use Rattle.read_rules.proofs.RuleLemmas.{attacker_from}
-use Rattle.read_rules.proofs.WinLemmas.{wins-captured}
+use Rattle.read_rules.specs.Trees.{is_wider}
+use Rattle.read_rules.specs.Turns.{next_turn}
+use Rattle.read_tree.proofs.TakingLemmas.{captured_for_good, lost_stated, lost_free, not_walled}
 
 -- The string of t, an enemy of c, has the only liberty l.
 module _ (s : ℕ) (cells : List Cell) (c : Colour) (l t : ℕ) (whole : length cells ≡ s * s) (on : t < s * s)
@@ -76,6 +79,12 @@ module _ (s : ℕ) (cells : List Cell) (c : Colour) (l t : ℕ) (whole : length 
   stone_stays = at_after s put c l lib.on_board
       ∙ ap (λ b. cond b Empty (cell_at put l)) (own_not_taken s put c l put_at) ∙ put_at
 
+  -- a stone beside t of its colour goes with it
+  pub beside_gone : (q : ℕ) → q < s * s → are_neighbours s t q ≡ true → cell_at cells q ≡ stone_of (other c)
+      → cell_at (cells_after s put c) q ≡ Empty
+  beside_gone q q_on near stone =
+      gone q q_on (taken_whole s put c t q on taken (string_put q (step start q_on near (stone ∙ sym enemy))))
+
   -- the stone of the string next to it leaves it a liberty
   freed_beside : IsLiberty s (cells_after s put c) l lib.beside.0
   freed_beside =
@@ -99,10 +108,12 @@ pub other_twice : (c : Colour) → other (other c) ≡ c
 other_twice black = refl
 other_twice white = refl
 
--- the attacker's play at the only liberty of the target is legal, and captures it
+-- the attacker's play at the only liberty of the target is legal and captures it, and a stone beside it goes with it
 take_legal : (turn : Turn) (here : BoardState) → IsWhole here → turn.target < here.size * here.size
     → (t : IsTaken turn here) → let new = result_of here (other turn.defender) t.l in
     (play here (other turn.defender) t.l ≡ Ok new) × (is_captured new turn.target ≡ true)
+    × ((q : ℕ) → q < here.size * here.size → are_neighbours here.size turn.target q ≡ true
+    → cell_at here.cells q ≡ stone_of turn.defender → cell_at new.cells q ≡ Empty)
 take_legal turn here whole on t =
     let s = here.size in
     let c = other turn.defender in
@@ -114,7 +125,25 @@ take_legal turn here whole on t =
     let lives = stone_lives s here.cells c t.l turn.target whole on enemy lib only in (
       sym (play_else here c t.l vacant t.free) ∙ sym (free_done here c t.l vacant lives),
       same_cell-from _ _ (target_gone s here.cells c t.l turn.target whole on enemy lib only),
+      λ q q_on near stone. beside_gone s here.cells c t.l turn.target whole on enemy lib only q q_on near
+          (stone ∙ ap stone_of (sym (other_twice turn.defender))),
     )
+
+-- it takes no lone stone that may be taken back
+not_lone : (node next : Node) (here : BoardState) → IsWhole here → node.turn.target < here.size * here.size
+    → (t : IsTaken node.turn here) → next.turn ≡ next_turn node.turn
+    → has_lost_one_stone next (result_of here (other node.turn.defender) t.l) ≡ false
+not_lone node next here whole on t is =
+    let turn = node.turn in
+    let new = result_of here (other turn.defender) t.l in
+    let taken = take_legal turn here whole on t in
+    elim t.for_good [
+      | in_stated e ↦ lost_stated next new (ap (λ (k : Turn). is_wider k.tree) is ∙ e)
+      | with_neighbour q q_on near stone ↦ lost_free next new
+          (ap (λ (k : Turn). is_walled_in new.size new.cells k.target (other k.defender)) is
+          ∙ not_walled here.size new.cells turn.target (other turn.defender) q q_on near
+          (λ e. stone_not_empty (other turn.defender) (sym e ∙ taken.2 q q_on near stone)))
+    ]
 
 -- so at the attacker's turn some child is won, however many plies are left
 take_child : (n : ℕ) (node : Node) (here : BoardState) → IsWhole here → node.turn.target < here.size * here.size
@@ -131,7 +160,7 @@ take_child n node here whole on t =
       new = new;
       candidate = candidate_from node.turn here t.l on (fills lib);
       child = inl (record { legal = ap (λ k. play here k t.l) mover ∙ taken.0; next_is = refl });
-      wins = wins-captured n next new taken.1;
+      wins = captured_for_good n next new taken.1 (not_lone node next here whole on t refl);
     }
 
 -- with a ply left, an attacker who may play at the only liberty of the target captures it

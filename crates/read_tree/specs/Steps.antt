@@ -1,9 +1,10 @@
 -- What the steps of the reader answer.
-use Rattle.std.specs.Prelude.{◌≡◌, ◌≢◌, ℕ, ◌<◌, ◌≤◌, ◌==◌, ◌&&◌, Bool, true, false, not, List, Some, None}
+use Rattle.std.specs.Prelude.{◌≡◌, ◌≢◌, ℕ, ◌*◌, ◌<◌, ◌≤◌, ◌==◌, ◌&&◌, Bool, true, false, not, List, Some, None}
 use Rattle.std.specs.Prelude.{if◌then◌else◌}
 use Rattle.std.specs.Ordering.{nat_cmp}
 use Rattle.std.specs.FinSet as set
 use Rattle.go_rules.specs.declared.Cell.{Cell}
+use Rattle.go_rules.specs.Board.{are_neighbours}
 use Rattle.go_rules.specs.Strings.{cell_at, is_liberty, liberties, liberty_points}
 use Rattle.go_rules.specs.Position.{BoardState, IsPosition, other, stone_of, is_banned}
 use Rattle.read_tree.specs.declared.outlook.Outlook.{Outlook}
@@ -22,6 +23,7 @@ use Rattle.read_tree.specs.declared.making.Made.{Made}
 use Rattle.read_tree.specs.declared.making.Made.TheVariants.{Not, Legal, Allowed}
 use Rattle.read_rules.specs.GameTree.{child_of, first_move, pass_saves, succeeds}
 use Rattle.read_rules.specs.Candidates.{is_candidate}
+use Rattle.read_rules.specs.Trees.{is_wider}
 use Rattle.read_rules.specs.Turns.{next_turn}
 use Rattle.read_tree.specs.Allowances.{Ko, neither_may, has, has_some, own_ko, under, ko_of, best_code}
 use Rattle.read_rules.specs.ActiveArea.{IsNodeOf}
@@ -100,8 +102,15 @@ is_safe Safe = true
 is_safe Taken = false
 is_safe Open = false
 
--- it is the attacker's turn, l is the only liberty of the target, which is of the defender's colour, and the ban lets
--- him play there
+-- if the target is taken now, no lone stone is taken: the tree is the stated one, or a neighbour of the target's point
+-- holds a stone of the defender, which is taken with it
+pub data IsTakenForGood (turn : Turn) (here : BoardState) : Type 0 where
+  in_stated : is_wider turn.tree ≡ false → IsTakenForGood turn here
+  with_neighbour : (q : ℕ) → q < here.size * here.size → are_neighbours here.size turn.target q ≡ true
+      → cell_at here.cells q ≡ stone_of turn.defender → IsTakenForGood turn here
+
+-- it is the attacker's turn, l is the only liberty of the target, which is of the defender's colour, the ban lets him
+-- play there, and the target is then not taken back
 pub record IsTaken (turn : Turn) (here : BoardState) : Type 0 where
   pub attacks : turn.attacker_to_play ≡ true
   pub enemy : cell_at here.cells turn.target ≡ stone_of turn.defender
@@ -109,14 +118,17 @@ pub record IsTaken (turn : Turn) (here : BoardState) : Type 0 where
   pub liberty : is_liberty here.size here.cells turn.target l ≡ true
   pub only : (x : ℕ) → is_liberty here.size here.cells turn.target x ≡ true → x ≡ l
   pub free : is_banned here.ban (other turn.defender) l ≡ false
+  pub for_good : IsTakenForGood turn here
 
--- the defender is to play, with n plies left after his move; the target is his, and has one liberty
+-- the defender is to play, with n plies left after his move; the target is his and has one liberty, and if it is taken
+-- it is not taken back
 pub record IsInAtari (n : ℕ) (turn : Turn) (here : BoardState) : Type 0 where
   pub defends : turn.attacker_to_play ≡ false
   pub plies : n ≢ 0
   pub own : cell_at here.cells turn.target ≡ stone_of turn.defender
   pub one : liberties here.size here.cells turn.target ≡ 1
   pub sound : IsPosition here
+  pub for_good : IsTakenForGood turn here
 
 -- found has those of the asked under which some point that passes the test gives the side to play its way: each is
 -- given by one, and under the others none does

@@ -11,7 +11,8 @@ use Rattle.read_rules.specs.declared.question.ReadingQuestion.{ReadingQuestion}
 use Rattle.read_rules.specs.ActiveArea.{IsUndecided, InActiveArea, AddsNear}
 use Rattle.read_rules.specs.declared.turn.Turn.{Turn}
 use Rattle.read_tree.specs.declared.allowances.Allowances.{Allowances}
-use Rattle.read_tree.specs.Allowances.{Ko, under, has_some}
+use Rattle.read_rules.specs.GameTree.{has_lost_one_stone}
+use Rattle.read_tree.specs.Allowances.{Ko, neither_may, under, has_some}
 use Rattle.read_tree.specs.declared.table.Entry.{Entry}
 use Rattle.read_tree.specs.Steps.{AreNodesOf}
 use Rattle.read_tree.specs.Table.{IsTrueTableAt}
@@ -50,6 +51,14 @@ abbrev pub LooksNearOrAt : {L : Type 0} → (L → Fact → Bool) → Trying L �
 LooksNearOrAt seen old new n turn asked = OnEachAgreeing seen old new (λ here.
     (q : ReadingQuestion) (root : BoardState) → AreNodesOf q root n turn asked here
     → AddsNear (seen old.look) (seen new.look) (λ p. (p ≡ turn.target) ⊎ InActiveArea q root p))
+
+-- what was looked at since lies in the active area of each question among whose nodes the turn's is, with n plies left,
+-- under each of the asked allowances, where the defender has just lost a lone stone
+abbrev pub LooksNearLoss : {L : Type 0} → (L → Fact → Bool) → Trying L → Trying L → ℕ → Turn → Allowances → Type 0
+LooksNearLoss seen old new n turn asked = OnEachAgreeing seen old new (λ here.
+    (q : ReadingQuestion) (root : BoardState) → AreNodesOf q root n turn asked here
+    → has_lost_one_stone (under turn neither_may) here ≡ true
+    → AddsNear (seen old.look) (seen new.look) (InActiveArea q root))
 
 -- a function of the walk may go on with n plies left after a move: there is room for them, the target is on the board,
 -- some allowance is asked for, and the points and the table are what the target's liberties and the nodes are

@@ -26,6 +26,7 @@ mod outlook;
 pub mod reading;
 pub mod report;
 pub mod table;
+mod taking_back;
 pub mod tree;
 
 pub use allowances::Allowances;

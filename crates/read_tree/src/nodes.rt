@@ -2,10 +2,11 @@
 
 ghost use Rattle.std.specs.Prelude.{◌≡◌, ◌+◌, ◌<◌, ◌≤◌, ◌&&◌, ◌||◌, ◌==◌, nat_lt, true, None, Some, IfSome};
 ghost use Rattle.std.specs.Prelude.{MatchOption, length, is_some};
-ghost use Rattle.go_rules.specs.Position.{BoardState};
+ghost use Rattle.go_rules.specs.Position.{BoardState, IsPosition};
 ghost use Rattle.go_base.specs.Facts.{Agrees, Grows};
 ghost use Rattle.trial_board.specs.Trials.{Stays, most_moves, after, tail};
 ghost use Rattle.read_rules.specs.GameTree.{child_of, attacker_wins, pass_saves, succeeds, first_success, first_move};
+ghost use Rattle.read_rules.specs.GameTree.{is_captured};
 ghost use Rattle.read_rules.specs.GoodMoves.{good_move, is_barred, IsOnBoard};
 ghost use Rattle.read_rules.specs.Trees.{most_narrow};
 ghost use Rattle.read_tree.specs.Nodes.{has_one_at_most, the_allowance, LeadsTo, SameReading, game_node};
@@ -16,6 +17,7 @@ use crate::allowances::Allowances;
 use crate::bound::most_narrow;
 use crate::memory::Memory;
 use crate::table::{Entry, empty_table};
+use crate::taking_back::{is_walled_in, may_take_back_at};
 use crate::tree;
 use go_base::{Cell, Colour, Look, Point};
 use read_moves::candidates;
@@ -245,6 +247,36 @@ fn has_good_move<L: Look>(board: &mut Trial<L>, node: Node, plies: u8, memory: &
     first_move(board, node, plies, memory).is_some()
 }
 
+/// Whether the target, whose point is empty, is captured, with `plies` plies left: it is, if no lone stone of the
+/// defender was taken in the wider tree, or if he cannot take back; else if a ply is left for it and the attacker wins
+/// after it.
+#[cycle(wins)]
+fn taken_at<L: Look>(board: &mut Trial<L>, node: Node, plies: u8, memory: &mut Memory) -> bool
+    requires room { length board.old.moves + plies ≤ most_moves }
+    requires target { IsPointOf L.shows board.old node.turn.target }
+    requires captured { (pos : BoardState) → Agrees (L.seen board.old.look) pos
+        → is_captured (after pos board.old.moves) node.turn.target ≡ true }
+    requires sound { (pos : BoardState) → Agrees (L.seen board.old.look) pos → IsPosition (after pos board.old.moves) }
+    requires table { IsTrueTableAt (L.seen board.old.look) node.turn memory.old.table.now }
+    ensures stays { Stays L.shows L.seen board.old board.new }
+    ensures table { IsTrueTableAt (L.seen board.new.look) node.turn memory.new.table.now }
+    ensures over { OnEachAgreeing L.seen board.old board.new (λ here. result ≡ attacker_wins plies node here) }
+{
+    if !node.turn.tree.is_wider() {
+        return true;
+    }
+    if node.turn.attacker_to_play {
+        return true;
+    }
+    if !is_walled_in(board, node.turn.target, node.turn.defender) {
+        return true;
+    }
+    if plies == 0 {
+        return !may_take_back_at(board, node);
+    }
+    !succeeds(board, node, node.turn.target, plies - 1, memory)
+}
+
 /// Whether the attacker wins at the node, with `plies` plies left. The reader reads it where at most one side may still
 /// ignore the ban; else each move is tried, until one side has done so.
 #[cycle(wins)]
@@ -260,7 +292,7 @@ pub fn wins_at<L: Look>(board: &mut Trial<L>, node: Node, plies: u8, memory: &mu
         return wins_by_reader(board, node, plies, memory);
     }
     if board.cell(node.turn.target) == Cell::Empty {
-        return true;
+        return taken_at(board, node, plies, memory);
     }
     if plies == 0 {
         return false;

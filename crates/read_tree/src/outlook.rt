@@ -9,13 +9,14 @@ ghost use Rattle.go_base.specs.Facts.{Agrees, AddsIn};
 ghost use Rattle.go_base.specs.Views.{alone};
 ghost use Rattle.trial_board.specs.Trials.{Stays, after};
 ghost use Rattle.read_rules.specs.Bound.{outlasts_at};
-ghost use Rattle.read_tree.specs.Steps.{IsTaken, IsInAtari, TellsLiberties, is_safe};
+ghost use Rattle.read_tree.specs.Steps.{IsTakenForGood, IsTaken, IsInAtari, TellsLiberties, is_safe};
 
 use crate::bound::{has_too_many, most_liberties};
 use go_base::points::PointSet;
 use go_base::{Cell, Colour, Look};
 use read_rules::Turn;
 use trial_board::Trial;
+use wider_moves::sides::add_sides;
 
 /// How many liberties a string in atari has.
 const IN_ATARI: u16 = 1;
@@ -30,8 +31,27 @@ pub fn stone_of(colour: Colour) -> Cell
     }
 }
 
-/// Whether it is the attacker's turn and he may take the target by its only liberty.
-fn can_take<L: Look>(board: &mut Trial<L>, turn: Turn, liberties: &PointSet) -> bool
+/// Whether the target would be taken for good: the tree is the stated one, or a neighbour of its point holds a stone of
+/// its colour, which is taken with it. A lone stone may be taken back.
+fn is_taken_for_good<L: Look>(board: &mut Trial<L>, turn: Turn) -> bool
+    requires { turn.target < (L.shows board.old.look).size * (L.shows board.old.look).size }
+    ensures stays { Stays L.shows L.seen board.old board.new }
+    ensures over { (pos : BoardState) → Agrees (L.seen board.new.look) pos → result ≡ true
+        → IsTakenForGood turn (after pos board.old.moves) }
+    ensures near { (pos : BoardState) → Agrees (L.seen board.new.look) pos
+        → AddsIn (L.seen board.old.look) (L.seen board.new.look)
+        (neighbourhood_of pos.size (after pos board.old.moves).cells (alone turn.target)) }
+{
+    if !turn.tree.is_wider() {
+        return true;
+    }
+    let mut own = PointSet::new();
+    add_sides(board, stone_of(turn.defender), turn.target, &mut own);
+    own.first_from(0).is_some()
+}
+
+/// Whether it is the attacker's turn and he may play at the only liberty of the target, which takes it.
+fn can_fill<L: Look>(board: &mut Trial<L>, turn: Turn, liberties: &PointSet) -> bool
     requires target { turn.target < (L.shows board.old.look).size * (L.shows board.old.look).size }
     requires liberties { liberties.now ≡ liberty_points (L.shows board.old.look).size
         (after (L.shows board.old.look) board.old.moves).cells turn.target }
@@ -39,7 +59,7 @@ fn can_take<L: Look>(board: &mut Trial<L>, turn: Turn, liberties: &PointSet) -> 
     ensures count { board.new.count ≡ board.old.count }
     ensures over { (pos : BoardState) → Agrees (L.seen board.new.look) pos
         → liberties.now ≡ liberty_points pos.size (after pos board.old.moves).cells turn.target
-        → result ≡ true → IsTaken turn (after pos board.old.moves) }
+        → result ≡ true → IsTakenForGood turn (after pos board.old.moves) → IsTaken turn (after pos board.old.moves) }
     ensures near { AddsIn (L.seen board.old.look) (L.seen board.new.look)
         (λ p. alone turn.target p || set.contains liberties.now p) }
 {
@@ -52,8 +72,26 @@ fn can_take<L: Look>(board: &mut Trial<L>, turn: Turn, liberties: &PointSet) -> 
     }
 }
 
+/// Whether it is the attacker's turn and he may take the target by its only liberty, for good.
+fn can_take<L: Look>(board: &mut Trial<L>, turn: Turn, liberties: &PointSet) -> bool
+    requires target { turn.target < (L.shows board.old.look).size * (L.shows board.old.look).size }
+    requires liberties { liberties.now ≡ liberty_points (L.shows board.old.look).size
+        (after (L.shows board.old.look) board.old.moves).cells turn.target }
+    ensures stays { Stays L.shows L.seen board.old board.new }
+    ensures over { (pos : BoardState) → Agrees (L.seen board.new.look) pos
+        → liberties.now ≡ liberty_points pos.size (after pos board.old.moves).cells turn.target
+        → result ≡ true → IsTaken turn (after pos board.old.moves) }
+    ensures near { (pos : BoardState) → Agrees (L.seen board.new.look) pos
+        → liberties.now ≡ liberty_points pos.size (after pos board.old.moves).cells turn.target
+        → AddsIn (L.seen board.old.look) (L.seen board.new.look)
+        (neighbourhood_of pos.size (after pos board.old.moves).cells (alone turn.target)) }
+{
+    can_fill(board, turn, liberties) && is_taken_for_good(board, turn)
+}
+
 /// Whether it is the defender's turn, the target is his and in atari, and a ply is left after his move. Then the
-/// attacker takes it, unless the defender plays at its liberty or takes an enemy string next to it.
+/// attacker takes it, unless the defender plays at its liberty or takes an enemy string next to it; and in the wider
+/// tree it is no lone stone, which might be taken back.
 pub fn is_in_atari<L: Look>(board: &mut Trial<L>, turn: Turn, plies: u8, known: &PointSet) -> bool
     requires target { turn.target < (L.shows board.old.look).size * (L.shows board.old.look).size }
     requires liberties { (pos : BoardState) → Agrees (L.seen board.old.look) pos
@@ -61,12 +99,14 @@ pub fn is_in_atari<L: Look>(board: &mut Trial<L>, turn: Turn, plies: u8, known: 
     ensures stays { Stays L.shows L.seen board.old board.new }
     ensures over { (pos : BoardState) → Agrees (L.seen board.new.look) pos → result ≡ true
         → IsInAtari plies turn (after pos board.old.moves) }
-    ensures near { AddsIn (L.seen board.old.look) (L.seen board.new.look) (alone turn.target) }
+    ensures near { (pos : BoardState) → Agrees (L.seen board.new.look) pos
+        → AddsIn (L.seen board.old.look) (L.seen board.new.look)
+        (neighbourhood_of pos.size (after pos board.old.moves).cells (alone turn.target)) }
 {
     if turn.attacker_to_play || plies == 0 || known.count() != IN_ATARI {
         return false;
     }
-    board.cell(turn.target) == stone_of(turn.defender)
+    board.cell(turn.target) == stone_of(turn.defender) && is_taken_for_good(board, turn)
 }
 
 /// The liberties of the target, with `plies` plies left; where they are too many, a part of them that is too many

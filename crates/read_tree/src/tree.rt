@@ -4,7 +4,7 @@ ghost use Rattle.std.specs.Prelude.{◌≡◌, ◌+◌, ◌≤◌, ℕ, suc, tru
 ghost use Rattle.std.specs.Prelude.{IsTrue, IfSome, length, is_some, if◌then◌else◌};
 ghost use Rattle.go_rules.specs.Neighbourhood.{neighbourhood_of};
 ghost use Rattle.std.specs.FinSet as set;
-ghost use Rattle.go_rules.specs.Position.{BoardState};
+ghost use Rattle.go_rules.specs.Position.{BoardState, IsPosition};
 ghost use Rattle.go_base.specs.Facts.{Agrees, AddsIn};
 ghost use Rattle.go_base.specs.Views.{alone};
 ghost use Rattle.trial_board.specs.Trials.{Stays, most_moves, after};
@@ -19,7 +19,7 @@ ghost use Rattle.read_tree.specs.Steps.{has_way, AreNodesOf, TellsBy};
 ghost use Rattle.read_tree.specs.Steps.{is_off_liberties, IsCarried, TellsLiberties};
 ghost use Rattle.read_tree.specs.Table.{IsTrueTableAt};
 ghost use Rattle.read_tree.specs.Walk.{IsReady, IsPointOf, AreLibertiesOf, OnEachAgreeing};
-ghost use Rattle.read_tree.specs.Walk.{LooksNear, LooksNearWhere, LooksNearOrAt};
+ghost use Rattle.read_tree.specs.Walk.{LooksNear, LooksNearWhere, LooksNearOrAt, LooksNearLoss};
 
 use crate::allowances::Allowances;
 use crate::apart::all_but;
@@ -31,6 +31,7 @@ use crate::memory::Memory;
 use crate::order::{TryOrder, last_reply, next_to_try};
 use crate::outlook::{Outlook, is_in_atari, liberties_within, outlook_of, stone_of};
 use crate::table::AttackerNode;
+use crate::taking_back::{is_walled_in, may_take_back};
 use go_base::points::PointSet;
 use go_base::{Cell, Look, Point};
 use read_rules::{Tree, Turn};
@@ -143,6 +144,7 @@ pub fn succeeds<L: Look>(
         Tells asked result (λ ko. succeeds plies (under turn ko) here p)) }
     ensures near { LooksNearWhere L.seen board.old board.new (suc plies) turn asked (λ here.
         IsTrue (is_candidate turn here p)) }
+    ensures back { p ≡ turn.target → LooksNearLoss L.seen board.old board.new (suc plies) turn asked }
 {
     let own = asked.has_own(turn.attacker_to_play);
     match make(board, turn, p, own) {
@@ -376,6 +378,48 @@ fn has_good_move<L: Look>(
     asked.without(lost.without(some_success(board, turn, plies, lost, known, memory)))
 }
 
+/// Those of the asked under which the target, whose point is empty, is captured, with `plies` plies left: all, if no
+/// lone stone of the defender was taken in the wider tree; else those under which he cannot take back, or a ply is left
+/// for it and the attacker wins after it.
+#[cycle(read)]
+fn taken<L: Look>(
+    board: &mut Trial<L>,
+    turn: Turn,
+    plies: u8,
+    asked: Allowances,
+    memory: &mut Memory,
+) -> Allowances
+    requires room { length board.old.moves + plies ≤ most_moves }
+    requires target { IsPointOf L.shows board.old turn.target }
+    requires some { has_some asked ≡ true }
+    requires captured { (pos : BoardState) → Agrees (L.seen board.old.look) pos
+        → is_captured (after pos board.old.moves) turn.target ≡ true }
+    requires sound { (pos : BoardState) → Agrees (L.seen board.old.look) pos → IsPosition (after pos board.old.moves) }
+    requires table { IsTrueTableAt (L.seen board.old.look) turn memory.old.table.now }
+    ensures stays { Stays L.shows L.seen board.old board.new }
+    ensures table { IsTrueTableAt (L.seen board.new.look) turn memory.new.table.now }
+    ensures over { OnEachAgreeing L.seen board.old board.new (λ here.
+        Tells asked result (λ ko. attacker_wins plies (under turn ko) here)) }
+    ensures near { LooksNearOrAt L.seen board.old board.new plies turn asked }
+{
+    if !turn.tree.is_wider() {
+        return asked;
+    }
+    if turn.attacker_to_play {
+        return asked;
+    }
+    if !is_walled_in(board, turn.target, turn.defender) {
+        return asked;
+    }
+    if plies == 0 {
+        let back = may_take_back(board, turn, asked);
+        return asked.without(back);
+    }
+    let nothing = PointSet::new();
+    let back = succeeds(board, turn, turn.target, plies - 1, asked, &nothing, memory);
+    asked.without(back)
+}
+
 /// Those of the asked under which the target is captured, with `plies` plies left.
 #[cycle(read)]
 pub fn attacker_wins<L: Look>(
@@ -398,7 +442,7 @@ pub fn attacker_wins<L: Look>(
     ensures near { LooksNearOrAt L.seen board.old board.new plies turn asked }
 {
     if board.cell(turn.target) == Cell::Empty {
-        return asked;
+        return taken(board, turn, plies, asked, memory);
     }
     if plies == 0 {
         return Allowances::none();

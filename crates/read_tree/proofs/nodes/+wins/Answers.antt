@@ -1,12 +1,22 @@
 -- The walk over the moves of a node answers what the tree says, over every position that agrees with what was seen.
-use Rattle.std.proofs.Common.{◌∙◌, sym, arith, rules}
+use Rattle.std.proofs.Common.{◌≡◌, ◌∙◌, ◌+◌, ◌-◌, ◌<◌, ℕ, true, not, length, ap, sym, arith, rules}
+use Rattle.go_base.specs.Facts.{Agrees}
+use Rattle.go_rules.specs.Position.{BoardState, IsPosition, other}
+use Rattle.trial_board.specs.Trials.{most_moves}
+use Rattle.trial_board.proofs.AfterLemmas.{size-after}
+use Rattle.read_rules.specs.GameTree.{is_captured, is_walled_in, has_lost_one_stone}
+use Rattle.read_tree.specs.Walk.{OnEachAgreeing}
+use Rattle.read_tree.proofs.TakingLemmas.{captured_for_good, lost_stated, lost_by_attacker, lost_free, lost_lone}
+use Rattle.read_tree.proofs.TakingLemmas.{lone_left, lone_read}
+use Rattle.read_tree.proofs.nodes.+wins.Given.{Over}
+use Rattle.read_tree.proofs.nodes.+wins.Goals.{taken_at-After-is_walled_in}
 use Rattle.std.specs.FinSet as set
 use Rattle.go_base.specs.Facts.{agrees_before, Grows-refl, Grows-trans}
 use Rattle.go_rules.specs.declared.Cell.TheVariants.{Empty}
 use Rattle.go_rules.proofs.Cells.{eq_is_same_cell}
 use Rattle.trial_board.specs.Trials.{after}
 use Rattle.read_rules.specs.GameTree.{succeeds}
-use Rattle.read_rules.proofs.WinLemmas.{wins-captured, wins-no_plies, wins-by_move, none_up_to, first_success-found}
+use Rattle.read_rules.proofs.WinLemmas.{wins-no_plies, wins-by_move, none_up_to, first_success-found}
 use Rattle.read_rules.proofs.WinLemmas.{first_success-none}
 use Rattle.read_tree.proofs.TableLemmas.{table_more}
 use Rattle.read_tree.proofs.NodeLemmas.{play_made, play_refused, no_pass, pass_made, first_pass, first_point}
@@ -147,12 +157,112 @@ has_good_move-returns-clause-over g t c = λ pos a.
     c.is_some.ensures ∙ good_first c.args.plies c.args.node (after pos c.args.board.now.moves) c.first_move.result
     (sym c.if-is_barred.false ∙ c.is_barred.ensures.over pos a1) first
 
--- the target is captured
+-- in the stated tree a target that is taken is captured
+pub taken_at-returns-then-not-is_wider-clause-over : goal.taken_at-returns-then-not-is_wider-clause-over
+taken_at-returns-then-not-is_wider-clause-over g t c = λ pos a.
+    let here = after pos c.args.board.now.moves in
+    sym (captured_for_good c.args.plies c.args.node here (c.requires.captured pos a)
+    (lost_stated c.args.node here (sym c.is_wider.ensures ∙ c.if-not-is_wider.true)))
+
+-- at the attacker's turn it is captured
+pub taken_at-returns-then-node-clause-over : goal.taken_at-returns-then-node-clause-over
+taken_at-returns-then-node-clause-over g t c = λ pos a.
+    let here = after pos c.args.board.now.moves in
+    sym (captured_for_good c.args.plies c.args.node here (c.requires.captured pos a)
+    (lost_by_attacker c.args.node here c.if-node.true))
+
+-- what tells whether the target's point is walled in, on the board of the position
+walled_is : (g : Over) (t : ℕ) (c : taken_at-After-is_walled_in g t) → OnEachAgreeing g.L.Look.seen c.args.board.now
+    c.is_walled_in.new.board (λ here. c.is_walled_in.result
+    ≡ is_walled_in here.size here.cells c.args.node.turn.target (other c.args.node.turn.defender))
+walled_is g t c = λ pos a.
+    let here = after pos c.args.board.now.moves in
+    c.is_walled_in.ensures.over pos a ∙ ap (λ m. is_walled_in m here.cells c.args.node.turn.target
+    (other c.args.node.turn.defender)) (sym (size-after pos c.args.board.now.moves))
+
+-- a target that was no lone stone is captured
+pub taken_at-returns-then-not-is_walled_in-clause-over : goal.taken_at-returns-then-not-is_walled_in-clause-over
+taken_at-returns-then-not-is_walled_in-clause-over g t c = λ pos a.
+    let d = (goal.at.taken_at-returns-then-not-is_walled_in-clause-over g t c).After-is_walled_in in
+    let here = after pos c.args.board.now.moves in
+    sym (captured_for_good c.args.plies c.args.node here
+    (c.requires.captured pos (agrees_before c.is_walled_in.ensures.stays.grows a))
+    (lost_free c.args.node here (sym (walled_is g t d pos a) ∙ c.if-not-is_walled_in.true)))
+
+-- the table stays true
+pub taken_at-returns-then-not-is_walled_in-clause-table : goal.taken_at-returns-then-not-is_walled_in-clause-table
+taken_at-returns-then-not-is_walled_in-clause-table g t c =
+    table_more c.requires.table c.is_walled_in.ensures.stays.grows
+
+-- a lone stone was lost
+lone_lost : (g : Over) (t : ℕ) (c : taken_at-After-is_walled_in g t) → c.is_walled_in.result ≡ true
+    → OnEachAgreeing g.L.Look.seen c.args.board.now c.is_walled_in.new.board (λ here.
+    (is_captured here c.args.node.turn.target ≡ true) × (has_lost_one_stone c.args.node here ≡ true))
+lone_lost g t c held = λ pos a.
+    let here = after pos c.args.board.now.moves in
+    let captured = c.requires.captured pos (agrees_before c.is_walled_in.ensures.stays.grows a) in (
+      captured,
+      lost_lone c.args.node here (sym c.is_wider.ensures ∙ c.if-not-is_wider.false)
+          c.if-node.false captured (sym (walled_is g t c pos a) ∙ held),
+    )
+
+-- with no ply left it is captured where it cannot be taken back
+pub taken_at-returns-then-plies-eq0-clause-over : goal.taken_at-returns-then-plies-eq0-clause-over
+taken_at-returns-then-plies-eq0-clause-over g t c = λ pos a.
+    let d = (goal.at.taken_at-returns-then-plies-eq0-clause-over g t c).After-is_walled_in in
+    let a1 = agrees_before c.may_take_back_at.ensures.stays.grows a in
+    let here = after pos c.args.board.now.moves in
+    let w = lone_lost g t d c.if-not-is_walled_in.false pos a1 in
+    let told = (rw c.is_walled_in.ensures.stays.moves at (c.may_take_back_at.ensures.over pos a))
+    (c.requires.sound pos (agrees_before c.is_walled_in.ensures.stays.grows a1)) w.0
+    (sym (c.is_walled_in.ensures.over pos a1) ∙ c.if-not-is_walled_in.false) in
+    ap not told ∙ sym (lone_left c.args.node here w.0 w.1 c.args.plies c.if-plies-eq0.true)
+
+-- the table stays true here too
+pub taken_at-returns-then-plies-eq0-clause-table : goal.taken_at-returns-then-plies-eq0-clause-table
+taken_at-returns-then-plies-eq0-clause-table g t c = table_more c.requires.table
+    (Grows-trans c.is_walled_in.ensures.stays.grows c.may_take_back_at.ensures.stays.grows)
+
+-- the play that takes back may be read
+pub taken_at-succeeds-requires : goal.taken_at-succeeds-requires
+taken_at-succeeds-requires g t c κs within =
+    let stays = c.is_walled_in.ensures.stays in
+    let target = point_after stays c.args.node.turn.target c.requires.target in
+    let table = table_more c.requires.table stays.grows in
+    let more = c.requires.room in
+    let some = c.if-plies-eq0.false in
+    let room : length c.is_walled_in.new.board.moves + (c.args.plies - 1) < most_moves =
+    rw stays.moves (omega (arith, more, some)) in
+    search rules
+
+-- it is captured where the play that takes it back does not succeed
+pub taken_at-returns-clause-over : goal.taken_at-returns-clause-over
+taken_at-returns-clause-over g t c = λ pos a.
+    let d = (goal.at.taken_at-returns-clause-over g t c).After-is_walled_in in
+    let here = after pos c.args.board.now.moves in
+    let w = lone_lost g t d c.if-not-is_walled_in.false pos
+    (agrees_before c.succeeds.ensures.stays.grows a) in
+    ap not (rw c.is_walled_in.ensures.stays.moves at (c.succeeds.ensures.over pos a))
+    ∙ sym (lone_read c.args.node here w.0 w.1 c.args.plies c.if-plies-eq0.false c.if-node.false)
+
+-- a target that is taken may be taken back: it is on the board, its point is empty, and the table is true
+pub wins_at-taken_at-requires : goal.wins_at-taken_at-requires
+wins_at-taken_at-requires g t c κs within =
+    let stays = c.cell.ensures.stays in
+    let target = point_after stays c.args.node.turn.target c.requires.target in
+    let table = table_more c.requires.table stays.grows in
+    let captured : (pos : BoardState) → Agrees (g.L.Look.seen c.cell.new.self.look) pos
+    → is_captured (after pos c.cell.new.self.moves) c.args.node.turn.target ≡ true =
+    λ pos a. rw stays.moves (rw (c.cell.ensures.over pos a) at
+    (sym (eq_is_same_cell c.cell.result Empty) ∙ sym c.eq.ensures ∙ c.if-eq.true)) in
+    let sound : (pos : BoardState) → Agrees (g.L.Look.seen c.cell.new.self.look) pos
+    → IsPosition (after pos c.cell.new.self.moves) = λ pos a. rw stays.moves (c.cell.ensures.sound pos a) in
+    search rules
+
+-- so it is captured or not
 pub wins_at-returns-then-eq-clause-over : goal.wins_at-returns-then-eq-clause-over
 wins_at-returns-then-eq-clause-over g t c = λ pos a.
-    let cell = c.cell.ensures.over pos a in
-    let taken = sym (eq_is_same_cell c.cell.result Empty) ∙ sym c.eq.ensures ∙ c.if-eq.true in
-    sym (wins-captured c.args.plies c.args.node (after pos c.args.board.now.moves) (rw cell at taken))
+    rw c.cell.ensures.stays.moves at (c.taken_at.ensures.over pos a)
 
 -- no ply is left
 pub wins_at-returns-then-plies-eq0-clause-over : goal.wins_at-returns-then-plies-eq0-clause-over
@@ -162,11 +272,7 @@ wins_at-returns-then-plies-eq0-clause-over g t c = λ pos a.
     sym (wins-no_plies c.args.plies c.args.node (after pos c.args.board.now.moves) (rw cell at stands)
     c.if-plies-eq0.true)
 
--- the table stays true
-pub wins_at-returns-then-eq-clause-table : goal.wins_at-returns-then-eq-clause-table
-wins_at-returns-then-eq-clause-table g t c = table_more c.requires.table c.cell.ensures.stays.grows
-
--- and so where no ply is left
+-- the table stays true where no ply is left
 pub wins_at-returns-then-plies-eq0-clause-table : goal.wins_at-returns-then-plies-eq0-clause-table
 wins_at-returns-then-plies-eq0-clause-table g t c = table_more c.requires.table c.cell.ensures.stays.grows
 

@@ -1,9 +1,7 @@
 -- What the liberties that were found say of the node.
 use Rattle.std.proofs.Common.{◌∙◌, sym}
-use Rattle.go_base.specs.Facts.{agrees_before, AddsIn-mono, same_size}
+use Rattle.go_base.specs.Facts.{agrees_before}
 use Rattle.trial_board.specs.Trials.{after}
-use Rattle.read_tree.proofs.TakeLemmas.{near_liberty}
-use Rattle.read_rules.proofs.AreaLemmas.{target_on}
 use Rattle.std.proofs.Common.{◌≡◌}
 use Rattle.go_base.specs.Facts.{Agrees, AddsIn}
 use Rattle.go_base.specs.Views.{alone}
@@ -30,14 +28,10 @@ module _ (g : Over) (c : After-can_take g) (pos : BoardState)
   all_known : c.args.known.now ≡ liberty_points pos.size (after pos c.args.board.now.moves).cells c.args.turn.target
   all_known = (c.requires.liberties pos before).all (sym c.has_too_many.ensures ∙ c.if-has_too_many.false)
 
-  -- the target and its liberties lie in its neighbourhood
+  -- the target, its liberties and what is beside it lie in its neighbourhood
   looks_near : AddsIn (g.L.Look.seen c.args.board.now.look) (g.L.Look.seen c.can_take.new.board.look)
       (neighbourhood_of pos.size (after pos c.args.board.now.moves).cells (alone c.args.turn.target))
-  looks_near =
-      let on = target_on pos.size (g.L.Look.shows c.args.board.now.look).size c.args.turn.target
-      (same_size (g.met.L.Look.sized c.args.board.now.look) before) c.requires.target in
-      AddsIn-mono c.can_take.ensures.near (λ p h. near_liberty pos.size (after pos c.args.board.now.moves).cells
-      c.args.turn.target p c.args.known.now on all_known h)
+  looks_near = c.can_take.ensures.near pos a all_known
 
 -- a target that is taken has not too many liberties
 pub returns-then-can_take-clause-over : goal.returns-then-can_take-clause-over

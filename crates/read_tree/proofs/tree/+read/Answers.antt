@@ -37,7 +37,7 @@ use Rattle.read_tree.proofs.TakeLemmas.{take_wins}
 use Rattle.read_tree.proofs.TableLemmas.{table_more, told_before, told_after, read_true}
 use Rattle.read_rules.proofs.AreaLemmas.{AddsNear-trans}
 use Rattle.read_rules.proofs.AreaLemmas.{pred_tree, undecided_defender, target_on}
-use Rattle.read_rules.proofs.WinLemmas.{wins-captured, wins-no_plies, wins-by_move}
+use Rattle.read_rules.proofs.WinLemmas.{wins-no_plies, wins-by_move}
 use Rattle.read_tree.specs.Steps.{IsLeft}
 use Rattle.std.specs.Ordering.{nat_cmp}
 use Rattle.read_rules.specs.GameTree.{is_captured}
@@ -45,10 +45,22 @@ use Rattle.trial_board.specs.Trials.{Stays-trans}
 use Rattle.read_tree.specs.Walk.{AreLibertiesOf, OnEachAgreeing, LooksNear, LooksNearWhere, LooksNearOrAt}
 use Rattle.read_tree.proofs.AllowanceLemmas.{fewer_nodes, left_nodes}
 use Rattle.read_tree.proofs.CarryLemmas.{carried_on}
-use Rattle.read_tree.proofs.ReadyLemmas.{on_after, point_after, candidates_inside, ready_after}
+use Rattle.read_tree.proofs.ReadyLemmas.{on_after, point_after, candidates_inside, liberties_after, ready_after}
 use Rattle.read_tree.proofs.StandingNodes.{standing_node, ready_node, undecided_node, near_target, near_captures}
 use Rattle.read_tree.proofs.StandingNodes.{near_play, near_sides}
 use Rattle.read_tree.proofs.StandingNodes.{near_wide, near_escape, near_child, near_outlook, near_at}
+use Rattle.go_base.specs.Facts.{Agrees}
+use Rattle.go_rules.specs.Position.{BoardState, IsPosition, other}
+use Rattle.go_rules.proofs.Paths.{same_cell-true}
+use Rattle.std.proofs.Common.{◌+◌, length}
+use Rattle.trial_board.specs.Trials.{most_moves}
+use Rattle.read_rules.specs.GameTree.{is_walled_in, has_lost_one_stone}
+use Rattle.read_tree.specs.Walk.{IsReady}
+use Rattle.read_tree.proofs.TakingLemmas.{Tells-taken, Tells-lost, lost_stated, lost_by_attacker, lost_free, lost_lone}
+use Rattle.read_tree.proofs.TakingLemmas.{lost_stones, lone_left, lone_read, no_liberties, back_nodes, back_spent}
+use Rattle.read_tree.proofs.StandingNodes.{lost_node, near_loss, near_loss_sides, near_back, near_cell, near_beside}
+use Rattle.read_tree.proofs.StandingNodes.{near_or_at}
+use Rattle.read_tree.proofs.tree.+read.Goals.{taken-After-is_walled_in}
 use Rattle.read_tree.proofs.tree.+read.Given.{Over}
 use Rattle.read_tree.proofs.tree.+read.Goals.{some_of-After-succeeds-good, some_other-After-some_of-good}
 use Rattle.read_tree.proofs.tree.+read.Goals.{some_other-After-others_of-others, some_success-After-some_of-good}
@@ -141,6 +153,51 @@ succeeds-returns-in-Allowed-clause-near g t c = λ pos a q root tree und candida
     rw c.back-in-Allowed.ensures.moves (AddsNear-trans (near_play node c.args.p candidate (c.make.ensures.near pos a1))
     (near_child node next.near below))
 
+-- the looks of a play that would take back a lone stone, and that is refused, lie in the active area
+pub succeeds-returns-in-Not-clause-back : goal.succeeds-returns-in-Not-clause-back
+succeeds-returns-in-Not-clause-back g t c = λ same pos a q root tree lone.
+    let a0 = agrees_before c.make.ensures.grows a in
+    let node = lost_node _ (g.met.L.Look.sized c.args.board.now.look) a0 c.args.board.now.moves
+    c.requires.ready.target c.requires.ready.some tree (and_parts _ _ lone).0 in
+    near_loss node (rw same at (c.make.ensures.near pos a))
+
+-- one that is made leads to nodes of the trees
+pub succeeds-returns-in-Legal-clause-back : goal.succeeds-returns-in-Legal-clause-back
+succeeds-returns-in-Legal-clause-back g t c = λ same pos a q root tree lone.
+    let later = Stays-trans c.liberties_after-next.ensures.stays c.has_way-good.ensures.stays in
+    let a2 = rw c.back.ensures.moves at a in
+    let a1 = agrees_before later.grows a2 in
+    let node = lost_node _ (g.met.L.Look.sized c.args.board.now.look) (agrees_before c.make.ensures.grows a1)
+    c.args.board.now.moves c.requires.ready.target c.requires.ready.some tree (and_parts _ _ lone).0 in
+    let nodes = back_nodes tree lone (rw same at (rw c.in-Legal.is at (c.make.ensures.over pos a1))) in
+    let below = (rw c.liberties_after-next.ensures.stays.moves at (c.has_way-good.ensures.near pos a2 q root)) nodes in
+    rw c.back.ensures.moves (AddsNear-trans (near_loss node (rw same at (c.make.ensures.near pos a1)))
+    (near_back node c.liberties_after-next.ensures.near below))
+
+-- one by the own allowance leads to a node under none
+pub succeeds-returns-in-Allowed-clause-back : goal.succeeds-returns-in-Allowed-clause-back
+succeeds-returns-in-Allowed-clause-back g t c = λ same pos a q root tree lone.
+    let next = c.liberties_after-next-in-Allowed.ensures in
+    let a2 = rw c.back-in-Allowed.ensures.moves at a in
+    let a1 = agrees_before (Stays-trans next.stays c.has_way-good-in-Allowed.ensures.stays).grows a2 in
+    let node = lost_node _ (g.met.L.Look.sized c.args.board.now.look) (agrees_before c.make.ensures.grows a1)
+    c.args.board.now.moves c.requires.ready.target c.requires.ready.some tree (and_parts _ _ lone).0 in
+    let asked = sym c.has_own-own.ensures ∙ c.make.ensures.own c.in-Allowed.is in
+    let nodes = back_spent tree lone asked (rw same at (rw c.in-Allowed.is at (c.make.ensures.over pos a1)).0) in
+    let below = (rw (c.neither_alone.ensures, next.stays.moves) at
+    (c.has_way-good-in-Allowed.ensures.near pos a2 q root)) nodes in
+    rw c.back-in-Allowed.ensures.moves (AddsNear-trans (near_loss node (rw same at (c.make.ensures.near pos a1)))
+    (near_back node next.near below))
+
+-- after the pass the table is true, and the target and its liberties are what they were
+pub pass_saves-has_way-good-requires : goal.pass_saves-has_way-good-requires
+pass_saves-has_way-good-requires g t c κs within =
+    let stays = c.is_in_atari.ensures.stays in
+    let table = table_more c.requires.ready.table stays.grows in
+    let target = point_after stays c.args.turn.target c.requires.ready.target in
+    let liberties = liberties_after stays c.args.turn.target c.args.known.now c.requires.ready.liberties in
+    search rules
+
 -- a target in atari is not saved by the pass
 pub pass_saves-returns-then-is_in_atari-clause-over : goal.pass_saves-returns-then-is_in_atari-clause-over
 pass_saves-returns-then-is_in_atari-clause-over g t c = λ pos a.
@@ -150,12 +207,12 @@ pass_saves-returns-then-is_in_atari-clause-over g t c = λ pos a.
     rw c.none.ensures (Tells-none c.args.asked _ (pass_fails c.args.plies c.args.turn
     (after pos c.args.board.now.moves) inside (c.is_in_atari.ensures.over pos a c.if-is_in_atari.true)))
 
--- the target's point lies in the active area
+-- the target's neighbourhood lies in the active area
 pub pass_saves-returns-then-is_in_atari-clause-near : goal.pass_saves-returns-then-is_in_atari-clause-near
 pass_saves-returns-then-is_in_atari-clause-near g t c = λ pos a q root tree stands.
     let a0 = agrees_before c.is_in_atari.ensures.stays.grows a in
     let node = ready_node c.requires.ready (g.met.L.Look.sized c.args.board.now.look) a0 tree stands in
-    near_target node c.is_in_atari.ensures.near
+    near_beside node (c.is_in_atari.ensures.near pos a)
 
 -- after the pass
 pub pass_saves-returns-clause-near : goal.pass_saves-returns-clause-near
@@ -166,8 +223,8 @@ pass_saves-returns-clause-near g t c = λ pos a q root tree stands.
     let node = ready_node c.requires.ready (g.met.L.Look.sized c.args.board.now.look) a0 tree stands in
     let passed = rw (c.pass.ensures, c.is_in_atari.ensures.stays.moves) at
     (c.has_way-good.ensures.near pos a2 q root) in
-    rw c.back.ensures.moves (near_child node c.is_in_atari.ensures.near
-    (passed (pass_nodes tree stands c.requires.defender)))
+    rw c.back.ensures.moves (AddsNear-trans (near_beside node (c.is_in_atari.ensures.near pos a1))
+    (near_or_at node (passed (pass_nodes tree stands c.requires.defender))))
 
 -- the points of the set are on the board
 pub some_of-next_to_try-requires : goal.some_of-next_to_try-requires
@@ -426,7 +483,7 @@ pub some_other-returns-then-not-has_some-clause-near : goal.some_other-returns-t
 some_other-returns-then-not-has_some-clause-near g t c = λ pos a.
     good_near g t (goal.at.some_other-returns-then-not-has_some-clause-near g t c).After-some_of-good pos a
 
--- the target's point, by which an atari is told, lies there
+-- the target's neighbourhood, by which an atari is told, lies there
 pub some_other-returns-then-is_in_atari-clause-near : goal.some_other-returns-then-is_in_atari-clause-near
 some_other-returns-then-is_in_atari-clause-near g t c = λ pos a q root tree und.
     let d = (goal.at.some_other-returns-then-is_in_atari-clause-near g t c).After-some_of-good in
@@ -434,7 +491,9 @@ some_other-returns-then-is_in_atari-clause-near g t c = λ pos a q root tree und
     let a0 = agrees_before c.captures_of-captures.ensures.stays.grows
     (agrees_before c.some_of-good.ensures.stays.grows a2) in
     let node = undecided_node c.requires (g.met.L.Look.sized c.args.board.now.look) a0 tree und in
-    AddsNear-trans (good_near g t d pos a2 q root tree und) (near_target node c.is_in_atari.ensures.near)
+    AddsNear-trans (good_near g t d pos a2 q root tree und) (near_beside node
+    (rw (Stays-trans c.captures_of-captures.ensures.stays c.some_of-good.ensures.stays).moves at
+    (c.is_in_atari.ensures.near pos a)))
 
 -- and so do the looks for the others
 others_near : (g : Over) (t : ℕ) (c : some_other-After-others_of-others g t)
@@ -445,7 +504,9 @@ others_near g t c good = λ pos a q root tree und.
     let a2 = agrees_before (Stays-trans c.is_in_atari.ensures.stays c.others_of-others.ensures.stays).grows a in
     let node = undecided_node c.requires (g.met.L.Look.sized c.args.board.now.look)
     (agrees_before before.grows a2) tree und in
-    AddsNear-trans (good pos a2 q root tree und) (AddsNear-trans (near_target node c.is_in_atari.ensures.near)
+    AddsNear-trans (good pos a2 q root tree und) (AddsNear-trans (near_beside node
+    (rw before.moves at
+    (c.is_in_atari.ensures.near pos (agrees_before c.others_of-others.ensures.stays.grows a))))
     (near_wide node (rw (Stays-trans before c.is_in_atari.ensures.stays).moves at
     (c.others_of-others.ensures.near pos a))))
 
@@ -605,13 +666,176 @@ has_good_move-returns-clause-near g t c = λ pos a q root tree und.
     (left_nodes c.pass_saves.result tree c.without-lost.ensures)
     (λ ko. undecided_defender (und neither_may).stands c.if-turn.false))
 
--- the target is captured
+-- in the stated tree a target that is taken is captured
+pub taken-returns-then-not-is_wider-clause-over : goal.taken-returns-then-not-is_wider-clause-over
+taken-returns-then-not-is_wider-clause-over g t c = λ pos a.
+    let here = after pos c.args.board.now.moves in
+    Tells-taken c.args.plies c.args.turn here c.args.asked (c.requires.captured pos a)
+    (lost_stated (under c.args.turn neither_may) here (sym c.is_wider.ensures ∙ c.if-not-is_wider.true))
+
+-- nothing is looked at
+pub taken-returns-then-not-is_wider-clause-near : goal.taken-returns-then-not-is_wider-clause-near
+taken-returns-then-not-is_wider-clause-near g t c = λ pos a q root tree. nothing_near _ _
+
+-- at the attacker's turn it is captured
+pub taken-returns-then-turn-clause-over : goal.taken-returns-then-turn-clause-over
+taken-returns-then-turn-clause-over g t c = λ pos a.
+    let here = after pos c.args.board.now.moves in
+    Tells-taken c.args.plies c.args.turn here c.args.asked (c.requires.captured pos a)
+    (lost_by_attacker (under c.args.turn neither_may) here c.if-turn.true)
+
+-- nothing is looked at either
+pub taken-returns-then-turn-clause-near : goal.taken-returns-then-turn-clause-near
+taken-returns-then-turn-clause-near g t c = λ pos a q root tree. nothing_near _ _
+
+-- what tells whether the target's point is walled in, on the board of the position
+walled_is : (g : Over) (t : ℕ) (c : taken-After-is_walled_in g t) → OnEachAgreeing g.L.Look.seen c.args.board.now
+    c.is_walled_in.new.board (λ here. c.is_walled_in.result
+    ≡ is_walled_in here.size here.cells c.args.turn.target (other c.args.turn.defender))
+walled_is g t c = λ pos a.
+    let here = after pos c.args.board.now.moves in
+    c.is_walled_in.ensures.over pos a ∙ ap (λ m. is_walled_in m here.cells c.args.turn.target
+    (other c.args.turn.defender)) (sym (size-after pos c.args.board.now.moves))
+
+-- the looks beside the target's point lie in the active area
+walled_near : (g : Over) (t : ℕ) (c : taken-After-is_walled_in g t) → LooksNearOrAt g.L.Look.seen c.args.board.now
+    c.is_walled_in.new.board c.args.plies c.args.turn c.args.asked
+walled_near g t c = λ pos a q root tree.
+    let a0 = agrees_before c.is_walled_in.ensures.stays.grows a in
+    let here = after pos c.args.board.now.moves in
+    let node = lost_node _ (g.met.L.Look.sized c.args.board.now.look) a0 c.args.board.now.moves c.requires.target
+    c.requires.some tree (lost_stones (under c.args.turn neither_may) here
+    (sym c.is_wider.ensures ∙ c.if-not-is_wider.false) c.if-turn.false (c.requires.captured pos a0)) in
+    near_at c.args.turn.target (InActiveArea q root) (near_loss_sides node (c.is_walled_in.ensures.near pos a))
+
+-- a target that was no lone stone is captured
+pub taken-returns-then-not-is_walled_in-clause-over : goal.taken-returns-then-not-is_walled_in-clause-over
+taken-returns-then-not-is_walled_in-clause-over g t c = λ pos a.
+    let d = (goal.at.taken-returns-then-not-is_walled_in-clause-over g t c).After-is_walled_in in
+    let here = after pos c.args.board.now.moves in
+    Tells-taken c.args.plies c.args.turn here c.args.asked
+    (c.requires.captured pos (agrees_before c.is_walled_in.ensures.stays.grows a))
+    (lost_free (under c.args.turn neither_may) here
+    (sym (walled_is g t d pos a) ∙ c.if-not-is_walled_in.true))
+
+-- the looks beside it lie in the active area
+pub taken-returns-then-not-is_walled_in-clause-near : goal.taken-returns-then-not-is_walled_in-clause-near
+taken-returns-then-not-is_walled_in-clause-near g t c =
+    walled_near g t (goal.at.taken-returns-then-not-is_walled_in-clause-near g t c).After-is_walled_in
+
+-- the table stays true
+pub taken-returns-then-not-is_walled_in-clause-table : goal.taken-returns-then-not-is_walled_in-clause-table
+taken-returns-then-not-is_walled_in-clause-table g t c = table_more c.requires.table c.is_walled_in.ensures.stays.grows
+
+-- a lone stone was lost
+lone_lost : (g : Over) (t : ℕ) (c : taken-After-is_walled_in g t) → c.is_walled_in.result ≡ true
+    → OnEachAgreeing g.L.Look.seen c.args.board.now c.is_walled_in.new.board (λ here.
+    (is_captured here c.args.turn.target ≡ true) × (has_lost_one_stone (under c.args.turn neither_may) here ≡ true))
+lone_lost g t c held = λ pos a.
+    let here = after pos c.args.board.now.moves in
+    let captured = c.requires.captured pos (agrees_before c.is_walled_in.ensures.stays.grows a) in (
+      captured,
+      lost_lone (under c.args.turn neither_may) here (sym c.is_wider.ensures ∙ c.if-not-is_wider.false)
+          c.if-turn.false captured (sym (walled_is g t c pos a) ∙ held),
+    )
+
+-- with no ply left it is captured where it cannot be taken back
+pub taken-returns-then-plies-eq0-clause-over : goal.taken-returns-then-plies-eq0-clause-over
+taken-returns-then-plies-eq0-clause-over g t c = λ pos a.
+    let d = (goal.at.taken-returns-then-plies-eq0-clause-over g t c).After-is_walled_in in
+    let a1 = agrees_before c.may_take_back-back.ensures.stays.grows a in
+    let here = after pos c.args.board.now.moves in
+    let w = lone_lost g t d c.if-not-is_walled_in.false pos a1 in
+    let told = (rw c.is_walled_in.ensures.stays.moves at (c.may_take_back-back.ensures.over pos a))
+    (c.requires.sound pos (agrees_before c.is_walled_in.ensures.stays.grows a1)) w.0
+    (sym (c.is_walled_in.ensures.over pos a1) ∙ c.if-not-is_walled_in.false) in
+    rw c.without.ensures (Tells-lost told
+    (λ ko. lone_left (under c.args.turn ko) here w.0 w.1 c.args.plies c.if-plies-eq0.true))
+
+-- the looks of the play that takes it back lie in the active area
+pub taken-returns-then-plies-eq0-clause-near : goal.taken-returns-then-plies-eq0-clause-near
+taken-returns-then-plies-eq0-clause-near g t c = λ pos a q root tree.
+    let d = (goal.at.taken-returns-then-plies-eq0-clause-near g t c).After-is_walled_in in
+    let a1 = agrees_before c.may_take_back-back.ensures.stays.grows a in
+    let a0 = agrees_before c.is_walled_in.ensures.stays.grows a1 in
+    let here = after pos c.args.board.now.moves in
+    let node = lost_node _ (g.met.L.Look.sized c.args.board.now.look) a0 c.args.board.now.moves c.requires.target
+    c.requires.some tree (lost_stones (under c.args.turn neither_may) here
+    (sym c.is_wider.ensures ∙ c.if-not-is_wider.false) c.if-turn.false (c.requires.captured pos a0)) in
+    AddsNear-trans (walled_near g t d pos a1 q root tree) (near_at c.args.turn.target (InActiveArea q root)
+    (near_loss node (rw c.is_walled_in.ensures.stays.moves at (c.may_take_back-back.ensures.near pos a))))
+
+-- the table stays true here too
+pub taken-returns-then-plies-eq0-clause-table : goal.taken-returns-then-plies-eq0-clause-table
+taken-returns-then-plies-eq0-clause-table g t c = table_more c.requires.table
+    (Grows-trans c.is_walled_in.ensures.stays.grows c.may_take_back-back.ensures.stays.grows)
+
+-- the play that takes back may be read
+pub taken-succeeds-back-requires : goal.taken-succeeds-back-requires
+taken-succeeds-back-requires g t c κs within =
+    let stays = c.is_walled_in.ensures.stays in
+    let target = point_after stays c.args.turn.target c.requires.target in
+    let more = c.requires.room in
+    let some = c.if-plies-eq0.false in
+    let room : length c.is_walled_in.new.board.moves + (c.args.plies - 1) < most_moves =
+    rw stays.moves (omega (arith, more, some)) in
+    let ready : IsReady g.L.Look.shows g.L.Look.seen c.is_walled_in.new.board c.args.turn (c.args.plies - 1)
+    c.args.asked c.new-nothing.result c.args.memory.now.table.now = record {
+      room = room;
+      target = target;
+      some = c.requires.some;
+      liberties = λ pos a. rw stays.moves (no_liberties pos.size (after pos c.args.board.now.moves).cells
+          c.args.turn.target c.new-nothing.result c.new-nothing.ensures
+          (same_cell-true _ _ (c.requires.captured pos (agrees_before stays.grows a))));
+      table = table_more c.requires.table stays.grows;
+    } in
+    search rules
+
+-- it is captured where the play that takes it back does not succeed
+pub taken-returns-clause-over : goal.taken-returns-clause-over
+taken-returns-clause-over g t c = λ pos a.
+    let d = (goal.at.taken-returns-clause-over g t c).After-is_walled_in in
+    let here = after pos c.args.board.now.moves in
+    let w = lone_lost g t d c.if-not-is_walled_in.false pos
+    (agrees_before c.succeeds-back.ensures.stays.grows a) in
+    rw c.without-2.ensures (Tells-lost (rw c.is_walled_in.ensures.stays.moves at (c.succeeds-back.ensures.over pos a))
+    (λ ko. lone_read (under c.args.turn ko) here w.0 w.1 c.args.plies c.if-plies-eq0.false c.if-turn.false))
+
+-- the looks at the node after it lie in the active area
+pub taken-returns-clause-near : goal.taken-returns-clause-near
+taken-returns-clause-near g t c = λ pos a q root tree.
+    let d = (goal.at.taken-returns-clause-near g t c).After-is_walled_in in
+    let a1 = agrees_before c.succeeds-back.ensures.stays.grows a in
+    let w = lone_lost g t d c.if-not-is_walled_in.false pos a1 in
+    let nodes : AreNodesOf q root (suc (c.args.plies - 1)) c.args.turn c.args.asked (after pos c.args.board.now.moves) =
+    record { each = λ ko h. pred_tree c.args.plies c.if-plies-eq0.false (tree.each ko h) } in
+    AddsNear-trans (walled_near g t d pos a1 q root tree) (near_at c.args.turn.target (InActiveArea q root)
+    ((rw c.is_walled_in.ensures.stays.moves at (c.succeeds-back.ensures.back refl pos a q root)) nodes w.1))
+
+-- a target that is taken may be taken back: it is on the board, its point is empty, and the table is true
+pub attacker_wins-taken-requires : goal.attacker_wins-taken-requires
+attacker_wins-taken-requires g t c κs within =
+    let stays = c.cell.ensures.stays in
+    let target = point_after stays c.args.turn.target c.requires.target in
+    let table = table_more c.requires.table stays.grows in
+    let captured : (pos : BoardState) → Agrees (g.L.Look.seen c.cell.new.self.look) pos
+    → is_captured (after pos c.cell.new.self.moves) c.args.turn.target ≡ true =
+    λ pos a. rw stays.moves (rw (c.cell.ensures.over pos a) at
+    (sym (eq_is_same_cell c.cell.result Empty) ∙ sym c.eq.ensures ∙ c.if-eq.true)) in
+    let sound : (pos : BoardState) → Agrees (g.L.Look.seen c.cell.new.self.look) pos
+    → IsPosition (after pos c.cell.new.self.moves) = λ pos a. rw stays.moves (c.cell.ensures.sound pos a) in
+    search rules
+
+-- so it is captured or not
 pub attacker_wins-returns-then-eq-clause-over : goal.attacker_wins-returns-then-eq-clause-over
 attacker_wins-returns-then-eq-clause-over g t c = λ pos a.
-    let cell = c.cell.ensures.over pos a in
-    let taken = sym (eq_is_same_cell c.cell.result Empty) ∙ sym c.eq.ensures ∙ c.if-eq.true in
-    Tells-all c.args.asked _ (λ ko. wins-captured c.args.plies (under c.args.turn ko) (after pos c.args.board.now.moves)
-    (rw cell at taken))
+    rw c.cell.ensures.stays.moves at (c.taken.ensures.over pos a)
+
+-- the look at the target, and those of the play that takes it back
+pub attacker_wins-returns-then-eq-clause-near : goal.attacker_wins-returns-then-eq-clause-near
+attacker_wins-returns-then-eq-clause-near g t c = λ pos a q root tree.
+    AddsNear-trans (near_cell c.args.turn.target (InActiveArea q root) c.cell.ensures.near)
+    ((rw c.cell.ensures.stays.moves at (c.taken.ensures.near pos a q root)) tree)
 
 -- it stands, and no ply is left
 pub attacker_wins-returns-then-plies-eq0-clause-over : goal.attacker_wins-returns-then-plies-eq0-clause-over
@@ -747,11 +971,7 @@ has_good_move-pass_saves-requires g t c κs within =
     let ready = ready_after stays c.args.asked c.requires c.requires.some (table_more c.requires.table stays.grows) in
     search rules
 
--- and after the looks at the target: where it is captured,
-pub attacker_wins-returns-then-eq-clause-table : goal.attacker_wins-returns-then-eq-clause-table
-attacker_wins-returns-then-eq-clause-table g t c = table_more c.requires.table c.cell.ensures.stays.grows
-
--- where no ply is left,
+-- and after the looks at the target: where no ply is left,
 pub attacker_wins-returns-then-plies-eq0-clause-table : goal.attacker_wins-returns-then-plies-eq0-clause-table
 attacker_wins-returns-then-plies-eq0-clause-table g t c = table_more c.requires.table c.cell.ensures.stays.grows
 
