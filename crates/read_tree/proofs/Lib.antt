@@ -4,6 +4,7 @@ pub mod BestLemmas
 pub mod TurnBounds
 pub mod TakeLemmas
 pub mod StageLemmas
+pub mod DefenceLemmas
 pub mod CarryLemmas
 pub mod OrderLemmas
 pub mod ReadyLemmas

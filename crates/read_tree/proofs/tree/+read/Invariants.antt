@@ -13,39 +13,51 @@ use Rattle.read_tree.proofs.tree.+read.Given as goal
 
 -- each step down the tree spends a ply, and within a node the order of the calls is fixed
 abbrev pub decreases-attacker_wins : goal.decreases-attacker_wins
-decreases-attacker_wins g l = 8 * l.plies
+decreases-attacker_wins g l = 9 * l.plies
 
 -- the mover's way is one step above the result at the child, with as many plies
 abbrev pub decreases-has_way : goal.decreases-has_way
-decreases-has_way g l = 8 * l.plies + 1
+decreases-has_way g l = 9 * l.plies + 1
 
 -- a play is one step above the mover's way after it, with as many plies
 abbrev pub decreases-succeeds : goal.decreases-succeeds
-decreases-succeeds g l = 8 * l.plies + 2
+decreases-succeeds g l = 9 * l.plies + 2
 
 -- the pass is one step above the mover's way after it, with as many plies
 abbrev pub decreases-pass_saves : goal.decreases-pass_saves
-decreases-pass_saves g l = 8 * l.plies + 2
+decreases-pass_saves g l = 9 * l.plies + 2
 
 -- the plays at a set of points are one step above each of them
 abbrev pub decreases-some_of : goal.decreases-some_of
-decreases-some_of g l = 8 * l.plies + 3
+decreases-some_of g l = 9 * l.plies + 3
 
--- the candidates off the liberties are one step above the plays at a set of points
+-- the later candidates are one step above the plays at a set of points
+abbrev pub decreases-some_later : goal.decreases-some_later
+decreases-some_later g l = 9 * l.plies + 4
+
+-- the captures and liberties are one step above the plays at a set of points
+abbrev pub decreases-some_capture_or_liberty : goal.decreases-some_capture_or_liberty
+decreases-some_capture_or_liberty g l = 9 * l.plies + 4
+
+-- the candidates off the liberties are one step above the later candidates
 abbrev pub decreases-some_other : goal.decreases-some_other
-decreases-some_other g l = 8 * l.plies + 4
+decreases-some_other g l = 9 * l.plies + 5
 
 -- all candidates are one step above those off the liberties
 abbrev pub decreases-some_success : goal.decreases-some_success
-decreases-some_success g l = 8 * l.plies + 5
+decreases-some_success g l = 9 * l.plies + 6
 
 -- the table is one step above all candidates
 abbrev pub decreases-some_by_table : goal.decreases-some_by_table
-decreases-some_by_table g l = 8 * l.plies + 6
+decreases-some_by_table g l = 9 * l.plies + 7
+
+-- a good move of the defender is one step above the later candidates
+abbrev pub decreases-defender_has_good_move : goal.decreases-defender_has_good_move
+decreases-defender_has_good_move g l = 9 * l.plies + 5
 
 -- a good move is one step above the table, and below a node with one ply more
 abbrev pub decreases-has_good_move : goal.decreases-has_good_move
-decreases-has_good_move g l = 8 * l.plies + 7
+decreases-has_good_move g l = 9 * l.plies + 8
 
 -- what is missing is what no point that was tried gave, on any position that agrees
 abbrev pub invariant-some_of-loop-p : goal.invariant-some_of-loop-p
