@@ -2,7 +2,7 @@
 use Rattle.std.proofs.Common.{◌≡◌, ◌≢◌, ℕ, suc, ◌-◌, ◌*◌, ◌⊎◌, Bool, true, false, not, ◌&&◌, ◌||◌, cond, Option, Some}
 use Rattle.std.proofs.Common.{None, is_some, refl, sym, ap, subst, ◌∙◌, arith, inl, inr}
 use mathlib.Core.Bool.{beq}
-use Rattle.std.proofs.lemmas.Bool.{cases_Bool, both_ways, or_right}
+use Rattle.std.proofs.lemmas.Bool.{cases_Bool, both_ways, or_left, or_right}
 use Rattle.go_rules.specs.Position.{BoardState}
 use Rattle.read_rules.proofs.CandidateLaws.{candidate_on}
 use Rattle.read_rules.specs.Turns.{next_turn}
@@ -195,7 +195,7 @@ and_false_right true b e = e
 and_false_right false b e = refl
 
 -- an asked allowance that was not found fails the test
-told_fails : (a b g : Bool) → g ≡ (a && b) → a ≡ true → g ≡ false → b ≡ false
+pub told_fails : (a b g : Bool) → g ≡ (a && b) → a ≡ true → g ≡ false → b ≡ false
 told_fails true b g e h f = sym e ∙ f
 told_fails false b g e h f = cc
 
@@ -335,29 +335,24 @@ good_by_success n turn here ko defends some =
     (first_success n (under turn ko) here) defends
     ∙ or_right (pass_saves n (under turn ko) here) _ some
 
--- those that the pass saves, and of the rest those that a candidate saves
-pub Tells-good : (n : ℕ) (turn : Turn) (here : BoardState) (asked saved some : Allowances)
-    → turn.attacker_to_play ≡ false → Tells asked saved (λ ko. pass_saves n (under turn ko) here)
-    → Tells (without asked saved) some (λ ko. is_some (first_success n (under turn ko) here))
-    → Tells asked (without asked (without (without asked saved) some))
-    (λ ko. is_some (good_move n (under turn ko) here))
-Tells-good n turn here asked saved some defends s m = record {
-  each = λ ko.
-      has-two asked saved some ko
-      ∙ count (has asked ko) (pass_saves n (under turn ko) here) (is_some (first_success n (under turn ko) here))
-      (has saved ko) (has some ko) (s.each ko)
-      (m.each ko ∙ ap (λ x. x && is_some (first_success n (under turn ko) here)) (has-without asked saved ko))
-      ∙ ap (λ x. has asked ko && x)
-      (sym (good_by turn.attacker_to_play (has_many_liberties turn here)
-      (pass_saves n (under turn ko) here) (first_success n (under turn ko) here) defends));
-}
-  where
-    count : (a p f s m : Bool) → s ≡ (a && p) → m ≡ ((a && not s) && f)
-        → (a && not ((a && not s) && not m)) ≡ (a && (p || f))
-    count true true f s m e g = rw e refl
-    count true false true s m e g = rw (g, e) refl
-    count true false false s m e g = rw (g, e) refl
-    count false p f s m e g = refl
+-- so is a pass that saves it
+pub good_by_pass : (n : ℕ) (turn : Turn) (here : BoardState) (ko : Ko) → turn.attacker_to_play ≡ false
+    → pass_saves n (under turn ko) here ≡ true → is_some (good_move n (under turn ko) here) ≡ true
+good_by_pass n turn here ko defends saved =
+    good_by turn.attacker_to_play (has_many_liberties turn here)
+    (pass_saves n (under turn ko) here)
+    (first_success n (under turn ko) here) defends
+    ∙ or_left _ (is_some (first_success n (under turn ko) here)) saved
+
+-- if neither the pass nor a candidate saves it, he has no good move
+pub good_by_none : (n : ℕ) (turn : Turn) (here : BoardState) (ko : Ko) → turn.attacker_to_play ≡ false
+    → pass_saves n (under turn ko) here ≡ false → is_some (first_success n (under turn ko) here) ≡ false
+    → is_some (good_move n (under turn ko) here) ≡ false
+good_by_none n turn here ko defends lost none =
+    good_by turn.attacker_to_play (has_many_liberties turn here)
+    (pass_saves n (under turn ko) here)
+    (first_success n (under turn ko) here) defends
+    ∙ ap (λ b. b || is_some (first_success n (under turn ko) here)) lost ∙ none
 
 -- the same where the test says it of the attacker
 said_true : (b : Bool) → b ≡ beq b true

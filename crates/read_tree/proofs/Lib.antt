@@ -5,6 +5,7 @@ pub mod TurnBounds
 pub mod TakingLemmas
 pub mod TakeLemmas
 pub mod StageLemmas
+pub mod DefenceLemmas
 pub mod CarryLemmas
 pub mod OrderLemmas
 pub mod ReadyLemmas

@@ -14,8 +14,9 @@ use Rattle.read_tree.specs.declared.table.Entry.{Entry}
 use Rattle.read_rules.specs.declared.turn.Turn.{Turn}
 use Rattle.read_tree.specs.declared.allowances.Allowances.{Allowances}
 use Rattle.read_tree.specs.Allowances.{has_some}
+use Rattle.read_tree.specs.Stages.{is_capture}
 use Rattle.read_tree.specs.Table.{IsTrueTableAt}
-use Rattle.read_tree.specs.Walk.{IsReady, IsPointOf, AreLibertiesOf, OnEachAgreeing}
+use Rattle.read_tree.specs.Walk.{IsReady, IsPointOf, AreLibertiesOf, AreCapturesOf, OnEachAgreeing}
 
 -- a candidate is on the board
 pub candidate_inside : (turn : Turn) (shown : BoardState) (moves : List TrialMove) (p : ℕ)
@@ -50,6 +51,17 @@ module _ {L : Type 0} {shows : L → BoardState} {seen : L → Fact → Bool} {o
   pub liberties_after : (target : ℕ) (points : sets.FinSet nat_cmp) → AreLibertiesOf seen old target points
       → AreLibertiesOf seen new target points
   liberties_after target points its = λ pos a. rw stays.moves (its pos (agrees_before stays.grows a))
+
+  -- the captures that are known are still the captures next to the target
+  pub captures_after : (target : ℕ) (points : sets.FinSet nat_cmp) → AreCapturesOf seen old target points
+      → AreCapturesOf seen new target points
+  captures_after target points its = λ pos a. rw stays.moves (its pos (agrees_before stays.grows a))
+
+  -- the captures that the looks found are the captures next to the target
+  pub captures_found : (target : ℕ) (points : sets.FinSet nat_cmp)
+      → OnEachAgreeing seen old new (λ here. (p : ℕ) → sets.contains points p ≡ is_capture here target p)
+      → AreCapturesOf seen new target points
+  captures_found target points its = λ pos a. rw stays.moves (its pos a)
 
   -- the walk may go on, where some allowance is left, by a table that is true of what is seen
   pub ready_after : {turn : Turn} {n : ℕ} {asked : Allowances} {points : sets.FinSet nat_cmp}

@@ -27,7 +27,7 @@ use Rattle.read_rules.specs.Bound.{outlasts}
 use Rattle.read_rules.specs.Stages.{is_later_candidate, has_later_candidates}
 use Rattle.go_base.specs.Surroundings.{is_last_liberty_of_enemy}
 use Rattle.read_rules.proofs.StageLemmas.{candidate_stages, later_none}
-use Rattle.read_tree.specs.Stages.{is_capture, is_other}
+use Rattle.read_tree.specs.Stages.{is_capture, is_other, is_capture_or_liberty}
 use Rattle.read_tree.specs.Steps.{IsLeft, TellsBy, is_off_liberties}
 use Rattle.read_tree.proofs.AllowanceLemmas.{none_of, has-without, success_some, and_parts_not, and_false_right}
 use Rattle.read_tree.proofs.AllowanceLemmas.{and_true, has_none, has-two, in_other}
@@ -79,6 +79,15 @@ module _ (n : ℕ) (turn : Turn) (here : BoardState) (points : ℕ → Bool) whe
     none = λ ko a f. none ko;
   }
 
+  -- each of the points fails
+  pub by_failing : (asked : Allowances)
+      → ((ko : Ko) (q : ℕ) → points q ≡ true → succeeds n (under turn ko) here q ≡ false)
+      → TellsBy n turn here points asked (record { defender = false; neither = false; attacker = false })
+  by_failing asked fails = by_none asked (λ ko q. elim (cases_Bool (points q)) [
+    | inl on ↦ and_false_right (points q) _ (fails ko q on)
+    | inr off ↦ ap (λ b. b && succeeds n (under turn ko) here q) off
+  ])
+
   -- the same points by another test
   pub by_same : (others : ℕ → Bool) (asked found : Allowances) → ((q : ℕ) → points q ≡ others q)
       → TellsBy n turn here points asked found → TellsBy n turn here others asked found
@@ -91,22 +100,6 @@ module _ (n : ℕ) (turn : Turn) (here : BoardState) (points : ℕ → Bool) whe
 -- More points than those that were tried, at one turn.
 module _ (n : ℕ) (turn : Turn) (here : BoardState) (points more : ℕ → Bool) (asked found : Allowances)
     (told : TellsBy n turn here points asked found) where
-  -- the further points fail
-  pub by_more : ((q : ℕ) → points q ≡ true → more q ≡ true)
-      → ((ko : Ko) (q : ℕ) → more q ≡ true → points q ≡ false → succeeds n (under turn ko) here q ≡ false)
-      → TellsBy n turn here more asked found
-  by_more among fails = record {
-    asked_for = told.asked_for;
-    given = λ ko h. let w = told.given ko h in (w.0, among w.0 w.1, w.2);
-    none = λ ko a f q. elim (cases_Bool (more q)) [
-      | inr off ↦ ap (λ b. b && succeeds n (under turn ko) here q) off
-      | inl on ↦ and_false_right (more q) _ (elim (cases_Bool (points q)) [
-        | inl t ↦ sym (ap (λ b. b && succeeds n (under turn ko) here q) t) ∙ told.none ko a f q
-        | inr t ↦ fails ko q on t
-      ])
-    ];
-  }
-
   -- nothing is missing
   pub by_enough : ((q : ℕ) → points q ≡ true → more q ≡ true) → has_some (without asked found) ≡ false
       → TellsBy n turn here more asked found
@@ -153,6 +146,20 @@ module _ (n : ℕ) (turn : Turn) (here : BoardState) (points more : ℕ → Bool
       neither true o s a b = a
       neither false o s a b = b
 
+-- if no candidate succeeds, there is no first success
+pub none_succeeds : (n : ℕ) (turn : Turn) (here : BoardState) (ko : Ko)
+    → ((q : ℕ) → (is_candidate turn here q && succeeds n (under turn ko) here q) ≡ false)
+    → is_some (first_success n (under turn ko) here) ≡ false
+none_succeeds n turn here ko none = sym
+    (ap is_some (first_success-none n (under turn ko) here (here.size * here.size)
+    (is_candidate turn here) (λ q. refl) (λ q below. none q) off_board))
+  where
+    off_board : (q : ℕ) → here.size * here.size ≤ q → is_candidate turn here q ≡ false
+    off_board q past = elim (cases_Bool (is_candidate turn here q)) [
+      | inl t ↦ let on = candidate_on turn here q t in absurd (omega (arith, on, past))
+      | inr f ↦ f
+    ]
+
 -- The liberties of the target were tried.
 module _ (n : ℕ) (turn : Turn) (here : BoardState) (asked good : Allowances)
     (first : TellsBy n turn here (is_liberty here.size here.cells turn.target) asked good) where
@@ -197,21 +204,12 @@ module _ (n : ℕ) (turn : Turn) (here : BoardState) (asked good : Allowances)
       fails false true s a b = b
       fails false false s a b = refl
 
-      off_board : (q : ℕ) → here.size * here.size ≤ q → is_candidate turn here q ≡ false
-      off_board q past = elim (cases_Bool (is_candidate turn here q)) [
-        | inl t ↦ let on = candidate_on turn here q t in absurd (omega (arith, on, past))
-        | inr f ↦ f
-      ]
-
       none_at : (ko : Ko) → has asked ko ≡ true → has good ko ≡ false → has rest ko ≡ false
           → has (without asked good) ko ≡ true → is_some (first_success n (under turn ko) here) ≡ false
-      none_at ko a g r left = sym
-          (ap is_some (first_success-none n (under turn ko) here (here.size * here.size)
-          (is_candidate turn here) (λ q. refl)
-          (λ q below. fails (is_liberty here.size here.cells turn.target q) (is_candidate turn here q)
+      none_at ko a g r left = none_succeeds n turn here ko (λ q.
+          fails (is_liberty here.size here.cells turn.target q) (is_candidate turn here q)
           (succeeds n (under turn ko) here q)
           (first.none ko a g q) (second.none ko left r q))
-          (λ q past. off_board q past)))
 
       sorted : (a g r f : Bool) → (g ≡ true → f ≡ true) → (r ≡ true → f ≡ true)
           → (a ≡ true → g ≡ false → r ≡ false → f ≡ false)
@@ -323,18 +321,34 @@ module _ (turn : Turn) (here : BoardState) (q : ℕ) where
       split false false true = refl
       split false false false = refl
 
-  -- and if there are no later candidates, the captures alone
-  pub off_by_captures : has_later_candidates turn ≡ false
-      → is_off_liberties turn here q ≡ is_capture here turn.target q
-  off_by_captures none =
-      ap (λ b. b && not (is_liberty here.size here.cells turn.target q)) (stages
-      ∙ ap (λ b. (is_liberty here.size here.cells turn.target q
-      || is_last_liberty_of_enemy here.size here.cells turn.target q) || b) (later_none turn here q none))
-      ∙ split (is_liberty here.size here.cells turn.target q)
-      (is_last_liberty_of_enemy here.size here.cells turn.target q)
+  -- each of the others is off the liberties
+  pub other_is_off : is_other turn here q ≡ true → is_off_liberties turn here q ≡ true
+  other_is_off h = off_by_stages ∙ or_right (is_capture here turn.target q) _ h
+
+  -- and no capture
+  pub other_no_capture : is_other turn here q ≡ true → is_capture here turn.target q ≡ false
+  other_no_capture h = (and_parts_not _ _ h).1
+
+  -- if there are no later candidates, there are no others
+  pub no_other : has_later_candidates turn ≡ false → is_other turn here q ≡ false
+  no_other none = ap (λ b. (b && not (is_liberty here.size here.cells turn.target q))
+      && not (is_capture here turn.target q)) (later_none turn here q none)
+
+  -- the candidates are the captures, the liberties of the target, and the others
+  pub candidate_by_stages : is_candidate turn here q
+      ≡ (is_capture_or_liberty here turn.target q || is_other turn here q)
+  candidate_by_stages = stages ∙ split (is_liberty here.size here.cells turn.target q)
+      (is_last_liberty_of_enemy here.size here.cells turn.target q) (is_later_candidate turn here q)
     where
-      split : (l t : Bool) → (((l || t) || false) && not l) ≡ (t && not l)
-      split true true = refl
-      split true false = refl
-      split false true = refl
-      split false false = refl
+      split : (l t w : Bool)
+          → ((l || t) || w) ≡ (((t && not l) || l) || ((w && not l) && not (t && not l)))
+      split true true w = refl
+      split true false w = refl
+      split false true w = refl
+      split false false true = refl
+      split false false false = refl
+
+  -- a capture or a liberty of the target is a candidate
+  pub capture_or_liberty_is_candidate : is_capture_or_liberty here turn.target q ≡ true
+      → is_candidate turn here q ≡ true
+  capture_or_liberty_is_candidate h = candidate_by_stages ∙ or_left _ _ h

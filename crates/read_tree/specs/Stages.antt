@@ -1,5 +1,5 @@
 -- The candidates off the liberties of the target, by stages.
-use Rattle.std.specs.Prelude.{ℕ, ◌&&◌, Bool, not}
+use Rattle.std.specs.Prelude.{ℕ, ◌&&◌, ◌||◌, Bool, not}
 use Rattle.go_rules.specs.Strings.{is_liberty}
 use Rattle.go_rules.specs.Position.{BoardState}
 use Rattle.go_base.specs.Surroundings.{is_last_liberty_of_enemy}
@@ -16,3 +16,7 @@ abbrev pub is_other : Turn → BoardState → ℕ → Bool
 is_other turn here p =
     is_later_candidate turn here p
     && not (is_liberty here.size here.cells turn.target p) && not (is_capture here turn.target p)
+
+-- p is a capture or a liberty of the target
+abbrev pub is_capture_or_liberty : BoardState → ℕ → ℕ → Bool
+is_capture_or_liberty here target p = is_capture here target p || is_liberty here.size here.cells target p

@@ -14,6 +14,7 @@ use Rattle.read_tree.specs.declared.allowances.Allowances.{Allowances}
 use Rattle.read_rules.specs.GameTree.{has_lost_one_stone}
 use Rattle.read_tree.specs.Allowances.{Ko, neither_may, under, has_some}
 use Rattle.read_tree.specs.declared.table.Entry.{Entry}
+use Rattle.read_tree.specs.Stages.{is_capture}
 use Rattle.read_tree.specs.Steps.{AreNodesOf}
 use Rattle.read_tree.specs.Table.{IsTrueTableAt}
 
@@ -25,6 +26,11 @@ IsPointOf shows board p = p < (shows board.look).size * (shows board.look).size
 abbrev pub AreLibertiesOf : {L : Type 0} → (L → Fact → Bool) → Trying L → ℕ → set.FinSet nat_cmp → Type 0
 AreLibertiesOf seen board target points = (pos : BoardState) → Agrees (seen board.look) pos
     → points ≡ liberty_points pos.size (after pos board.moves).cells target
+
+-- on each position that agrees with what was seen, the points are the captures next to the target after the moves
+abbrev pub AreCapturesOf : {L : Type 0} → (L → Fact → Bool) → Trying L → ℕ → set.FinSet nat_cmp → Type 0
+AreCapturesOf seen board target points = (pos : BoardState) → Agrees (seen board.look) pos → (p : ℕ)
+    → set.contains points p ≡ is_capture (after pos board.moves) target p
 
 -- P is true of the position after the moves that stood, on each position that agrees with what is seen now
 abbrev pub OnEachAgreeing : {L : Type 0} → (L → Fact → Bool) → Trying L → Trying L → (BoardState → Type 0) → Type 0

@@ -16,9 +16,10 @@ ghost use Rattle.read_rules.specs.GoodMoves.{good_move};
 ghost use Rattle.read_rules.specs.Turns.{next_turn};
 ghost use Rattle.read_rules.specs.Candidates.{is_candidate};
 ghost use Rattle.read_tree.specs.Steps.{has_way, AreNodesOf, TellsBy};
+ghost use Rattle.read_tree.specs.Stages.{is_other, is_capture_or_liberty};
 ghost use Rattle.read_tree.specs.Steps.{is_off_liberties, IsCarried, TellsLiberties};
 ghost use Rattle.read_tree.specs.Table.{IsTrueTableAt};
-ghost use Rattle.read_tree.specs.Walk.{IsReady, IsPointOf, AreLibertiesOf, OnEachAgreeing};
+ghost use Rattle.read_tree.specs.Walk.{IsReady, IsPointOf, AreLibertiesOf, AreCapturesOf, OnEachAgreeing};
 ghost use Rattle.read_tree.specs.Walk.{LooksNear, LooksNearWhere, LooksNearOrAt, LooksNearLoss};
 
 use crate::allowances::Allowances;
@@ -208,9 +209,39 @@ fn some_of<L: Look>(
     asked.without(missing)
 }
 
-/// Those of the asked under which a candidate off the liberties of the target gives the side to play its way, with
-/// `plies` plies left after it: none where such an attacker's play leaves too many liberties. The captures are found
-/// only here, and the later candidates only where these leave something; they do not save a target in atari.
+/// Of `asked`, the allowances under which a later candidate, neither a liberty of the target nor a capture, gives the side
+/// to play its way, with `plies` plies left after it. No later candidate saves a target in atari.
+#[cycle(read)]
+fn some_later<L: Look>(
+    board: &mut Trial<L>,
+    turn: Turn,
+    plies: u8,
+    asked: Allowances,
+    known: &PointSet,
+    captures: &PointSet,
+    memory: &mut Memory,
+) -> Allowances
+    requires ready { IsReady L.shows L.seen board.old turn plies asked known.now memory.old.table.now }
+    requires captures { AreCapturesOf L.seen board.old turn.target captures.now }
+    ensures stays { Stays L.shows L.seen board.old board.new }
+    ensures table { IsTrueTableAt (L.seen board.new.look) turn memory.new.table.now }
+    ensures over { OnEachAgreeing L.seen board.old board.new (λ here.
+        TellsBy plies turn here (is_other turn here) asked result) }
+    ensures near { LooksNear L.seen board.old board.new (suc plies) turn asked }
+{
+    if !turn.has_later_candidates() {
+        return Allowances::none();
+    }
+    if is_in_atari(board, turn, plies, known) {
+        return Allowances::none();
+    }
+    let others = others_of(board, turn, known, captures);
+    some_of(board, turn, plies, asked, &others, known, memory)
+}
+
+/// Of `asked`, the allowances under which a candidate off the liberties of the target gives the side to play its way, with
+/// `plies` plies left after it: none if such an attacker's play leaves too many liberties. The captures are tried first;
+/// the later candidates are found only if these leave something.
 #[cycle(read)]
 fn some_other<L: Look>(
     board: &mut Trial<L>,
@@ -232,19 +263,12 @@ fn some_other<L: Look>(
     }
     let captures = captures_of(board, turn.target, known);
     let good = some_of(board, turn, plies, asked, &captures, known, memory);
-    if !turn.has_later_candidates() {
-        return good;
-    }
     let missing = asked.without(good);
     if !missing.has_some() {
         return good;
     }
-    if is_in_atari(board, turn, plies, known) {
-        return good;
-    }
-    let others = others_of(board, turn, known, &captures);
-    let rest = some_of(board, turn, plies, missing, &others, known, memory);
-    asked.without(missing.without(rest))
+    let later = some_later(board, turn, plies, missing, known, &captures, memory);
+    asked.without(missing.without(later))
 }
 
 /// Those of the asked under which some candidate gives the side to play its way, with `plies` plies left after it. The
@@ -347,7 +371,73 @@ pub fn pass_saves<L: Look>(
     good
 }
 
-/// Those of the asked under which the side to play has its way, with `plies` plies left after its move.
+/// Of `asked`, the allowances under which a capture or a play at a liberty of the target gives the side to play its way,
+/// with `plies` plies left after it. The captures are tried first: most captures of the defender save the target, and only
+/// a third of his plays at its liberties do.
+#[cycle(read)]
+fn some_capture_or_liberty<L: Look>(
+    board: &mut Trial<L>,
+    turn: Turn,
+    plies: u8,
+    asked: Allowances,
+    known: &PointSet,
+    captures: &PointSet,
+    memory: &mut Memory,
+) -> Allowances
+    requires ready { IsReady L.shows L.seen board.old turn plies asked known.now memory.old.table.now }
+    requires captures { AreCapturesOf L.seen board.old turn.target captures.now }
+    ensures stays { Stays L.shows L.seen board.old board.new }
+    ensures table { IsTrueTableAt (L.seen board.new.look) turn memory.new.table.now }
+    ensures over { OnEachAgreeing L.seen board.old board.new (λ here.
+        TellsBy plies turn here (is_capture_or_liberty here turn.target) asked result) }
+    ensures near { LooksNear L.seen board.old board.new (suc plies) turn asked }
+{
+    let good = some_of(board, turn, plies, asked, captures, known, memory);
+    let missing = asked.without(good);
+    if !missing.has_some() {
+        return good;
+    }
+    let rest = some_of(board, turn, plies, missing, known, known, memory);
+    asked.without(missing.without(rest))
+}
+
+/// Of `asked`, the allowances under which the defender has his way, with `plies` plies left after his move.
+///
+/// He tries the captures, the liberties of the target, the pass, and the later candidates, in this order. If the target can
+/// be saved, a capture or a liberty mostly does it. To read the pass is to read all of the attacker's candidates, so it
+/// comes after them. The later candidates are dear to find, and few of them save the target. The order changes no answer.
+#[cycle(read)]
+fn defender_has_good_move<L: Look>(
+    board: &mut Trial<L>,
+    turn: Turn,
+    plies: u8,
+    asked: Allowances,
+    known: &PointSet,
+    memory: &mut Memory,
+) -> Allowances
+    requires ready { IsReady L.shows L.seen board.old turn plies asked known.now memory.old.table.now }
+    requires defender { turn.attacker_to_play ≡ false }
+    ensures stays { Stays L.shows L.seen board.old board.new }
+    ensures table { IsTrueTableAt (L.seen board.new.look) turn memory.new.table.now }
+    ensures over { OnEachAgreeing L.seen board.old board.new (λ here.
+        Tells asked result (λ ko. is_some (good_move plies (under turn ko) here))) }
+    ensures near { LooksNear L.seen board.old board.new (suc plies) turn asked }
+{
+    let captures = captures_of(board, turn.target, known);
+    let close = some_capture_or_liberty(board, turn, plies, asked, known, &captures, memory);
+    let missing = asked.without(close);
+    if !missing.has_some() {
+        return asked;
+    }
+    let lost = missing.without(pass_saves(board, turn, plies, missing, known, memory));
+    if !lost.has_some() {
+        return asked;
+    }
+    let later = some_later(board, turn, plies, lost, known, &captures, memory);
+    asked.without(lost.without(later))
+}
+
+/// Of `asked`, the allowances under which the side to play has its way, with `plies` plies left after its move.
 #[cycle(read)]
 fn has_good_move<L: Look>(
     board: &mut Trial<L>,
@@ -371,11 +461,7 @@ fn has_good_move<L: Look>(
     if escapes(board, turn, plies, known) {
         return asked;
     }
-    let lost = asked.without(pass_saves(board, turn, plies, asked, known, memory));
-    if !lost.has_some() {
-        return asked;
-    }
-    asked.without(lost.without(some_success(board, turn, plies, lost, known, memory)))
+    defender_has_good_move(board, turn, plies, asked, known, memory)
 }
 
 /// Those of the asked under which the target, whose point is empty, is captured, with `plies` plies left: all, if no

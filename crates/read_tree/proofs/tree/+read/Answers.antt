@@ -1,17 +1,17 @@
 -- The walk over the game tree answers what the tree says under each of the asked allowances, over every position that
 -- agrees with what was seen.
-use Rattle.std.proofs.Common.{arith, ◌||◌, ◌≡◌, ◌∙◌, ◌-◌, ◌*◌, ◌<◌, ℕ, suc, true, false, ap, sym}
+use Rattle.std.proofs.Common.{arith, ◌&&◌, ◌||◌, ◌≡◌, ◌∙◌, ◌-◌, ◌*◌, ◌<◌, ℕ, suc, true, false, ap, sym}
 use Rattle.std.proofs.Common.{refl, is_some, rules}
 use Rattle.std.specs.FinSet as set
 use Rattle.go_base.specs.Facts.{agrees_before, Grows-refl, Grows-trans, same_size}
 use Rattle.go_rules.specs.declared.Cell.TheVariants.{Empty}
 use Rattle.go_rules.proofs.Cells.{eq_is_same_cell}
-use Rattle.std.proofs.lemmas.Bool.{and_parts}
+use Rattle.std.proofs.lemmas.Bool.{and_parts, or_left}
 use Rattle.go_rules.specs.Strings.{is_liberty}
 use Rattle.read_rules.specs.Turns.{next_turn}
 use Rattle.read_rules.specs.Candidates.{is_candidate}
 use Rattle.read_rules.specs.Bound.{outlasts}
-use Rattle.read_tree.specs.Stages.{is_other}
+use Rattle.read_tree.specs.Stages.{is_other, is_capture_or_liberty}
 use Rattle.trial_board.specs.Trials.{after}
 use Rattle.trial_board.proofs.AfterLemmas.{size-after}
 use Rattle.read_rules.specs.ActiveArea.{IsUndecided, InActiveArea}
@@ -19,15 +19,17 @@ use Rattle.read_tree.specs.Table.{IsTrueOf}
 use Rattle.read_tree.specs.Allowances.{Ko, under, own_ko, neither_may, has_some, without}
 use Rattle.read_rules.specs.GoodMoves.{good_move}
 use Rattle.read_tree.specs.Steps.{AreNodesOf, TellsBy, is_off_liberties, is_safe}
-use Rattle.read_rules.specs.GameTree.{has_many_liberties, attacker_wins, child_of, first_success}
+use Rattle.read_rules.specs.GameTree.{has_many_liberties, attacker_wins, child_of, first_success, succeeds}
 use Rattle.read_tree.proofs.AllowanceLemmas.{success_some, good_by_success, suits_child}
-use Rattle.read_tree.proofs.AllowanceLemmas.{Tells-same, Tells-good, Tells-attackers, Tells-all, Tells-none}
+use Rattle.read_tree.proofs.AllowanceLemmas.{Tells-same, Tells-attackers, Tells-all, Tells-none}
 use Rattle.read_tree.proofs.AllowanceLemmas.{good_attacker, told_allowed, legal_nodes, allowed_nodes, pass_nodes}
 use Rattle.read_tree.proofs.AllowanceLemmas.{left_first, left_next}
-use Rattle.read_tree.proofs.StageLemmas.{by_done, by_over, by_none, by_same, by_more, by_enough, by_both, stage_done}
-use Rattle.read_tree.proofs.StageLemmas.{stage_over, none_other, nothing_near, liberty_is_candidate}
-use Rattle.read_tree.proofs.StageLemmas.{capture_is_candidate, capture_is_off, other_is_candidate, off_by_stages}
-use Rattle.read_tree.proofs.StageLemmas.{off_by_captures, its_liberty, its_count, known_inside}
+use Rattle.read_tree.proofs.StageLemmas.{by_done, by_over, by_none, by_failing, by_same, by_enough, by_both}
+use Rattle.read_tree.proofs.StageLemmas.{stage_done, stage_over, none_other, nothing_near, liberty_is_candidate}
+use Rattle.read_tree.proofs.StageLemmas.{capture_is_candidate, capture_is_off, other_is_candidate, other_is_off}
+use Rattle.read_tree.proofs.StageLemmas.{other_no_capture, no_other, off_by_stages, its_liberty, its_count}
+use Rattle.read_tree.proofs.StageLemmas.{known_inside}
+use Rattle.read_tree.proofs.DefenceLemmas.{close_done, pass_done, later_over}
 use Rattle.read_tree.proofs.OrderLemmas.{none_tried, newest_or_before, fewer_left, none_left}
 use Rattle.read_tree.proofs.TurnBounds.{bounded_at, undecided_at}
 use Rattle.read_moves.proofs.WholeBoards.{whole_after}
@@ -36,17 +38,18 @@ use Rattle.read_tree.proofs.EscapeLemmas.{escape_succeeds}
 use Rattle.read_tree.proofs.TakeLemmas.{take_wins}
 use Rattle.read_tree.proofs.TableLemmas.{table_more, told_before, told_after, read_true}
 use Rattle.read_rules.proofs.AreaLemmas.{AddsNear-trans}
-use Rattle.read_rules.proofs.AreaLemmas.{pred_tree, undecided_defender, target_on}
+use Rattle.read_rules.proofs.AreaLemmas.{pred_tree, target_on}
 use Rattle.read_rules.proofs.WinLemmas.{wins-no_plies, wins-by_move}
 use Rattle.read_tree.specs.Steps.{IsLeft}
 use Rattle.std.specs.Ordering.{nat_cmp}
 use Rattle.read_rules.specs.GameTree.{is_captured}
 use Rattle.trial_board.specs.Trials.{Stays-trans}
-use Rattle.read_tree.specs.Walk.{AreLibertiesOf, OnEachAgreeing, LooksNear, LooksNearWhere, LooksNearOrAt}
+use Rattle.read_tree.specs.Walk.{IsPointOf, AreLibertiesOf, OnEachAgreeing, LooksNear, LooksNearWhere, LooksNearOrAt}
 use Rattle.read_tree.proofs.AllowanceLemmas.{fewer_nodes, left_nodes}
 use Rattle.read_tree.proofs.CarryLemmas.{carried_on}
-use Rattle.read_tree.proofs.ReadyLemmas.{on_after, point_after, candidates_inside, liberties_after, ready_after}
-use Rattle.read_tree.proofs.StandingNodes.{standing_node, ready_node, undecided_node, near_target, near_captures}
+use Rattle.read_tree.proofs.ReadyLemmas.{on_after, point_after, candidate_inside, candidates_inside, ready_after}
+use Rattle.read_tree.proofs.ReadyLemmas.{liberties_after, captures_after, captures_found}
+use Rattle.read_tree.proofs.StandingNodes.{standing_node, ready_node, undecided_node, near_captures}
 use Rattle.read_tree.proofs.StandingNodes.{near_play, near_sides}
 use Rattle.read_tree.proofs.StandingNodes.{near_wide, near_escape, near_child, near_outlook, near_at}
 use Rattle.go_base.specs.Facts.{Agrees}
@@ -63,8 +66,10 @@ use Rattle.read_tree.proofs.StandingNodes.{near_or_at}
 use Rattle.read_tree.proofs.tree.+read.Goals.{taken-After-is_walled_in}
 use Rattle.read_tree.proofs.tree.+read.Given.{Over}
 use Rattle.read_tree.proofs.tree.+read.Goals.{some_of-After-succeeds-good, some_other-After-some_of-good}
-use Rattle.read_tree.proofs.tree.+read.Goals.{some_other-After-others_of-others, some_success-After-some_of-good}
-use Rattle.read_tree.proofs.tree.+read.Goals.{has_good_move-After-pass_saves, attacker_wins-After-outlook_of}
+use Rattle.read_tree.proofs.tree.+read.Goals.{some_success-After-some_of-good, attacker_wins-After-outlook_of}
+use Rattle.read_tree.proofs.tree.+read.Goals.{some_capture_or_liberty-After-some_of-good}
+use Rattle.read_tree.proofs.tree.+read.Goals.{defender_has_good_move-After-some_capture_or_liberty-close}
+use Rattle.read_tree.proofs.tree.+read.Goals.{defender_has_good_move-After-pass_saves}
 use Rattle.read_tree.proofs.tree.+read.Goals.{some_by_table-After-with-verdict}
 use Rattle.read_tree.proofs.tree.+read.Goals as goal
 
@@ -339,6 +344,79 @@ some_of-returns-clause-near g t c = λ pos a q root tree und its.
     AddsNear-trans (i.near pos a1 q root tree und its)
     (near_sides node c.args.known.now (c.requires.ready.liberties pos a0) (c.next_to_try.ensures.near pos a))
 
+-- there are no later candidates
+pub some_later-returns-then-not-has_later_candidates-clause-over : goal.some_later-returns-then-not-has_later_candidates-clause-over
+some_later-returns-then-not-has_later_candidates-clause-over g t c = λ pos a.
+    let here = after pos c.args.board.now.moves in
+    let turn = c.args.turn in
+    let no_later = sym c.has_later_candidates.ensures ∙ c.if-not-has_later_candidates.true in
+    rw c.none.ensures (by_none c.args.plies turn here (is_other turn here) c.args.asked
+    (λ ko q. ap (λ b. b && succeeds c.args.plies (under turn ko) here q) (no_other turn here q no_later)))
+
+-- a target in atari is saved by no later candidate
+pub some_later-returns-then-is_in_atari-clause-over : goal.some_later-returns-then-is_in_atari-clause-over
+some_later-returns-then-is_in_atari-clause-over g t c = λ pos a.
+    let here = after pos c.args.board.now.moves in
+    let turn = c.args.turn in
+    let a0 = agrees_before c.is_in_atari.ensures.stays.grows a in
+    let inside = on_after _ (g.met.L.Look.sized c.args.board.now.look) a0 c.args.board.now.moves
+    c.requires.ready.target in
+    let atari = c.is_in_atari.ensures.over pos a c.if-is_in_atari.true in
+    rw c.none-then-is_in_atari.ensures (by_failing c.args.plies turn here (is_other turn here) c.args.asked
+    (λ ko q is. atari_fails c.args.plies turn here inside atari ko q (other_is_off turn here q is)
+    (other_no_capture turn here q is)))
+
+-- the target's point, by which an atari is told, lies in the active area
+pub some_later-returns-then-is_in_atari-clause-near : goal.some_later-returns-then-is_in_atari-clause-near
+some_later-returns-then-is_in_atari-clause-near g t c = λ pos a q root tree und.
+    let a0 = agrees_before c.is_in_atari.ensures.stays.grows a in
+    let node = undecided_node c.requires.ready (g.met.L.Look.sized c.args.board.now.look) a0 tree und in
+    near_beside node (c.is_in_atari.ensures.near pos a)
+
+-- what the captures are is still known after the look for an atari
+pub some_later-others_of-others-requires-clause-captures : goal.some_later-others_of-others-requires-clause-captures
+some_later-others_of-others-requires-clause-captures g t c =
+    captures_after c.is_in_atari.ensures.stays c.args.turn.target c.args.captures.now c.requires.captures
+
+-- the others are on the board
+pub some_later-some_of-requires : goal.some_later-some_of-requires
+some_later-some_of-requires g t c κs within =
+    let others = c.others_of-others.ensures in
+    let stays = Stays-trans c.is_in_atari.ensures.stays others.stays in
+    let ready = ready_after stays c.args.asked c.requires.ready c.requires.ready.some
+    (table_more c.requires.ready.table stays.grows) in
+    let inside = candidates_inside stays c.args.turn c.others_of-others.result
+    (g.met.L.Look.holds c.others_of-others.new.board.look)
+    (λ pos a p h. other_is_candidate c.args.turn (after pos c.args.board.now.moves) p
+    (sym (rw c.is_in_atari.ensures.stays.moves at (others.over pos a p)) ∙ h)) in
+    search rules
+
+-- the points that were found are the others
+pub some_later-returns-clause-over : goal.some_later-returns-clause-over
+some_later-returns-clause-over g t c = λ pos a.
+    let here = after pos c.args.board.now.moves in
+    let turn = c.args.turn in
+    let others = c.others_of-others.ensures in
+    let a1 = agrees_before c.some_of.ensures.stays.grows a in
+    by_same c.args.plies turn here (set.contains c.others_of-others.result) (is_other turn here)
+    c.args.asked c.some_of.result
+    (λ q. rw c.is_in_atari.ensures.stays.moves at (others.over pos a1 q))
+    (rw (Stays-trans c.is_in_atari.ensures.stays others.stays).moves at (c.some_of.ensures.over pos a))
+
+-- the looks for the others and at their plays lie in the active area
+pub some_later-returns-clause-near : goal.some_later-returns-clause-near
+some_later-returns-clause-near g t c = λ pos a q root tree und.
+    let others = c.others_of-others.ensures in
+    let atari = c.is_in_atari.ensures in
+    let a1 = agrees_before c.some_of.ensures.stays.grows a in
+    let a0 = agrees_before (Stays-trans atari.stays others.stays).grows a1 in
+    let node = undecided_node c.requires.ready (g.met.L.Look.sized c.args.board.now.look) a0 tree und in
+    AddsNear-trans (near_beside node (atari.near pos (agrees_before others.stays.grows a1)))
+    (AddsNear-trans (near_wide node (rw atari.stays.moves at (others.near pos a1)))
+    ((rw (Stays-trans atari.stays others.stays).moves at (c.some_of.ensures.near pos a q root)) tree und
+    (λ p h. other_is_candidate c.args.turn (after pos c.args.board.now.moves) p
+    (sym (rw atari.stays.moves at (others.over pos a1 p)) ∙ h))))
+
 -- the captures are on the board
 pub some_other-some_of-good-requires : goal.some_other-some_of-good-requires
 some_other-some_of-good-requires g t c κs within =
@@ -352,26 +430,14 @@ some_other-some_of-good-requires g t c κs within =
     search rules
 
 -- what the captures are is still known once they were tried
-pub some_other-others_of-others-requires-clause-captures : goal.some_other-others_of-others-requires-clause-captures
-some_other-others_of-others-requires-clause-captures g t c = λ pos a p.
-    rw (c.is_in_atari.ensures.stays.moves ∙ c.some_of-good.ensures.stays.moves
-    ∙ c.captures_of-captures.ensures.stays.moves)
-    (c.captures_of-captures.ensures.over pos (agrees_before c.some_of-good.ensures.stays.grows
-    (agrees_before c.is_in_atari.ensures.stays.grows a)) p)
-
--- the other candidates are on the board
-pub some_other-some_of-rest-requires : goal.some_other-some_of-rest-requires
-some_other-some_of-rest-requires g t c κs within =
-    let others = c.others_of-others.ensures in
-    let before = Stays-trans c.captures_of-captures.ensures.stays
-    (Stays-trans c.some_of-good.ensures.stays c.is_in_atari.ensures.stays) in
-    let stays = Stays-trans before others.stays in
-    let ready = ready_after stays c.without-missing.result c.requires (sym c.has_some.ensures ∙ c.if-not-has_some.false)
-    (table_more c.some_of-good.ensures.table (Grows-trans c.is_in_atari.ensures.stays.grows others.stays.grows)) in
-    let inside = candidates_inside stays c.args.turn c.others_of-others.result
-    (g.met.L.Look.holds c.others_of-others.new.board.look)
-    (λ pos a p h. other_is_candidate c.args.turn (after pos c.args.board.now.moves) p
-    (sym (rw before.moves at (others.over pos a p)) ∙ h)) in
+pub some_other-some_later-later-requires : goal.some_other-some_later-later-requires
+some_other-some_later-later-requires g t c κs within =
+    let found = c.captures_of-captures.ensures in
+    let stays = Stays-trans found.stays c.some_of-good.ensures.stays in
+    let ready = ready_after stays c.without-missing.result c.requires
+    (sym c.has_some.ensures ∙ c.if-not-has_some.false) c.some_of-good.ensures.table in
+    let captures = captures_after c.some_of-good.ensures.stays c.args.turn.target c.captures_of-captures.result
+    (captures_found found.stays c.args.turn.target c.captures_of-captures.result found.over) in
     search rules
 
 -- too many liberties would be left
@@ -388,18 +454,6 @@ some_other-returns-then-leaves_too_many-clause-over g t c = λ pos a.
     (none_other c.args.plies turn here inside both.0
     (ap (λ n. outlasts turn.tree false c.args.plies (turn.wide - 1) n) (sym counted) ∙ both.1)))
 
--- there are no later candidates: the captures were all
-pub some_other-returns-then-not-has_later_candidates-clause-over : goal.some_other-returns-then-not-has_later_candidates-clause-over
-some_other-returns-then-not-has_later_candidates-clause-over g t c = λ pos a.
-    let a1 = agrees_before c.some_of-good.ensures.stays.grows a in
-    let here = after pos c.args.board.now.moves in
-    let turn = c.args.turn in
-    by_same c.args.plies turn here (set.contains c.captures_of-captures.result) (is_off_liberties turn here)
-    c.args.asked c.some_of-good.result
-    (λ q. c.captures_of-captures.ensures.over pos a1 q
-    ∙ sym (off_by_captures turn here q (sym c.has_later_candidates.ensures ∙ c.if-not-has_later_candidates.true)))
-    (rw c.captures_of-captures.ensures.stays.moves at (c.some_of-good.ensures.over pos a))
-
 -- the captures give all that was asked
 pub some_other-returns-then-not-has_some-clause-over : goal.some_other-returns-then-not-has_some-clause-over
 some_other-returns-then-not-has_some-clause-over g t c = λ pos a.
@@ -412,53 +466,23 @@ some_other-returns-then-not-has_some-clause-over g t c = λ pos a.
     (λ q h. capture_is_off turn here q (sym (c.captures_of-captures.ensures.over pos a1 q) ∙ h))
     (sym (c.has_some.ensures ∙ ap has_some c.without-missing.ensures) ∙ c.if-not-has_some.true)
 
--- a target in atari is saved by no others
-pub some_other-returns-then-is_in_atari-clause-over : goal.some_other-returns-then-is_in_atari-clause-over
-some_other-returns-then-is_in_atari-clause-over g t c = λ pos a.
-    let before = Stays-trans c.captures_of-captures.ensures.stays c.some_of-good.ensures.stays in
-    let a2 = agrees_before c.is_in_atari.ensures.stays.grows a in
-    let a0 = agrees_before before.grows a2 in
-    let here = after pos c.args.board.now.moves in
-    let inside = on_after _ (g.met.L.Look.sized c.args.board.now.look) a0 c.args.board.now.moves c.requires.target in
-    let atari = rw before.moves at (c.is_in_atari.ensures.over pos a c.if-is_in_atari.true) in
-    let its = c.captures_of-captures.ensures.over pos (agrees_before c.some_of-good.ensures.stays.grows a2) in
-    by_more c.args.plies c.args.turn here (set.contains c.captures_of-captures.result)
-    (is_off_liberties c.args.turn here) c.args.asked c.some_of-good.result
-    (rw c.captures_of-captures.ensures.stays.moves at (c.some_of-good.ensures.over pos a2))
-    (λ q h. capture_is_off c.args.turn here q (sym (its q) ∙ h))
-    (λ ko q off none. atari_fails c.args.plies c.args.turn here inside atari ko q off (sym (its q) ∙ none))
-
--- the candidates off the liberties are the captures and the others that were found
-off_found : (g : Over) (t : ℕ) (c : some_other-After-others_of-others g t) → OnEachAgreeing g.L.Look.seen
-    c.args.board.now c.others_of-others.new.board (λ here. (q : ℕ) → is_off_liberties c.args.turn here q
-    ≡ (set.contains c.captures_of-captures.result q || set.contains c.others_of-others.result q))
-off_found g t c = λ pos a q.
-    let turn = c.args.turn in
-    let here = after pos c.args.board.now.moves in
-    let others = c.others_of-others.ensures in
-    let good = Stays-trans c.some_of-good.ensures.stays c.is_in_atari.ensures.stays in
-    off_by_stages turn here q
-    ∙ ap (λ b. b || is_other turn here q) (sym (c.captures_of-captures.ensures.over pos
-    (agrees_before (Stays-trans good others.stays).grows a) q))
-    ∙ ap (λ b. set.contains c.captures_of-captures.result q || b)
-    (sym (rw (Stays-trans c.captures_of-captures.ensures.stays good).moves at (others.over pos a q)))
-
--- what the captures left is asked of the others
+-- what the captures left is asked of the later candidates
 pub some_other-returns-clause-over : goal.some_other-returns-clause-over
 some_other-returns-clause-over g t c = λ pos a.
-    let d = (goal.at.some_other-returns-clause-over g t c).After-others_of-others in
-    let captures = c.captures_of-captures.ensures.stays in
-    let later = Stays-trans c.is_in_atari.ensures.stays c.others_of-others.ensures.stays in
-    let a3 = agrees_before c.some_of-rest.ensures.stays.grows a in
     let here = after pos c.args.board.now.moves in
+    let turn = c.args.turn in
+    let captures = c.captures_of-captures.ensures in
+    let a2 = agrees_before c.some_later-later.ensures.stays.grows a in
+    let a1 = agrees_before c.some_of-good.ensures.stays.grows a2 in
     rw (c.without-2.ensures, c.without.ensures, c.without-missing.ensures)
-    (by_both c.args.plies c.args.turn here (set.contains c.captures_of-captures.result)
-    (is_off_liberties c.args.turn here) c.args.asked c.some_of-good.result
-    (rw captures.moves at (c.some_of-good.ensures.over pos (agrees_before later.grows a3)))
-    (set.contains c.others_of-others.result) c.some_of-rest.result (off_found g t d pos a3) (rw (
-      (Stays-trans captures (Stays-trans c.some_of-good.ensures.stays later)).moves,
+    (by_both c.args.plies turn here (set.contains c.captures_of-captures.result)
+    (is_off_liberties turn here) c.args.asked c.some_of-good.result
+    (rw captures.stays.moves at (c.some_of-good.ensures.over pos a2))
+    (is_other turn here) c.some_later-later.result
+    (λ q. off_by_stages turn here q ∙ ap (λ b. b || is_other turn here q) (sym (captures.over pos a1 q))) (rw (
+      (Stays-trans captures.stays c.some_of-good.ensures.stays).moves,
       c.without-missing.ensures,
-    ) at (c.some_of-rest.ensures.over pos a)))
+    ) at (c.some_later-later.ensures.over pos a)))
 
 -- the looks for the captures and at their plays lie in the active area
 good_near : (g : Over) (t : ℕ) (c : some_other-After-some_of-good g t) → LooksNear g.L.Look.seen c.args.board.now
@@ -474,55 +498,19 @@ good_near g t c = λ pos a q root tree und.
     (sym (captures.over pos a1 p) ∙ h)))
 
 -- the looks for the captures and at their plays lie in the active area
-pub some_other-returns-then-not-has_later_candidates-clause-near : goal.some_other-returns-then-not-has_later_candidates-clause-near
-some_other-returns-then-not-has_later_candidates-clause-near g t c = λ pos a.
-    good_near g t (goal.at.some_other-returns-then-not-has_later_candidates-clause-near g t c).After-some_of-good pos a
-
--- where the captures do, too
 pub some_other-returns-then-not-has_some-clause-near : goal.some_other-returns-then-not-has_some-clause-near
 some_other-returns-then-not-has_some-clause-near g t c = λ pos a.
     good_near g t (goal.at.some_other-returns-then-not-has_some-clause-near g t c).After-some_of-good pos a
 
--- the target's neighbourhood, by which an atari is told, lies there
-pub some_other-returns-then-is_in_atari-clause-near : goal.some_other-returns-then-is_in_atari-clause-near
-some_other-returns-then-is_in_atari-clause-near g t c = λ pos a q root tree und.
-    let d = (goal.at.some_other-returns-then-is_in_atari-clause-near g t c).After-some_of-good in
-    let a2 = agrees_before c.is_in_atari.ensures.stays.grows a in
-    let a0 = agrees_before c.captures_of-captures.ensures.stays.grows
-    (agrees_before c.some_of-good.ensures.stays.grows a2) in
-    let node = undecided_node c.requires (g.met.L.Look.sized c.args.board.now.look) a0 tree und in
-    AddsNear-trans (good_near g t d pos a2 q root tree und) (near_beside node
-    (rw (Stays-trans c.captures_of-captures.ensures.stays c.some_of-good.ensures.stays).moves at
-    (c.is_in_atari.ensures.near pos a)))
-
--- and so do the looks for the others
-others_near : (g : Over) (t : ℕ) (c : some_other-After-others_of-others g t)
-    → LooksNear g.L.Look.seen c.args.board.now c.some_of-good.new.board (suc c.args.plies) c.args.turn c.args.asked
-    → LooksNear g.L.Look.seen c.args.board.now c.others_of-others.new.board (suc c.args.plies) c.args.turn c.args.asked
-others_near g t c good = λ pos a q root tree und.
-    let before = Stays-trans c.captures_of-captures.ensures.stays c.some_of-good.ensures.stays in
-    let a2 = agrees_before (Stays-trans c.is_in_atari.ensures.stays c.others_of-others.ensures.stays).grows a in
-    let node = undecided_node c.requires (g.met.L.Look.sized c.args.board.now.look)
-    (agrees_before before.grows a2) tree und in
-    AddsNear-trans (good pos a2 q root tree und) (AddsNear-trans (near_beside node
-    (rw before.moves at
-    (c.is_in_atari.ensures.near pos (agrees_before c.others_of-others.ensures.stays.grows a))))
-    (near_wide node (rw (Stays-trans before c.is_in_atari.ensures.stays).moves at
-    (c.others_of-others.ensures.near pos a))))
-
--- and those at their plays
+-- so do the looks for the later candidates and at their plays
 pub some_other-returns-clause-near : goal.some_other-returns-clause-near
 some_other-returns-clause-near g t c = λ pos a q root tree und.
-    let goal_at = goal.at.some_other-returns-clause-near g t c in
-    let before = Stays-trans c.captures_of-captures.ensures.stays
-    (Stays-trans c.some_of-good.ensures.stays c.is_in_atari.ensures.stays) in
-    let a3 = agrees_before c.some_of-rest.ensures.stays.grows a in
-    AddsNear-trans (others_near g t goal_at.After-others_of-others (good_near g t goal_at.After-some_of-good)
-    pos a3 q root tree und)
-    ((rw (Stays-trans before c.others_of-others.ensures.stays).moves at (c.some_of-rest.ensures.near pos a q root))
-    (left_nodes c.some_of-good.result tree c.without-missing.ensures) und
-    (λ p h. other_is_candidate c.args.turn (after pos c.args.board.now.moves) p
-    (sym (rw before.moves at (c.others_of-others.ensures.over pos a3 p)) ∙ h)))
+    let d = (goal.at.some_other-returns-clause-near g t c).After-some_of-good in
+    let before = Stays-trans c.captures_of-captures.ensures.stays c.some_of-good.ensures.stays in
+    let a2 = agrees_before c.some_later-later.ensures.stays.grows a in
+    AddsNear-trans (good_near g t d pos a2 q root tree und)
+    ((rw before.moves at (c.some_later-later.ensures.near pos a q root))
+    (left_nodes c.some_of-good.result tree c.without-missing.ensures) und)
 
 -- a liberty is on the board
 pub some_success-some_of-good-requires : goal.some_success-some_of-good-requires
@@ -624,47 +612,216 @@ has_good_move-returns-then-escapes-clause-near g t c = λ pos a q root tree und.
     let node = undecided_node c.requires (g.met.L.Look.sized c.args.board.now.look) a0 tree und in
     near_escape node c.args.known.now (c.requires.liberties pos a0) (c.escapes.ensures.near pos a)
 
--- the looks for an escape and after the pass lie in the active area
-saved_near : (g : Over) (t : ℕ) (c : has_good_move-After-pass_saves g t) → LooksNear g.L.Look.seen c.args.board.now
-    c.pass_saves.new.board (suc c.args.plies) c.args.turn c.args.asked
-saved_near g t c = λ pos a q root tree und.
-    let a1 = agrees_before c.pass_saves.ensures.stays.grows a in
-    let a0 = agrees_before c.escapes.ensures.stays.grows a1 in
-    let stands = (und neither_may).stands in
-    let node = ready_node c.requires (g.met.L.Look.sized c.args.board.now.look) a0 tree stands in
-    AddsNear-trans (near_escape node c.args.known.now (c.requires.liberties pos a0) (c.escapes.ensures.near pos a1))
-    ((rw c.escapes.ensures.stays.moves at (c.pass_saves.ensures.near pos a q root)) tree stands)
-
--- where the pass saves, the looks for an escape and after the pass lie in the active area
-pub has_good_move-returns-then-not-has_some-clause-near : goal.has_good_move-returns-then-not-has_some-clause-near
-has_good_move-returns-then-not-has_some-clause-near g t c = λ pos a.
-    saved_near g t (goal.at.has_good_move-returns-then-not-has_some-clause-near g t c).After-pass_saves pos a
-
--- the pass, and then the candidates under what it left
+-- the defender's captures, liberties, pass and later candidates
 pub has_good_move-returns-clause-over : goal.has_good_move-returns-clause-over
 has_good_move-returns-clause-over g t c = λ pos a und.
-    let a1 = agrees_before c.some_success.ensures.stays.grows a in
-    rw (c.without-2.ensures, c.without.ensures, c.without-lost.ensures)
-    (Tells-good c.args.plies c.args.turn (after pos c.args.board.now.moves) c.args.asked c.pass_saves.result
-    c.some_success.result c.if-turn.false
-    (rw c.escapes.ensures.stays.moves at (c.pass_saves.ensures.over pos a1)) (rw (
-      c.pass_saves.ensures.stays.moves,
-      c.escapes.ensures.stays.moves,
-      c.without-lost.ensures,
-    ) at (c.some_success.ensures.over pos a)))
+    rw c.escapes.ensures.stays.moves at (c.defender_has_good_move.ensures.over pos a)
 
--- the looks for an escape, after the pass and those of the defender's plays lie in the active area
+-- the looks for an escape and those of the defender's moves lie in the active area
 pub has_good_move-returns-clause-near : goal.has_good_move-returns-clause-near
 has_good_move-returns-clause-near g t c = λ pos a q root tree und.
-    let d = (goal.at.has_good_move-returns-clause-near g t c).After-pass_saves in
-    let a2 = agrees_before c.some_success.ensures.stays.grows a in
-    AddsNear-trans (saved_near g t d pos a2 q root tree und)
-    ((rw (
-      c.pass_saves.ensures.stays.moves,
-      c.escapes.ensures.stays.moves,
-    ) at (c.some_success.ensures.near pos a q root))
-    (left_nodes c.pass_saves.result tree c.without-lost.ensures)
-    (λ ko. undecided_defender (und neither_may).stands c.if-turn.false))
+    let a1 = agrees_before c.defender_has_good_move.ensures.stays.grows a in
+    let a0 = agrees_before c.escapes.ensures.stays.grows a1 in
+    let node = undecided_node c.requires (g.met.L.Look.sized c.args.board.now.look) a0 tree und in
+    AddsNear-trans (near_escape node c.args.known.now (c.requires.liberties pos a0) (c.escapes.ensures.near pos a1))
+    ((rw c.escapes.ensures.stays.moves at (c.defender_has_good_move.ensures.near pos a q root)) tree und)
+
+-- the captures are on the board
+pub some_capture_or_liberty-some_of-good-requires : goal.some_capture_or_liberty-some_of-good-requires
+some_capture_or_liberty-some_of-good-requires g t c κs within =
+    let shown = g.L.Look.shows c.args.board.now.look in
+    let inside : (p : ℕ) → set.contains c.args.captures.now p ≡ true → p < shown.size * shown.size =
+    λ p h. candidate_inside c.args.turn shown c.args.board.now.moves p
+    (capture_is_candidate c.args.turn (after shown c.args.board.now.moves) p
+    (sym (c.requires.captures shown (g.met.L.Look.holds c.args.board.now.look) p) ∙ h)) in
+    search rules
+
+-- the liberties are on the board
+pub some_capture_or_liberty-some_of-rest-requires : goal.some_capture_or_liberty-some_of-rest-requires
+some_capture_or_liberty-some_of-rest-requires g t c κs within =
+    let stays = c.some_of-good.ensures.stays in
+    let ready = ready_after stays c.without-missing.result c.requires.ready
+    (sym c.has_some.ensures ∙ c.if-not-has_some.false) c.some_of-good.ensures.table in
+    let shown = g.L.Look.shows c.args.board.now.look in
+    let inside : (p : ℕ) → set.contains c.args.known.now p ≡ true
+    → IsPointOf g.L.Look.shows c.some_of-good.new.board p =
+    λ p h. point_after stays p (known_inside shown.size (after shown c.args.board.now.moves).cells c.args.turn.target p
+    c.args.known.now (c.requires.ready.liberties shown (g.met.L.Look.holds c.args.board.now.look)) h) in
+    search rules
+
+-- the captures give all that was asked
+pub some_capture_or_liberty-returns-then-not-has_some-clause-over : goal.some_capture_or_liberty-returns-then-not-has_some-clause-over
+some_capture_or_liberty-returns-then-not-has_some-clause-over g t c = λ pos a.
+    let here = after pos c.args.board.now.moves in
+    let a0 = agrees_before c.some_of-good.ensures.stays.grows a in
+    by_enough c.args.plies c.args.turn here (set.contains c.args.captures.now)
+    (is_capture_or_liberty here c.args.turn.target) c.args.asked c.some_of-good.result
+    (c.some_of-good.ensures.over pos a)
+    (λ q h. or_left _ _ (sym (c.requires.captures pos a0 q) ∙ h))
+    (sym (c.has_some.ensures ∙ ap has_some c.without-missing.ensures) ∙ c.if-not-has_some.true)
+
+-- what they left is asked of the liberties
+pub some_capture_or_liberty-returns-clause-over : goal.some_capture_or_liberty-returns-clause-over
+some_capture_or_liberty-returns-clause-over g t c = λ pos a.
+    let here = after pos c.args.board.now.moves in
+    let turn = c.args.turn in
+    let a1 = agrees_before c.some_of-rest.ensures.stays.grows a in
+    let a0 = agrees_before c.some_of-good.ensures.stays.grows a1 in
+    let its = its_liberty pos.size here turn.target c.args.known.now (size-after pos c.args.board.now.moves)
+    (c.requires.ready.liberties pos a0) in
+    rw (c.without-2.ensures, c.without.ensures, c.without-missing.ensures)
+    (by_both c.args.plies turn here (set.contains c.args.captures.now)
+    (is_capture_or_liberty here turn.target) c.args.asked c.some_of-good.result
+    (c.some_of-good.ensures.over pos a1) (set.contains c.args.known.now) c.some_of-rest.result
+    (λ q. ap (λ b. b || is_liberty here.size here.cells turn.target q) (sym (c.requires.captures pos a0 q))
+    ∙ ap (λ b. set.contains c.args.captures.now q || b) (sym (its q))) (rw (
+      c.some_of-good.ensures.stays.moves,
+      c.without-missing.ensures,
+    ) at (c.some_of-rest.ensures.over pos a)))
+
+-- the looks at the captures lie in the active area
+captures_near : (g : Over) (t : ℕ) (c : some_capture_or_liberty-After-some_of-good g t)
+    → LooksNear g.L.Look.seen c.args.board.now c.some_of-good.new.board (suc c.args.plies) c.args.turn c.args.asked
+captures_near g t c = λ pos a q root tree und.
+    let a0 = agrees_before c.some_of-good.ensures.stays.grows a in
+    c.some_of-good.ensures.near pos a q root tree und
+    (λ p h. capture_is_candidate c.args.turn (after pos c.args.board.now.moves) p
+    (sym (c.requires.captures pos a0 p) ∙ h))
+
+-- also if they give all that was asked
+pub some_capture_or_liberty-returns-then-not-has_some-clause-near : goal.some_capture_or_liberty-returns-then-not-has_some-clause-near
+some_capture_or_liberty-returns-then-not-has_some-clause-near g t c = captures_near g t
+    (goal.at.some_capture_or_liberty-returns-then-not-has_some-clause-near g t c).After-some_of-good
+
+-- so do the looks at the liberties
+pub some_capture_or_liberty-returns-clause-near : goal.some_capture_or_liberty-returns-clause-near
+some_capture_or_liberty-returns-clause-near g t c = λ pos a q root tree und.
+    let d = (goal.at.some_capture_or_liberty-returns-clause-near g t c).After-some_of-good in
+    let here = after pos c.args.board.now.moves in
+    let a1 = agrees_before c.some_of-rest.ensures.stays.grows a in
+    let its = its_liberty pos.size here c.args.turn.target c.args.known.now (size-after pos c.args.board.now.moves)
+    (c.requires.ready.liberties pos (agrees_before c.some_of-good.ensures.stays.grows a1)) in
+    AddsNear-trans (captures_near g t d pos a1 q root tree und)
+    ((rw c.some_of-good.ensures.stays.moves at (c.some_of-rest.ensures.near pos a q root))
+    (left_nodes c.some_of-good.result tree c.without-missing.ensures) und
+    (λ p h. liberty_is_candidate c.args.turn here p (sym (its p) ∙ h)))
+
+-- the captures that were found are next to the target
+pub defender_has_good_move-some_capture_or_liberty-close-requires : goal.defender_has_good_move-some_capture_or_liberty-close-requires
+defender_has_good_move-some_capture_or_liberty-close-requires g t c κs within =
+    let found = c.captures_of-captures.ensures in
+    let ready = ready_after found.stays c.args.asked c.requires.ready c.requires.ready.some
+    (table_more c.requires.ready.table found.stays.grows) in
+    let captures = captures_found found.stays c.args.turn.target c.captures_of-captures.result found.over in
+    search rules
+
+-- the pass is read for what they and the liberties left
+pub defender_has_good_move-pass_saves-requires : goal.defender_has_good_move-pass_saves-requires
+defender_has_good_move-pass_saves-requires g t c κs within =
+    let close = c.some_capture_or_liberty-close.ensures in
+    let ready = ready_after (Stays-trans c.captures_of-captures.ensures.stays close.stays) c.without-missing.result
+    c.requires.ready (sym c.has_some.ensures ∙ c.if-not-has_some.false) close.table in
+    search rules
+
+-- the later candidates for what it left
+pub defender_has_good_move-some_later-later-requires : goal.defender_has_good_move-some_later-later-requires
+defender_has_good_move-some_later-later-requires g t c κs within =
+    let found = c.captures_of-captures.ensures in
+    let tried = Stays-trans c.some_capture_or_liberty-close.ensures.stays c.pass_saves.ensures.stays in
+    let ready = ready_after (Stays-trans found.stays tried) c.without-lost.result c.requires.ready
+    (sym c.has_some-2.ensures ∙ c.if-not-has_some-2.false) c.pass_saves.ensures.table in
+    let captures = captures_after tried c.args.turn.target c.captures_of-captures.result
+    (captures_found found.stays c.args.turn.target c.captures_of-captures.result found.over) in
+    search rules
+
+-- the captures and the liberties give all that was asked
+pub defender_has_good_move-returns-then-not-has_some-clause-over : goal.defender_has_good_move-returns-then-not-has_some-clause-over
+defender_has_good_move-returns-then-not-has_some-clause-over g t c = λ pos a.
+    close_done c.args.plies c.args.turn (after pos c.args.board.now.moves) c.args.asked
+    c.some_capture_or_liberty-close.result c.requires.defender
+    (rw c.captures_of-captures.ensures.stays.moves at (c.some_capture_or_liberty-close.ensures.over pos a))
+    (sym (c.has_some.ensures ∙ ap has_some c.without-missing.ensures) ∙ c.if-not-has_some.true)
+
+-- the pass gives the rest
+pub defender_has_good_move-returns-then-not-has_some-2-clause-over : goal.defender_has_good_move-returns-then-not-has_some-2-clause-over
+defender_has_good_move-returns-then-not-has_some-2-clause-over g t c = λ pos a.
+    let found = c.captures_of-captures.ensures.stays in
+    let close = c.some_capture_or_liberty-close.ensures in
+    let a1 = agrees_before c.pass_saves.ensures.stays.grows a in
+    pass_done c.args.plies c.args.turn (after pos c.args.board.now.moves) c.args.asked
+    c.some_capture_or_liberty-close.result c.pass_saves.result c.requires.defender
+    (rw found.moves at (close.over pos a1)) (rw (
+      (Stays-trans found close.stays).moves,
+      c.without-missing.ensures,
+    ) at (c.pass_saves.ensures.over pos a))
+    (rw c.without-missing.ensures at (sym (c.has_some-2.ensures ∙ ap has_some c.without-lost.ensures)
+    ∙ c.if-not-has_some-2.true))
+
+-- the later candidates are tried last
+pub defender_has_good_move-returns-clause-over : goal.defender_has_good_move-returns-clause-over
+defender_has_good_move-returns-clause-over g t c = λ pos a.
+    let found = c.captures_of-captures.ensures.stays in
+    let close = c.some_capture_or_liberty-close.ensures in
+    let a2 = agrees_before c.some_later-later.ensures.stays.grows a in
+    let a1 = agrees_before c.pass_saves.ensures.stays.grows a2 in
+    rw (c.without-2.ensures, c.without.ensures, c.without-lost.ensures, c.without-missing.ensures)
+    (later_over c.args.plies c.args.turn (after pos c.args.board.now.moves) c.args.asked
+    c.some_capture_or_liberty-close.result c.pass_saves.result c.requires.defender
+    (rw found.moves at (close.over pos a1)) (rw (
+      (Stays-trans found close.stays).moves,
+      c.without-missing.ensures,
+    ) at (c.pass_saves.ensures.over pos a2)) c.some_later-later.result (rw (
+      (Stays-trans found (Stays-trans close.stays c.pass_saves.ensures.stays)).moves,
+      c.without-lost.ensures,
+      c.without-missing.ensures,
+    ) at (c.some_later-later.ensures.over pos a)))
+
+-- the looks for the captures, at them and at the liberties lie in the active area
+close_near : (g : Over) (t : ℕ) (c : defender_has_good_move-After-some_capture_or_liberty-close g t)
+    → LooksNear g.L.Look.seen c.args.board.now c.some_capture_or_liberty-close.new.board (suc c.args.plies) c.args.turn
+    c.args.asked
+close_near g t c = λ pos a q root tree und.
+    let found = c.captures_of-captures.ensures in
+    let a1 = agrees_before c.some_capture_or_liberty-close.ensures.stays.grows a in
+    let a0 = agrees_before found.stays.grows a1 in
+    let node = undecided_node c.requires.ready (g.met.L.Look.sized c.args.board.now.look) a0 tree und in
+    AddsNear-trans (near_captures node (found.near pos a1))
+    ((rw found.stays.moves at (c.some_capture_or_liberty-close.ensures.near pos a q root)) tree und)
+
+-- also if these give all that was asked
+pub defender_has_good_move-returns-then-not-has_some-clause-near : goal.defender_has_good_move-returns-then-not-has_some-clause-near
+defender_has_good_move-returns-then-not-has_some-clause-near g t c = close_near g t
+    (goal.at.defender_has_good_move-returns-then-not-has_some-clause-near g t c).After-some_capture_or_liberty-close
+
+-- so do the looks after the pass
+saved_near : (g : Over) (t : ℕ) (c : defender_has_good_move-After-pass_saves g t)
+    → LooksNear g.L.Look.seen c.args.board.now c.some_capture_or_liberty-close.new.board (suc c.args.plies) c.args.turn
+    c.args.asked
+    → LooksNear g.L.Look.seen c.args.board.now c.pass_saves.new.board (suc c.args.plies) c.args.turn c.args.asked
+saved_near g t c close = λ pos a q root tree und.
+    let before = Stays-trans c.captures_of-captures.ensures.stays c.some_capture_or_liberty-close.ensures.stays in
+    AddsNear-trans (close pos (agrees_before c.pass_saves.ensures.stays.grows a) q root tree und)
+    ((rw before.moves at (c.pass_saves.ensures.near pos a q root))
+    (left_nodes c.some_capture_or_liberty-close.result tree c.without-missing.ensures) (und neither_may).stands)
+
+-- also if the pass gives the rest
+pub defender_has_good_move-returns-then-not-has_some-2-clause-near : goal.defender_has_good_move-returns-then-not-has_some-2-clause-near
+defender_has_good_move-returns-then-not-has_some-2-clause-near g t c =
+    let d = goal.at.defender_has_good_move-returns-then-not-has_some-2-clause-near g t c in
+    saved_near g t d.After-pass_saves (close_near g t d.After-some_capture_or_liberty-close)
+
+-- and so do the looks for the later candidates and at their plays
+pub defender_has_good_move-returns-clause-near : goal.defender_has_good_move-returns-clause-near
+defender_has_good_move-returns-clause-near g t c = λ pos a q root tree und.
+    let d = goal.at.defender_has_good_move-returns-clause-near g t c in
+    let before = Stays-trans c.captures_of-captures.ensures.stays
+    (Stays-trans c.some_capture_or_liberty-close.ensures.stays c.pass_saves.ensures.stays) in
+    let a3 = agrees_before c.some_later-later.ensures.stays.grows a in
+    AddsNear-trans (saved_near g t d.After-pass_saves (close_near g t d.After-some_capture_or_liberty-close)
+    pos a3 q root tree und)
+    ((rw before.moves at (c.some_later-later.ensures.near pos a q root))
+    (left_nodes c.pass_saves.result (left_nodes c.some_capture_or_liberty-close.result tree c.without-missing.ensures)
+    c.without-lost.ensures) und)
 
 -- in the stated tree a target that is taken is captured
 pub taken-returns-then-not-is_wider-clause-over : goal.taken-returns-then-not-is_wider-clause-over
@@ -951,9 +1108,9 @@ pub some_of-returns-clause-table : goal.some_of-returns-clause-table
 some_of-returns-clause-table g t c = table_more c.loop-p.invariant.table c.next_to_try.ensures.stays.grows
 
 -- after the look for an atari,
-pub some_other-returns-then-is_in_atari-clause-table : goal.some_other-returns-then-is_in_atari-clause-table
-some_other-returns-then-is_in_atari-clause-table g t c =
-    table_more c.some_of-good.ensures.table c.is_in_atari.ensures.stays.grows
+pub some_later-returns-then-is_in_atari-clause-table : goal.some_later-returns-then-is_in_atari-clause-table
+some_later-returns-then-is_in_atari-clause-table g t c =
+    table_more c.requires.ready.table c.is_in_atari.ensures.stays.grows
 
 -- also before the pass,
 pub pass_saves-returns-then-is_in_atari-clause-table : goal.pass_saves-returns-then-is_in_atari-clause-table
@@ -964,9 +1121,9 @@ pass_saves-returns-then-is_in_atari-clause-table g t c =
 pub has_good_move-returns-then-escapes-clause-table : goal.has_good_move-returns-then-escapes-clause-table
 has_good_move-returns-then-escapes-clause-table g t c = table_more c.requires.table c.escapes.ensures.stays.grows
 
--- also before the pass is read,
-pub has_good_move-pass_saves-requires : goal.has_good_move-pass_saves-requires
-has_good_move-pass_saves-requires g t c κs within =
+-- also before the defender's moves are tried,
+pub has_good_move-defender_has_good_move-requires : goal.has_good_move-defender_has_good_move-requires
+has_good_move-defender_has_good_move-requires g t c κs within =
     let stays = c.escapes.ensures.stays in
     let ready = ready_after stays c.args.asked c.requires c.requires.some (table_more c.requires.table stays.grows) in
     search rules

@@ -36,21 +36,33 @@ decreases-pass_saves g l = 9 * l.plies + 3
 abbrev pub decreases-some_of : goal.decreases-some_of
 decreases-some_of g l = 9 * l.plies + 4
 
--- the candidates off the liberties are one step above the plays at a set of points
+-- the later candidates are one step above the plays at a set of points
+abbrev pub decreases-some_later : goal.decreases-some_later
+decreases-some_later g l = 9 * l.plies + 5
+
+-- the captures and liberties are one step above the plays at a set of points
+abbrev pub decreases-some_capture_or_liberty : goal.decreases-some_capture_or_liberty
+decreases-some_capture_or_liberty g l = 9 * l.plies + 5
+
+-- the candidates off the liberties are one step above the later candidates
 abbrev pub decreases-some_other : goal.decreases-some_other
-decreases-some_other g l = 9 * l.plies + 5
+decreases-some_other g l = 9 * l.plies + 6
 
 -- all candidates are one step above those off the liberties
 abbrev pub decreases-some_success : goal.decreases-some_success
-decreases-some_success g l = 9 * l.plies + 6
+decreases-some_success g l = 9 * l.plies + 7
 
 -- the table is one step above all candidates
 abbrev pub decreases-some_by_table : goal.decreases-some_by_table
-decreases-some_by_table g l = 9 * l.plies + 7
+decreases-some_by_table g l = 9 * l.plies + 8
+
+-- a good move of the defender is one step above the later candidates
+abbrev pub decreases-defender_has_good_move : goal.decreases-defender_has_good_move
+decreases-defender_has_good_move g l = 9 * l.plies + 6
 
 -- a good move is one step above the table, and below a node with one ply more
 abbrev pub decreases-has_good_move : goal.decreases-has_good_move
-decreases-has_good_move g l = 9 * l.plies + 8
+decreases-has_good_move g l = 9 * l.plies + 9
 
 -- what is missing is what no point that was tried gave, on any position that agrees
 abbrev pub invariant-some_of-loop-p : goal.invariant-some_of-loop-p
