@@ -6,10 +6,6 @@ use Rattle.std.proofs.lemmas.Option.{none-some, same_Some}
 use Rattle.pat_types.specs.declared.pattern.Pattern.{Pattern}
 use Rattle.pattern_coverage.specs.Bare.{IsBare, AreBare}
 
--- no pattern has no bare pattern
-pub AreBare-none : AreBare [] []
-AreBare-none = record { same_length = refl; each = λ n p there. absurd (none-some p there) }
-
 -- the bare patterns behind the first
 AreBare-rest : (p b : Pattern) (patterns bare : List Pattern) → AreBare (p ∷ patterns) (b ∷ bare)
     → AreBare patterns bare
