@@ -1,5 +1,6 @@
 -- What each door answers on a caller's numbers: the answer on the position that they name, or the first fault.
-use Rattle.std.specs.Prelude.{◌≡◌, ℕ, ◌*◌, ◌==◌, ◌||◌, Bool, true, false, not, nat_lt, List, [], ◌∷◌, Option, Some, None}
+use Rattle.std.specs.Prelude.{◌≡◌, ℕ, ◌*◌, ◌==◌, ◌||◌, Bool, true, false, not, nat_lt, List, [], ◌∷◌, Option, Some}
+use Rattle.std.specs.Prelude.{None}
 use Rattle.std.specs.Prelude.{Result, Ok, Err, if◌then◌else◌}
 use Rattle.go_rules.specs.declared.Cell.{Cell}
 use Rattle.go_rules.specs.declared.Cell.TheVariants.{Empty}
@@ -27,7 +28,8 @@ use Rattle.board_bytes.specs.declared.board.BoardFault.{BoardFault}
 use Rattle.board_bytes.specs.Bytes.{position_of, colour_named}
 use Rattle.board_doors.specs.declared.depths.DepthBytes.{DepthBytes}
 use Rattle.board_doors.specs.declared.fault.DoorFault.{DoorFault}
-use Rattle.board_doors.specs.declared.fault.DoorFault.TheVariants.{Board, OffBoard, NoStone, TwoColours, Kind as bad_kind}
+use Rattle.board_doors.specs.declared.fault.DoorFault.TheVariants.{Board, OffBoard, NoStone, TwoColours}
+use Rattle.board_doors.specs.declared.fault.DoorFault.TheVariants.{Kind as bad_kind}
 use Rattle.board_doors.specs.declared.fault.DoorFault.TheVariants.{Depths as bad_depths, Colour as bad_colour, Code}
 use Rattle.board_doors.specs.declared.fault.DoorFault.TheVariants.{Illegal as illegal}
 
