@@ -1,6 +1,7 @@
 -- The choice among matches, by the definition, in words, and one match after another.
 use Rattle.std.proofs.Common.{◌≡◌, ◌↔◌, ◌⊎◌, ℕ, ◌+◌, ◌<◌, ◌≤◌, inl, inr, Bool, true, false, cond, List, [], ◌∷◌, ◌++◌}
-use Rattle.std.proofs.Common.{length, take, get_or, not, Some, None, Contains, refl, sym, ap, ◌∙◌, subst, arith, add-one}
+use Rattle.std.proofs.Common.{length, take, get_or, not, Some, None, Contains, refl, sym, ap, ◌∙◌, subst, arith}
+use Rattle.std.proofs.Common.{add-one}
 use Rattle.std.specs.List.{find, list_all}
 use Rattle.std.proofs.lemmas.Bool.{cases_Bool, and_parts, not-true, not_from_false, both_ways}
 use Rattle.std.proofs.lemmas.List.{append_assoc, append-nil, take_more, take_all}
