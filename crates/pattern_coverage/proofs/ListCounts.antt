@@ -1,5 +1,6 @@
 -- Counts of the elements of a list that pass a test.
-use Rattle.std.proofs.Common.{min, ◌^◌, ◌-◌, ◌≡◌, ℕ, zero, suc, ◌+◌, ◌*◌, ◌<◌, ◌≤◌, Bool, true, false, ◌&&◌, cond, eqb, List, [], ◌∷◌}
+use Rattle.std.proofs.Common.{min, ◌^◌, ◌-◌, ◌≡◌, ℕ, zero, suc, ◌+◌, ◌*◌, ◌<◌, ◌≤◌, Bool, true, false, ◌&&◌, cond, eqb}
+use Rattle.std.proofs.Common.{List, [], ◌∷◌}
 use Rattle.std.proofs.Common.{◌++◌, length, map, filter, count_by, Contains, refl, sym, ap, ◌∙◌, arith}
 use Rattle.std.specs.List.{flat_map, sum_by, range_with_len}
 use Rattle.std.proofs.lemmas.List.FromFn.{length-range_with_len}
@@ -19,7 +20,8 @@ module _ {X : Type 0} where
   count-append f xs ys = sum_by-append (λ y. cond (f y) 1 0) xs ys
 
   -- tests that agree on a list count the same in it
-  pub count-same : (f g : X → Bool) (xs : List X) → ((x : X) → Contains xs x → f x ≡ g x) → count_by f xs ≡ count_by g xs
+  pub count-same : (f g : X → Bool) (xs : List X) → ((x : X) → Contains xs x → f x ≡ g x)
+      → count_by f xs ≡ count_by g xs
   count-same f g [] same = refl
   count-same f g (x ∷ xs) same =
       count-cons f x xs
