@@ -57,7 +57,7 @@ abbrev KeepMachine : Machine → List Excuse → Type 0
 KeepMachine old [] = Unit {0}
 KeepMachine old (excuse ∷ excuses) = AreSameButCalls old excuse.next × KeepMachine old excuses
 
--- What a command does keeps the machine if it is refused or ends the session, and so do its excuses, but for the
+-- A command that is refused or ends the session keeps the machine, and the excuses of a command keep it, but for the
 -- calls of helpers.
 record IsKind (old : Machine) (effect : Effect) : Type 0 where
   refused : (text : RefuseText) → effect.refusal ≡ Some text → effect.next ≡ old
@@ -329,7 +329,7 @@ linked-told old kind a b one = all-pass (has_stone old a) (has_stone old b)
     (told (linkage_text old.base.size (linkage_at old kind a b)) old) (refused old VertexEmpty)
     (refused old VertexEmpty) (refused old ColoursDiffer) one
 
--- the same of such a command
+-- a question about a connection that is asked is answered with some text, and the machine stays
 link-at : (old : Machine) (kind : LinkKind) (a b : ℕ) (q : LinkQuestion) → asks_link_at old kind a b ≡ Some q
     → (text : List ℕ) × (linked old kind a b ≡ told text old)
 link-at old kind a b q asks = (_, linked-told old kind a b (was-passed (have_one_colour old a b) _ q asks))
