@@ -114,7 +114,7 @@ module _ (q : LinkQuestion) (pos : BoardState) (a_on : q.a < pos.size * pos.size
   area_a : InConnectionArea q pos q.a
   area_a = a_in root
 
-  -- and so does the second
+  -- the second point lies in the active area
   area_b : InConnectionArea q pos q.b
   area_b = b_in root
 

@@ -45,7 +45,7 @@ module _ (x y n m f g : Bool) where
   abbrev between : Bool
   between = (x && y) || ((x && f) || (y && g)) || ((n && x) || (m && y))
 
-  -- the same by stages
+  -- a point that is such by stages
   abbrev staged : Bool
   staged = (x && y) || ((x && (not y && (n || f))) || (y && (not x && (m || g))))
 

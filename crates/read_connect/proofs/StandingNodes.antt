@@ -122,7 +122,7 @@ module _ {link : Link} {q : LinkQuestion} {root here : BoardState} {n s : ℕ} {
         | inr is ↦ area_twice q root here n own at.node.in_tree s at.size its_a its_b its_stand link.b is_b p is
       ])
 
-  -- and so do those of a play at a connecting move
+  -- the looks of a play at a connecting move lie in the active area
   pub near_play : {x y : Fact → Bool} (p : ℕ) → is_connecting_move link here p ≡ true
       → AddsIn x y (neighbourhood_twice s here.cells p) → AddsNear x y (InConnectionArea q root)
   near_play p move looks = AddsNear-in (InConnectionArea q root) looks
