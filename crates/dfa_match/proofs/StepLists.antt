@@ -70,7 +70,7 @@ module _ (n t : ℕ) (old new : List ℕ) (below : AreStepsBelow n old) (same : 
         ∙ ap (λ v. step_by (transformed v (offset_at i))) (sym is)
   ]
 
-  -- and none of them leads too far
+  -- no step of the longer list leads too far
   past_below : (k : ℕ) → k < (n + 1) * step_count → get_or new k 0 ≤ last_step
   past_below k low = elim (cases_lt k (length old)) [
     | inl old_one ↦

@@ -95,7 +95,7 @@ module _ (automaton : List Row) (good : IsAutomaton automaton) where
       (good.targets (row_of w.entry) (get_or letters (w.corner + no_step) Off) stands.row) refl in
       record { row = entry.row; kind = entry.kind; corner = stands.corner }
 
-  -- behind its opening too
+  -- behind its opening a walk stands at a row
   standing_opening : (openings steps : List ℕ) (letters : List Seen) (w : Walk) → AreOpenings automaton openings
       → IsStanding automaton w → IsStanding automaton (after_opening openings steps letters w)
   standing_opening openings steps letters w are stands = elim (opening_cases openings steps letters w) [
