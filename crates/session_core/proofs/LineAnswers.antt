@@ -75,7 +75,7 @@ module _ (contents : Contents) (old : Kept) (line : RawLine) (answer : Reply) (n
   line-read : ReadsAs (asks_of_line (machine_of old) line) old.engine new.engine
   line-read = subst (λ a. ReadsAs a old.engine new.engine) (sym (asks-heard (machine_of old) line)) is.read
 
-  -- of connections too
+  -- a line asks of connections what it says
   line-links : LinksAs (asks_link_of_line (machine_of old) line) old.engine new.engine
   line-links = subst (λ a. LinksAs a old.engine new.engine) (sym (link-heard (machine_of old) line)) is.links
 

@@ -97,7 +97,7 @@ module _ (old new : EngineView) where
     few_fresh-command (command.RegGenMove friend) readings read few = few-kept read.counts few
     few_fresh-command _ readings read few = few-kept (nothing-kept read) few
 
-    -- the same of what a line says
+    -- what a line says that is no reading answered with a code keeps the counts
     counts_kept-parsed : (p : Parsed) → ReadsAs (asks_of_parsed machine p) old new
         → (is_parsed_read machine p ≡ true → ⊥) → KeepsCounts old new
     counts_kept-parsed (parsed.Command id c) read never = counts_kept-command c read never
