@@ -112,7 +112,7 @@ came-served tree helpers slots contents options session lines missed now before 
           are;
     })
 
--- the same where the files were opened before, which leaves what files hold and which names were missed
+-- the lines were served after the files were opened, which leaves what files hold and which names were missed
 pub came-served-after : (tree : Tree) (helpers slots : List SlotState) (contents contents' : Contents)
     (options : Options) (session : EngineView) (lines : LinesState) (missed missed' now : List (List ℕ))
     (before after : Streams) (end : End) (counts : Counts) (w0 w1 : Option (List ℕ)) (sent : Sent)

@@ -148,7 +148,7 @@ module _ (bytes reply : List ℕ) (marks : List ReplyMark) (m : ReplyMark) (are 
       let marks_more = length-append marks (m ∷ []) in
       omega (arith, some, same, marks_more)
 
-  -- nor within its own
+  -- within the reply's own bytes not each has ended
   some-back : (k : ℕ) → length bytes ≤ k → k < length (bytes ++ reply)
       → gone (marks ++ m ∷ []) k < length (marks ++ m ∷ [])
   some-back k back less =
