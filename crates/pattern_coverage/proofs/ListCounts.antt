@@ -111,7 +111,7 @@ filtered-longer test n old new passes was now =
     now ∙ ap (λ l. l ++ n ∷ []) was
     ∙ ap (λ b. filter test (range_with_len 0 n) ++ cond b (n ∷ []) []) (sym passes) ∙ sym (filtered-next test n)
 
--- or the same, if the next number fails
+-- a list of those that pass stays, if the next number fails
 pub filtered-same : (test : ℕ → Bool) (n : ℕ) (old new : List ℕ) → test n ≡ false
     → old ≡ filter test (range_with_len 0 n) → new ≡ old → new ≡ filter test (range_with_len 0 (n + 1))
 filtered-same test n old new fails was now =

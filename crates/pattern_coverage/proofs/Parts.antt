@@ -33,7 +33,7 @@ named_low (reason.EnemyUnsafe a) = omega arith
 named_low reason.Constraint = omega arith
 named_low (reason.Helper field) = omega arith
 
--- so no end has one above 6
+-- no end has a number above 6
 part_of_low : (o : Option Reason) → part_of o < 7
 part_of_low None = omega arith
 part_of_low (Some r) = omega (arith, named_low r)
