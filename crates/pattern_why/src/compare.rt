@@ -59,9 +59,9 @@ impl Side {
 /// The entries of both files.
 #[derive(Drop)]
 struct Both {
-    /// Those of the old file.
+    /// The entries of the old file.
     old: Side,
-    /// Those of the new file.
+    /// The entries of the new file.
     new: Side,
 }
 
