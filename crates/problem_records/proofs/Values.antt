@@ -112,6 +112,6 @@ module _ (text : List ℕ) (at : ℕ) (node : first_of (nodes_in (tokens_from te
       ∙ ap (λ (k : TokenKind). first_of (nodes_in (token_of k (bytes_in text t) ∷ tokens_from text t.next))) e)
       ∙ node)
 
-  -- nor without a token
+  -- there is no node if the text has no token from here on
   pub none_at_end : tokens_from text at ≡ [] → properties_in (tokens_from text (length text)) ≡ first_node text
   none_at_end e = at_end ∙ (sym (ap (λ (ts : List Token). first_of (nodes_in ts)) e) ∙ node)
