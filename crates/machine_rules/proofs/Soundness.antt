@@ -301,7 +301,7 @@ read-line_on matcher old file line reads =
     read-parsed matcher old (record { line = bytes_in line; file = file }) (heard old line)
     (sym (read-heard old line) ∙ reads)
 
--- and the line
+-- a line that asks for a reading and is answered with a code is told some text, and the machine stays
 pub read-line : (matcher : Matcher) (contents : Contents) (old : Machine) (line : RawLine) (given : Step Machine)
     → step matcher contents old line given → is_read_line old line ≡ true
     → (id : Option ℕ) × (text : List ℕ) × (given ≡ replied id (told text old))
@@ -364,7 +364,7 @@ link-line_on matcher old file line q asks =
     link-parsed matcher old (record { line = bytes_in line; file = file }) (heard old line) q
     (sym (link-heard old line) ∙ asks)
 
--- and the line
+-- a line that asks about a connection is told some text, and the machine stays
 pub link-line : (matcher : Matcher) (contents : Contents) (old : Machine) (line : RawLine) (given : Step Machine)
     → step matcher contents old line given → (q : LinkQuestion) → asks_link_of_line old line ≡ Some q
     → (id : Option ℕ) × (text : List ℕ) × (given ≡ replied id (told text old))
