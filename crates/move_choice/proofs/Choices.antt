@@ -79,7 +79,7 @@ module _ (w : Match → ℕ) where
       none y inside (inl more) = let most = is.none_greater y inside in omega (arith, more, most)
       none y inside (inr (same, before)) = is.none_earlier y inside same before
 
-  -- and the other way round
+  -- the match to which none is preferred is the choice in words
   pub IsFirst-to : (zs : List Match) (z : Match) → IsFirst w zs z → IsChoice w zs z
   IsFirst-to zs z is = record {
     there = is.there;
@@ -207,7 +207,7 @@ module _ (found rest : List Match) (first : Match) (place : found ≡ first ∷ 
   pub among : (i : ℕ) (z : Match) → i < length rest → z ≡ get_or rest i z → Contains found z
   among i z within here = (i + 1, omega (arith, ap length place), one_of_rest i z ∙ sym here)
 
-  -- so is the first
+  -- the first match is one of the matches
   pub first_among : Contains found first
   first_among = subst (λ l. Contains l first) (sym place) (0, omega arith, refl)
 
