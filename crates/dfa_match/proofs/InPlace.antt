@@ -61,7 +61,7 @@ module _ {X : Type 0} {f : X → X} {p : X → Bool} {xs ys : List X} {k i : ℕ
       none_more : k + bool_byte false ≡ k
       none_more = omega arith
 
-  -- so it goes in place
+  -- a list with one element more written is mapped in place so far
   pub MapsInPlace-more : {n : ℕ} → MapsInPlace f p xs ys k i → GathersInFront f p xs (set ys k x) n (i + 1)
       → MapsInPlace f p xs (set ys k x) n (i + 1)
   MapsInPlace-more h gathered = record {

@@ -82,7 +82,7 @@ module _ (n t : ℕ) (old new : List ℕ) (below : AreStepsBelow n old) (same : 
         (behind.past (k - length old) (omega (arith, low, last, below.all)))
   ]
 
-  -- so they are those of one transformation more
+  -- the longer list has the steps of one transformation more
   pub steps_below_more : AreStepsBelow (n + 1) new
   steps_below_more = record { all = omega (arith, behind.all, below.all); each = each_below; past = past_below }
 
@@ -91,7 +91,7 @@ pub offset_at-zero : offset_at 0 ≡ (plus 0, plus 0)
 unfolding offset_at
 offset_at-zero = refl
 
--- and it is moved nowhere by any transformation
+-- the first offset is moved nowhere by any transformation
 pub still : (t : ℕ) → transformed t (plus 0, plus 0) ≡ (plus 0, plus 0)
 still t = grind arith
 
