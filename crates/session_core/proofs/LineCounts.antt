@@ -110,7 +110,7 @@ module _ (old new : EngineView) where
     few_fresh-parsed (parsed.Command id c) readings read few = few_fresh-command c readings read few
     few_fresh-parsed _ readings read few = few-kept (nothing-kept read) few
 
--- and of the line
+-- a line that is no reading answered with a code keeps the counts
 pub counts_kept-line : (machine : Machine) (line : RawLine) (old new : EngineView)
     → ReadsAs (asks_of_line machine line) old new → (is_read_line machine line ≡ true → ⊥) → KeepsCounts old new
 unfolding asks_of_line is_read_line

@@ -29,7 +29,7 @@ unasked-links old new (Some q) links never = absurd (never q refl)
 -- The connections were asked once on the board of a session, where stones of one colour stand at both points.
 module _ (old new : EngineView) (kind : LinkKind) (a b : ℕ)
     (one : have_one_colour (machine_alone old) a b ≡ true) where
-  -- that is what was asked
+  -- the question about the strings of the two points was asked
   pub LinksAs-once : (pos : BoardState) (linkage : Linkage) (before after : ConnectionsView)
       → pos ≡ board_of old → before ≡ old.links → before.plies ≡ old.depths.plies → new.links ≡ after
       → HasAsked (key_on pos kind a b before.plies) pos linkage before.answers after.answers
