@@ -186,7 +186,7 @@ module _ (k0 k new : Kept) (before : List (Turn Machine)) (now : Turn Machine)
       (subst (λ ts. IsAlong IsAfterLine k0 ts k) hit.place along) in
       again-unfresh hit parts.0 parts.2.0 parts.1 parts.2.1 parts.2.2
 
-  -- and is counted
+  -- a certain hit is counted
   pub hit_is_counted : IsCertainHit before now → new.engine.counts.readings ≡ counted k.engine.counts.readings true
   hit_is_counted hit =
       line.readings ∙ ap (counted k.engine.counts.readings)

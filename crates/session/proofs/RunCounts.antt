@@ -311,7 +311,7 @@ module _ (first last : Kept) (turns : List (Turn Machine)) (along : IsAlong IsAf
       links_along turns first last along (omega (arith, no-connections, no-fresh_links))
       (omega (arith, no-connections, few))
 
-  -- so the counts are those of the lines
+  -- the counts are those of the lines
   pub counts_of : (capacity : ℕ) → first.engine.readings.answers ≡ first_keeping capacity
       → first.engine.links.answers ≡ first_keeping capacity → 8 ≤ capacity
       → AreCountsOf capacity turns last.engine.counts

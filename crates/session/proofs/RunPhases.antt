@@ -206,7 +206,7 @@ serves-generated n step goes first left piece faults w0 w1 c0 c1 f0 f1 p text re
       advances = counting.advances;
     })
 
--- the same, with the counts that are noted
+-- generated lines were served in place of the source, with the counts that are noted
 pub ends-generated : {M : Type 0} (n : ℕ) (step : M → RawLine → Step M → Type 0)
     (goes : Kept → Turn M → Kept → Type 0)
     (first : M)

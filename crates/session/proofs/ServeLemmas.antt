@@ -280,7 +280,7 @@ module _ (M : Type 0) (step : M → RawLine → Step M → Type 0) (goes : Kept 
     };
   }
 
-  -- lines were answered after it
+  -- lines were answered after what stays
   pub RunsTo-after : (from to : M) (lines : List RawLine) (ended : Bool) (w0 w1 : Option (List ℕ))
       (kept : Kept) (s0 s1 : Sent) (b0 b1 : WaitingState) (c : Progress) → Stays w0 w1 s0 s1 b0 b1
       → RunsTo step goes from lines to ended (progress_with w1 kept s1 b1) c
@@ -289,7 +289,7 @@ module _ (M : Type 0) (step : M → RawLine → Step M → Type 0) (goes : Kept 
       RunsTo-append from from to [] lines ended (progress_with w0 kept s0 b0) (progress_with w1 kept s1 b1) c
       (RunsTo-stays from w0 w1 kept s0 s1 b0 b1 stays) runs
 
-  -- and where the output may fail
+  -- lines were answered after what stays, where the output may fail
   pub MayCut-after : (from : M) (lines : List RawLine) (w0 w1 : Option (List ℕ)) (kept : Kept) (s0 s1 : Sent)
       (b0 b1 : WaitingState) (stop : Stop) (missed : List (List ℕ)) → Stays w0 w1 s0 s1 b0 b1
       → MayCut step goes from lines w1 kept s1 b1 stop missed → MayCut step goes from lines w0 kept s0 b0 stop missed

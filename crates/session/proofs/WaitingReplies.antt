@@ -271,7 +271,7 @@ module _ (written : Option (List ℕ)) (sent : Sent) (bytes reply : List ℕ) (m
         same = at.counts ∙ (gone-added stop at back).1;
       }
 
-  -- so the reply is sent
+  -- the reply is sent behind those that wait
   pub sends-added : Sends written written sent sent before after reply m.counts
   sends-added = record {
     whole = added-whole;
