@@ -54,7 +54,7 @@ values_by_tokens (Some before) (Name name ∷ ts) = values_by_tokens (Some name)
 values_by_tokens None (Value v ∷ ts) = values_by_tokens None ts
 values_by_tokens (Some name) (Value v ∷ ts) = ap (λ (vs : List Named). (name, v) ∷ vs) (values_by_tokens (Some name) ts)
 
--- they are the values of the node
+-- the values from the tokens of a node are the values of the node
 pub values_of_node : (ts : List Token) → values_from None ts ≡ named_values (properties_in ts)
 values_of_node ts = values_by_tokens None ts
 
