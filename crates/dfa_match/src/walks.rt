@@ -39,7 +39,7 @@ impl Walk {
         !is_dead(self.entry) && self.letters < OFFSETS
     }
 
-    /// Makes it the same as another, part by part, which is faster than a whole walk that is put together first.
+    /// Makes this walk the other one, part by part, which is faster than a whole walk that is put together first.
     #[inline(always)]
     fn set(&mut self, other: Walk)
         ensures { self.new ≡ other }

@@ -1,9 +1,9 @@
 //! gopat for programs in C, and in any language that can call C: the exports of the static library `libgopat_c.a`.
 //!
 //! Each export is one call of a door of `board_doors`, and its clause says that the reply is the one for the answer
-//! that is defined there. A board crosses by value, so no export but `gopat_check` and `gopat_proof` takes a pointer, and
-//! a caller may hand over any numbers: what has no answer has a status of its own. Nothing takes memory, and no export
-//! keeps anything from one call to the next. `gopat.h`, in the folder of this crate, is what a C compiler reads.
+//! that is defined there. A board crosses by value, so no export but `gopat_check` and `gopat_proof` takes a pointer,
+//! and a caller may hand over any numbers: what has no answer has a status of its own. Nothing takes memory, and no
+//! export keeps anything from one call to the next. `gopat.h`, in the folder of this crate, is what a C compiler reads.
 #![tactic(auto)]
 
 ghost use Rattle.std.specs.Prelude.{◌≡◌, length, take, true, Ok};
@@ -40,7 +40,8 @@ pub extern "C" fn gopat_defend(board: BoardBytes, target: u16, depths: DepthByte
 }
 
 /// Every move that attains the code of an attack on the string at `target` (`kind` 1) or of its defence (`kind` 2), of
-/// the moves that the reader tries: the code, whether the pass attains it, and for each point whether a play there does.
+/// the moves that the reader tries: the code, whether the pass attains it, and for each point whether a play there
+/// does.
 #[unsafe(no_mangle)]
 pub extern "C" fn gopat_all(
     board: BoardBytes,

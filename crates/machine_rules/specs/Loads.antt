@@ -28,7 +28,7 @@ abbrev pub load_of : List ℕ → Option ℕ → Command → Option Load
 load_of line id (command.LoadSgf span) = load_by id (word_at line span)
 load_of line id _ = None
 
--- the same of what a line says
+-- the file that is loaded by what a line of these bytes says, if it says so
 abbrev pub parsed_load : List ℕ → Parsed → Option Load
 parsed_load line (parsed.Command id command) = load_of line id command
 parsed_load line _ = None

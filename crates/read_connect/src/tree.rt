@@ -66,7 +66,7 @@ pub fn can_connect<L: Look>(board: &mut Trial<L>, link: Link, own: bool, plies: 
     goes_on(board, link, own, plies - 1, &liberties, &of_b)
 }
 
-/// The same of strings that are apart, with `plies` plies left after the next move.
+/// Whether strings that are apart can be joined, with `plies` plies left after the next move.
 #[cycle(read)]
 fn goes_on<L: Look>(
     board: &mut Trial<L>,

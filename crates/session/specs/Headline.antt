@@ -36,8 +36,8 @@ use Rattle.session.specs.declared.outcome.WordsError.{WordsError}
 use Rattle.session.specs.declared.outcome.End.{End}
 use Rattle.session.specs.declared.outcome.End.TheVariants.{InputTooLong}
 
--- what stands outside a run: the files by their names, those that failed, the streams, and the notes with how often
--- they failed
+-- what stands outside a run: the files by their names, the names that were missed, the streams, and the notes with how
+-- often they failed
 pub record Outside : Type 0 where
   pub contents : Contents
   pub missed : List (List ℕ)

@@ -63,7 +63,8 @@ pub record MissedOne (names before now : List (List ℕ)) : Type 0 where
   pub named : Contains names name
   pub appended : now ≡ before ++ name ∷ []
 
--- those missed, after a load of files by their names had this error
+-- now are the names missed after a load of files by their names that had this error: one more if a file failed, else
+-- those before
 abbrev pub MissedBy : List (List ℕ) → List (List ℕ) → List (List ℕ) → LoadError → Type 0
 MissedBy names before now load.Failed = MissedOne names before now
 MissedBy names before now load.NoMemory = now ≡ before

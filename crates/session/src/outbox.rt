@@ -139,7 +139,7 @@ impl Outbox {
         }
     }
 
-    /// Whether a reply of so many bytes may wait too.
+    /// Whether there is room for a reply of so many bytes behind those that wait.
     fn has_room(&self, n: usize) -> bool
         ensures { result ≡ true → (length self.now.bytes + n ≤ outbox_room)
             × (length self.now.marks < most_marks) }

@@ -26,11 +26,11 @@ pub enum Work {
     },
     /// Whether the strings of two points can be joined, where no kept answer stands.
     Connect(Point, Point),
-    /// Whether they can be kept apart, where no kept answer stands.
+    /// Whether the strings of two points can be kept apart, where no kept answer stands.
     Disconnect(Point, Point),
     /// The move for a friend that the patterns choose, which is played.
     GenMove(Colour),
-    /// The same move, which is not played.
+    /// The move for a friend that the patterns choose, which is not played.
     RegGenMove(Colour),
 }
 

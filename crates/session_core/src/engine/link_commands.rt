@@ -77,7 +77,8 @@ impl Engine {
         told_text(linkage_text(position.size(), linkage))
     }
 
-    /// Answers the same question, which this work is, unless it has to be read afresh. Then nothing is done.
+    /// Answers the question about the strings of two points that `work` stands for, if the answer is kept or the
+    /// question is refused. Else nothing is done, and `work` comes back.
     pub(crate) fn recall_link(
         &mut self,
         kind: LinkKind,

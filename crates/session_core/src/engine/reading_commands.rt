@@ -63,7 +63,8 @@ impl Engine {
         told_text(answer_text(position.size(), answer))
     }
 
-    /// Answers the same question, which this work is, unless it has to be read afresh. Then nothing is done.
+    /// Answers the question about the string of p that `work` stands for, if the answer is kept or the question is
+    /// refused. Else nothing is done, and `work` comes back.
     #[inline(always)]
     pub(crate) fn recall(&mut self, kind: Kind, p: Point, work: Work) -> Result<Answer, Work>
         requires { p < self.old.base.size * self.old.base.size }
