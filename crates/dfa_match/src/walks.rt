@@ -107,7 +107,7 @@ pub fn second_walks(
     Ok(walks)
 }
 
-/// The walk behind its opening under one transformation, or as it was where nothing is known of the row there.
+/// The walk behind its opening under one transformation, or as it was if nothing is known of the row there.
 #[inline(always)]
 fn behind_opening(
     shortcuts: &Shortcuts,

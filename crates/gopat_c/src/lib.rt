@@ -56,7 +56,7 @@ pub extern "C" fn gopat_all(
 
 /// Writes the first proof of the code of an attack on the string at `target` (`kind` 1) or of its defence (`kind` 2)
 /// into the first bytes of the buffer: the words that the program prints behind the code. `gopat_check` accepts them.
-/// With a fault, and where the buffer is too short, it stays as it is. The buffer is a pointer and then a length; the
+/// With a fault, and if the buffer is too short, it stays as it is. The buffer is a pointer and then a length; the
 /// pointer is not null, even for no bytes.
 #[unsafe(no_mangle)]
 pub extern "C" fn gopat_proof(
@@ -92,7 +92,7 @@ pub extern "C" fn gopat_disconnect(board: BoardBytes, a: u16, b: u16, plies: u8)
     linkage_reply(board_doors::disconnect(&board, a, b, plies))
 }
 
-/// The board after the colour 1, Black, or 2, White, plays at a point, or passes where it is 65535; with a fault the
+/// The board after the colour 1, Black, or 2, White, plays at a point, or passes if it is 65535; with a fault the
 /// board that was handed over.
 #[unsafe(no_mangle)]
 pub extern "C" fn gopat_play(board: BoardBytes, colour: u8, at: u16) -> PlayReply

@@ -106,7 +106,7 @@ pub fn pass_parts<L: Look>(board: &mut Trial<L>, link: Link, plies: u8) -> bool
 }
 
 /// Whether some connecting move gives the side to play its way, with `plies` plies left after it. The liberties that
-/// both strings have are tried first, and the captures are found only where nothing else serves.
+/// both strings have are tried first, and the captures are found only if nothing else serves.
 #[cycle(read)]
 fn some_move<L: Look>(
     board: &mut Trial<L>,

@@ -50,7 +50,7 @@ fn unserved(outcome: Outcome) -> Ran
     }
 }
 
-// A run that served the lines until this end, with its counts and what it sent where the options ask for them.
+// A run that served the lines until this end, with its counts and what it sent if the options ask for them.
 fn served(end: End, options: &Options, counts: Counts, sent: Sent) -> Ran
     ensures phase { phase_of result.outcome ≡ Served end }
     ensures input { (result.outcome ≡ Outcome.InputFault) ↔ (end ≡ End.InputFault) }
@@ -226,7 +226,7 @@ fn put_ran<D: Sink>(notes: &mut D, ran: Ran)
 /// some thousand bytes, but none waits while a line is answered that may take long, and no read is made before every
 /// line that has ended is answered and every reply is out. Nothing more is read or answered after the first failure of
 /// the input or the output, after a line that ends the session, and after 2^32 bytes. The notes get the counts and what
-/// was sent, where these are asked for, and how the run ended; a failure of the notes changes no outcome.
+/// was sent, if these are asked for, and how the run ended; a failure of the notes changes no outcome.
 pub fn run<L: Loader, S: Source, K: Sink, D: Sink>(
     alloc: Global,
     words: &[String],

@@ -54,7 +54,7 @@ pub record AnswersLine (contents : Contents) (old : Kept) (line : RawLine) (answ
   -- the file that could not be loaded is told as missed, and no other name
   pub missed : new.missed ≡ old.missed ++ missed_by (load_in (machine_of old) line) (reply_bytes answer)
   pub few_fresh : HasFewFresh old.engine.counts → HasFewFresh new.engine.counts
-  -- a refused line leaves the machine, but for the calls of helpers where there was no memory, and of the counts only
+  -- a refused line leaves the machine, but for the calls of helpers if there was no memory, and of the counts only
   -- that of refused keepings may have risen
   pub refused : IsRefusal (reply_bytes answer)
       → AreSameButCalls (machine_of old) (machine_of new) × KeepsCounts old.engine new.engine

@@ -107,7 +107,7 @@ pub(crate) fn told_number(n: u32) -> Answer
     Answer::Told(Brief::number(n))
 }
 
-/// A success with a result that took memory, where it was found.
+/// A success with a result that took memory, if it was found.
 pub(crate) fn grown(text: Result<Bytes, NoMemory>) -> Answer
     ensures answer { (old : Machine) (told : List ℕ) → IfOk text (λ bytes. bytes ≡ told)
         → IsAnswer (grown old told old) result old }
@@ -127,7 +127,7 @@ impl Answer {
         ensures reply { (effect : Effect) (new : Machine) → IsAnswer effect self new
             → MayGive (replied id effect) (reply_bytes result) new (reply_ends result) }
         ensures bytes { reply_count (reply_bytes result) ≡ 1 }
-        // A file was missed exactly where that is told.
+        // A file was missed exactly if that is told.
         ensures missed { (name : List ℕ) → missed_by (Some (record { id = id; name = name })) (reply_bytes result)
             ≡ missed_as (named name) self }
     {

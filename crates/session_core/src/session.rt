@@ -143,7 +143,7 @@ impl Session {
             .finish(&mut self.helpers, slow, bytes_of(raw), files)
     }
 
-    /// Answers one line, however long it takes: as `try_line` and, where that leaves it, `finish`. A file that it names
+    /// Answers one line, however long it takes: as `try_line` and, if that leaves it, `finish`. A file that it names
     /// is loaded from `files`.
     pub fn line<L: Loader>(&mut self, raw: Raw<'_>, files: &mut L) -> Reply
         requires short { length (bytes_in (raw_line raw)) ≤ longest_line }

@@ -57,7 +57,7 @@ impl Engine {
         self.connections = self.connections.saturating_add(1);
     }
 
-    /// Answers a question about the strings of two points, kept or read afresh, where stones of one colour stand there.
+    /// Answers a question about the strings of two points, kept or read afresh, if stones of one colour stand there.
     pub(crate) fn tell_link(&mut self, kind: LinkKind, a: Point, b: Point) -> Answer
         requires a { a < self.old.base.size * self.old.base.size }
         requires b { b < self.old.base.size * self.old.base.size }

@@ -21,7 +21,7 @@ use read_moves::Depths;
 use read_tree::Kind;
 
 impl Engine {
-    /// Counts a reading: the moves that it tried, where it was made afresh.
+    /// Counts a reading: the moves that it tried, if it was made afresh.
     fn count_reading(&mut self, tried: Option<u64>)
         ensures machine { (helpers : List SlotState) → machine_with helpers self.new ≡ machine_with helpers self.old }
         ensures patterns { self.new.patterns ≡ self.old.patterns }
@@ -40,7 +40,7 @@ impl Engine {
         }
     }
 
-    /// Answers a question about the string of p by a reading, kept or fresh, where a stone stands there.
+    /// Answers a question about the string of p by a reading, kept or fresh, if a stone stands there.
     pub(crate) fn read(&mut self, kind: Kind, p: Point) -> Answer
         requires { p < self.old.base.size * self.old.base.size }
         ensures answer { (helpers : List SlotState) → IsAnswer
