@@ -70,9 +70,9 @@ settled_sound n false node pos on h =
           ap (λ m. attacker_wins m node pos) (eqb-true n 0 parts.0) ∙ wins-none_left node pos child.0 child.1
       | inr stands ↦ elim (or_cases (eqb n 0) (has_too_many n node pos)
           (sym (ap (λ b. cond b back over) stands) ∙ h)) [
-        | inl none_left ↦ wins-no_plies n node pos stands (eqb-true n 0 none_left)
-        | inr many ↦ bounded n node pos on (too_many_outlast n node pos many)
-      ]
+            | inl none_left ↦ wins-no_plies n node pos stands (eqb-true n 0 none_left)
+            | inr many ↦ bounded n node pos on (too_many_outlast n node pos many)
+          ]
     ]
 
 -- the target of a node is on the board of its position
