@@ -1,6 +1,6 @@
 //! What a proof shows, in the words of the game tree.
 
-ghost use Rattle.std.specs.Prelude.{◌≡◌, ℕ, suc, ◌*◌, ◌<◌, ◌≤◌, ◌++◌, ◌×◌, ◌∷◌, true, false, Bool, List, Some, None};
+ghost use Rattle.std.specs.Prelude.{◌≡◌, ℕ, suc, ◌*◌, ◌<◌, ◌≤◌, ◌++◌, ◌∷◌, true, false, Bool, List, Some, None};
 ghost use Rattle.go_rules.specs.Board.{IsSize};
 ghost use Rattle.go_rules.specs.Position.{BoardState};
 ghost use Rattle.read_rules.specs.declared.node.Node.{Node};
