@@ -1,5 +1,5 @@
 -- The first proof of a claim that is so, and of the code of a question: `.` wherever it will do, else the play that takes
--- back where the defender can, else the first move in reading order that will do, the pass before all points, and else
+-- back if the defender can, else the first move in reading order that will do, the pass before all points, and else
 -- `*`.
 use Rattle.std.specs.Prelude.{◌≡◌, ℕ, zero, suc, Bool, List, [], ◌∷◌, ◌++◌, Option, None, Some, if◌then◌else◌}
 use Rattle.std.specs.Prelude.{codes}
@@ -42,8 +42,8 @@ abbrev pub write_move : Writer → Node → BoardState → Option Spot → List 
 write_move write node pos None = []
 write_move write node pos (Some spot) = move_word pos.size spot ∷ write_child write (child_after node pos spot)
 
--- the words of the play at the target's point and of the proof at the child to which it takes back, where there is such
--- a child; else the other words
+-- the words of the play at the target's point and of the proof at the child to which it takes back, if there is such a
+-- child; else the other words
 abbrev pub write_back : Writer → Node → BoardState → Option (Node × BoardState) → List Word → List Word
 write_back write node pos None others = others
 write_back write node pos (Some child) others = move_word pos.size (At node.turn.target) ∷ write child.0 child.1

@@ -59,7 +59,7 @@ fn has_lost_one_stone(pos: &Position, node: Node) -> bool
         && is_walled_in(pos, node.turn.target, node.turn.defender.other())
 }
 
-/// The child to which the defender takes back, where he can.
+/// The child to which the defender takes back, if he can.
 #[tactic(auto, unfolding(read_rules::specs::GameTree::taking_back))]
 fn taking_back(pos: &Position, node: Node) -> Option<(Node, Position)>
     requires { node.turn.target < pos.now.size * pos.now.size }
