@@ -23,6 +23,7 @@ use Rattle.read_rules.specs.GameTree.{taking_back}
 use Rattle.read_rules.proofs.RuleLemmas.{first_move_gives}
 use Rattle.read_tree.specs.Nodes.{LeadsTo}
 use Rattle.read_proof.specs.Proves.{child_after, passed, pass_children, play_children, is_settled, has_too_many}
+use Rattle.read_proof.specs.Tokens.{Word}
 use Rattle.read_proof.specs.FirstProof.{Writer, move_word, write_child, write_each, write_move, first_words}
 use Rattle.write_proof.specs.declared.text.ProofError.{ProofError}
 use Rattle.write_proof.specs.declared.text.ProofError.TheVariants.{TooLong, NoMemory}

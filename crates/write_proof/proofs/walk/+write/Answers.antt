@@ -1,7 +1,7 @@
 -- What is written for the asked allowances at once is the first proof under each of them.
 use Rattle.std.proofs.Common.{◌≡◌, ◌∙◌, ℕ, ◌+◌, ◌-◌, ◌*◌, ◌<◌, ◌≤◌, List, ◌++◌, length, Bool, not, Result}
 use Rattle.std.proofs.Common.{[], ◌∷◌, ap, sym, refl, subst, inl, inr, codes, append_assoc, rules, Ok, Err}
-use Rattle.std.proofs.Common.{None, Some}
+use Rattle.std.proofs.Common.{None, Some, true}
 use Rattle.std.specs.Option.{option_to_list}
 use Rattle.go_base.specs.Facts.{Agrees}
 use Rattle.go_rules.specs.Position.{BoardState}
@@ -320,6 +320,10 @@ write-returns-in-Always-clause-puts g t c = λ same ko asked.
 -- under some of the asked alone he does
 pub write-returns-in-Differs-clause-puts : goal.write-returns-in-Differs-clause-puts
 write-returns-in-Differs-clause-puts g t c = λ same ko asked. absurd (same refl)
+
+-- the table stays true
+pub write-returns-in-Differs-clause-table : goal.write-returns-in-Differs-clause-table
+write-returns-in-Differs-clause-table g t c = table_more c.requires.table c.back_told.ensures.stays.grows
 
 -- of one allowance alone it does not differ
 pub write-returns-in-Differs-clause-one : goal.write-returns-in-Differs-clause-one
