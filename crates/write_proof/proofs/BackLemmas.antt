@@ -4,9 +4,9 @@ use Rattle.go_rules.specs.Position.{BoardState, other}
 use Rattle.read_rules.specs.declared.node.Node.{Node}
 use Rattle.read_rules.specs.declared.turn.Turn.{Turn}
 use Rattle.read_rules.specs.Trees.{is_wider}
-use Rattle.read_rules.specs.GameTree.{is_captured, is_walled_in, has_lost_one_stone, can_play, taking_back}
+use Rattle.read_rules.specs.GameTree.{is_captured, is_walled_in, has_lost_one_stone, can_play}
 use Rattle.read_tree.specs.declared.allowances.Allowances.{Allowances}
-use Rattle.read_tree.specs.Allowances.{Ko, has, under, Tells}
+use Rattle.read_tree.specs.Allowances.{has, under, Tells}
 use Rattle.read_tree.proofs.TakingLemmas.{lost_lone, back_none, back_is}
 use Rattle.read_proof.specs.Proves.{can_take_back}
 use Rattle.write_proof.specs.declared.alike.Told.{Told}

@@ -199,8 +199,8 @@ all_left write f g n out =
     ap (λ m. out ++ behind_blanks (write_each write (filter_map f (filter g (range_with_len 0 m))))) less
 
 -- The claim at a node with n plies left at which the defender cannot take back, by what was found of the target.
-module _ (n : ℕ) (node : Node) (here : BoardState) (captured : Bool) (found : captured ≡ is_captured here node.turn.target)
-    (none : taking_back node here ≡ None) where
+module _ (n : ℕ) (node : Node) (here : BoardState) (captured : Bool)
+    (found : captured ≡ is_captured here node.turn.target) (none : taking_back node here ≡ None) where
   -- the claim is settled by whether the target is taken, how many plies are left, and how many liberties it has
   settled_by : (won : Bool) → is_settled n won node here ≡ cond won (captured && true)
       (cond captured (eqb n 0 && false) (eqb n 0 || has_too_many n node here))

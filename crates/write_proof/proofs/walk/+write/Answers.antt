@@ -379,7 +379,8 @@ pub write_moves-returns-then-is_settled-clause-puts : goal.write_moves-returns-t
 write_moves-returns-then-is_settled-clause-puts g t c = λ same ko asked.
     let here = position_on g.L.Look.shows c.args.board.now in
     rw (dot_words c.args.plies c.args.won (under c.args.turn ko) here
-    (inr (sym (c.is_settled.ensures.answer ko (c.requires.none ko asked)) ∙ c.if-is_settled.true))) c.put_dot.ensures.puts
+    (inr (sym (c.is_settled.ensures.answer ko (c.requires.none ko asked)) ∙ c.if-is_settled.true)))
+    c.put_dot.ensures.puts
 
 -- the side to play wants the claim
 pub write_moves-returns-then-is_wanted-clause-puts : goal.write_moves-returns-then-is_wanted-clause-puts
