@@ -3,7 +3,7 @@
 ghost use Rattle.std.specs.Prelude.{◌≡◌, ℕ, ◌+◌, ◌*◌, ◌<◌, ◌&&◌, true, false, MatchOption, IsTrue, IfSome};
 ghost use Rattle.std.specs.FinSet as set;
 ghost use Rattle.go_rules.specs.Position.{BoardState};
-ghost use Rattle.read_rules.specs.GameTree.{child_of, some_child, each_child, has_lost_one_stone};
+ghost use Rattle.read_rules.specs.GameTree.{child_of, can_play, some_child, each_child, has_lost_one_stone};
 ghost use Rattle.sure_rules.specs.Nodes.{is_attackers, is_gone};
 ghost use Rattle.sure_rules.specs.SureTree.{surely_wins};
 ghost use Rattle.sure_rules.specs.Zones.{IsZone, WhereverAgrees};
@@ -136,6 +136,20 @@ fn defender_zone(position: &Position, node: Node, plies: u8) -> Option<PointSet>
     Some(zone)
 }
 
+/// The zone that shows that the mover cannot play at p; none if he can.
+fn refused_zone(position: &Position, node: Node, p: Point) -> Option<PointSet>
+    requires on_board { p < position.now.size * position.now.size }
+    ensures zone { MatchOption result (can_play node position.now p ≡ true)
+        (λ zone. WhereverAgrees position.now (set.contains zone) (λ here. can_play node here p ≡ false)) }
+    ensures on_board { IfSome result (λ zone. (q : ℕ) → set.contains zone q ≡ true
+        → q < position.now.size * position.now.size) }
+{
+    match child_of(position, node, p) {
+        Some(_child) => None,
+        None => Some(play_shown(position, node, p, &PointSet::new())),
+    }
+}
+
 /// The zone that shows that a lone stone that was just taken is surely captured, with `plies` plies left: the defender
 /// cannot take back, or a ply is left for it and the target is surely captured after it; none if that is not so.
 #[cycle(zones)]
@@ -148,19 +162,10 @@ fn back_zone(position: &Position, node: Node, plies: u8) -> Option<PointSet>
     ensures on_board { IfSome result (λ zone. (q : ℕ) → set.contains zone q ≡ true
         → q < position.now.size * position.now.size) }
 {
-    let _ = position.size();
-    if plies > 0 {
-        return reply_zone(position, node, node.turn.target, plies - 1);
+    if plies == 0 {
+        return refused_zone(position, node, node.turn.target);
     }
-    match child_of(position, node, node.turn.target) {
-        Some(_child) => None,
-        None => Some(play_shown(
-            position,
-            node,
-            node.turn.target,
-            &PointSet::new(),
-        )),
-    }
+    reply_zone(position, node, node.turn.target, plies - 1)
 }
 
 /// The zone of a target whose point is empty, with `plies` plies left.
