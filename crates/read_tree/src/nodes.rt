@@ -115,8 +115,8 @@ pub fn is_barred<L: Look>(board: &mut Trial<L>, node: Node) -> bool
     if !node.turn.attacker_to_play {
         return false;
     }
-    let liberties = board.liberties(node.turn.target);
-    node.turn.has_many(liberties.count())
+    node.turn
+        .has_many(board.liberties(node.turn.target).count())
 }
 
 /// Whether the attacker's play at p, or the defender's, can be made and gives him his way, with `plies` plies left.
