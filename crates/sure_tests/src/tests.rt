@@ -38,7 +38,7 @@ struct Row {
 }
 
 /// Rows by what they show.
-static ROWS: [Row; 22] = [
+static ROWS: [Row; 23] = [
     Row {
         name: "a stone in the corner is taken whatever black plays",
         size: 5,
@@ -300,7 +300,7 @@ static ROWS: [Row; 22] = [
         at: "PASS",
     },
     Row {
-        name: "nor whatever black plays, though the tree captures it",
+        name: "black answers A4, where the wider tree does not look, and may then take back in the ko",
         size: 5,
         black: "B5 E2",
         white: "B4 C4",
@@ -313,17 +313,30 @@ static ROWS: [Row; 22] = [
         at: "C5",
     },
     Row {
-        name: "with two plies more it is captured after that too",
+        name: "white takes again the stone by which two stones were taken back",
         size: 5,
-        black: "B5 E2",
-        white: "B4 C4",
+        black: "E3 D5 D4",
+        white: "E5 D3 E2",
         kind: Attack,
-        target: "B5",
-        depths: (5, 1),
+        target: "E3",
+        depths: (3, 0),
         tree: Wider,
         code: 3,
         sure: 3,
-        at: "A4",
+        at: "E4",
+    },
+    Row {
+        name: "two plies are too few to be taken back and take again",
+        size: 5,
+        black: "E3 D5 D4",
+        white: "E5 D3 E2",
+        kind: Attack,
+        target: "E3",
+        depths: (2, 0),
+        tree: Wider,
+        code: 0,
+        sure: 0,
+        at: "",
     },
 ];
 

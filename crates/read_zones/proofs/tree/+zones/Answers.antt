@@ -1,5 +1,5 @@
 -- The recursion, by the zones of plays and replies.
-use Rattle.std.proofs.Common.{◌≡◌, ◌∙◌, ◌+◌, ◌*◌, ◌<◌, ℕ, true, not, refl, sym}
+use Rattle.std.proofs.Common.{◌≡◌, ◌∙◌, ◌+◌, ◌*◌, ◌<◌, ℕ, true, not, sym}
 use Rattle.std.proofs.Common.{ap, subst, arith, inl, inr, rules}
 use Rattle.std.specs.FinSet as set
 use Rattle.std.specs.Ordering.{nat_cmp}
