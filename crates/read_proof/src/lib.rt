@@ -18,7 +18,7 @@ mod further;
 pub mod laws;
 mod settled;
 mod strings;
-mod taking_back;
+pub mod taking_back;
 mod token;
 mod walk;
 

@@ -61,7 +61,7 @@ fn has_lost_one_stone(pos: &Position, node: Node) -> bool
 
 /// The child to which the defender takes back, if he can.
 #[tactic(auto, unfolding(read_rules::specs::GameTree::taking_back))]
-fn taking_back(pos: &Position, node: Node) -> Option<(Node, Position)>
+pub fn taking_back(pos: &Position, node: Node) -> Option<(Node, Position)>
     requires { node.turn.target < pos.now.size * pos.now.size }
     ensures value { result ≡ taking_back node pos.now }
     ensures target { IfSome result (λ child. child.0.turn.target < child.1.size * child.1.size) }
