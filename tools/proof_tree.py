@@ -49,8 +49,8 @@ class Node(NamedTuple):
         return self.position.cells[self.target] == EMPTY
 
     def has_lost_one_stone(self) -> bool:
-        """Whether the defender is to play in the wider tree and has just lost a lone stone: its point is empty, and each
-        neighbour of it holds a stone of the attacker."""
+        """Whether the defender is to play in the wider tree and has just lost a lone stone: the target's point is
+        empty, and each neighbour of it holds a stone of the attacker."""
         if not self.is_wider or self.is_attackers or not self.is_captured():
             return False
         size, cells, _ = self.position
@@ -394,8 +394,8 @@ def claim_in_words(kind: str, part: Part) -> str:
 
 
 def behind_in_words(step: Step) -> str:
-    """What stands behind a step: why it is settled, that each move is tried, or that the defender takes back; nothing at
-    any other move of the proof."""
+    """What stands behind a step: why it is settled, that each move is tried, or that the defender takes back; nothing
+    at any other move of the proof."""
     if step.word == ".":
         return reason(step.node)
     if step.node.is_captured():
