@@ -27,7 +27,7 @@ use read_rules::Kind;
 use std::alloc::Global;
 
 /// `true` or `false`.
-fn word(known: bool) -> &'static [u8]
+pub(crate) fn word(known: bool) -> &'static [u8]
     ensures text { result.now ≡ word_of known }
     ensures short { length result.now ≤ 5 }
 {
@@ -35,7 +35,7 @@ fn word(known: bool) -> &'static [u8]
 }
 
 /// A success with a result that took memory, if it was found.
-fn grown(text: Result<Bytes, NoMemory>) -> Answer
+pub(crate) fn grown(text: Result<Bytes, NoMemory>) -> Answer
     ensures { (old : Machine) (result_of : List ℕ) → IfOk text (λ bytes. bytes ≡ result_of)
         → IsAnswer (growing (told result_of old)) result old old }
 {
@@ -74,6 +74,14 @@ impl SureMachine {
             Command::Undo => self.undo(),
             Command::Attack(p) => self.read(Kind::Attack, p),
             Command::Defend(p) => self.read(Kind::Defend, p),
+            Command::AttackProof(p) => self.print_proof(alloc, Kind::Attack, p),
+            Command::DefendProof(p) => self.print_proof(alloc, Kind::Defend, p),
+            Command::CheckProof {
+                attack,
+                target,
+                code,
+                tokens,
+            } => self.check_proof(attack, target, code, line, tokens),
             Command::Depths { plies, wide } => self.deepen(plies, wide),
             Command::LoadSgf(span) => self.load_record(alloc, line, span, files),
             _ => Answer::Refused(RefuseText::UnknownCommand),

@@ -17,7 +17,7 @@ use read_rules::{Depths, Kind};
 use read_zones::{sure_attack, sure_defend};
 
 /// The sure answer to a question about the stone at p.
-fn sure_answer(position: &Position, kind: Kind, p: Point, depths: Depths) -> read_rules::Answer
+pub(crate) fn sure_answer(position: &Position, kind: Kind, p: Point, depths: Depths) -> read_rules::Answer
     requires on_board { p < position.now.size * position.now.size }
     requires stone { cell_at position.now.cells p ≢ Cell.Empty }
     ensures on_board { IfSome result.at (IsOnBoard position.now.size) }

@@ -12,8 +12,10 @@ mod checker;
 mod guard;
 pub mod laws;
 mod play;
+mod replies;
 mod shown;
 mod walk;
 mod words;
 
 pub use checker::{check_node, checks_surely};
+pub use replies::replies_asked;
