@@ -8,6 +8,7 @@
 
 mod points;
 mod reading;
+pub mod taking_back;
 mod tree;
 
 pub use read_rules::{Answer, Depths, Spot, Tree};
