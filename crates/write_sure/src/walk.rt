@@ -4,7 +4,8 @@ ghost use Rattle.std.specs.Prelude.{◌*◌, ◌<◌};
 
 use crate::refusal::SureProofError;
 use crate::text::{behind, put_vertex, put_word};
-use go_base::{Bytes, Cell, Point, PointSet, Position};
+use go_base::sides::neighbour;
+use go_base::{Bytes, Cell, Point, PointSet, Position, Size};
 use read_proof::children::{child_after, child_of, passed};
 use read_rules::{Node, Spot};
 use read_zones::zone_of;
@@ -46,15 +47,47 @@ fn capture_outside(pos: &Position, node: Node, points: &PointSet, plies: u8) -> 
     None
 }
 
-/// A point at which the attacker's play surely captures. A liberty of the target is taken before every other point: it
-/// rests on few points that it is a candidate.
+/// Whether a neighbour of p is one of these points.
+fn is_beside(size: Size, points: &PointSet, p: Point) -> bool
+    requires { p < size * size }
+{
+    for side in 0..4 {
+        match neighbour(size, p, side) {
+            Some(q) => {
+                if points.has(q) {
+                    return true;
+                }
+            }
+            None => {}
+        }
+    }
+    false
+}
+
+/// These points and their neighbours.
+fn with_neighbours(size: Size, points: &PointSet) -> PointSet {
+    let mut wider = PointSet::new();
+    for p in 0..size.points() {
+        if points.has(p) || is_beside(size, points, p) {
+            wider.add(p);
+        }
+    }
+    wider
+}
+
+/// A point at which the attacker's play surely captures. The liberties of the target come first, and then the points
+/// next to them: it rests on few points that these are candidates, and so few replies are asked for.
 fn nearest_capture(pos: &Position, node: Node, plies: u8) -> Option<Point>
     requires { node.turn.target < pos.now.size * pos.now.size }
 {
     let liberties = pos.liberty_points(node.turn.target);
-    match capture_among(pos, node, &liberties, plies) {
+    if let Some(p) = capture_among(pos, node, &liberties, plies) {
+        return Some(p);
+    }
+    let near = with_neighbours(pos.size(), &liberties);
+    match capture_among(pos, node, &near.difference(&liberties), plies) {
         Some(p) => Some(p),
-        None => capture_outside(pos, node, &liberties, plies),
+        None => capture_outside(pos, node, &near, plies),
     }
 }
 
