@@ -1,5 +1,5 @@
 -- A sure capture stands against every defence.
-use Rattle.std.proofs.Common.{◌≡◌, ◌≢◌, ℕ, zero, suc, ◌+◌, ◌-◌, ◌*◌, ◌<◌, ◌≤◌, Bool, true, false, not, cond, List, [], ◌∷◌, length}
+use Rattle.std.proofs.Common.{◌≡◌, ◌≢◌, ℕ, zero, suc, ◌+◌, ◌-◌, ◌≤◌, true, not, cond, List, [], ◌∷◌, length}
 use Rattle.std.proofs.Common.{refl, sym, ap, subst, ◌∙◌, arith, inl, inr}
 use Rattle.std.proofs.lemmas.Bool.{cases_Bool, not-false}
 use Rattle.go_rules.specs.declared.Colour.{Colour}
@@ -125,7 +125,8 @@ module _ (tree : Tree) (target : ℕ) (defender : Colour) (start : Standing) (re
     | inr not_yet ↦ elim (cases_Bool (is_attackers node)) [
       | inl turn ↦
           let w = (sure_attacker_gives n node pos (stands_at_attackers node pos not_yet turn) turn sure).1 in
-          goes_on n total w.next w.new (At w.point ∷ moves) (about_child tree target defender node pos w.point w.next w.new about w.child)
+          goes_on n total w.next w.new (At w.point ∷ moves)
+          (about_child tree target defender node pos w.point w.next w.new about w.child)
           (attacks game
           (ap (λ b. cond b (other (defender_of node)) (defender_of node)) turn ∙ ap other about.its_defender) w.point
           (child_is_move node pos w.point w.next w.new (candidate_on node.turn pos w.point w.candidate) w.child))

@@ -1,7 +1,6 @@
 -- The plan of a sure capture: at each turn of the attacker the first move that succeeds.
-use Rattle.std.proofs.Common.{◌≡◌, ◌≢◌, ℕ, suc, ◌+◌, ◌-◌, ◌*◌, ◌<◌, ◌≤◌, Bool, true, false, cond, List, [], ◌∷◌}
-use Rattle.std.proofs.Common.{length, Option, Some, None, refl, sym, ap, subst, ◌∙◌, arith, inl, inr}
-use Rattle.std.proofs.lemmas.Bool.{cases_Bool, both_ways}
+use Rattle.std.proofs.Common.{◌≡◌, ◌≢◌, ℕ, suc, ◌+◌, ◌-◌, ◌≤◌, true, false, List, [], ◌∷◌}
+use Rattle.std.proofs.Common.{length, Option, Some, None, refl, sym, ap, subst, ◌∙◌, arith}
 use Rattle.go_rules.specs.declared.Colour.{Colour}
 use Rattle.go_rules.specs.Position.{BoardState, other}
 use Rattle.go_rules.specs.Play.{pass}
@@ -63,7 +62,8 @@ point_at : Stage → ℕ
 point_at stage = point_or_first (first_sure (stage.plies - 1) stage.node stage.board)
 
 -- a game by the plan has come to this stage, at which the target is surely captured with the plies that are left
-record IsStage (tree : Tree) (target total : ℕ) (defender : Colour) (count : ℕ) (here : Standing) (stage : Stage) : Type 0 where
+record IsStage (tree : Tree) (target total : ℕ) (defender : Colour) (count : ℕ) (here : Standing)
+    (stage : Stage) : Type 0 where
   stands : here ≡ standing_at stage.node stage.board
   in_tree : stage.node.turn.tree ≡ tree
   its : target_of stage.node ≡ target
@@ -80,8 +80,8 @@ module _ (tree : Tree) (target total : ℕ) (defender : Colour) (count : ℕ) (h
       (subst (IsTaken tree target defender) (sym w.stands)
       (subst (λ (r : Tree). IsTaken r target defender (standing_at stage.node stage.board)) w.in_tree
       (subst (λ t. IsTaken stage.node.turn.tree t defender (standing_at stage.node stage.board)) w.its
-      (subst (λ (c : Colour). IsTaken stage.node.turn.tree (target_of stage.node) c (standing_at stage.node stage.board)) w.his
-      taken)))))
+      (subst (λ (c : Colour). IsTaken stage.node.turn.tree (target_of stage.node) c
+      (standing_at stage.node stage.board)) w.his taken)))))
 
   -- some ply is left
   some_left : stage.plies ≢ 0

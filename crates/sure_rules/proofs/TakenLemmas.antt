@@ -1,7 +1,7 @@
 -- Where a target that is taken can be taken back, and that every reply of the defender fails there too.
 use Rattle.std.proofs.Common.{◌≡◌, ◌≢◌, ℕ, suc, ◌*◌, ◌<◌, true, false, not, Option, Some, None, is_none, Ok}
 use Rattle.std.proofs.Common.{refl, sym, ap, subst, ◌∙◌, arith, inl, inr}
-use Rattle.std.proofs.lemmas.Bool.{cases_Bool, cases_eq, cases_lt, both_ways, and_parts, and_from, not-true}
+use Rattle.std.proofs.lemmas.Bool.{cases_Bool, cases_eq, cases_lt, both_ways, and_parts, and_from}
 use Rattle.std.proofs.lemmas.List.{get_or_past}
 use Rattle.go_rules.specs.declared.Cell.TheVariants.{Empty}
 use Rattle.go_rules.specs.declared.Colour.{Colour}
@@ -16,9 +16,9 @@ use Rattle.go_rules.proofs.Results.{put_on, after_on, free_suicide}
 use Rattle.read_rules.specs.declared.node.Node.{Node}
 use Rattle.read_rules.specs.declared.tree.Tree.{Tree}
 use Rattle.read_rules.specs.declared.tree.Tree.TheVariants.{Stated, Wider}
-use Rattle.read_rules.specs.GameTree.{child_of, allowance_of, next_node, taking_back}
+use Rattle.read_rules.specs.GameTree.{allowance_of, next_node, taking_back}
 use Rattle.read_rules.specs.Turns.{mover_of}
-use Rattle.read_rules.specs.Rules.{IsChild, TakesBack}
+use Rattle.read_rules.specs.Rules.{IsChild}
 use Rattle.read_rules.proofs.LibertyLemmas.{child_free}
 use Rattle.read_rules.proofs.RuleLemmas.{child_from, taking_back_gives, takes_back_from}
 use Rattle.read_rules.proofs.WinLemmas.{some_or_none}

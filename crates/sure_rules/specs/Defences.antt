@@ -1,6 +1,6 @@
--- Play against every defence, told by moves alone. Nothing here speaks of game trees or of candidates: two sides move in
--- turn, and the one that defends a stone may answer as it likes. Where the question is asked in the wider tree, a lone
--- stone counts as taken only if it cannot be taken back at once.
+-- Play against every defence, told by moves alone. Nothing here speaks of game trees or of candidates: two sides move
+-- in turn, and the one that defends a stone may answer as it likes. Where the question is asked in the wider tree, a
+-- lone stone counts as taken only if it cannot be taken back at once.
 use Rattle.std.specs.Prelude.{◌≡◌, ℕ, ◌-◌, ◌*◌, ◌<◌, ◌≤◌, true, List, [], ◌∷◌, length, Ok, Err, if◌then◌else◌}
 use Rattle.go_rules.specs.declared.Cell.TheVariants.{Empty}
 use Rattle.go_rules.specs.declared.Colour.{Colour}
@@ -63,8 +63,8 @@ abbrev pub IsDefence : Colour → (List Spot → Spot) → Standing → Type 0
 IsDefence defender reply start = (moves : List Spot) (here : Standing) → IsGame defender reply start moves here
     → here.to_play ≡ defender → (there : Standing) × IsMove here (reply moves) there
 
--- the defender can take back the lone stone that was taken at the target: its point is empty, each neighbour of the point
--- holds a stone of the other side, it is his turn, and he may play at the point
+-- the defender can take back the lone stone that was taken at the target: its point is empty, each neighbour of the
+-- point holds a stone of the other side, it is his turn, and he may play at the point
 pub record CanTakeBack (target : ℕ) (defender : Colour) (here : Standing) : Type 0 where
   pub empty : cell_at here.board.cells target ≡ Empty
   pub lone : (q : ℕ) → q < here.board.size * here.board.size → are_neighbours here.board.size target q ≡ true
@@ -78,14 +78,15 @@ pub record IsTakenForGood (target : ℕ) (defender : Colour) (here : Standing) :
   pub empty : cell_at here.board.cells target ≡ Empty
   pub kept : CanTakeBack target defender here → ⊥
 
--- what is to be reached in a tree: in the stated one the target's point is empty; in the wider one the stone is taken and
--- cannot be taken back at once
+-- what is to be reached in a tree: in the stated one the target's point is empty; in the wider one the stone is taken
+-- and cannot be taken back at once
 abbrev pub IsTaken : Tree → ℕ → Colour → Standing → Type 0
 IsTaken Stated target defender here = cell_at here.board.cells target ≡ Empty
 IsTaken Wider target defender here = IsTakenForGood target defender here
 
 -- against this reply some game of at most n moves ends where the stone is taken
-pub record IsTakenAgainst (tree : Tree) (n target : ℕ) (defender : Colour) (start : Standing) (reply : List Spot → Spot) : Type 0 where
+pub record IsTakenAgainst (tree : Tree) (n target : ℕ) (defender : Colour) (start : Standing)
+    (reply : List Spot → Spot) : Type 0 where
   pub moves : List Spot
   pub end : Standing
   pub game : IsGame defender reply start moves end
@@ -97,8 +98,9 @@ abbrev pub IsTakenAnyway : Tree → ℕ → ℕ → Colour → Standing → Type
 IsTakenAnyway tree n target defender start = (reply : List Spot → Spot) → IsDefence defender reply start
     → IsTakenAgainst tree n target defender start reply
 
--- these moves, the newest first, lead from the start to here: each may be made, the attacker plays at the point that his
--- plan names for the moves so far, the defender moves as he likes, and before each move the stone was not yet taken
+-- these moves, the newest first, lead from the start to here: each may be made, the attacker plays at the point that
+-- his plan names for the moves so far, the defender moves as he likes, and before each move the stone was not yet
+-- taken
 pub data IsPlayed (tree : Tree) (target : ℕ) (defender : Colour) (plan : List Spot → ℕ) (start : Standing) : List Spot
     → Standing → Type 0 where
   opens : IsPlayed tree target defender plan start [] start
@@ -109,9 +111,11 @@ pub data IsPlayed (tree : Tree) (target : ℕ) (defender : Colour) (plan : List 
       → (IsTaken tree target defender here → ⊥) → here.to_play ≡ defender → (spot : Spot) → IsMove here spot there
       → IsPlayed tree target defender plan start (spot ∷ moves) there
 
--- the plan takes the stone at the target within n moves, whatever the defender plays: in every game by the plan, as long
--- as the stone is not taken, fewer than n moves were made, and at the attacker's turn the plan's move may be made
-pub record IsPlanWithin (tree : Tree) (n target : ℕ) (defender : Colour) (start : Standing) (plan : List Spot → ℕ) : Type 0 where
+-- the plan takes the stone at the target within n moves, whatever the defender plays: in every game by the plan, as
+-- long as the stone is not taken, fewer than n moves were made, and at the attacker's turn the plan's move may be
+-- made
+pub record IsPlanWithin (tree : Tree) (n target : ℕ) (defender : Colour) (start : Standing)
+    (plan : List Spot → ℕ) : Type 0 where
   pub in_time : (moves : List Spot) (here : Standing) → IsPlayed tree target defender plan start moves here
       → (IsTaken tree target defender here → ⊥) → length moves < n
   pub can_go_on : (moves : List Spot) (here : Standing) → IsPlayed tree target defender plan start moves here

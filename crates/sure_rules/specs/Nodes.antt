@@ -37,7 +37,8 @@ abbrev pub other_allowance_of : Node → ℕ
 other_allowance_of node = if node.turn.attacker_to_play then node.defender_ko else node.attacker_ko
 
 -- both nodes are about the same string in the same tree, and the same side is to play; and the second has at least as
--- many wide plies left, lets the attacker ignore the ban at least as often, and lets the defender do so at most as often
+-- many wide plies left, lets the attacker ignore the ban at least as often, and lets the defender do so at most as
+-- often
 pub record IsNoHarder (node more : Node) : Type 0 where
   pub target : more.turn.target ≡ node.turn.target
   pub defender : more.turn.defender ≡ node.turn.defender

@@ -1,7 +1,7 @@
 -- Sure captures. The attacker tries the candidates of the game tree, and the defender may play at every point of the
--- board: a capture that holds here holds whatever the defender plays. In the wider tree a lone stone that is taken may be
--- taken back, as in the game tree.
-use Rattle.std.specs.Prelude.{◌≡◌, ℕ, zero, suc, ◌*◌, Bool, false, IsTrue, not, ◌&&◌, nat_lt, List, Option, None, Some}
+-- board: a capture that holds here holds whatever the defender plays. In the wider tree a lone stone that is taken
+-- may be taken back, as in the game tree.
+use Rattle.std.specs.Prelude.{◌≡◌, ℕ, zero, suc, ◌*◌, Bool, false, IsTrue, not, ◌&&◌, nat_lt, List, None, Some}
 use Rattle.std.specs.Prelude.{if◌then◌else◌}
 use Rattle.std.specs.List.{range_with_len, filter, list_any, list_all}
 use Rattle.go_rules.specs.Position.{BoardState}
@@ -19,10 +19,10 @@ is_tried node pos p = if is_attackers node then is_candidate node.turn pos p els
 abbrev pub tried_points : Node → BoardState → List ℕ
 tried_points node pos = filter (is_tried node pos) (range_with_len 0 (pos.size * pos.size))
 
--- with n plies left the target is surely captured: it is taken already, and if the defender can take back, a ply is left
--- for it and it is surely captured after that too; or it is the attacker's turn, the target has not too many liberties,
--- and some candidate leads to a node at which it is surely captured; or it is the defender's turn, and the pass and each
--- play on the board that can be made lead to nodes at which it is surely captured
+-- with n plies left the target is surely captured: it is taken already, and if the defender can take back, a ply is
+-- left for it and it is surely captured after that too; or it is the attacker's turn, the target has not too many
+-- liberties, and some candidate leads to a node at which it is surely captured; or it is the defender's turn, and the
+-- pass and each play on the board that can be made lead to nodes at which it is surely captured
 unfoldable pub surely_wins : ℕ → Node → BoardState → Bool
 surely_wins zero node pos = is_taken_for_good node pos
 surely_wins (suc n) node pos = if is_gone node pos
@@ -33,8 +33,8 @@ surely_wins (suc n) node pos = if is_gone node pos
     else surely_wins n (next_node node (allowance_of node)) (pass pos)
     && list_all (λ p. each_child (surely_wins n) (child_of node pos p)) (tried_points node pos)
 
--- what holds of each node to which a move leads at the node: to the pass and to each play on the board at the defender's
--- turn, and to each candidate at the attacker's
+-- what holds of each node to which a move leads at the node: to the pass and to each play on the board at the
+-- defender's turn, and to each candidate at the attacker's
 pub record IsAfterEachMove (below : Node → BoardState → Type 0) (node : Node) (pos : BoardState) : Type 0 where
   pub passed : is_attackers node ≡ false → below (next_node node (allowance_of node)) (pass pos)
   pub played : (p : ℕ) (next : Node) (new : BoardState) → IsTrue (is_tried node pos p)
