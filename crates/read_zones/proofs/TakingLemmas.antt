@@ -1,6 +1,6 @@
 -- A target that the attacker takes at once is surely captured.
-use Rattle.std.proofs.Common.{◌≡◌, ◌∙◌, ℕ, suc, ◌+◌, ◌*◌, ◌<◌, Bool, true, false, Option, Some, None}
-use Rattle.std.proofs.Common.{ap, refl, subst, inl, inr, add-one}
+use Rattle.std.proofs.Common.{◌≡◌, ◌∙◌, ℕ, ◌+◌, ◌*◌, ◌<◌, Bool, true, false, None, ap, refl, subst, inl, inr}
+use Rattle.std.proofs.Common.{add-one}
 use Rattle.std.proofs.lemmas.Bool.{cases_Bool, both_ways}
 use Rattle.go_rules.specs.Position.{BoardState, IsPosition}
 use Rattle.go_rules.specs.Strings.{cell_at}

@@ -138,6 +138,7 @@ fn defender_zone(position: &Position, node: Node, plies: u8) -> Option<PointSet>
 
 /// The zone that shows that the mover cannot play at p; none if he can.
 fn refused_zone(position: &Position, node: Node, p: Point) -> Option<PointSet>
+    requires target { node.turn.target < position.now.size * position.now.size }
     requires on_board { p < position.now.size * position.now.size }
     ensures zone { MatchOption result (can_play node position.now p ≡ true)
         (λ zone. WhereverAgrees position.now (set.contains zone) (λ here. can_play node here p ≡ false)) }

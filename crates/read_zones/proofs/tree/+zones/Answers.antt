@@ -1,9 +1,9 @@
 -- The recursion, by the zones of plays and replies.
-use Rattle.std.proofs.Common.{◌≡◌, ◌∙◌, ◌+◌, ◌*◌, ◌<◌, ℕ, true, not, refl, sym}
+use Rattle.std.proofs.Common.{◌≡◌, ◌∙◌, ◌+◌, ◌*◌, ◌<◌, ℕ, true, not, sym}
 use Rattle.std.proofs.Common.{ap, subst, arith, inl, inr, rules}
 use Rattle.std.specs.FinSet as set
 use Rattle.std.specs.Ordering.{nat_cmp}
-use Rattle.std.proofs.lemmas.Bool.{and_parts, and_from, both_ways, cases_eq, cases_lt, not-true, not-false}
+use Rattle.std.proofs.lemmas.Bool.{and_parts, and_from, both_ways, cases_eq, cases_lt}
 use Rattle.go_rules.specs.declared.Cell.TheVariants.{Empty}
 use Rattle.go_rules.specs.Strings.{same_cell}
 use Rattle.go_rules.proofs.Cells.{eq_is_same_cell}
@@ -228,13 +228,13 @@ back_zone-returns-clause-zone t c =
 pub taken_zone-returns-then-not-loss-clause-zone : goal.taken_zone-returns-then-not-loss-clause-zone
 taken_zone-returns-then-not-loss-clause-zone t c =
     zone_for_good c.args.plies c.args.node c.args.position.now c.loss_shown-loss.result.is_lone
-    (set.contains c.loss_shown-loss.result.zone) c.loss_shown-loss.ensures.shown (not-true _ c.if-not-loss.true)
+    (set.contains c.loss_shown-loss.result.zone) c.loss_shown-loss.ensures.shown c.if-not-loss.true
 
 -- the lone stone was lost on the position itself
 pub taken_zone-back_zone-requires : goal.taken_zone-back_zone-requires
 taken_zone-back_zone-requires t c =
     let lost = (c.loss_shown-loss.ensures.shown c.args.position.now c.size.ensures.position
-    (agree_self c.args.position.now)).1 ∙ not-false _ c.if-not-loss.false in
+    (agree_self c.args.position.now)).1 ∙ c.if-not-loss.false in
     search rules
 
 -- one that was rests on that too
@@ -242,7 +242,7 @@ pub taken_zone-returns-clause-zone : goal.taken_zone-returns-clause-zone
 taken_zone-returns-clause-zone t c =
     zone_of_loss c.args.plies c.args.node c.args.position.now c.loss_shown-loss.result.is_lone
     (set.contains c.loss_shown-loss.result.zone) c.loss_shown-loss.ensures.shown (set.contains c.in_ok-zone.zone)
-    (set.contains c.join.new.self) (not-false _ c.if-not-loss.false) c.in_ok-zone.ensures.zone
+    (set.contains c.join.new.self) c.if-not-loss.false c.in_ok-zone.ensures.zone
     (λ q. in_first c.in_ok-zone.zone c.loss_shown-loss.result.zone c.join.new.self q c.join.ensures)
     (λ q. in_second c.in_ok-zone.zone c.loss_shown-loss.result.zone c.join.new.self q c.join.ensures)
 

@@ -7,8 +7,8 @@ use Rattle.read_zones.proofs.BackLemmas.{refused_shown}
 use Rattle.read_zones.proofs.tree.refused_zone.Goals as goal
 
 -- no point is asked for
-pub play_shown-requires-in-None-clause-points : goal.play_shown-requires-in-None-clause-points
-play_shown-requires-in-None-clause-points c = λ q inside. absurd (both_ways (set.contains c.new.result q)
+pub play_shown-requires-clause-points : goal.play_shown-requires-clause-points
+play_shown-requires-clause-points c = λ q inside. absurd (both_ways (set.contains c.new.result q)
     (ap (λ s. set.contains s q) c.new.ensures ∙ set.contains-empty nat_cmp q) inside)
 
 -- it cannot be made wherever it looks the same
