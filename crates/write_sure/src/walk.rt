@@ -5,8 +5,9 @@ ghost use Rattle.std.specs.Prelude.{◌*◌, ◌<◌};
 use crate::refusal::SureProofError;
 use crate::text::{behind, put_vertex, put_word};
 use go_base::sides::neighbour;
-use go_base::{Bytes, Cell, Point, PointSet, Position, Size};
+use go_base::{Bytes, Point, PointSet, Position, Size};
 use read_proof::children::{child_after, child_of, passed};
+use read_proof::taking_back::{is_captured, taking_back};
 use read_rules::{Node, Spot};
 use read_zones::zone_of;
 use sure_proof::replies_asked;
@@ -171,13 +172,30 @@ fn write_attack(
     }
 }
 
+/// Writes the proof at a node at which the target is taken: `.`, or the play that takes it back and the proof after it.
+#[cycle(write)]
+fn write_taken(pos: &Position, node: Node, plies: u8, out: &mut Bytes) -> Result<(), SureProofError>
+    requires { node.turn.target < pos.now.size * pos.now.size }
+{
+    match taking_back(pos, node) {
+        Some((next, new)) => {
+            if plies == 0 {
+                return Err(SureProofError::NotFound);
+            }
+            put_vertex(out, pos.size(), node.turn.target)?;
+            write_node(&new, next, plies - 1, out)
+        }
+        None => put_word(out, b"."),
+    }
+}
+
 /// Writes the proof at a node at which the target is surely captured, with `plies` plies left.
 #[cycle(write)]
 fn write_node(pos: &Position, node: Node, plies: u8, out: &mut Bytes) -> Result<(), SureProofError>
     requires { node.turn.target < pos.now.size * pos.now.size }
 {
-    if pos.cell(node.turn.target) == Cell::Empty {
-        return put_word(out, b".");
+    if is_captured(pos, node) {
+        return write_taken(pos, node, plies, out);
     }
     if plies == 0 {
         return Err(SureProofError::NotFound);
