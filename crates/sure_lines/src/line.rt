@@ -7,11 +7,11 @@ ghost use Rattle.gtp_lex.specs.Raw.{raw_line};
 ghost use Rattle.gtp_rules.specs.Transcript.{MayGive, Answers};
 ghost use Rattle.sure_lines.specs.Answers.{IsAnswer};
 ghost use Rattle.sure_lines.specs.Effects.{growing, told};
-ghost use Rattle.sure_lines.specs.Files.{file_of, IsFileOf};
 ghost use Rattle.sure_lines.specs.Heard.{bytes_in};
 ghost use Rattle.sure_lines.specs.Machine.{Machine};
 ghost use Rattle.sure_lines.specs.Replies.{reply_bytes, reply_ends, word_of};
 ghost use Rattle.sure_lines.specs.SureStep.{effect_of, step};
+ghost use Rattle.sure_lines.specs.Texts.{IsTextOf};
 
 use crate::answer::{Answer, told};
 use crate::heard::{bytes_of, heard, knows_argument};
@@ -35,7 +35,7 @@ pub(crate) fn word(known: bool) -> &'static [u8]
 }
 
 /// A success with a result that took memory, if it was found.
-pub(crate) fn grown(text: Result<Bytes, NoMemory>) -> Answer
+fn grown(text: Result<Bytes, NoMemory>) -> Answer
     ensures { (old : Machine) (result_of : List ℕ) → IfOk text (λ bytes. bytes ≡ result_of)
         → IsAnswer (growing (told result_of old)) result old old }
 {
@@ -56,7 +56,7 @@ impl SureMachine {
     ) -> Answer
         requires within { IsWithin self.old.game.base.size command }
         requires spans { IsWithinLine line.now command }
-        ensures answer { (file : List ℕ) × IsFileOf (L.contents files.old) (file_of line.now command) file
+        ensures answer { (file : List ℕ) × IsTextOf (L.contents files.old) self.old line.now command file
             × IsAnswer (effect_of self.old line.now file command) result self.old self.new }
         ensures contents { L.contents files.new ≡ L.contents files.old }
     {
