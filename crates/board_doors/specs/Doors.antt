@@ -1,5 +1,6 @@
 -- What each door answers on a caller's numbers: the answer on the position that they name, or the first fault.
-use Rattle.std.specs.Prelude.{◌≡◌, ℕ, ◌*◌, ◌==◌, ◌||◌, Bool, true, false, not, nat_lt, List, [], ◌∷◌, Option, Some, None}
+use Rattle.std.specs.Prelude.{◌≡◌, ℕ, ◌*◌, ◌==◌, ◌||◌, Bool, true, false, not, nat_lt, List, [], ◌∷◌, Option, Some}
+use Rattle.std.specs.Prelude.{None}
 use Rattle.std.specs.Prelude.{Result, Ok, Err, if◌then◌else◌}
 use Rattle.go_rules.specs.declared.Cell.{Cell}
 use Rattle.go_rules.specs.declared.Cell.TheVariants.{Empty}
@@ -27,7 +28,8 @@ use Rattle.board_bytes.specs.declared.board.BoardFault.{BoardFault}
 use Rattle.board_bytes.specs.Bytes.{position_of, colour_named}
 use Rattle.board_doors.specs.declared.depths.DepthBytes.{DepthBytes}
 use Rattle.board_doors.specs.declared.fault.DoorFault.{DoorFault}
-use Rattle.board_doors.specs.declared.fault.DoorFault.TheVariants.{Board, OffBoard, NoStone, TwoColours, Kind as bad_kind}
+use Rattle.board_doors.specs.declared.fault.DoorFault.TheVariants.{Board, OffBoard, NoStone, TwoColours}
+use Rattle.board_doors.specs.declared.fault.DoorFault.TheVariants.{Kind as bad_kind}
 use Rattle.board_doors.specs.declared.fault.DoorFault.TheVariants.{Depths as bad_depths, Colour as bad_colour, Code}
 use Rattle.board_doors.specs.declared.fault.DoorFault.TheVariants.{Illegal as illegal}
 
@@ -63,7 +65,7 @@ are_depths depths =
 abbrev pub tree_named : ℕ → Tree
 tree_named n = if n == 0 then Stated else Wider
 
--- these are the depths that the numbers name
+-- found are the depths that the numbers name
 pub record AreDepthsOf (found : Depths) (depths : DepthBytes) : Type 0 where
   pub plies : found.plies ≡ depths.plies
   pub wide : found.wide ≡ depths.wide
@@ -119,11 +121,12 @@ play_by at pos (Some c) =
     else if not (nat_lt at (pos.size * pos.size)) then Err OffBoard
     else by_rules (play pos c at)
 
--- the same of the colour with this number
+-- the position after the colour with this number plays at a point or passes, or the first fault: of the colour, of the
+-- point, of the rules
 unfoldable pub play_on : ℕ → ℕ → BoardState → Result BoardState DoorFault
 play_on colour at pos = play_by at pos (colour_named colour)
 
--- the same on the position of the bytes
+-- the position after a play or a pass on the position of the bytes, or the first fault
 unfoldable pub play_of : BoardBytes → ℕ → ℕ → Result BoardState DoorFault
 play_of board colour at = on_position (play_on colour at) (position_of board)
 
@@ -131,7 +134,7 @@ play_of board colour at = on_position (play_on colour at) (position_of board)
 unfoldable pub liberties_on : ℕ → BoardState → Result ℕ DoorFault
 liberties_on p pos = and_then (λ stone. Ok (liberties pos.size pos.cells p)) (stone_at pos p)
 
--- the same on the position of the bytes
+-- the liberties of the string at p on the position of the bytes, or the first fault
 unfoldable pub liberties_of : BoardBytes → ℕ → Result ℕ DoorFault
 liberties_of board p = on_position (liberties_on p) (position_of board)
 
@@ -162,17 +165,19 @@ question_with kind target depths pos =
     })
     else Err bad_depths
 
--- the same, or the first fault: of the question, of the point, of the depths
+-- the question of a kind about the stone at the target, or the first fault: of the question, of the point, of the
+-- depths
 abbrev pub question_by : ℕ → DepthBytes → BoardState → Option Kind → Result Asked DoorFault
 question_by target depths pos None = Err bad_kind
 question_by target depths pos (Some kind) =
     and_then (λ stone. question_with kind target depths pos) (stone_at pos target)
 
--- the same of the question with this number
+-- the question with this number about the stone at the target, or the first fault: of the question, of the point, of
+-- the depths
 unfoldable pub question_on : ℕ → ℕ → DepthBytes → BoardState → Result Asked DoorFault
 question_on kind target depths pos = question_by target depths pos (kind_named kind)
 
--- the same on the position of the bytes
+-- the question with this number on the position of the bytes, or the first fault
 unfoldable pub question_of : BoardBytes → ℕ → ℕ → DepthBytes → Result Asked DoorFault
 question_of board kind target depths = on_position (question_on kind target depths) (position_of board)
 
@@ -195,16 +200,18 @@ checked_with kind target depths code text pos =
     else if nat_lt 3 code then Err Code
     else Ok (is_proof_on kind target depths code text pos)
 
--- the same, or the first fault: of the question, of the point, of the depths, of the code
+-- whether the text is a proof of the code of a question of this kind, or the first fault: of the question, of the
+-- point, of the depths, of the code
 abbrev pub check_by : ℕ → DepthBytes → ℕ → List ℕ → BoardState → Option Kind → Result Bool DoorFault
 check_by target depths code text pos None = Err bad_kind
 check_by target depths code text pos (Some kind) =
     and_then (λ stone. checked_with kind target depths code text pos) (stone_at pos target)
 
--- the same of the question with this number
+-- whether the text is a proof of the code of the question with this number, or the first fault: of the question, of the
+-- point, of the depths, of the code
 unfoldable pub check_on : ℕ → ℕ → DepthBytes → ℕ → List ℕ → BoardState → Result Bool DoorFault
 check_on kind target depths code text pos = check_by target depths code text pos (kind_named kind)
 
--- the same on the position of the bytes
+-- whether the text is a proof of the code of a question on the position of the bytes, or the first fault
 unfoldable pub checking_of : BoardBytes → ℕ → ℕ → DepthBytes → ℕ → List ℕ → Result Bool DoorFault
 checking_of board kind target depths code text = on_position (check_on kind target depths code text) (position_of board)

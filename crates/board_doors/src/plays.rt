@@ -32,7 +32,7 @@ fn play_on(colour: u8, at: Point, position: &Position) -> Result<Position, DoorF
     }
 }
 
-/// The position after the colour 1, Black, or 2, White, plays at a point, or passes where it is 65535. The faults come
+/// The position after the colour 1, Black, or 2, White, plays at a point, or passes if it is 65535. The faults come
 /// in this order: of the board, of the colour, of the point, of the rules. Takes no memory.
 #[tactic(auto, unfolding(crate::specs::Doors::play_of))]
 pub fn play(board: &BoardBytes, colour: u8, at: Point) -> Result<Position, DoorFault>

@@ -23,9 +23,9 @@ const FIRST_WIDE: u8 = 2;
 /// Why a line is not taken.
 #[derive(Clone, Copy, Debug, PartialEq, Eq)]
 pub enum LineFault {
-    /// It is no line that changes a board.
+    /// The line does not change a board.
     OtherCommand,
-    /// It is refused, as `gopat` refuses it.
+    /// The line is refused, as `gopat` refuses it.
     Refused(RefuseText),
     /// There is no memory.
     NoMemory,

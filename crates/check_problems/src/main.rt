@@ -2,8 +2,8 @@
 //! fewest plies with which they do, and whether that is what the author expects.
 //!
 //! `check_problems [--depths PLIES WIDE] [--tree stated|wider|sure|sure-wider] [--anywhere] [--only NAME] [--proof]
-//! [--json] FOLDER|FILE...`. The exit status is 0 if all is as expected, 1 if something is not, and 2 if the words are no
-//! command line or name no record, or a folder cannot be listed, or there is no memory.
+//! [--json] FOLDER|FILE...`. The exit status is 0 if all is as expected, 1 if something is not, and 2 if the words are
+//! no command line or name no record, or a folder cannot be listed, or there is no memory.
 #![tactic(auto)]
 
 mod names;

@@ -44,7 +44,7 @@ module _ (s : ℕ) (cells : List Cell) (t : ℕ) (on : t < s * s) where
   liberty_twice p lib = close_again s cells (is_in_string s cells t) p
       (beside lib.beside.0 p lib.on_board lib.beside.1 lib.beside.2)
 
-  -- and so does the last liberty of an enemy string next to it
+  -- the last liberty of an enemy string next to the string lies in its second neighbourhood
   taken_twice : (q p : ℕ) → IsTakenAt s cells t q p → twice s cells t p ≡ true
   taken_twice q p taken =
       let r = taken.last.beside in

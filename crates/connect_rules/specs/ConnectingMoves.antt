@@ -1,5 +1,5 @@
--- The moves that a reading of a connection tries: four sets of points, each once as a test that computes and once in
--- terms of strings and liberties. The law `connecting_moves_are_by_strings` says that the two are the same.
+-- The moves that a reading of a connection tries, once as tests that compute and once in terms of strings and
+-- liberties. The law `connecting_moves_are_by_strings` says that both have the same moves.
 use Rattle.std.specs.Prelude.{◌≡◌, ℕ, ◌*◌, ◌&&◌, ◌||◌, Bool, true, List}
 use Rattle.go_rules.specs.declared.Cell.{Cell}
 use Rattle.go_rules.specs.Board.{are_neighbours}
@@ -32,8 +32,6 @@ is_capture s cells a b p = is_last_liberty_of_enemy s cells a p || is_last_liber
 abbrev pub is_connecting_move : Link → BoardState → ℕ → Bool
 is_connecting_move link pos p =
     is_between pos.size pos.cells link.a link.b p || is_capture pos.size pos.cells link.a link.b p
-
--- The same in terms of strings and liberties.
 
 -- p is a liberty of the string of a and a neighbour of a liberty of the string of b, which is q
 pub record IsFacing (s : ℕ) (cells : List Cell) (a b q p : ℕ) : Type 0 where

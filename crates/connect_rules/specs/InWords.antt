@@ -17,7 +17,7 @@ pub record BothStand (link : Link) (pos : BoardState) : Type 0 where
   pub a : cell_at pos.cells link.a ≡ stone_of link.colour
   pub b : cell_at pos.cells link.b ≡ stone_of link.colour
 
--- the same two strings, the second named first
+-- the two strings of a link, the second named first
 abbrev pub exchanged : Link → Link
 exchanged link = record { a = link.b; b = link.a; colour = link.colour }
 

@@ -31,7 +31,7 @@ is_about q pos = (q.size == pos.size) && both_stand (link_of q) pos
 abbrev pub is_attained : LinkQuestion → BoardState → Bool
 is_attained q pos = has_way (is_connect q.kind) (can_connect q.plies (link_of q) (is_connect q.kind) pos)
 
--- the pass attains it: for connect where the two are one string already, for disconnect where they cannot be joined
+-- the pass attains it: for connect if the two are one string already, for disconnect if they cannot be joined
 -- after it
 abbrev pub pass_attains : LinkQuestion → BoardState → Bool
 pass_attains q pos =

@@ -54,7 +54,7 @@ pub fn either_string_may_be_named_first()
         → link.b < pos.size * pos.size → can_connect n (exchanged link) own pos ≡ can_connect n link own pos }
 {}
 
-/// The answer is yes where the side that is asked about has its way, and then tells the first move that attains it.
+/// The answer is yes if the side that is asked about has its way, and then tells the first move that attains it.
 pub fn linkages_are_by_the_tree()
     ensures another { (q : LinkQuestion) (pos : BoardState) → is_about q pos ≡ false
         → linkage_of q pos ≡ record { yes = false; at = None } }

@@ -1,6 +1,6 @@
 -- The functions of constraint expressions. Each looks at the position before the pattern's move, with its ban; a and
 -- b are points of the board. The friend is the colour that plays the pattern's move, the enemy is the other one. A
--- test is worth 1 where it holds.
+-- test is worth 1 if it holds.
 use Rattle.std.specs.Prelude.{ℕ, ◌==◌, ◌&&◌, ◌||◌, nat_lt, Bool, true, false, List, [], ◌∷◌, Option, Some, None}
 use Rattle.std.specs.Prelude.{is_some, Result, Ok, Err, ℤ, pos as whole, ◌-ℤ◌}
 use Rattle.std.specs.List.{list_any}
@@ -21,7 +21,7 @@ abbrev pub after_play : {A : Type 0} → A → (BoardState → A) → Result Boa
 after_play d f (Ok next) = f next
 after_play d f (Err e) = d
 
--- how many liberties the string at a has, 0 where a is empty
+-- how many liberties the string at a has, 0 if a is empty
 abbrev pub lib : BoardState → ℕ → ℕ
 lib pos a = liberties pos.size pos.cells a
 
@@ -37,11 +37,11 @@ xlib pos friend a = liberties_after pos (other friend) a
 abbrev pub olib : BoardState → Colour → ℕ → ℕ
 olib pos friend a = liberties_after pos friend a
 
--- the code of an attack on the string at a, 0 where a is empty
+-- the code of an attack on the string at a, 0 if a is empty
 abbrev pub attack : Codes → BoardState → ℕ → ℕ
 attack code pos a = code_at code Attack pos a
 
--- the code of a defence of the string at a, 0 where a is empty
+-- the code of a defence of the string at a, 0 if a is empty
 abbrev pub defend : Codes → BoardState → ℕ → ℕ
 defend code pos a = code_at code Defend pos a
 
@@ -107,13 +107,13 @@ lack_after code kind pos c a b =
     after_play (whole 0) (λ next. whole 3 -ℤ whole (code_at code kind next b)) (play pos c a)
 
 -- how much a play at a attacks the string at b: 3 minus the code of its defence after the other colour plays at a, 3
--- where that play captures it, and 0 where b is empty or the play is illegal
+-- if that play captures it, and 0 if b is empty or the play is illegal
 abbrev pub does_attack : Codes → BoardState → ℕ → ℕ → ℤ
 does_attack code pos a b =
     of_stone (whole 0) (λ c. lack_after code Defend pos (other c) a b) (colour_of (cell_at pos.cells b))
 
 -- how much a play at a defends the string at b: 3 minus the code of an attack on it after its colour plays at a, and
--- 0 where b is empty or the play is illegal
+-- 0 if b is empty or the play is illegal
 abbrev pub does_defend : Codes → BoardState → ℕ → ℕ → ℤ
 does_defend code pos a b = of_stone (whole 0) (λ c. lack_after code Attack pos c a b) (colour_of (cell_at pos.cells b))
 
@@ -145,22 +145,22 @@ unfoldable pub after_moves : BoardState → Colour → List (Option ℕ) → Boa
 after_moves pos c [] = pos
 after_moves pos c (m ∷ ms) = after_moves (after_move pos c m) (other c) ms
 
--- the code of an attack on the string at a after these moves in turn, of which the friend makes the first; 0 where a
+-- the code of an attack on the string at a after these moves in turn, of which the friend makes the first; 0 if a
 -- is empty then
 abbrev pub oplay_attack : Codes → BoardState → Colour → List (Option ℕ) → ℕ → ℕ
 oplay_attack code pos friend moves a = attack code (after_moves pos friend moves) a
 
--- the code of a defence of the string at a after these moves in turn, of which the friend makes the first; 0 where a
+-- the code of a defence of the string at a after these moves in turn, of which the friend makes the first; 0 if a
 -- is empty then
 abbrev pub oplay_defend : Codes → BoardState → Colour → List (Option ℕ) → ℕ → ℕ
 oplay_defend code pos friend moves a = defend code (after_moves pos friend moves) a
 
--- the code of an attack on the string at a after these moves in turn, of which the enemy makes the first; 0 where a
+-- the code of an attack on the string at a after these moves in turn, of which the enemy makes the first; 0 if a
 -- is empty then
 abbrev pub xplay_attack : Codes → BoardState → Colour → List (Option ℕ) → ℕ → ℕ
 xplay_attack code pos friend moves a = attack code (after_moves pos (other friend) moves) a
 
--- the code of a defence of the string at a after these moves in turn, of which the enemy makes the first; 0 where a
+-- the code of a defence of the string at a after these moves in turn, of which the enemy makes the first; 0 if a
 -- is empty then
 abbrev pub xplay_defend : Codes → BoardState → Colour → List (Option ℕ) → ℕ → ℕ
 xplay_defend code pos friend moves a = defend code (after_moves pos (other friend) moves) a

@@ -27,7 +27,7 @@ readings_at pos p = if is_stone (cell_at pos.cells p) then 1 else 0
 unfoldable pub readings_after : BoardState → Colour → ℕ → ℕ → ℕ
 readings_after pos c a b = after_play 0 (λ next. readings_at next b) (play pos c a)
 
--- the reading of the other colour's stone at b after c plays at a; none where one of the two plays is illegal
+-- the reading of the other colour's stone at b after c plays at a; none if one of the two plays is illegal
 unfoldable pub readings_against : BoardState → Colour → ℕ → ℕ → ℕ
 readings_against pos c a b = after_play 0 (λ next. readings_after next (other c) b b) (play pos c a)
 
@@ -39,11 +39,11 @@ point_readings m point.SafeXmove a = readings_after m.position (other m.friend) 
 point_readings m point.SafeOmove a = readings_after m.position m.friend a a
 point_readings m _ a = 0
 
--- the reading of the string at b after the other colour plays at a; none where b is empty or the play is illegal
+-- the reading of the string at b after the other colour plays at a; none if b is empty or the play is illegal
 abbrev pub attack_readings : BoardState → ℕ → ℕ → ℕ
 attack_readings pos a b = of_stone 0 (λ c. readings_after pos (other c) a b) (colour_of (cell_at pos.cells b))
 
--- the reading of the string at b after its colour plays at a; none where b is empty or the play is illegal
+-- the reading of the string at b after its colour plays at a; none if b is empty or the play is illegal
 abbrev pub defence_readings : BoardState → ℕ → ℕ → ℕ
 defence_readings pos a b = of_stone 0 (λ c. readings_after pos c a b) (colour_of (cell_at pos.cells b))
 

@@ -78,7 +78,7 @@ fn value_at<E: Env>(env: &mut E, function: PointFunction, a: Point) -> i64
     }
 }
 
-/// The value of a function of one point, 0 where the arguments are not one with a point.
+/// The value of a function of one point, 0 if the arguments are not one with a point.
 #[tactic(auto, using(crate::proofs::CallCounts::stays_same))]
 fn of_point<E: Env>(env: &mut E, function: PointFunction, args: &[Arg]) -> i64
     requires { are_on_board (E.view env.old).meanings.position.size (E.view env.old).meanings.point args.now ≡ true }
@@ -120,7 +120,7 @@ fn value_at_pair<E: Env>(env: &mut E, function: PairFunction, a: Point, b: Point
     }
 }
 
-/// The value of a function of two points, 0 where the arguments are not two with points.
+/// The value of a function of two points, 0 if the arguments are not two with points.
 #[tactic(auto, using(crate::proofs::CallCounts::stays_same))]
 fn of_pair<E: Env>(env: &mut E, function: PairFunction, args: &[Arg]) -> i64
     requires { are_on_board (E.view env.old).meanings.position.size (E.view env.old).meanings.point args.now ≡ true }
@@ -253,7 +253,7 @@ fn of_moves<E: Env>(env: &mut E, function: MovesFunction, args: &[Arg]) -> i64
     }
 }
 
-/// The value of a call, 0 where the arguments are not as the function takes them.
+/// The value of a call, 0 if the arguments are not as the function takes them.
 #[tactic(auto, using(crate::proofs::CallCounts::stays_same), unfolding(crate::specs::Values::call_value, crate::specs::Questions::call_readings))]
 pub fn call<E: Env>(env: &mut E, function: Function, args: &[Arg]) -> i64
     requires { are_on_board (E.view env.old).meanings.position.size (E.view env.old).meanings.point args.now ≡ true }

@@ -24,7 +24,7 @@ small_fits : (r : ℤ) → IsWithin (most_leaves * most) r → SFits w64 r
 small_fits (pos n) h = let high = h.high in record { sfits = omega (arith, ints) }
 small_fits (negsuc n) h = let low = h.low in record { sfits = omega (arith, ints) }
 
--- so does the value of a constraint
+-- the value of a constraint fits
 pub value_fits : (e : Expr) (r : ℤ) → IsConstraint e → IsWithin (leaf_count e * most) r → SFits w64 r
 value_fits e r c h = small_fits r (all_small e r c h)
 

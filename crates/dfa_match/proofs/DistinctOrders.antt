@@ -77,7 +77,7 @@ module _ {X : Type 0} where
       (distinct f.place g.place d (from_within xs (swap xs a b) a b i d f p q (omega (arith, same, l)))
       (from_within xs (swap xs a b) a b j d g p q (omega (arith, same, k))) (sym f.same ∙ e ∙ g.same))
 
-  -- and in any other order
+  -- a list whose elements differ has them differ in any other order
   pub AreDistinct-permutation : (xs ys : List X) → IsPermutation xs ys → AreDistinct xs → AreDistinct ys
   AreDistinct-permutation xs ys moved distinct =
       IsPermutation-keeps xs AreDistinct distinct (λ l i j p q kept. AreDistinct-swap l i j p q kept) ys moved

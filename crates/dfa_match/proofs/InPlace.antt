@@ -24,7 +24,7 @@ pub same_next : {X : Type 0} (xs ys : List X) (i : ℕ) (d : X) → drop i ys �
 same_next xs ys i d rest long low =
     ap (λ l. get_or l 0 d) (sym (drop_more ys i d (omega (arith, low, long))) ∙ rest ∙ drop_more xs i d low)
 
--- and they are the same behind i, also where an element before is written
+-- two lists that are the same from i on are the same behind i, also if an element before is written
 pub same_more : {X : Type 0} (xs ys : List X) (k i : ℕ) (x : X) → drop i ys ≡ drop i xs → length ys ≡ length xs
     → i < length xs → k ≤ i → drop (i + 1) (set ys k x) ≡ drop (i + 1) xs
 same_more xs ys k i x rest long low behind = drop-set-lt (i + 1) ys k x (omega (arith, behind))
@@ -61,7 +61,7 @@ module _ {X : Type 0} {f : X → X} {p : X → Bool} {xs ys : List X} {k i : ℕ
       none_more : k + bool_byte false ≡ k
       none_more = omega arith
 
-  -- so it goes in place
+  -- a list with one element more written is mapped in place so far
   pub MapsInPlace-more : {n : ℕ} → MapsInPlace f p xs ys k i → GathersInFront f p xs (set ys k x) n (i + 1)
       → MapsInPlace f p xs (set ys k x) n (i + 1)
   MapsInPlace-more h gathered = record {

@@ -119,7 +119,7 @@ module _ (automaton : List Row) (good : IsAutomaton automaton) (pos : BoardState
           (λ w there. walk_opened automaton pos friend t size letters sights low steps are_steps openings w are
           (second.each w there))
 
-      -- those of them that go on
+      -- the walks behind their openings that go on
       pub walks_alive : (openings : List ℕ) → AreOpenings automaton openings
           → AreWalks automaton pos friend t
           (filter goes_on (map (after_opening openings steps letters) (second_walks_of automaton letters pos.size)))

@@ -21,7 +21,7 @@ read_below s f (w ∷ walks) m = if anchor_of s w == m then f w else read_below 
 abbrev pub before_giving : Walk → ℕ
 before_giving w = w.letters
 
--- and after that
+-- as many letters as a walk has read, once what is accepted behind them is given out
 abbrev pub after_giving : Walk → ℕ
 after_giving w = w.letters + 1
 

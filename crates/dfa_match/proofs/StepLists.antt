@@ -70,7 +70,7 @@ module _ (n t : ℕ) (old new : List ℕ) (below : AreStepsBelow n old) (same : 
         ∙ ap (λ v. step_by (transformed v (offset_at i))) (sym is)
   ]
 
-  -- and none of them leads too far
+  -- no step of the longer list leads too far
   past_below : (k : ℕ) → k < (n + 1) * step_count → get_or new k 0 ≤ last_step
   past_below k low = elim (cases_lt k (length old)) [
     | inl old_one ↦
@@ -82,7 +82,7 @@ module _ (n t : ℕ) (old new : List ℕ) (below : AreStepsBelow n old) (same : 
         (behind.past (k - length old) (omega (arith, low, last, below.all)))
   ]
 
-  -- so they are those of one transformation more
+  -- the longer list has the steps of one transformation more
   pub steps_below_more : AreStepsBelow (n + 1) new
   steps_below_more = record { all = omega (arith, behind.all, below.all); each = each_below; past = past_below }
 
@@ -91,7 +91,7 @@ pub offset_at-zero : offset_at 0 ≡ (plus 0, plus 0)
 unfolding offset_at
 offset_at-zero = refl
 
--- and it is moved nowhere by any transformation
+-- the first offset is moved nowhere by any transformation
 pub still : (t : ℕ) → transformed t (plus 0, plus 0) ≡ (plus 0, plus 0)
 still t = grind arith
 

@@ -95,7 +95,7 @@ module _ (automaton : List Row) (good : IsAutomaton automaton) where
       (good.targets (row_of w.entry) (get_or letters (w.corner + no_step) Off) stands.row) refl in
       record { row = entry.row; kind = entry.kind; corner = stands.corner }
 
-  -- behind its opening too
+  -- behind its opening a walk stands at a row
   standing_opening : (openings steps : List ℕ) (letters : List Seen) (w : Walk) → AreOpenings automaton openings
       → IsStanding automaton w → IsStanding automaton (after_opening openings steps letters w)
   standing_opening openings steps letters w are stands = elim (opening_cases openings steps letters w) [
@@ -113,13 +113,13 @@ module _ (automaton : List Row) (good : IsAutomaton automaton) where
   begun_standing letters walks standing = All-map (IsStanding automaton) (after_anchor automaton letters) walks
       (λ k d low. standing_anchor letters (get_or walks k d) (standing k d low))
 
-  -- and those of them that go on
+  -- the walks behind the letters of their anchors that go on stand at rows
   pub second_standing : (letters : List Seen) (walks : List Walk) → All (IsStanding automaton) walks
       → All (IsStanding automaton) (filter goes_on (map (after_anchor automaton letters) walks))
   second_standing letters walks standing = All-filter goes_on (IsStanding automaton)
       (map (after_anchor automaton letters) walks) (begun_standing letters walks standing)
 
-  -- so do those behind their openings
+  -- the walks behind their openings stand at rows
   pub opened_standing : (openings steps : List ℕ) (letters : List Seen) (walks : List Walk)
       → AreOpenings automaton openings → All (IsStanding automaton) walks
       → All (IsStanding automaton) (map (after_opening openings steps letters) walks)
@@ -127,7 +127,7 @@ module _ (automaton : List Row) (good : IsAutomaton automaton) where
       All-map (IsStanding automaton) (after_opening openings steps letters) walks
       (λ k d low. standing_opening openings steps letters (get_or walks k d) are (standing k d low))
 
-  -- and those behind letters
+  -- the walks behind letters stand at rows
   pub passed_standing : (entries passed steps : List ℕ) (letters : List Seen) (walks : List Walk)
       → AreShortcuts automaton entries passed → All (IsStanding automaton) walks
       → All (IsStanding automaton) (map (after_letters entries passed steps letters) walks)

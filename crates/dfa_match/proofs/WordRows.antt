@@ -47,7 +47,7 @@ module _ (automaton : List Row) (pos : BoardState) (friend : Colour) (t : ℕ) w
       sym (ap (reach automaton) (word_split seen 0 i 1 ∙ ap (λ w. word_from seen 0 i ++ w) one)
       ∙ reach_from-push automaton 0 (word_from seen 0 i) (seen i))
 
-  -- and after further ones
+  -- the row of a point after one letter more and further ones
   pub row_on : (i j m : ℕ) → row_after automaton pos friend t (i + 1 + j) m
       ≡ reach_from automaton (step_at automaton (row_after automaton pos friend t i m) (seen_at pos friend t m i))
       (word_from (seen_at pos friend t m) (i + 1) j)

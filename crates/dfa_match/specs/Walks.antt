@@ -62,7 +62,7 @@ abbrev pub opening_of : List ℕ → List ℕ → List Seen → Walk → ℕ
 opening_of openings steps letters w =
     slice_index_or openings (word_number (word_behind letters steps w.corner opening_letters)) unknown
 
--- the walk behind its opening, or as it was where nothing is known of the row there
+-- the walk behind its opening, or as it was if nothing is known of the row there
 abbrev pub after_opening : List ℕ → List ℕ → List Seen → Walk → Walk
 after_opening openings steps letters w =
     if opening_of openings steps letters w == unknown then w else record {

@@ -21,9 +21,9 @@ use std::alloc::Global;
 /// The letters of the ring around an anchor, as the digits of a number to the base four, the first one highest.
 #[derive(Clone, Copy)]
 pub struct Ring {
-    /// As they are read if nothing is moved.
+    /// The letters as they are read if nothing is moved.
     pub plain: u16,
-    /// As they are read where the ring is mirrored, by transformation 4.
+    /// The letters as they are read if the ring is mirrored, by transformation 4.
     pub mirrored: u16,
 }
 

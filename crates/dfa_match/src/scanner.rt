@@ -34,7 +34,7 @@ impl Model for Scanner {
 
 impl Scanner {
     /// Makes an automaton ready for scans. Takes memory: five bytes for each letter of each row, 55 kilobytes, and a
-    /// megabyte where the automaton is not small.
+    /// megabyte if the automaton is not small.
     pub fn new(alloc: Global, automaton: Automaton) -> Result<Scanner, NoMemory>
         ensures { IfOk result (λ scanner. scanner ≡ automaton) }
     {

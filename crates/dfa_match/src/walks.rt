@@ -39,7 +39,7 @@ impl Walk {
         !is_dead(self.entry) && self.letters < OFFSETS
     }
 
-    /// Makes it the same as another, part by part, which is faster than a whole walk that is put together first.
+    /// Makes this walk the other one, part by part, which is faster than a whole walk that is put together first.
     #[inline(always)]
     fn set(&mut self, other: Walk)
         ensures { self.new ≡ other }
@@ -107,7 +107,7 @@ pub fn second_walks(
     Ok(walks)
 }
 
-/// The walk behind its opening under one transformation, or as it was where nothing is known of the row there.
+/// The walk behind its opening under one transformation, or as it was if nothing is known of the row there.
 #[inline(always)]
 fn behind_opening(
     shortcuts: &Shortcuts,

@@ -3,7 +3,7 @@ use Rattle.std.specs.Prelude.{ℕ, Option, Some, None, codes}
 use Rattle.clap.specs.Walk.{Text}
 use Rattle.read_rules.specs.Ranges.{least_plies, most_plies, most_wide}
 
--- an option of this name has a number from the least to the greatest, and this text stands where it is not given
+-- an option of this name has a number from the least to the greatest, and this text stands if it is not given
 pub record NumberOption : Type 0 where
   pub name : Text
   pub least : ℕ

@@ -111,7 +111,7 @@ fn cause(kind: ErrorKind) -> OptionsError
 /// The options that the words of a command line give, which are without the program's name.
 ///
 /// A value stands behind `=` in its option's word or in the word that follows, and `--` ends the options; a word that
-/// begins with no hyphen, or is `-` alone, names a file. Usage comes only where the command line does not take the
+/// begins with no hyphen, or is `-` alone, names a file. Usage comes only if the command line does not take the
 /// words: for a name that it does not have, a value that is no number in its range or is missing, a flag with a value,
 /// and an option that is given twice.
 pub fn read_options(alloc: Global, words: &[String]) -> Result<Options, OptionsError>

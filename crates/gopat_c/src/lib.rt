@@ -1,9 +1,9 @@
 //! gopat for programs in C, and in any language that can call C: the exports of the static library `libgopat_c.a`.
 //!
 //! Each export is one call of a door of `board_doors`, and its clause says that the reply is the one for the answer
-//! that is defined there. A board crosses by value, so no export but `gopat_check` and `gopat_proof` takes a pointer, and
-//! a caller may hand over any numbers: what has no answer has a status of its own. Nothing takes memory, and no export
-//! keeps anything from one call to the next. `gopat.h`, in the folder of this crate, is what a C compiler reads.
+//! that is defined there. A board crosses by value, so no export but `gopat_check` and `gopat_proof` takes a pointer,
+//! and a caller may hand over any numbers: what has no answer has a status of its own. Nothing takes memory, and no
+//! export keeps anything from one call to the next. `gopat.h`, in the folder of this crate, is what a C compiler reads.
 #![tactic(auto)]
 
 ghost use Rattle.std.specs.Prelude.{◌≡◌, length, take, true, Ok};
@@ -40,7 +40,8 @@ pub extern "C" fn gopat_defend(board: BoardBytes, target: u16, depths: DepthByte
 }
 
 /// Every move that attains the code of an attack on the string at `target` (`kind` 1) or of its defence (`kind` 2), of
-/// the moves that the reader tries: the code, whether the pass attains it, and for each point whether a play there does.
+/// the moves that the reader tries: the code, whether the pass attains it, and for each point whether a play there
+/// does.
 #[unsafe(no_mangle)]
 pub extern "C" fn gopat_all(
     board: BoardBytes,
@@ -55,7 +56,7 @@ pub extern "C" fn gopat_all(
 
 /// Writes the first proof of the code of an attack on the string at `target` (`kind` 1) or of its defence (`kind` 2)
 /// into the first bytes of the buffer: the words that the program prints behind the code. `gopat_check` accepts them.
-/// With a fault, and where the buffer is too short, it stays as it is. The buffer is a pointer and then a length; the
+/// With a fault, and if the buffer is too short, it stays as it is. The buffer is a pointer and then a length; the
 /// pointer is not null, even for no bytes.
 #[unsafe(no_mangle)]
 pub extern "C" fn gopat_proof(
@@ -91,7 +92,7 @@ pub extern "C" fn gopat_disconnect(board: BoardBytes, a: u16, b: u16, plies: u8)
     linkage_reply(board_doors::disconnect(&board, a, b, plies))
 }
 
-/// The board after the colour 1, Black, or 2, White, plays at a point, or passes where it is 65535; with a fault the
+/// The board after the colour 1, Black, or 2, White, plays at a point, or passes if it is 65535; with a fault the
 /// board that was handed over.
 #[unsafe(no_mangle)]
 pub extern "C" fn gopat_play(board: BoardBytes, colour: u8, at: u16) -> PlayReply

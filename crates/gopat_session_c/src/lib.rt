@@ -1,11 +1,11 @@
 //! A session for programs in C, and in any language that can call C: the exports of the static library
 //! `libgopat_session_c.a`.
 //!
-//! A handle holds a session: patterns, a board, and the answers that are kept. It is a struct of the caller's, all zeros
-//! before its first call; the calls take it by a pointer, and `gopat_session_close` frees what it holds. `gopat_line`
-//! answers a line of the protocol as the program does, and writes the reply into the caller's buffer. There are no
-//! helpers, and each file that a line names counts as empty. `gopat_session.h`, in the folder of this crate, is what a
-//! C compiler reads.
+//! A handle holds a session: patterns, a board, and the answers that are kept. It is a struct of the caller's, all
+//! zeros before its first call; the calls take it by a pointer, and `gopat_session_close` frees what it holds.
+//! `gopat_line` answers a line of the protocol as the program does, and writes the reply into the caller's buffer.
+//! There are no helpers, and each file that a line names counts as empty. `gopat_session.h`, in the folder of this
+//! crate, is what a C compiler reads.
 #![tactic(auto)]
 
 ghost use Rattle.std.specs.Prelude.{◌≡◌, None, IfSome, length};

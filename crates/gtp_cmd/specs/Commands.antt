@@ -97,7 +97,7 @@ move_of s (colour ∷ target ∷ more) =
     option_and_then (λ c. option_map (λ at. (c, at)) (target_of s target)) (colour_of colour)
 move_of s _ = None
 
--- the number that a word writes, where it lies between these two
+-- the number that a word writes, if it lies between these two
 abbrev pub number_between : ℕ → ℕ → List ℕ → Option ℕ
 number_between low high word =
     option_and_then (λ n. if nat_le low n && nat_le n high then Some n else None) (number_of word)
@@ -137,7 +137,7 @@ points_of s (first ∷ second ∷ more) =
     option_and_then (λ p. option_map (λ q. (p, q)) (vertex_of s second)) (vertex_of s first)
 points_of s _ = None
 
--- what a command is with these words after its name, which stand at these spans, on a board of size s; none where an
+-- what a command is with these words after its name, which stand at these spans, on a board of size s; none if an
 -- argument is missing or malformed
 abbrev pub command_of : CommandName → ℕ → List (List ℕ) → List Span → Option Command
 command_of name.ProtocolVersion s words spans = Some command.ProtocolVersion
@@ -177,12 +177,12 @@ command_of name.HelperOff s words spans = option_map command.HelperOff (first_sp
 command_of name.HelperCalls s words spans = option_map command.HelperCalls (first_span spans)
 command_of name.HelperDrop s words spans = option_map command.HelperDrop (first_span spans)
 
--- a command, or a refusal where its arguments are missing or malformed
+-- a command, or a refusal if its arguments are missing or malformed
 abbrev pub asked : Option ℕ → Option Command → Parsed
 asked id None = parsed.Refused id SyntaxError
 asked id (Some c) = parsed.Command id c
 
--- what the words after a name say, which stand at these spans, or a refusal where the name is no command's
+-- what the words after a name say, which stand at these spans, or a refusal if the name is no command's
 abbrev pub called : Option ℕ → ℕ → Option CommandName → List (List ℕ) → List Span → Parsed
 called id s None words spans = parsed.Refused id UnknownCommand
 called id s (Some n) words spans = asked id (command_of n s words spans)

@@ -62,7 +62,7 @@ pub fn colour_and_target(text: &[u8], size: Size) -> Option<(Colour, Option<Poin
     Some((colour, target))
 }
 
-/// The number that a word writes, where it lies between these two.
+/// The number that a word writes, if it lies between these two.
 fn number_between(low: u8, high: u8, word: &[u8]) -> Option<u8>
     ensures { result ≡ number_between low high (kept word.now) }
 {

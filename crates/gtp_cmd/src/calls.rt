@@ -37,7 +37,7 @@ fn komi(text: &[u8]) -> Option<KomiText>
     }
 }
 
-/// The command with the arguments that the text behind its name gives, or nothing where one is missing or malformed.
+/// The command with the arguments that the text behind its name gives, or nothing if one is missing or malformed.
 /// The name begins in the whole text at this place or behind it.
 pub fn arguments(
     name: CommandName,

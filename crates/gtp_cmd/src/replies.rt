@@ -26,7 +26,7 @@ fn head(first: &[u8], id: Option<u32>) -> Short
 
 /// A success with a result of any length, put at the end of an empty list. Takes memory.
 ///
-/// The reply is `=`, the id if there is one, a blank and the result where the result is not empty, and two line feeds.
+/// The reply is `=`, the id if there is one, a blank and the result if the result is not empty, and two line feeds.
 /// After the GTP version 2 draft, on the form of a reply, but for the blank that an empty result has there.
 pub fn success(id: Option<u32>, text: &[u8], mut out: Bytes) -> Result<Bytes, NoMemory>
     requires { out ≡ [] }

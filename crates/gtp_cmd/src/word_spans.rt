@@ -23,7 +23,7 @@ fn is_skipped(b: u8) -> bool
     !is_kept(b) || is_parting(b)
 }
 
-/// The place of the first byte of a word from a place on, and the end of the text where there is none.
+/// The place of the first byte of a word from a place on, and the end of the text if there is none.
 fn word_start(text: &[u8], place: usize) -> usize
     requires { place ≤ length text.now }
     ensures order { place ≤ result }
@@ -85,7 +85,7 @@ fn next_span(text: &[u8], place: usize) -> Option<Span>
     })
 }
 
-/// The place behind the first word from a place on, and the end of the text where there is none.
+/// The place behind the first word from a place on, and the end of the text if there is none.
 pub fn behind_word(text: &[u8], place: usize) -> usize
     requires inside { place ≤ length text.now }
     requires short { length text.now ≤ longest_line }
@@ -115,7 +115,7 @@ fn word_end_after(b: u8, place: usize, end: usize) -> usize
     if is_skipped(b) { end } else { place + 1 }
 }
 
-/// The place behind the last byte of a text that belongs to a word, where one begins at this place.
+/// The place behind the last byte of a text that belongs to a word, if one begins at this place.
 fn words_end(text: &[u8], start: usize) -> usize
     requires inside { start < length text.now }
     requires word { is_skipped (slice_index text.now start) ≡ false }

@@ -80,7 +80,8 @@ impl Connections {
         self.answers.ask(key, position).answer
     }
 
-    /// Answers the same question if a kept variant of it stands on the position. Else nothing changes.
+    /// Answers a question about two stones of the position, of one colour, if a kept variant of the question stands on
+    /// the position. Else nothing changes.
     pub fn find_kept(
         &mut self,
         kind: LinkKind,

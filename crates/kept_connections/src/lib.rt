@@ -1,7 +1,7 @@
 //! Answers about connections, counted and kept.
 //!
 //! `Connections` answers each question as a fresh reading does. It keeps the answer with the facts that it rests on,
-//! and answers from what it keeps exactly where a kept variant of the question stands on the position.
+//! and answers from what it keeps exactly if a kept variant of the question stands on the position.
 //!
 //! After GNU Go Manual, "Tactical reading", on the persistent cache; connections are read by this project's own tree.
 #![tactic(auto)]

@@ -180,7 +180,7 @@ module _ (machine : Machine) where
   one_parsed (parsed.Command id c) = one_command c
   one_parsed _ = refl
 
-  -- and the line
+  -- a line asks one question exactly if it asks for a reading and is answered with a code
   pub one-line : (line : RawLine) → is_one (asks_of_line machine line) ≡ is_read_line machine line
   unfolding asks_of_line is_read_line
   one-line TooLong = refl

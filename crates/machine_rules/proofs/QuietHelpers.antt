@@ -28,7 +28,7 @@ from-quiet times before (s ∷ slots) = λ i.
     place-quiet (list_any (has_name s.helper.name) before) (times s.helper.name) s i
     ∷ from-quiet times (s ∷ before) slots i
 
--- so a list of helpers keeps all but its calls
+-- a list of helpers whose calls rose keeps all but its calls
 pub raised-quiet : (times : List ℕ → ℕ) (slots : List SlotState)
     → without_calls (raised times slots) ≡ without_calls slots
 raised-quiet times slots = from-quiet times [] slots

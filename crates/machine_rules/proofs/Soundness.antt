@@ -57,7 +57,7 @@ abbrev KeepMachine : Machine → List Excuse → Type 0
 KeepMachine old [] = Unit {0}
 KeepMachine old (excuse ∷ excuses) = AreSameButCalls old excuse.next × KeepMachine old excuses
 
--- What a command does keeps the machine if it is refused or ends the session, and so do its excuses, but for the
+-- A command that is refused or ends the session keeps the machine, and the excuses of a command keep it, but for the
 -- calls of helpers.
 record IsKind (old : Machine) (effect : Effect) : Type 0 where
   refused : (text : RefuseText) → effect.refusal ≡ Some text → effect.next ≡ old
@@ -301,7 +301,7 @@ read-line_on matcher old file line reads =
     read-parsed matcher old (record { line = bytes_in line; file = file }) (heard old line)
     (sym (read-heard old line) ∙ reads)
 
--- and the line
+-- a line that asks for a reading and is answered with a code is told some text, and the machine stays
 pub read-line : (matcher : Matcher) (contents : Contents) (old : Machine) (line : RawLine) (given : Step Machine)
     → step matcher contents old line given → is_read_line old line ≡ true
     → (id : Option ℕ) × (text : List ℕ) × (given ≡ replied id (told text old))
@@ -329,7 +329,7 @@ linked-told old kind a b one = all-pass (has_stone old a) (has_stone old b)
     (told (linkage_text old.base.size (linkage_at old kind a b)) old) (refused old VertexEmpty)
     (refused old VertexEmpty) (refused old ColoursDiffer) one
 
--- the same of such a command
+-- a question about a connection that is asked is answered with some text, and the machine stays
 link-at : (old : Machine) (kind : LinkKind) (a b : ℕ) (q : LinkQuestion) → asks_link_at old kind a b ≡ Some q
     → (text : List ℕ) × (linked old kind a b ≡ told text old)
 link-at old kind a b q asks = (_, linked-told old kind a b (was-passed (have_one_colour old a b) _ q asks))
@@ -364,7 +364,7 @@ link-line_on matcher old file line q asks =
     link-parsed matcher old (record { line = bytes_in line; file = file }) (heard old line) q
     (sym (link-heard old line) ∙ asks)
 
--- and the line
+-- a line that asks about a connection is told some text, and the machine stays
 pub link-line : (matcher : Matcher) (contents : Contents) (old : Machine) (line : RawLine) (given : Step Machine)
     → step matcher contents old line given → (q : LinkQuestion) → asks_link_of_line old line ≡ Some q
     → (id : Option ℕ) × (text : List ℕ) × (given ≡ replied id (told text old))

@@ -20,12 +20,12 @@ is_read machine (command.Attack p) = has_stone machine p
 is_read machine (command.Defend p) = has_stone machine p
 is_read machine _ = false
 
--- the same of what a line says
+-- whether what a line says asks for a reading and is answered with a code
 abbrev pub is_parsed_read : Machine → Parsed → Bool
 is_parsed_read machine (parsed.Command id command) = is_read machine command
 is_parsed_read machine _ = false
 
--- the same of a line
+-- whether a line asks for a reading and is answered with a code
 unfoldable pub is_read_line : Machine → RawLine → Bool
 is_read_line machine TooLong = false
 is_read_line machine (Line text) = is_parsed_read machine (parsed_of text machine.base.size)

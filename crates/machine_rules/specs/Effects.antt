@@ -13,30 +13,30 @@ pub record Excuse : Type 0 where
 
 -- what a command does and tells
 pub record Effect : Type 0 where
-  -- why it is refused; none where it succeeds
+  -- why the command is refused; none if it succeeds
   pub refusal : Option RefuseText
   -- the result of a success
   pub result : List ℕ
   -- what may stand in place of the reply
   pub excuses : List Excuse
-  -- the machine after it
+  -- the machine after the command
   pub next : Machine
-  -- it ends the session
+  -- the command ends the session
   pub ends : Bool
 
 -- the command is refused, and the machine stays
 abbrev pub refused : Machine → RefuseText → Effect
 refused old text = record { refusal = Some text; result = []; excuses = []; next = old; ends = false }
 
--- it succeeds with this result, and the machine is next after it
+-- the command succeeds with this result, and the machine is next after it
 abbrev pub told : List ℕ → Machine → Effect
 told result next = record { refusal = None; result = result; excuses = []; next = next; ends = false }
 
--- it succeeds and ends the session, and the machine stays
+-- the command succeeds and ends the session, and the machine stays
 abbrev pub ended : Machine → Effect
 ended old = record { refusal = None; result = []; excuses = []; next = old; ends = true }
 
--- there was no memory, and the machine is this one
+-- the excuse that there was no memory, and that the machine is this one after it
 abbrev pub out_of_memory : Machine → Excuse
 out_of_memory next = record { refusal = OutOfMemory; next = next }
 
@@ -44,11 +44,11 @@ out_of_memory next = record { refusal = OutOfMemory; next = next }
 abbrev pub growing : Machine → Effect → Effect
 growing old effect = record effect { excuses = out_of_memory old ∷ effect.excuses }
 
--- it succeeds with this result in a growing reply, and the machine is next after it
+-- the command succeeds with this result in a growing reply, and the machine is next after it
 abbrev pub grown : Machine → List ℕ → Machine → Effect
 grown old result next = growing old (told result next)
 
--- the text of a reply behind an id: that of the refusal, and where there is none that of the result
+-- the text of a reply behind an id: that of the refusal, or that of the result if there is no refusal
 abbrev pub reply_text : Option ℕ → Option RefuseText → List ℕ → List ℕ
 reply_text id None result = success_text id result
 reply_text id (Some refusal) result = refusal_text id refusal

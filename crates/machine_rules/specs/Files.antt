@@ -1,8 +1,8 @@
 -- The files that lines name, by their contents as a loader tells them.
 use Rattle.std.specs.Prelude.{◌≡◌, ℕ, List, Option, Some, None}
 
--- the contents of the file of each name, where they are told; a file whose contents are not told may hold one text now
--- and another later
+-- the contents of the file of each name, if they are told; a file whose contents are not told may hold one text now and
+-- another later
 abbrev pub Contents : Type 0
 Contents = List ℕ → Option (List ℕ)
 

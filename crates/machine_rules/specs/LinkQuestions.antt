@@ -20,8 +20,8 @@ abbrev pub have_one_colour : Machine → ℕ → ℕ → Bool
 have_one_colour machine a b = has_stone machine a && (has_stone machine b
     && same_cell (cell_at (position_of machine).cells a) (cell_at (position_of machine).cells b))
 
--- the question about the strings of two points of the machine's position, as deep as the machine says, where stones of
--- one colour stand there
+-- the question about the strings of two points of the machine's position, as deep as the machine says, if stones of one
+-- colour stand there
 abbrev pub asks_link_at : Machine → LinkKind → ℕ → ℕ → Option LinkQuestion
 asks_link_at machine kind a b =
     if have_one_colour machine a b then Some (asked_on (position_of machine) kind a b machine.depths.plies) else None
@@ -32,12 +32,12 @@ asks_link_of machine (command.Connect a b) = asks_link_at machine Connect a b
 asks_link_of machine (command.Disconnect a b) = asks_link_at machine Disconnect a b
 asks_link_of machine _ = None
 
--- that which a line asks that says this
+-- the question about a connection that is asked by what a line says, if one is
 abbrev pub asks_link_of_parsed : Machine → Parsed → Option LinkQuestion
 asks_link_of_parsed machine (parsed.Command id command) = asks_link_of machine command
 asks_link_of_parsed machine _ = None
 
--- that which a line asks
+-- the question about a connection that a line asks, if it asks one
 unfoldable pub asks_link_of_line : Machine → RawLine → Option LinkQuestion
 asks_link_of_line machine TooLong = None
 asks_link_of_line machine (Line text) = asks_link_of_parsed machine (parsed_of text machine.base.size)

@@ -23,12 +23,12 @@ pub record Load : Type 0 where
 abbrev pub load_by : Option ℕ → List ℕ → Option Load
 load_by id name = if is_utf8 name then Some (record { id = id; name = name }) else None
 
--- the file that a command loads, where its line has these bytes and this id
+-- the file that a command loads, if its line has these bytes and this id
 abbrev pub load_of : List ℕ → Option ℕ → Command → Option Load
 load_of line id (command.LoadSgf span) = load_by id (word_at line span)
 load_of line id _ = None
 
--- the same of what a line says
+-- the file that is loaded by what a line of these bytes says, if it says so
 abbrev pub parsed_load : List ℕ → Parsed → Option Load
 parsed_load line (parsed.Command id command) = load_of line id command
 parsed_load line _ = None
@@ -46,7 +46,7 @@ abbrev pub IsFileOf : Contents → Option Load → List ℕ → Type 0
 IsFileOf contents None file = Unit {0}
 IsFileOf contents (Some load) file = IsContents (contents load.name) file
 
--- the names that were missed where this was replied: that of the file that could not be loaded
+-- the names that were missed if this was replied: that of the file that could not be loaded
 abbrev pub missed_by : Option Load → List ℕ → List (List ℕ)
 missed_by None reply = []
 missed_by (Some load) reply =

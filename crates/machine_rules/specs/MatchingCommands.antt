@@ -21,8 +21,8 @@ after_asking matcher old friend = record old {
   helpers = after_matches old.helpers matcher.patterns (matcher.matches all_yes old friend) (position_of old) friend;
 }
 
--- it succeeds with this result after the helpers were asked, in a growing reply: if there is no memory for it, they
--- may have been asked or not, and nothing else of the line counts
+-- the command succeeds with this result after the helpers were asked, in a growing reply: if there is no memory for it,
+-- the helpers may have been asked or not, and nothing else of the line counts
 abbrev pub advised : Machine → Machine → List ℕ → Machine → Effect
 advised old asked result next = growing old (growing asked (told result next))
 

@@ -27,7 +27,7 @@ pub data Asks : Type 0 where
 abbrev pub key_at : Machine → Kind → ℕ → Key
 key_at machine kind p = record { question = question_at machine kind p }
 
--- one question, if a stone stands at the point
+-- what a question about the string of a point asks of the readings: one question if a stone stands there, else nothing
 abbrev pub asks_at : Machine → Kind → ℕ → Asks
 asks_at machine kind p = if has_stone machine p then One (key_at machine kind p) else Nothing
 

@@ -1,5 +1,5 @@
 -- What the machine gives for a line: the reply, what may stand in its place, and the machine after it. A refused line
--- keeps the machine, and so does every line whose reply tells something, but for the calls of helpers.
+-- and a line whose reply tells something keep the machine, but for the calls of helpers.
 use Rattle.std.specs.Prelude.{◌≡◌, ℕ, false, List, [], codes}
 use Rattle.gtp_rules.specs.Lines.{RawLine}
 use Rattle.gtp_rules.specs.Steps.{Step}

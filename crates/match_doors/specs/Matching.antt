@@ -28,17 +28,18 @@ depths_named depths = record { tree = tree_named depths.tree; plies = depths.pli
 abbrev pub matches_on : List Pattern → Colour → DepthBytes → BoardState → List Match
 matches_on patterns friend depths pos = matches_of (codes_at (depths_named depths)) (says_yes []) patterns pos friend
 
--- the same of the colour that a number names, or the first fault: of the colour, of the depths
+-- the matches of the patterns for the friend, if there is such a colour, or the first fault: of the colour, of the
+-- depths
 abbrev pub matching_by : List Pattern → DepthBytes → BoardState → Option Colour → Result (List Match) DoorFault
 matching_by patterns depths pos None = Err bad_colour
 matching_by patterns depths pos (Some friend) =
     if are_depths depths then Ok (matches_on patterns friend depths pos) else Err bad_depths
 
--- the same of the colour with this number
+-- the matches of the patterns for the colour with this number, or the first fault: of the colour, of the depths
 unfoldable pub matching_on : List Pattern → ℕ → DepthBytes → BoardState → Result (List Match) DoorFault
 matching_on patterns colour depths pos = matching_by patterns depths pos (colour_named colour)
 
--- the same on the position of the bytes
+-- the matches of the patterns on the position of the bytes, or the first fault
 unfoldable pub matching_of : List Pattern → BoardBytes → ℕ → DepthBytes → Result (List Match) DoorFault
 matching_of patterns board colour depths = on_position (matching_on patterns colour depths) (position_of board)
 

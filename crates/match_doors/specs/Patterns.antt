@@ -22,7 +22,7 @@ pub record AreIn (text : List ℕ) (patterns : List Pattern) : Type 0 where
 abbrev pub NumbersPatterns : List Row → List Pattern → Type 0
 NumbersPatterns automaton patterns = (w : Word) (n : ℕ) → Contains (accepted automaton w) n → n < length patterns
 
--- these are the patterns of the text, they have at most so many states, and this is their automaton
+-- the list has the patterns of the text, they have at most so many states, and the rows are their automaton
 pub record AreRead (text : List ℕ) (most : ℕ) (list : List Pattern) (rows : List Row) : Type 0 where
   pub patterns : AreIn text list
   pub few : (n : ℕ) × HasStates list n × (n ≤ most)
@@ -52,7 +52,7 @@ abbrev pub fault_of_join : JoinError → PatternFault
 fault_of_join join.NoMemory = NoMemory
 fault_of_join (join.TooManyStates limit) = TooManyStates
 
--- these are the patterns of the text, and they have at most so many states
+-- the list has the patterns of the text, and they have at most so many states
 pub record AreOpened (text : List ℕ) (most : ℕ) (list : List Pattern) : Type 0 where
   pub patterns : AreIn text list
   pub few : (n : ℕ) × HasStates list n × (n ≤ most)

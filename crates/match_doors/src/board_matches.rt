@@ -37,7 +37,7 @@ fn find_on(
 }
 
 /// Writes the matches on the board for the colour 1, Black, or 2, White, over the front of the buffer, in order: by the
-/// pattern's number, the transformation and the point. With a fault, and where the buffer is too short, it stays as it
+/// pattern's number, the transformation and the point. With a fault, and if the buffer is too short, it stays as it
 /// is. The faults come in this order: of the board, of the colour, of the depths, want of memory, of the buffer.
 #[tactic(auto, unfolding(crate::specs::Matching::matching_of))]
 pub fn find(

@@ -37,7 +37,7 @@ module _ (slots : List SlotState) (patterns : List Pattern) (board : BoardState)
       ∙ sym (ap (plays_of patterns) (take_more old n z low)
       ∙ map-append (λ y. (names_of (slice_get patterns y.pattern), y.at)) (take n old) (get_or old n z ∷ []))
 
-  -- and the calls are those about the matches up to this one
+  -- the calls are those about the matches up to this one
   pub calls_are : after ≡ after_matches slots patterns (take (n + 1) old) board friend
   calls_are =
       asked_over-more slots board friend (plays_of patterns (take n old))

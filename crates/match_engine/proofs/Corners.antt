@@ -89,7 +89,7 @@ module _ (p : Pattern) (s t a : ℕ) (low : t < transformations) where
       (pos r -ℤ pos p.star.0, pos c -ℤ pos p.star.1) m low star
       ∙ ap (place_at s t a) (λ i. (row i, column i))
 
-  -- where the first letter lies off the board, the diagram is not whole
+  -- if the first letter lies off the board, the diagram is not whole
   pub broken_first : (o : Option ℕ) → place_of_star p s t a ≡ o → from_anchor p s t a 0 0 ≡ None
       → None ≡ star_if_whole p s t o
   broken_first None star off = refl
@@ -97,7 +97,7 @@ module _ (p : Pattern) (s t a : ℕ) (low : t < transformations) where
       ap (λ b. cond b (Some m) None)
       (first_decides p s t m (ap is_some (cell_from_anchor m 0 0 star ∙ off)))
 
-  -- nor where the last letter does
+  -- if the last letter lies off the board, the diagram is not whole
   pub broken_last : (o : Option ℕ) → place_of_star p s t a ≡ o → from_anchor p s t a (p.rows - 1) (p.cols - 1) ≡ None
       → None ≡ star_if_whole p s t o
   broken_last None star off = refl

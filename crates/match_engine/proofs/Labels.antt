@@ -29,10 +29,10 @@ module _ (rows cols letter : ℕ) (labels : List LabelAt) (l : LabelAt) (found :
       (found_in (is_in rows cols) letter labels l found
       (and_parts (list_all (is_in rows cols) labels) (are_apart labels) are).0)
 
-  -- in one of the rows
+  -- the label lies in one of the rows
   pub label_row : l.row < rows
   label_row = ltb-true l.row rows inside.0
 
-  -- and in one of the columns
+  -- the label lies in one of the columns
   pub label_column : l.col < cols
   label_column = ltb-true l.col cols inside.1

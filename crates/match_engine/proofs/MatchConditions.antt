@@ -13,7 +13,7 @@ module _ (code : Codes) (p : Pattern) (board : BoardState) (friend : Colour) (t 
   unsafe_refused e = sym (ap
       (λ b. b && (is_enemy_safe code p board friend m && is_constraint_true code p board friend t m)) e)
 
-  -- so does an enemy's
+  -- an enemy's stone that is not safe settles it
   pub enemy_refused : is_safe code p board friend m ≡ true → is_enemy_safe code p board friend m ≡ false
       → false ≡ is_allowed code p board friend t m
   unfolding is_allowed
@@ -21,7 +21,7 @@ module _ (code : Codes) (p : Pattern) (board : BoardState) (friend : Colour) (t 
       sym (ap (λ b. b && (is_enemy_safe code p board friend m && is_constraint_true code p board friend t m)) safe
       ∙ ap (λ b. b && is_constraint_true code p board friend t m) e)
 
-  -- else the constraint does
+  -- if both stones are safe, the constraint settles it
   pub by_constraint : is_safe code p board friend m ≡ true → is_enemy_safe code p board friend m ≡ true
       → is_constraint_true code p board friend t m ≡ is_allowed code p board friend t m
   unfolding is_allowed

@@ -185,7 +185,7 @@ module _ (code : Codes) (patterns : List Pattern) (automaton : List Row) (board 
       (all_agreed (helper_names p.items))
       ∙ sym (ap (λ o. is_allowed_at code board friend o z) number)))
 
-  -- and of these those to which their helpers say yes are the matches by the automaton
+  -- of the matches if every helper says yes, those to which their helpers say yes are the matches by the automaton
   pub agreed : (advice : Advice)
       → filter (λ z. is_agreed_at advice board friend (slice_get patterns z.pattern) z)
       (automaton_matches code all_yes automaton patterns board friend)
@@ -207,7 +207,7 @@ module _ (code : Codes) (patterns : List Pattern) (automaton : List Row) (board 
       → now ≡ automaton_matches code all_yes automaton patterns board friend
   if_yes found now is kept = kept ∙ ap (filter allows) is ∙ filtered
 
-  -- and what is agreed of it are the matches
+  -- a list of those to which their helpers say yes has the matches by the automaton
   pub if_agreed : (advice : Advice) (now last : List Match)
       → now ≡ automaton_matches code all_yes automaton patterns board friend
       → last ≡ filter (λ z. is_agreed_at advice board friend (slice_get patterns z.pattern) z) now

@@ -22,7 +22,7 @@ use Rattle.match_engine.specs.Remembered.{Remembers}
 use Rattle.match_engine.specs.PointAnswers.{Knows}
 use Rattle.match_engine.proofs.QuestionPoints.{Knows-nothing, Knows-more}
 
--- so it is that of the readings at these depths
+-- the code of an answer is that of the readings at these depths
 pub answer_codes : (depths : ReadingDepths) (kind : Kind) (pos : BoardState) (p code : ℕ)
     → code ≡ (answer_of (asked_at depths pos kind p) pos).code → code ≡ codes_at depths kind pos p
 answer_codes depths kind pos p code is = is ∙ code-answer_of (asked_at depths pos kind p) pos

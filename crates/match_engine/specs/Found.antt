@@ -15,12 +15,12 @@ use Rattle.match_engine.specs.AutomatonMatches.{lies_on_board}
 abbrev pub place_of_star : Pattern → ℕ → ℕ → ℕ → Option ℕ
 place_of_star p s t a = place_at s t a (pos p.star.0 -ℤ pos (anchor_of p).0, pos p.star.1 -ℤ pos (anchor_of p).1)
 
--- this star's point, where every letter of the diagram lies on the board with the star there
+-- this star's point, if every letter of the diagram lies on the board with the star there
 abbrev pub star_if_whole : Pattern → ℕ → ℕ → Option ℕ → Option ℕ
 star_if_whole p s t None = None
 star_if_whole p s t (Some m) = if lies_on_board p s t m then Some m else None
 
--- the match with this number, transformation and point, where the friend's play there is legal
+-- the match with this number, transformation and point, if the friend's play there is legal
 abbrev pub match_if_legal : BoardState → Colour → ℕ → ℕ → Option ℕ → Option Match
 match_if_legal board friend number t None = None
 match_if_legal board friend number t (Some m) = if is_legal board friend m then Some (record {
@@ -29,13 +29,13 @@ match_if_legal board friend number t (Some m) = if is_legal board friend m then 
   at = m;
 }) else None
 
--- the match that a hit of this pattern is, where it is one
+-- the match that a hit of this pattern is, if it is one
 abbrev pub match_of : Pattern → BoardState → Colour → Hit → Option Match
 match_of p board friend hit =
     if nat_lt hit.transform (count_of p.mark) then match_if_legal board friend hit.pattern hit.transform
     (star_if_whole p board.size hit.transform (place_of_star p board.size hit.transform hit.anchor)) else None
 
--- the match that a hit is, where its number is that of this pattern, if there is one
+-- the match that a hit is, if its number is that of this pattern, if there is one
 abbrev pub match_from : Option Pattern → BoardState → Colour → Hit → Option Match
 match_from None board friend hit = None
 match_from (Some p) board friend hit = match_of p board friend hit

@@ -42,8 +42,8 @@ codes_at depths kind pos target = code_of (asked_at depths pos kind target) pos
 abbrev pub codes_of : ReadingsView → Codes
 codes_of r = codes_at r.depths
 
--- The answer of the variant rests on its facts, the target's stone among them: on each position on which they hold it is
--- the answer to the question, and there each of them lies in the active area of the reading.
+-- The answer of the variant rests on its facts, the target's stone among them: on each position on which they hold it
+-- is the answer to the question, and there each of them lies in the active area of the reading.
 pub record Rests (key : Key) (variant : Variant Answer) : Type 0 where
   pub target : IsTrue (told variant.facts (CellIs key.question.target (stone_of key.question.colour)))
   pub answers : (pos : BoardState) → Agrees (told variant.facts) pos → variant.answer ≡ answer_of key.question pos

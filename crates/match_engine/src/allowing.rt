@@ -27,7 +27,7 @@ fn has_class(p: &Pattern, letter: u8) -> bool
     p.classes.as_slice().contains(&letter)
 }
 
-/// Whether the friend's stone is safe at a point, where it has to be.
+/// Whether the friend's stone is safe at a point, if it has to be.
 fn is_safe(
     p: &Pattern,
     position: &Position,
@@ -49,7 +49,7 @@ fn is_safe(
     plays.is_safe(readings, position, friend, at)
 }
 
-/// Whether the enemy could play at a point and be safe, where that is asked for.
+/// Whether the enemy could play at a point and be safe, if that is asked for.
 fn is_enemy_safe(
     p: &Pattern,
     position: &Position,

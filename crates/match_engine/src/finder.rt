@@ -35,7 +35,7 @@ use match_rules::Match;
 use pat_types::{Pattern, mark_count};
 use std::alloc::Global;
 
-/// The match that a hit of this pattern is: where its transformation is one of the mark's, the diagram lies on the
+/// The match that a hit of this pattern is: if its transformation is one of the mark's, the diagram lies on the
 /// board, and the friend's play at the star is legal.
 fn match_of(
     p: &Pattern,
@@ -118,7 +118,7 @@ pub(crate) fn pattern_with(patterns: &[Pattern], number: u16) -> &Pattern
     &patterns[number as usize]
 }
 
-/// Puts a match behind those that are kept, where it is allowed, and says how many are kept then.
+/// Puts a match behind those that are kept, if it is allowed, and says how many are kept then.
 pub(crate) fn keep(found: &mut Vec<Match>, kept: usize, z: Match, allowed: bool) -> usize
     requires { kept < length found.old.items }
     ensures found { found.new.items ≡ (if allowed then set found.old.items kept z else found.old.items) }
@@ -171,9 +171,9 @@ fn keep_allowed(
 ///
 /// Diagrams are found by the automaton alone: none is compared with the board again. With the automaton of the patterns
 /// the list is exactly that of the matches. Patterns with class `s`, without class `n` and without a constraint ask for
-/// no reading. Helpers are asked last: each once about a match that has all else, where every helper that the pattern
+/// no reading. Helpers are asked last: each once about a match that has all else, if every helper that the pattern
 /// names before it said yes. Takes all its memory before its first reading and its first call of a helper, and answers
-/// `NoMemory` where there is none.
+/// `NoMemory` if there is none.
 ///
 /// After GNU Go Manual, "The Pattern Code" and "The DFA pattern matcher".
 pub fn matches(

@@ -7,8 +7,8 @@ use go_base::{Point, Size, Transform};
 use pat_types::{Pattern, anchor};
 use spiral::{place_beside, place_from};
 
-/// The star's point, where the anchor's cell lies at a point under a transformation, and every letter lies on the
-/// board; None exactly where one does not. Two opposite corners tell whether all letters do.
+/// The star's point, if the anchor's cell lies at a point under a transformation, and every letter lies on the
+/// board; None exactly if one does not. Two opposite corners tell whether all letters do.
 pub fn star_place(p: &Pattern, t: Transform, from: Point, size: Size) -> Option<Point>
     requires { from < size * size }
     ensures value { result ≡ star_if_whole p.now size t (place_of_star p.now size t from) }

@@ -23,7 +23,7 @@ pub struct Plays {
     pub safe: PointSet,
 }
 
-/// The code of an attack on the string at a point, 0 where it is empty.
+/// The code of an attack on the string at a point, 0 if it is empty.
 fn attack_code(readings: &mut Readings, position: &Position, at: Point) -> u8
     requires { at < position.now.size * position.now.size }
     ensures value { result ≡ code_at (codes_of readings.old) Kind.Attack position.now at }

@@ -70,8 +70,8 @@ impl Readings {
             position.now }
         ensures code { result.code ≤ 3 }
         ensures on_board { IfSome result.at (IsOnBoard position.now.size) }
-        // It was kept, and no count has changed, or it was fresh, and is counted, with as many trial plays as the last
-        // one made, and kept or refused. It made none where its target has too many liberties.
+        // The answer was kept, and no count has changed; or it was fresh, is counted with its trial plays, and was kept
+        // or refused. No trial play is made if the target has too many liberties.
         ensures read { HasRead (record { question = asked_at self.old.depths position.now kind target })
             position.now result self.old self.new }
         // Each kept variant rests on its facts.
@@ -82,7 +82,8 @@ impl Readings {
         self.ask(kind, position, target).answer
     }
 
-    /// Answers the same question, and tells how many trial plays the reading made, or `None` if the answer was kept.
+    /// Answers a question about a stone of the position as `read` does, and tells how many trial plays the reading
+    /// made, or `None` if the answer was kept.
     pub fn ask(&mut self, kind: Kind, position: &Position, target: Point) -> Asked<Answer, u64>
         requires on_board { target < position.now.size * position.now.size }
         requires stone { cell_at position.now.cells target ≢ Cell.Empty }
@@ -111,7 +112,8 @@ impl Readings {
         }
     }
 
-    /// Answers the same question if a kept variant of it stands on the position. Else nothing changes.
+    /// Answers a question about a stone of the position if a kept variant of the question stands on the position. Else
+    /// nothing changes.
     #[inline(always)]
     pub fn find_kept(&mut self, kind: Kind, position: &Position, target: Point) -> Option<Answer>
         requires on_board { target < position.now.size * position.now.size }

@@ -51,10 +51,3 @@ module _ (d : Depths) (board : BoardState) (p : ℕ) (a : Answer) (some : cell_a
       by : (b : Bool) → eqb a.code 0 ≡ b → Some a ≡ cond (eqb a.code 0) None (Some a)
       by true e = absurd (some_code (eqb-true a.code 0 e))
       by false e = sym (ap (λ b. cond b None (Some a)) e)
-
--- where no stone stands none is captured
-pub nothing_captured : (d : Depths) (board : BoardState) (p : ℕ) → cell_at board.cells p ≡ Empty
-    → None ≡ capture_of d board p
-nothing_captured d board p empty =
-    sym (ap (λ cell. cond (eqb (cond (is_stone cell) (fresh_codes d Attack board p) 0) 0) None
-    (Some (fresh_answer d Attack board p))) empty)

@@ -168,7 +168,7 @@ module _ (d : Depths) (advice : Advice) (p : Pattern) (board : BoardState) (frie
       (is_enemy_safe (fresh_codes d) p board friend m) (is_constraint_true (fresh_codes d) p board friend t m)
       (do_helpers_agree advice p board friend m)
 
-  -- so a reason is missing exactly if it is a match
+  -- a reason is missing exactly if it is a match
   pub none_if_match : (o : Option Reason) → o ≡ first_reason d advice p board friend t m
       → (IsNone o → IsTrue (is_match (fresh_codes d) advice p board friend t m))
       × (IsTrue (is_match (fresh_codes d) advice p board friend t m) → IsNone o)

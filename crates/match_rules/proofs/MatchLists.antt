@@ -81,7 +81,7 @@ module _ (code : Codes) (advice : Advice) (patterns : List Pattern) (board : Boa
     in_order = by-in_order (λ number p t m. is_match code advice p board friend t m) patterns board.size;
   }
 
-  -- and no other list does
+  -- a list that has exactly the matches, in order, is the list of matches
   pub only_matches : (zs : List Match) → AreMatches code advice patterns board friend zs
       → zs ≡ matches_of code advice patterns board friend
   only_matches zs are =

@@ -1,6 +1,7 @@
 -- The choice among matches, by the definition, in words, and one match after another.
 use Rattle.std.proofs.Common.{◌≡◌, ◌↔◌, ◌⊎◌, ℕ, ◌+◌, ◌<◌, ◌≤◌, inl, inr, Bool, true, false, cond, List, [], ◌∷◌, ◌++◌}
-use Rattle.std.proofs.Common.{length, take, get_or, not, Some, None, Contains, refl, sym, ap, ◌∙◌, subst, arith, add-one}
+use Rattle.std.proofs.Common.{length, take, get_or, not, Some, None, Contains, refl, sym, ap, ◌∙◌, subst, arith}
+use Rattle.std.proofs.Common.{add-one}
 use Rattle.std.specs.List.{find, list_all}
 use Rattle.std.proofs.lemmas.Bool.{cases_Bool, and_parts, not-true, not_from_false, both_ways}
 use Rattle.std.proofs.lemmas.List.{append_assoc, append-nil, take_more, take_all}
@@ -78,7 +79,7 @@ module _ (w : Match → ℕ) where
       none y inside (inl more) = let most = is.none_greater y inside in omega (arith, more, most)
       none y inside (inr (same, before)) = is.none_earlier y inside same before
 
-  -- and the other way round
+  -- the match to which none is preferred is the choice in words
   pub IsFirst-to : (zs : List Match) (z : Match) → IsFirst w zs z → IsChoice w zs z
   IsFirst-to zs z is = record {
     there = is.there;
@@ -206,7 +207,7 @@ module _ (found rest : List Match) (first : Match) (place : found ≡ first ∷ 
   pub among : (i : ℕ) (z : Match) → i < length rest → z ≡ get_or rest i z → Contains found z
   among i z within here = (i + 1, omega (arith, ap length place), one_of_rest i z ∙ sym here)
 
-  -- so is the first
+  -- the first match is one of the matches
   pub first_among : Contains found first
   first_among = subst (λ l. Contains l first) (sym place) (0, omega arith, refl)
 

@@ -12,8 +12,8 @@ pub fn worth_is_in_words()
     ensures { (pattern : Pattern) (n : ℕ) → (worth_of pattern ≡ n) ↔ IsWorth pattern.items n }
 {}
 
-/// The choice is a match of the list: no match of the list is worth more, and none that is worth as much comes before it
-/// in the order of matches. No other match is such. There is one exactly if the list is not empty.
+/// The choice is a match of the list: no match of the list is worth more, and none that is worth as much comes before
+/// it in the order of matches. No other match is such. There is one exactly if the list is not empty.
 pub fn choice_is_in_words()
     ensures choice { (patterns : List Pattern) (zs : List Match) (z : Match)
         → (choice_of patterns zs ≡ Some z) ↔ IsChoice (worth_at patterns) zs z }

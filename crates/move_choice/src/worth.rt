@@ -39,7 +39,7 @@ fn number(digits: &[u8]) -> u32
     n
 }
 
-/// The worth that an item says, None where it says none.
+/// The worth that an item says, None if it says none.
 fn worth_said(item: &Item) -> Option<u32>
     ensures { result ≡ worth_in item.now }
 {

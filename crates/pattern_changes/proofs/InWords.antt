@@ -18,7 +18,8 @@ use Rattle.match_rules.proofs.MatchLists.{are_matches}
 use Rattle.pattern_changes.specs.declared.change.Change.{Change}
 use Rattle.pattern_changes.specs.declared.change.Way.{Way}
 use Rattle.pattern_changes.specs.declared.change.Way.TheVariants.{Went, Came}
-use Rattle.pattern_changes.specs.Changes.{is_same_match, lacking, lost, change_of, changes_for, changes_at, changes_over}
+use Rattle.pattern_changes.specs.Changes.{is_same_match, lacking, lost, change_of, changes_for, changes_at}
+use Rattle.pattern_changes.specs.Changes.{changes_over}
 use Rattle.pattern_changes.specs.Changes.{IsLost, IsChanged, IsChange}
 use Rattle.pattern_changes.proofs.SameMatches.{same-true, same-from}
 

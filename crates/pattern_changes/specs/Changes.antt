@@ -21,8 +21,8 @@ have_same_name None q = false
 have_same_name (Some p) None = false
 have_same_name (Some p) (Some q) = bytes_eq p.name q.name
 
--- y, a match of the others, is where z is: at the same point, under the same transformation, by a pattern of the same
--- name
+-- y, a match of the others, is at the point of z, a match of the patterns, under the same transformation and by a
+-- pattern of the same name
 abbrev pub is_same_match : List Pattern → List Pattern → Match → Match → Bool
 is_same_match patterns others z y = y.at == z.at && (y.transform == z.transform
     && have_same_name (slice_get patterns z.pattern) (slice_get others y.pattern))
@@ -58,7 +58,8 @@ unfoldable pub changes_over : Codes → Advice → List Pattern → List Pattern
 changes_over code advice old new friends boards =
     flat_map (changes_at code advice old new friends) (enumerate_from 0 boards)
 
--- y is where z is: at the same point, under the same transformation, by a pattern of the same name
+-- y, a match of the others, is at the point of z, a match of the patterns, under the same transformation and by a
+-- pattern of the same name
 pub record IsSameMatch (patterns others : List Pattern) (z y : Match) : Type 0 where
   pub pattern : Pattern
   pub number : slice_get patterns z.pattern ≡ Some pattern

@@ -8,7 +8,7 @@ use Rattle.helpers.proofs.CallCounts.{says_yes-raised}
 pub raised-says : (times : List ℕ → ℕ) (slots : List SlotState) → says_yes (raised times slots) ≡ says_yes slots
 raised-says times slots i name board at friend = says_yes-raised times slots name board at friend i
 
--- so does one that was asked or was not
+-- a list that was asked or was not says the same
 pub says-kept : (b : Bool) (times : List ℕ → ℕ) (old new : List SlotState) → new ≡ cond b old (raised times old)
     → says_yes new ≡ says_yes old
 says-kept true times old new is = ap says_yes is

@@ -1,10 +1,11 @@
 -- The ends of all tries of a pattern: those behind the move, those at it, and the rest at the diagram.
-use Rattle.std.proofs.Common.{inl, inr, ◌≡◌, ℕ, zero, suc, ◌+◌, ◌-◌, ◌*◌, ◌<◌, ◌≤◌, Bool, true, false, ◌&&◌, cond, eqb, List, []}
+use Rattle.std.proofs.Common.{inl, inr, ◌≡◌, ℕ, zero, suc, ◌+◌, ◌-◌, ◌*◌, ◌<◌, ◌≤◌, Bool, true, false, ◌&&◌, cond, eqb}
+use Rattle.std.proofs.Common.{List, []}
 use Rattle.std.proofs.Common.{◌∷◌, length, map, count_by, Some, None, Option, slice_get, get_or, refl, sym, ap, ◌∙◌}
 use Rattle.std.proofs.Common.{subst, arith, Contains, ◌++◌, take, min, ◌^◌, Result, Ok, Err, IfOk, OnOk}
 use Rattle.std.specs.List.{range_with_len}
 use Rattle.std.proofs.lemmas.Bool.{cases_Bool, eqb-true}
-use Rattle.std.proofs.lemmas.List.{take_more, map-append}
+use Rattle.std.proofs.lemmas.List.{take_more}
 use Rattle.std.proofs.lemmas.List.FromFn.{length-range_with_len}
 use Rattle.std.proofs.lemmas.Option.{slice_get_within, slice_get-get_or, none-some, same_Some}
 use Rattle.pattern_coverage.specs.declared.counts.PartCounts.{PartCounts}
@@ -188,20 +189,6 @@ end-is d advice patterns board friend z p part reason there is first =
     let same : part ≡ part_of_match d advice (slice_get patterns z.pattern) board friend z =
     is ∙ ap part_of first ∙ sym (ap (λ o. part_of_match d advice o board friend z) there) in
     λ i. record { pattern = z.pattern; part = same i }
-
--- one try more of those whose ends are told
-pub ends-next : (f : Match → End) (tries : List Match) (i : ℕ) (z : Match) (before after : List End) (e : End)
-    → i < length tries → z ≡ get_or tries i z → before ≡ map f (take i tries) → e ≡ f z → after ≡ before ++ e ∷ []
-    → after ≡ map f (take (i + 1) tries)
-ends-next f tries i z before after e low read so_far is now =
-    now ∙ ap (λ y. before ++ y ∷ []) is ∙ ap (λ l. l ++ f z ∷ []) so_far
-    ∙ sym (ap (map f) (take_more tries i z low ∙ ap (λ y. take i tries ++ y ∷ []) (sym read))
-    ∙ map-append f (take i tries) (z ∷ []))
-
--- no pattern has no ends
-pub AreAllEnds-none : (d : Depths) (advice : Advice) (board : BoardState) (friend : Colour)
-    → AreAllEnds d advice [] board friend []
-AreAllEnds-none d advice board friend = record { same_length = refl; each = λ n p there. absurd (none-some p there) }
 
 module _ (d : Depths) (advice : Advice) (board : BoardState) (friend : Colour) where
   -- the ends of the patterns behind the first

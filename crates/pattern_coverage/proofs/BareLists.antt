@@ -1,14 +1,11 @@
 -- Lists of bare patterns that grow by one pattern after another.
-use Rattle.std.proofs.Common.{◌≡◌, ℕ, zero, suc, ◌<◌, ◌+◌, List, [], ◌∷◌, ◌++◌, length, take, get_or, Some, None, slice_get, refl}
+use Rattle.std.proofs.Common.{◌≡◌, ℕ, zero, suc, ◌<◌, ◌+◌, List, [], ◌∷◌, ◌++◌, length, take, get_or, Some, None}
+use Rattle.std.proofs.Common.{slice_get, refl}
 use Rattle.std.proofs.Common.{sym, ap, ◌∙◌, subst, arith}
 use Rattle.std.proofs.lemmas.List.{take_more}
 use Rattle.std.proofs.lemmas.Option.{none-some, same_Some}
 use Rattle.pat_types.specs.declared.pattern.Pattern.{Pattern}
 use Rattle.pattern_coverage.specs.Bare.{IsBare, AreBare}
-
--- no pattern has no bare pattern
-pub AreBare-none : AreBare [] []
-AreBare-none = record { same_length = refl; each = λ n p there. absurd (none-some p there) }
 
 -- the bare patterns behind the first
 AreBare-rest : (p b : Pattern) (patterns bare : List Pattern) → AreBare (p ∷ patterns) (b ∷ bare)
@@ -27,7 +24,8 @@ AreBare-more p b [] [] are is = record { same_length = refl; each = each }
         → (c : Pattern) × (slice_get (b ∷ []) n ≡ Some c) × IsBare q c
     each zero q there = (b, refl, subst (λ o. IsBare o b) (same_Some p q there) is)
     each (suc n) q there = absurd (none-some q there)
-AreBare-more p b [] (c ∷ bare) are is = absurd (let long : length (c ∷ bare) ≡ 0 = are.same_length in omega (arith, long))
+AreBare-more p b [] (c ∷ bare) are is =
+    absurd (let long : length (c ∷ bare) ≡ 0 = are.same_length in omega (arith, long))
 AreBare-more p b (x ∷ patterns) [] are is =
     absurd (let long : 0 ≡ length (x ∷ patterns) = are.same_length in omega (arith, long))
 AreBare-more p b (x ∷ patterns) (c ∷ bare) are is =

@@ -1,6 +1,8 @@
 -- The tries that end at the move: those at empty points where it is not legal, if the diagram fits.
-use Rattle.std.proofs.Common.{inl, inr, ◌≡◌, ℕ, ◌+◌, ◌*◌, ◌<◌, ◌≤◌, Bool, true, false, not, ◌&&◌, cond, eqb, List, map, filter}
-use Rattle.std.proofs.Common.{[], ◌∷◌, ◌++◌, length, get_or, count_by, Contains, Some, refl, sym, ap, ◌∙◌, subst, arith, pos, ◌-ℤ◌}
+use Rattle.std.proofs.Common.{inl, inr, ◌≡◌, ℕ, ◌+◌, ◌*◌, ◌<◌, ◌≤◌, Bool, true, false, not, ◌&&◌, cond, eqb, List, map}
+use Rattle.std.proofs.Common.{filter}
+use Rattle.std.proofs.Common.{[], ◌∷◌, ◌++◌, length, get_or, count_by, Contains, Some, refl, sym, ap, ◌∙◌, subst, arith}
+use Rattle.std.proofs.Common.{pos, ◌-ℤ◌}
 use Rattle.std.specs.List.{flat_map, range_with_len, All}
 use Rattle.std.proofs.lemmas.Grind.{flat_map-append}
 use Rattle.std.proofs.lemmas.List.{append-nil}
@@ -34,7 +36,8 @@ use Rattle.match_rules.proofs.Lists.{Contains-map, Contains-flat_map, Contains-b
 use Rattle.match_engine.proofs.ByAutomaton.{count_within}
 use Rattle.match_engine.proofs.Places.{place_at-none}
 use Rattle.pattern_coverage.specs.Ends.{tries_among, tries_of, part_at, ends_at, is_blocked}
-use Rattle.pattern_coverage.proofs.ListCounts.{count-append, count-same, count-filter, count-map, count-joined, range-next}
+use Rattle.pattern_coverage.proofs.ListCounts.{count-append, count-same, count-filter, count-map, count-joined}
+use Rattle.pattern_coverage.proofs.ListCounts.{range-next}
 use Rattle.pattern_coverage.proofs.Parts.{part-diagram, part-move, part-late}
 
 -- a letter that is a star is the star

@@ -1,5 +1,6 @@
 -- Counts of the elements of a list that pass a test.
-use Rattle.std.proofs.Common.{min, ◌^◌, ◌-◌, ◌≡◌, ℕ, zero, suc, ◌+◌, ◌*◌, ◌<◌, ◌≤◌, Bool, true, false, ◌&&◌, cond, eqb, List, [], ◌∷◌}
+use Rattle.std.proofs.Common.{min, ◌^◌, ◌-◌, ◌≡◌, ℕ, zero, suc, ◌+◌, ◌*◌, ◌<◌, ◌≤◌, Bool, true, false, ◌&&◌, cond, eqb}
+use Rattle.std.proofs.Common.{List, [], ◌∷◌}
 use Rattle.std.proofs.Common.{◌++◌, length, map, filter, count_by, Contains, refl, sym, ap, ◌∙◌, arith}
 use Rattle.std.specs.List.{flat_map, sum_by, range_with_len}
 use Rattle.std.proofs.lemmas.List.FromFn.{length-range_with_len}
@@ -19,7 +20,8 @@ module _ {X : Type 0} where
   count-append f xs ys = sum_by-append (λ y. cond (f y) 1 0) xs ys
 
   -- tests that agree on a list count the same in it
-  pub count-same : (f g : X → Bool) (xs : List X) → ((x : X) → Contains xs x → f x ≡ g x) → count_by f xs ≡ count_by g xs
+  pub count-same : (f g : X → Bool) (xs : List X) → ((x : X) → Contains xs x → f x ≡ g x)
+      → count_by f xs ≡ count_by g xs
   count-same f g [] same = refl
   count-same f g (x ∷ xs) same =
       count-cons f x xs
@@ -109,7 +111,7 @@ filtered-longer test n old new passes was now =
     now ∙ ap (λ l. l ++ n ∷ []) was
     ∙ ap (λ b. filter test (range_with_len 0 n) ++ cond b (n ∷ []) []) (sym passes) ∙ sym (filtered-next test n)
 
--- or the same, if the next number fails
+-- a list of those that pass stays, if the next number fails
 pub filtered-same : (test : ℕ → Bool) (n : ℕ) (old new : List ℕ) → test n ≡ false
     → old ≡ filter test (range_with_len 0 n) → new ≡ old → new ≡ filter test (range_with_len 0 (n + 1))
 filtered-same test n old new fails was now =

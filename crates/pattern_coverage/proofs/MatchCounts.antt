@@ -1,5 +1,6 @@
 -- How many matches of a pattern of a list pass a test: as many as its tries.
-use Rattle.std.proofs.Common.{inl, inr, ◌≡◌, ℕ, zero, suc, ◌+◌, ◌*◌, ◌<◌, Bool, true, false, ◌&&◌, cond, eqb, List, [], ◌∷◌}
+use Rattle.std.proofs.Common.{inl, inr, ◌≡◌, ℕ, zero, suc, ◌+◌, ◌*◌, ◌<◌, Bool, true, false, ◌&&◌, cond, eqb, List, []}
+use Rattle.std.proofs.Common.{◌∷◌}
 use Rattle.std.proofs.Common.{map, filter, count_by, Option, Some, None, slice_get, refl, sym, ap, ◌∙◌, subst, arith}
 use Rattle.std.specs.List.{flat_map, range_with_len, enumerate_from}
 use Rattle.std.proofs.lemmas.Bool.{eq-eqb, eqb-true, cases_Bool}
@@ -9,7 +10,8 @@ use Rattle.pat_types.specs.Marks.{count_of}
 use Rattle.match_rules.specs.declared.found.Match.{Match}
 use Rattle.match_rules.specs.Match.{matches_under, matches_of_one, matches_by}
 use Rattle.pattern_coverage.specs.Ends.{tries_among, tries_of}
-use Rattle.pattern_coverage.proofs.ListCounts.{count-append, count-same, count-none, count-filter, count-map, count-joined}
+use Rattle.pattern_coverage.proofs.ListCounts.{count-append, count-same, count-none, count-filter, count-map}
+use Rattle.pattern_coverage.proofs.ListCounts.{count-joined}
 
 -- different numbers are told apart
 apart : (k n : ℕ) → (k ≡ n → ⊥) → eqb k n ≡ false

@@ -33,7 +33,7 @@ named_low (reason.EnemyUnsafe a) = omega arith
 named_low reason.Constraint = omega arith
 named_low (reason.Helper field) = omega arith
 
--- so no end has one above 6
+-- no end has a number above 6
 part_of_low : (o : Option Reason) → part_of o < 7
 part_of_low None = omega arith
 part_of_low (Some r) = omega (arith, named_low r)
@@ -142,7 +142,7 @@ module _ (d : Depths) (advice : Advice) (p : Pattern) (board : BoardState) (frie
   part-fitting whole =
       no_misfit (first_misfit p board friend t m) (no_diagram_reason p board friend t m ∙ whole)
 
-  -- it ends at the move if that is not legal
+  -- a try ends at the move if that is not legal
   pub part-move : fits p board friend t m ≡ true → is_legal board friend m ≡ false
       → part_at d advice p board friend t m ≡ 1
   unfolding move_reason
@@ -156,7 +156,7 @@ module _ (d : Depths) (advice : Advice) (p : Pattern) (board : BoardState) (frie
       by (Err why) bad = refl
       by (Ok next) bad = absurd (false≢true (sym bad))
 
-  -- and behind it if it is legal
+  -- a try ends behind the move if that is legal
   pub part-late : fits p board friend t m ≡ true → is_legal board friend m ≡ true
       → 2 ≤ part_at d advice p board friend t m
   part-late whole legal =

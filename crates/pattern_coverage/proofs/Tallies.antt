@@ -1,11 +1,11 @@
 -- Ends that are counted one after another.
-use Rattle.std.proofs.Common.{inl, inr, ◌≡◌, ℕ, zero, suc, ◌+◌, ◌-◌, ◌<◌, ◌≤◌, ◌^◌, Bool, true, false, ◌&&◌, cond, eqb, List, []}
-use Rattle.std.proofs.Common.{◌∷◌, ◌++◌, length, get_or, count_by, min, Some, slice_get, slice_index, replicate, refl, sym, ap}
+use Rattle.std.proofs.Common.{inl, inr, ◌≡◌, ℕ, ◌+◌, ◌-◌, ◌<◌, ◌≤◌, ◌^◌, Bool, true, false, ◌&&◌, cond, eqb, List, []}
+use Rattle.std.proofs.Common.{◌∷◌, ◌++◌, length, get_or, count_by, min, Some, slice_get, slice_index, refl, sym, ap}
 use Rattle.std.proofs.Common.{◌∙◌, subst, arith}
 use Rattle.std.proofs.Common.{set as set_at, length-set}
 use Rattle.std.proofs.Math.Nat.{min-eq_left, min-eq_right}
 use Rattle.std.proofs.lemmas.Bool.{cases_eq, cases_lt, cases_Bool, eq-eqb, eqb-true}
-use Rattle.std.proofs.lemmas.List.{get_or-set_other, get_or-replicate}
+use Rattle.std.proofs.lemmas.List.{get_or-set_other}
 use Rattle.std.proofs.lemmas.Grind.{get_or-set_at}
 use Rattle.std.proofs.lemmas.Option.{slice_get_within, slice_get-get_or, get_or_from_slice_get}
 use Rattle.pattern_coverage.specs.declared.counts.PartCounts.{PartCounts}
@@ -119,17 +119,3 @@ module _ (ends : List End) (end : End) where
                   ∙ sym (ap (λ n. min n (2 ^ 64 - 1)) (counted-same place part
                   (ap (λ b. b && eqb end.part part) (eqb-no end.pattern place (λ same. other (sym same))))))
             ]
-
--- counts of nothing are a tally of no end
-pub tally-none : (n : ℕ) (nothing : PartCounts) → ((part : ℕ) → part < 7 → slice_index nothing.counts part ≡ 0)
-    → IsTallyOf [] (replicate n nothing)
-tally-none n nothing none place part c is low =
-    let on : place < n =
-    subst (λ k. place < k) (length-replicate n nothing) (slice_get_within (replicate n nothing) place c is) in
-    let same : c ≡ nothing =
-    sym (get_or_from_slice_get (replicate n nothing) place c c is) ∙ get_or-replicate n place nothing c on in
-    ap (λ (k : PartCounts). slice_index k.counts part) same ∙ none part low
-  where
-    length-replicate : {X : Type 0} (k : ℕ) (x : X) → length (replicate k x) ≡ k
-    length-replicate zero x = refl
-    length-replicate (suc k) x = ap suc (length-replicate k x)

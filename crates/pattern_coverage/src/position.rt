@@ -33,7 +33,8 @@ fn tries_of(p: &Pattern, position: &Position) -> u64
     mark_count(p.mark) as u64 * position.size().points() as u64
 }
 
-/// The ends of a pattern's tries, from those behind a legal move and from the empty points where the friend may not play.
+/// The ends of a pattern's tries, from those behind a legal move and from the empty points where the friend may not
+/// play.
 fn ends_of_one(
     p: &Pattern,
     later: &PartCounts,

@@ -59,9 +59,9 @@ impl Side {
 /// The entries of both files.
 #[derive(Drop)]
 struct Both {
-    /// Those of the old file.
+    /// The entries of the old file.
     old: Side,
-    /// Those of the new file.
+    /// The entries of the new file.
     new: Side,
 }
 
@@ -134,8 +134,8 @@ fn way_name(way: Way) -> &'static str {
     }
 }
 
-/// Puts a line for a person: the record and the move, the entry, the colour, the vertex, the transformation, and whether
-/// the match went or came.
+/// Puts a line for a person: the record and the move, the entry, the colour, the vertex, the transformation, and
+/// whether the match went or came.
 fn put_line(
     page: &mut String,
     record: &str,
@@ -208,8 +208,8 @@ struct Search<'a> {
     json: bool,
 }
 
-/// Compares the entries on each position of a record's main line, and prints what changes. A fault of the record is told
-/// on standard error, and the positions before it are compared.
+/// Compares the entries on each position of a record's main line, and prints what changes. A fault of the record is
+/// told on standard error, and the positions before it are compared.
 fn compare_record<R: Files + Print + Eprint + Clock + AllocGlobal>(
     rt: &R,
     search: Search<'_>,

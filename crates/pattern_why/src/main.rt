@@ -4,8 +4,8 @@
 //!
 //! `pattern_why [options] FILE [PATTERN[@LINE]]`. The exit status is 0 if something matches, 1 if nothing does, and 2
 //! if the words are no command line, a file has a fault or cannot be read, a line is not taken, or there is no memory.
-//! With `--coverage` it is 0 if each entry fits somewhere and no record has a fault, and 1 if not. With `--compare` it is
-//! 0 if no match went or came, 1 if one did, and also 2 if a record has a fault.
+//! With `--coverage` it is 0 if each entry fits somewhere and no record has a fault, and 1 if not. With `--compare` it
+//! is 0 if no match went or came, 1 if one did, and also 2 if a record has a fault.
 #![tactic(auto)]
 
 mod almost;

@@ -7,7 +7,7 @@ pub(crate) enum Outcome {
     Yes,
     /// Nothing matches, or an entry never fits, or something changed.
     No,
-    /// It could not be told to the end.
+    /// The answer could not be told to the end.
     Trouble,
 }
 

@@ -52,7 +52,7 @@ below_more : (m n : ℕ) (at : Option ℕ) → m ≤ n → IsMoveBelow m at → 
 below_more m n None less h = tt
 below_more m n (Some p) less h = omega (arith, less, h)
 
--- the same of a move that is perhaps said
+-- a move that is perhaps said and is below a number is below a greater one
 pub all_below_more : (m n : ℕ) (said : Option (Option ℕ)) → m ≤ n → IfSome said (IsMoveBelow m)
     → IfSome said (IsMoveBelow n)
 all_below_more m n None less h = tt
@@ -62,7 +62,7 @@ all_below_more m n (Some at) less h = below_more m n at less h
 target_below : (s n : ℕ) (word : List ℕ) → s * s ≤ n → IfSome (target_of s word) (IsMoveBelow n)
 target_below s n word less = all_below_more (s * s) n (target_of s word) less (target_within s word)
 
--- the same of what is known to be that move
+-- what is known to be the move that a word says is below as many points as there are
 pub said_below : (s n : ℕ) (word : List ℕ) (said : Option (Option ℕ)) → said ≡ target_of s word → s * s ≤ n
     → IfSome said (IsMoveBelow n)
 said_below s n word said is less =

@@ -68,7 +68,7 @@ module _ (pos : BoardState) (vs : List Named) where
     by_node_lack NoMemory h = tt
     by_node_lack (Lacks l) h = MatchResult-weaker (asked pos vs) h (λ q p. (p.0, inl p.1)) (λ w p. p)
 
-    -- and so it is told
+    -- what the first node lacks is told
     pub told_lack : (e : ProblemError) (r : Result Problem ProblemError) → r ≡ Err e
         → IsInNode pos vs usual (Err e) → IsOutcome pos vs usual r
     told_lack e r same h = subst (IsOutcome pos vs usual) (sym same) (by_node_lack e h)

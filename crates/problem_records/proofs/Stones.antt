@@ -55,7 +55,7 @@ next_found pos vs n found e h =
     ∙ (ap (λ (k : ℕ). marked_below pos vs n ++ filter (is_marked_stone pos vs) (k ∷ [])) (omega arith)
     ∙ sym (filter_next (is_marked_stone pos vs) 0 n)))
 
--- and it is none if no marked stone stands there
+-- the next point is passed over if no marked stone stands there
 pub next_passed : (pos : BoardState) (vs : List Named) (n : ℕ) (found : List ℕ) → found ≡ marked_below pos vs n
     → is_marked_stone pos vs n ≡ false → found ≡ marked_below pos vs (n + 1)
 next_passed pos vs n found e h =

@@ -54,7 +54,7 @@ values_by_tokens (Some before) (Name name ∷ ts) = values_by_tokens (Some name)
 values_by_tokens None (Value v ∷ ts) = values_by_tokens None ts
 values_by_tokens (Some name) (Value v ∷ ts) = ap (λ (vs : List Named). (name, v) ∷ vs) (values_by_tokens (Some name) ts)
 
--- they are the values of the node
+-- the values from the tokens of a node are the values of the node
 pub values_of_node : (ts : List Token) → values_from None ts ≡ named_values (properties_in ts)
 values_of_node ts = values_by_tokens None ts
 
@@ -112,6 +112,6 @@ module _ (text : List ℕ) (at : ℕ) (node : first_of (nodes_in (tokens_from te
       ∙ ap (λ (k : TokenKind). first_of (nodes_in (token_of k (bytes_in text t) ∷ tokens_from text t.next))) e)
       ∙ node)
 
-  -- nor without a token
+  -- there is no node if the text has no token from here on
   pub none_at_end : tokens_from text at ≡ [] → properties_in (tokens_from text (length text)) ≡ first_node text
   none_at_end e = at_end ∙ (sym (ap (λ (ts : List Token). first_of (nodes_in ts)) e) ∙ node)

@@ -20,7 +20,7 @@ first_node text = first_of (nodes_in (record_tokens text))
 abbrev pub Named : Type 0
 Named = List ℕ × List ℕ
 
--- these values with the name of their property
+-- each of the values with the name of their property
 abbrev pub under_name : List ℕ → List (List ℕ) → List Named
 under_name name values = map (λ v. (name, v)) values
 

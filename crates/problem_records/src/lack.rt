@@ -13,16 +13,16 @@ pub enum Lack {
     /// Its first node leads to no position: the number of the kind of its fault.
     #[error("bad sgf kind {0}")]
     BadRecord(u8),
-    /// It has no line, and no stone is marked.
+    /// The record has no line, and no stone is marked.
     #[error("no line gopat: and no marked stone")]
     NoMark,
-    /// It has no line, and more than one stone is marked.
+    /// The record has no line, and more than one stone is marked.
     #[error("no line gopat: and more than one marked stone")]
     ManyMarks,
-    /// It has no line, and does not say who is to play.
+    /// The record has no line, and does not say who is to play.
     #[error("no player to move (PL)")]
     NoPlayer,
-    /// It has more than one line.
+    /// The record has more than one line.
     #[error("more than one line gopat:")]
     ManyLines,
     /// Its line does not say which question is asked.
@@ -63,7 +63,7 @@ pub enum Lack {
 /// Why a record is no problem.
 #[derive(Clone, Copy, Debug, Drop, Error)]
 pub enum ProblemError {
-    /// It lacks something.
+    /// The record lacks something.
     #[error("{0}")]
     Lacks(Lack),
     /// There was no memory.

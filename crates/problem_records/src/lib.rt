@@ -3,8 +3,8 @@
 //!
 //! A line `gopat:` in the comment of the first node says it; a record without one has one marked stone, the player to
 //! move, and right moves. What a record lacks is told, and nothing is guessed. `problem_of` has clauses of the
-//! position, of the question, and of what is lacking; what a line tells behind its question, and which moves of a record
-//! are right, is shown by tests.
+//! position, of the question, and of what is lacking; what a line tells behind its question, and which moves of a
+//! record are right, is shown by tests.
 #![tactic(auto)]
 
 mod lack;

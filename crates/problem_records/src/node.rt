@@ -82,7 +82,7 @@ pub(crate) fn values_end(text: &[u8], start: usize) -> usize
     at
 }
 
-/// Whether these are the same bytes.
+/// Whether the bytes are those that are wanted.
 pub(crate) fn are_same(bytes: &[u8], wanted: &[u8]) -> bool
     ensures { result ≡ bytes_eq bytes.now wanted.now }
 {

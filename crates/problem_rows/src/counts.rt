@@ -9,19 +9,19 @@ use std::fmt::{self, Display, Formatter, Write};
 pub struct Counts {
     /// All records.
     all: u64,
-    /// Those as expected.
+    /// The records whose answer is as expected.
     as_expected: u64,
-    /// Those with other answers too.
+    /// The records that have other answers too.
     other_answers_too: u64,
-    /// Those with another answer.
+    /// The records that have another answer.
     another_answer: u64,
-    /// Those that need no move.
+    /// The records that need no move.
     needs_no_move: u64,
-    /// Those that are not solved.
+    /// The records that are not solved.
     not_solved: u64,
-    /// Those that do not tell a question or an answer.
+    /// The records that do not tell a question or an answer.
     not_told: u64,
-    /// Those whose code exactly one move attains.
+    /// The records whose code exactly one move attains.
     one_answer: u64,
 }
 

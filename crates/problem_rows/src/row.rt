@@ -27,11 +27,11 @@ pub struct Asked {
 /// What is told of a record.
 #[derive(Drop)]
 pub enum Row {
-    /// It asks a question.
+    /// The record asks a question.
     Asked(Asked),
-    /// It lacks something.
+    /// The record lacks something.
     Lacks(Lack),
-    /// It cannot be loaded.
+    /// The record cannot be loaded.
     NotLoaded,
 }
 

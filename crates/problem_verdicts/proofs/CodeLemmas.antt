@@ -52,7 +52,8 @@ third_of false false false e f = refl
 third_of true b c e f = absurd (let wrong = e in cc)
 third_of a true c e f = absurd (let wrong = f in cc)
 
-module _ (pos : BoardState) (kind : Kind) (target : ℕ) (depths : Depths) (stone : cell_at pos.cells target ≢ Empty) where
+module _ (pos : BoardState) (kind : Kind) (target : ℕ) (depths : Depths)
+    (stone : cell_at pos.cells target ≢ Empty) where
   -- the question that a call asks about the stone attains the code
   abbrev Attains : ℕ → Bool
   Attains code = attains_code (asked_in depths.tree pos kind target depths.plies depths.wide) pos code

@@ -14,7 +14,7 @@ both true true h = (refl, refl)
 both true false h = absurd (cc)
 both false b h = absurd (cc)
 
--- and the other way round
+-- two facts that each hold hold together
 pub together : (a b : Bool) → a ≡ true → b ≡ true → (a && b) ≡ true
 together true true h k = refl
 together true false h k = absurd (cc)
@@ -26,7 +26,7 @@ follows true true h k = refl
 follows true false h k = absurd (cc)
 follows false b h k = absurd (cc)
 
--- and the other way round
+-- the second fact follows from the first: either not the first or the second
 pub if_follows : (a b : Bool) → (a ≡ true → b ≡ true) → (not a || b) ≡ true
 if_follows true b h = h refl
 if_follows false b h = refl
@@ -96,7 +96,7 @@ among_by_test few many h =
       plays = set.is_subset-contains nat_cmp_total few.points many.points parts.1;
     }
 
--- and the other way round
+-- moves that are among others pass the test
 pub test_by_among : (few many : Moves) → AreAmong few many → are_among few many ≡ true
 test_by_among few many h =
     together (not few.pass || many.pass) (set.is_subset few.points many.points)

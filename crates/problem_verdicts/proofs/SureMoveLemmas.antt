@@ -1,40 +1,17 @@
--- The points that are looked at, and those of them at which a play succeeds.
-use Rattle.std.proofs.Common.{◌≡◌, ◌∙◌, ℕ, ◌*◌, ◌<◌, ◌≤◌, ◌&&◌, Bool, true, false, nat_lt, ltb, refl, sym, ap, arith, inl, inr}
-use Rattle.std.proofs.Common.{Option, None, Some, is_some}
-use Rattle.std.specs.Prelude.{MatchOption}
-use mathlib.Core.Bool.{beq}
+-- The points that are looked at, and the set that is found of them.
+use Rattle.std.proofs.Common.{◌≡◌, ◌∙◌, ℕ, ◌*◌, ◌<◌, ◌≤◌, ◌&&◌, Bool, true, false, nat_lt, ltb, refl, sym, ap, arith}
+use Rattle.std.proofs.Common.{inl, inr}
 use Rattle.std.proofs.lemmas.Bool.{cases_Bool, cases_lt, lt-ltb, le-ltb, ltb-true, both_ways}
 use Rattle.std.specs.FinSet as set
 use Rattle.std.specs.Ordering.{nat_cmp}
-use Rattle.go_rules.specs.Position.{BoardState, IsPosition}
+use Rattle.go_rules.specs.Position.{BoardState}
 use Rattle.read_rules.specs.declared.node.Node.{Node}
-use Rattle.read_rules.specs.GameTree.{child_of}
-use Rattle.read_zones.proofs.AnswerLemmas as zones
 use Rattle.sure_rules.specs.Nodes.{is_attackers}
-use Rattle.sure_rules.specs.SureTree.{is_tried, surely_wins}
-use Rattle.sure_rules.specs.SureAnswer.{surely_succeeds}
-use Rattle.sure_rules.specs.Zones.{IsZone}
+use Rattle.sure_rules.specs.SureTree.{is_tried}
 use Rattle.sure_rules.proofs.SureLemmas.{tried_on, tried_anywhere}
 use Rattle.problem_verdicts.specs.SureQuestions.{is_seen}
 use Rattle.problem_verdicts.specs.declared.scope.Scope.{Scope}
 use Rattle.problem_verdicts.specs.declared.scope.Scope.TheVariants.{Tried, Anywhere}
-
--- the target is surely captured exactly if there is a zone
-pub sure_by_zone : (n : ℕ) (node : Node) (pos : BoardState) → IsPosition pos → (zone : Option (set.FinSet nat_cmp))
-    → MatchOption zone (surely_wins n node pos ≡ false) (λ zone. IsZone n node pos (set.contains zone))
-    → is_some zone ≡ surely_wins n node pos
-sure_by_zone n node pos sound zone is = zones.sure_by_zone n node pos sound zone is
-
--- a play that is made succeeds if its child's outcome is what the mover wants
-pub play_succeeds : (n : ℕ) (node : Node) (pos : BoardState) (p : ℕ) (child : Node × BoardState) (won : Bool)
-    → child_of node pos p ≡ Some child → won ≡ surely_wins n child.0 child.1
-    → beq won node.turn.attacker_to_play ≡ surely_succeeds n node pos p
-play_succeeds n node pos p child won is e = zones.play_succeeds n node pos p child won is e
-
--- one that cannot be made does not succeed
-pub no_play : (n : ℕ) (node : Node) (pos : BoardState) (p : ℕ) → child_of node pos p ≡ None
-    → false ≡ surely_succeeds n node pos p
-no_play n node pos p is = zones.no_play n node pos p is
 
 -- at the defender's turn every point of the board is tried
 pub tried_inside : (node : Node) (pos : BoardState) (p : ℕ) → is_attackers node ≡ false → p < pos.size * pos.size

@@ -21,7 +21,7 @@ pub record AreAmong (these those : Moves) : Type 0 where
   pub passes : these.pass ≡ true → those.pass ≡ true
   pub plays : (p : ℕ) → set.contains these.points p ≡ true → set.contains those.points p ≡ true
 
--- these are the same moves as those: the pass is one of both or of neither, and so is each point
+-- these and those are the same moves: both or neither have the pass, and each point is in both or in neither
 pub record AreSameMoves (these those : Moves) : Type 0 where
   pub passes : these.pass ≡ those.pass
   pub plays : (p : ℕ) → set.contains these.points p ≡ set.contains those.points p

@@ -16,7 +16,7 @@ use Rattle.problem_verdicts.specs.declared.judged.Found.{Found}
 use Rattle.problem_verdicts.specs.declared.scope.Scope.{Scope}
 use Rattle.problem_verdicts.specs.declared.scope.Scope.TheVariants.{Tried, Anywhere}
 
--- the question of the other side about the same string
+-- the question about a string that the other side asks: a defence for an attack, and an attack for a defence
 abbrev pub other_kind : Kind → Kind
 other_kind Attack = Defend
 other_kind Defend = Attack

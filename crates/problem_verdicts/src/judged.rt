@@ -42,7 +42,7 @@ pub struct Judged {
     pub verdict: Verdict,
 }
 
-/// The question of the other side about the same string.
+/// The question about a string that the other side asks: a defence for an attack, and an attack for a defence.
 pub(crate) fn other_kind(kind: Kind) -> Kind
     ensures { result ≡ other_kind kind }
 {

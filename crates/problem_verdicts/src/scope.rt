@@ -3,7 +3,7 @@
 /// Which moves of a question are judged.
 #[derive(Clone, Copy, Debug, PartialEq, Eq)]
 pub enum Scope {
-    /// Those that the tree tries at the first turn: the pass, and the candidates.
+    /// The moves that the tree tries at the first turn: the pass, and the candidates.
     Tried,
     /// Every legal move: the pass, and the points of the board, candidates or not.
     Anywhere,

@@ -43,7 +43,7 @@ fn is_surely_needless(
     code > 0 && sure_code(position, other_kind(kind), target, depths) == 0
 }
 
-/// The same depths with so many plies.
+/// These depths, with so many plies in place of theirs.
 fn with_plies(depths: Depths, plies: u8) -> Depths
     requires some { least_plies ≤ plies }
     requires few { plies ≤ most_plies }

@@ -11,17 +11,17 @@ use crate::moves::Moves;
 /// What the author of a problem is told.
 #[derive(Clone, Copy, Debug, PartialEq, Eq)]
 pub enum Verdict {
-    /// The code and the moves are those that he expects.
+    /// The code and the moves are those that the author expects.
     AsExpected,
-    /// The moves that he expects attain the code, and so do others, which he rules out.
+    /// The moves that the author expects attain the code, and other moves, which he rules out, attain it too.
     OtherAnswersToo,
-    /// The code is another one, or a move that he expects does not attain it.
+    /// The code is another one, or a move that the author expects does not attain it.
     AnotherAnswer,
     /// The question has its answer without a move: the target is captured already, or safe.
     NeedsNoMove,
     /// The side that is asked about does not have its way within the depths.
     NotSolved,
-    /// He tells nothing that he expects.
+    /// The author tells nothing that he expects.
     NotTold,
 }
 

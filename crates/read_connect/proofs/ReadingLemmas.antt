@@ -41,7 +41,7 @@ pass_first n link true here e parts = absurd (both_ways true e refl)
 pass_first n link false here e parts =
     sym (ap (λ b. cond b (Some Pass) (at_point (first_success n link false here))) parts)
 
--- and else the first point
+-- at the other turn it is the first point if the pass does not part the strings
 pub other_first : (n : ℕ) (link : Link) (own : Bool) (here : BoardState) → own ≡ false
     → pass_parts n link here ≡ false → at_point (first_success n link own here) ≡ first_move n link own here
 other_first n link true here e holds = absurd (both_ways true e refl)
@@ -82,7 +82,7 @@ apart_told q pos own at told e some about apart move told_is =
 pub told_none : (at : Option Spot) (told : Bool) → told ≡ is_some at → IsNone at ↔ (told ≡ false)
 told_none at told e = (λ h. e ∙ h, λ h. sym e ∙ h)
 
--- and so the answer about one string
+-- the answer about one string has no move exactly if it is no
 pub one_none : (own : Bool) → IsNone (one_string own).at ↔ ((one_string own).yes ≡ false)
 one_none true = told_none (Some Pass) true refl
 one_none false = told_none None false refl
@@ -114,17 +114,17 @@ module _ (q : LinkQuestion) (pos : BoardState) (a_on : q.a < pos.size * pos.size
   area_a : InConnectionArea q pos q.a
   area_a = a_in root
 
-  -- and so does the second
+  -- the second point lies in the active area
   area_b : InConnectionArea q pos q.b
   area_b = b_in root
 
-  -- so a look at the first lies there
+  -- a look at the first point lies in the active area
   pub look_a : {first next : Fact → Bool} {cell : Cell} → AddsOnly first next (CellIs q.a cell)
       → AddsNear first next (InConnectionArea q pos)
   look_a only = AddsNear-in (InConnectionArea q pos) (cell_near only)
       (λ p h. subst (InConnectionArea q pos) (sym (eqb-true p q.a h)) area_a)
 
-  -- and one at the second
+  -- a look at the second point lies in the active area
   pub look_b : {first next : Fact → Bool} {cell : Cell} → AddsOnly first next (CellIs q.b cell)
       → AddsNear first next (InConnectionArea q pos)
   look_b only = AddsNear-in (InConnectionArea q pos) (cell_near only)

@@ -34,7 +34,7 @@ pub in_both : (a b found : set.FinSet nat_cmp) → found ≡ set.intersection a 
     → set.contains found p ≡ (set.contains a p && set.contains b p)
 in_both a b found is p = ap (λ s. set.contains s p) is ∙ set.contains-intersection nat_cmp_total a b p
 
--- and in their difference if it is in the first alone
+-- a number is in the difference of two sets if it is in the first alone
 pub in_first_alone : (a b found : set.FinSet nat_cmp) → found ≡ set.difference a b → (p : ℕ)
     → set.contains found p ≡ (set.contains a p && not (set.contains b p))
 in_first_alone a b found is p = ap (λ s. set.contains s p) is ∙ set.contains-difference nat_cmp_total a b p
@@ -45,7 +45,7 @@ module _ (x y n m f g : Bool) where
   abbrev between : Bool
   between = (x && y) || ((x && f) || (y && g)) || ((n && x) || (m && y))
 
-  -- the same by stages
+  -- a point that is such by stages
   abbrev staged : Bool
   staged = (x && y) || ((x && (not y && (n || f))) || (y && (not x && (m || g))))
 
@@ -157,7 +157,7 @@ module _ (link : Link) (s : ℕ) (here : BoardState) (of_a of_b : set.FinSet nat
   pub capture_is_move : (p : ℕ) → is_capture s here.cells link.a link.b p ≡ true → is_connecting_move link here p ≡ true
   capture_is_move p h = stage_moves link s here of_a of_b size a_is b_is p ∙ or_right _ _ h
 
-  -- and there are no others
+  -- each connecting move is in one of the stages
   pub move_stage : (p : ℕ) → is_connecting_move link here p ≡ true
       → (set.contains of_a p && set.contains of_b p ≡ true)
       ⊎ ((reaches_among s of_a of_b p || reaches_among s of_b of_a p ≡ true)
@@ -190,15 +190,15 @@ liberty_inside s cells t p known is has = (IsLiberty-from_test s cells t p
 -- The liberties of the strings after the moves of a board, on a position that agrees with what was seen.
 module _ {L : Type 0} {seen : L → Fact → Bool} {board : Trying L} {link : Link} {of_a of_b : set.FinSet nat_cmp}
     (its : AreLiberties seen board link of_a of_b) (pos : BoardState) (agrees : Agrees (seen board.look) pos) where
-  -- those of the one string are on the board
+  -- the liberties of the one string are on the board
   pub a_inside : (p : ℕ) → set.contains of_a p ≡ true → p < pos.size * pos.size
   a_inside p h = liberty_inside pos.size (after pos board.moves).cells link.a p of_a (its.a_liberties pos agrees) h
 
-  -- and so are those of the other
+  -- the liberties of the other string are on the board
   pub b_inside : (p : ℕ) → set.contains of_b p ≡ true → p < pos.size * pos.size
   b_inside p h = liberty_inside pos.size (after pos board.moves).cells link.b p of_b (its.b_liberties pos agrees) h
 
-  -- and those that reach across
+  -- the liberties of one string that reach across to the other are on the board
   pub crossing_inside : (n p : ℕ) → reaches_among n of_a of_b p || reaches_among n of_b of_a p ≡ true
       → p < pos.size * pos.size
   crossing_inside n p h = elim (or_cases (reaches_among n of_a of_b p) (reaches_among n of_b of_a p) h) [
@@ -216,7 +216,7 @@ module _ {L : Type 0} {seen : L → Fact → Bool} {board : Trying L} {link : Li
       (size-after pos board.moves) (its.a_liberties pos agrees) (its.b_liberties pos agrees) p
       (sym (in_both of_a of_b found is p) ∙ h)
 
-  -- and so is one that was found to reach across on a board of its size
+  -- a point that was found to reach across on a board of its size is a connecting move
   pub crossing_move : (n : ℕ)
       → ((p : ℕ) → set.contains found p ≡ (reaches_among n of_a of_b p || reaches_among n of_b of_a p))
       → (pos : BoardState) → n ≡ pos.size → Agrees (seen board.look) pos → (p : ℕ) → set.contains found p ≡ true
@@ -247,7 +247,8 @@ pub record AreStages (link : Link) (s : ℕ) (here : BoardState) (of_a of_b shar
   pub across_is : (p : ℕ) → set.contains across p ≡ (reaches_among s of_a of_b p || reaches_among s of_b of_a p)
   pub captures_is : (p : ℕ) → set.contains captures p ≡ is_capture s here.cells link.a link.b p
 
--- so they are found by the liberties after the moves of a board, on a position that agrees with what was seen
+-- the sets of the three stages are found by the liberties after the moves of a board, on a position that agrees with
+-- what was seen
 pub stages_found : {L : Type 0} {seen : L → Fact → Bool} {board : Trying L} {link : Link}
     {of_a of_b shared across captures : set.FinSet nat_cmp} {n : ℕ} → AreLiberties seen board link of_a of_b
     → (pos : BoardState) → Agrees (seen board.look) pos → n ≡ pos.size → shared ≡ set.intersection of_a of_b
@@ -286,11 +287,11 @@ module _ {link : Link} {s : ℕ} {here : BoardState} {of_a of_b shared across ca
     rest_is_capture p i =
         sym (h.captures_is p) ∙ (and_parts _ _ (sym (in_first_alone captures tried rest rest_is p) ∙ i)).0
 
-    -- and so it is on the board
+    -- a point of the rest is on the board
     pub rest_inside : (p : ℕ) → set.contains rest p ≡ true → p < s * s
     rest_inside p i = capture_inside s here.cells link p (rest_is_capture p i)
 
-    -- and a connecting move
+    -- a point of the rest is a connecting move
     pub rest_is_move : (p : ℕ) → set.contains rest p ≡ true → is_connecting_move link here p ≡ true
     rest_is_move p i = capture_is_move link s here of_a of_b h.size h.a_is h.b_is p
         (rest_is_capture p i)

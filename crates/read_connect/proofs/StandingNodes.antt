@@ -35,7 +35,7 @@ pub record IsStandingNode (link : Link) (q : LinkQuestion) (root here : BoardSta
 pub point_on : (size s p : ℕ) → size ≡ s → p < s * s → p < size * size
 point_on size s p e h = subst (λ n. p < n * n) (sym e) h
 
--- so is a node after the moves of a board, on a position that agrees with what was seen
+-- a node after the moves of a board stands, on a position that agrees with what was seen
 pub standing_node : {L : Type 0} {shows : L → BoardState} {seen : Fact → Bool} {board : Trying L} {link : Link}
     {q : LinkQuestion} {root pos : BoardState} {n : ℕ} {own : Bool} → AreOnBoard shows board link
     → seen (SizeIs (shows board.look).size) ≡ true → Agrees seen pos
@@ -51,7 +51,7 @@ standing_node {shows} {board} {link} {pos} on told agrees stand node =
       stand = stand;
     }
 
--- so is the node at which a function of the walk may go on
+-- the node at which a function of the walk may go on stands, on a position that agrees with what was seen
 pub ready_node : {L : Type 0} {shows : L → BoardState} {seen : L → Fact → Bool} {board : Trying L} {link : Link}
     {m n : ℕ} {own : Bool} {q : LinkQuestion} {root pos : BoardState} → IsReady shows seen board link m
     → seen board.look (SizeIs (shows board.look).size) ≡ true → Agrees (seen board.look) pos
@@ -96,7 +96,7 @@ module _ {link : Link} {q : LinkQuestion} {root here : BoardState} {n s : ℕ} {
   pub a_in : InConnectionArea q root link.a
   a_in = area_end q root here n own at.node.in_tree s at.size its_a its_b its_stand link.a is_a
 
-  -- and so is the second
+  -- the second point is in the area
   pub b_in : InConnectionArea q root link.b
   b_in = area_end q root here n own at.node.in_tree s at.size its_a its_b its_stand link.b is_b
 
@@ -106,7 +106,7 @@ module _ {link : Link} {q : LinkQuestion} {root here : BoardState} {n s : ℕ} {
   near_a looks = AddsNear-in (InConnectionArea q root) looks
       (area_once q root here n own at.node.in_tree s at.size its_a its_b its_stand link.a is_a)
 
-  -- those beside the second do
+  -- looks beside the second string lie in the area
   pub near_b : {x y : Fact → Bool} → AddsIn x y (neighbourhood_of s here.cells (alone link.b))
       → AddsNear x y (InConnectionArea q root)
   near_b looks = AddsNear-in (InConnectionArea q root) looks
@@ -122,7 +122,7 @@ module _ {link : Link} {q : LinkQuestion} {root here : BoardState} {n s : ℕ} {
         | inr is ↦ area_twice q root here n own at.node.in_tree s at.size its_a its_b its_stand link.b is_b p is
       ])
 
-  -- and so do those of a play at a connecting move
+  -- looks beside a connecting move lie in the area
   pub near_play : {x y : Fact → Bool} (p : ℕ) → is_connecting_move link here p ≡ true
       → AddsIn x y (neighbourhood_twice s here.cells p) → AddsNear x y (InConnectionArea q root)
   near_play p move looks = AddsNear-in (InConnectionArea q root) looks
@@ -146,7 +146,7 @@ module _ {link : Link} {q : LinkQuestion} {root here : BoardState} {n s : ℕ} (
     b = b_in at;
   }
 
-  -- and so does the other colour's pass
+  -- the other colour's pass leads to a child
   pub passed_child : IsStandingNode link q root here (suc n) false s → IsChildFor link q root n true (pass here)
   passed_child at = record {
     node = record {

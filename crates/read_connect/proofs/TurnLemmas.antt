@@ -56,7 +56,7 @@ parted_by n link false here e und parts = sym (connects-other n link here und.st
     ∙ ap (λ b. b && not (any_below (here.size * here.size) (succeeds n link false here)))
     (not_false (can_connect n link true (pass here)) parts))
 
--- and else they can if no move of its serves it
+-- strings that the other colour's pass does not part can be joined if no move of its serves it
 pub other_by : (n : ℕ) (link : Link) (own : Bool) (here : BoardState) (told : Bool) → own ≡ false
     → IsUndecided link here → pass_parts n link here ≡ false
     → TellsSome (is_connecting_move link here) (attains n link own here) told

@@ -216,7 +216,7 @@ fn answered<L: Look>(look: L, kind: LinkKind, a: Point, b: Point, plies: u8) -> 
 /// Reads whether the strings of `a` and `b`, of one colour, can be joined when their own colour plays first, `plies`
 /// plies deep.
 ///
-/// The move is the pass where the two are one string already, else the first in reading order that attains it. Takes no
+/// The move is the pass if the two are one string already, else the first in reading order that attains it. Takes no
 /// memory.
 pub fn connect<L: Look>(look: L, a: Point, b: Point, plies: u8) -> LinkTold<L>
     requires a_on { a < (L.shows look).size * (L.shows look).size }

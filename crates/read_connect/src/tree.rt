@@ -66,7 +66,7 @@ pub fn can_connect<L: Look>(board: &mut Trial<L>, link: Link, own: bool, plies: 
     goes_on(board, link, own, plies - 1, &liberties, &of_b)
 }
 
-/// The same of strings that are apart, with `plies` plies left after the next move.
+/// Whether strings that are apart can be joined, with `plies` plies left after the next move.
 #[cycle(read)]
 fn goes_on<L: Look>(
     board: &mut Trial<L>,
@@ -106,7 +106,7 @@ pub fn pass_parts<L: Look>(board: &mut Trial<L>, link: Link, plies: u8) -> bool
 }
 
 /// Whether some connecting move gives the side to play its way, with `plies` plies left after it. The liberties that
-/// both strings have are tried first, and the captures are found only where nothing else serves.
+/// both strings have are tried first, and the captures are found only if nothing else serves.
 #[cycle(read)]
 fn some_move<L: Look>(
     board: &mut Trial<L>,

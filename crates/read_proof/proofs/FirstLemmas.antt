@@ -315,7 +315,8 @@ module _ (n : ℕ) (won : Bool) (node : Node) (pos : BoardState) where
       by true taken some = ap (λ o. is_captured pos node.turn.target && not (is_some o)) back
           ∙ no_more (is_captured pos node.turn.target)
       by false taken some =
-          ap (λ b. cond b (eqb (suc n) 0 && can_take_back node pos) (eqb (suc n) 0 || has_too_many (suc n) node pos)) taken
+          ap (λ b. cond b (eqb (suc n) 0 && can_take_back node pos) (eqb (suc n) 0 || has_too_many (suc n) node pos))
+          taken
           ∙ ap (λ b. b && can_take_back node pos) some
 
   -- where he does, the word of his play, and those at the child to which it leads
@@ -428,8 +429,8 @@ module _ (s : ℕ) (size : IsSize s) where
             let words = first_words n won first.child.0 first.child.1 ++ rest in
             ap (λ ws. proves (suc n) won node pos (ws ++ rest))
             (words-move n won node pos first.spot first.child hidden none wanted first.is_first first.leads)
-            ∙ move_decides won node pos (move_word pos.size first.spot ∷ words) (move_word pos.size first.spot) words refl
-            (suc n) first.spot true (said_move s pos.size size first.spot here.0
+            ∙ move_decides won node pos (move_word pos.size first.spot ∷ words) (move_word pos.size first.spot) words
+            refl (suc n) first.spot true (said_move s pos.size size first.spot here.0
             (spot_on node pos first.spot first.child here first.leads)) (λ e. cc)
             (move_may won node pos wanted first.few)
             ∙ ap (λ m. at_child (proves m won) (child_behind node pos first.spot) words) (less n)
@@ -531,7 +532,8 @@ module _ (s : ℕ) (size : IsSize s) where
       (each_is_word n won (first_are_words n won) (children_of node pos) (each_at s node pos here))))
     where
       by : (settled : Bool) → AllByRecursion (λ w. is_word w ≡ true)
-          (write_back (first_words n won) node pos (taking_back node pos) (moves_words n won node pos (is_wanted won node)))
+          (write_back (first_words n won) node pos (taking_back node pos)
+          (moves_words n won node pos (is_wanted won node)))
           → AllByRecursion (λ w. is_word w ≡ true) (cond settled (codes "." ∷ [])
           (write_back (first_words n won) node pos (taking_back node pos)
           (moves_words n won node pos (is_wanted won node))))

@@ -1,6 +1,6 @@
--- The first proof of a claim that is so, and of the code of a question: `.` wherever it will do, else the play that takes
--- back if the defender can, else the first move in reading order that will do, the pass before all points, and else
--- `*`.
+-- The first proof of a claim that is so, and of the code of a question: `.` wherever it will do, else the play that
+-- takes back if the defender can, else the first move in reading order that will do, the pass before all points, and
+-- else `*`.
 use Rattle.std.specs.Prelude.{◌≡◌, ℕ, zero, suc, Bool, List, [], ◌∷◌, ◌++◌, Option, None, Some, if◌then◌else◌}
 use Rattle.std.specs.Prelude.{codes}
 use Rattle.std.specs.List.{join_with_byte}

@@ -28,9 +28,9 @@ has_too_many n node pos =
 abbrev pub can_take_back : Node → BoardState → Bool
 can_take_back node pos = is_some (taking_back node pos)
 
--- the claim is settled at the node with n plies left: that the attacker wins, if the target is taken and cannot be taken
--- back; that he does not, if it can be but no ply is left for it, or if it stands, and no ply is left or it has too many
--- liberties
+-- the claim is settled at the node with n plies left: that the attacker wins, if the target is taken and cannot be
+-- taken back; that he does not, if it can be but no ply is left for it, or if it stands, and no ply is left or it has
+-- too many liberties
 unfoldable pub is_settled : ℕ → Bool → Node → BoardState → Bool
 is_settled n won node pos =
     if won then is_captured pos node.turn.target && not (can_take_back node pos)
@@ -66,8 +66,8 @@ abbrev pub back_after : Node → BoardState → Spot → Option (Node × BoardSt
 back_after node pos (At p) = if p == node.turn.target then taking_back node pos else None
 back_after node pos Pass = None
 
--- the child at which a proof goes on behind a move: the one to which it takes back, if the target is taken, and else the
--- one to which it leads
+-- the child at which a proof goes on behind a move: the one to which it takes back, if the target is taken, and else
+-- the one to which it leads
 unfoldable pub child_behind : Node → BoardState → Spot → Option (Node × BoardState)
 child_behind node pos spot =
     if is_captured pos node.turn.target then back_after node pos spot else child_after node pos spot

@@ -25,8 +25,8 @@ pub fn proofs_are_sound()
 {}
 
 /// What is so has a proof: the first words of a claim that is so prove it, whatever stands behind them. Where the claim
-/// is not settled, and is what the side to play wants, they begin with the first move that leads to it; but if
-/// the defender can take back a lone stone, they begin with the play at its point. So each question about a position has a
+/// is not settled, and is what the side to play wants, they begin with the first move that leads to it; but if the
+/// defender can take back a lone stone, they begin with the play at its point. So each question about a position has a
 /// text that is a proof of its code: the first one.
 pub fn first_proofs_prove()
     ensures node { (n : ℕ) (won : Bool) (node : Node) (pos : BoardState) (rest : List Word) → IsSize pos.size

@@ -111,9 +111,9 @@ pub fn sure_move<L: Look>(board: &mut Trial<L>, node: Node, plies: u8) -> Option
     first_sure_move(board, node, plies)
 }
 
-/// Whether the target, whose point is empty, is surely captured, with `plies` plies left: it is, if the defender has not
-/// just lost a lone stone, or if he cannot take back; else if a ply is left for it and the target is surely captured
-/// after it.
+/// Whether the target, whose point is empty, is surely captured, with `plies` plies left: it is, if the defender has
+/// not just lost a lone stone, or if he cannot take back; else if a ply is left for it and the target is surely
+/// captured after it.
 #[cycle(sure)]
 fn taken<L: Look>(board: &mut Trial<L>, node: Node, plies: u8) -> bool
     requires room { length board.old.moves + plies ≤ most_moves }

@@ -32,7 +32,8 @@ pub struct Shown {
     pub zone: PointSet,
 }
 
-/// Whether a lone stone was just taken where the target stood, which may be taken back, and the points on which it rests.
+/// Whether a lone stone was just taken where the target stood, which may be taken back, and the points on which that
+/// rests.
 #[derive(Drop)]
 pub struct Loss {
     /// Whether it was a lone stone.

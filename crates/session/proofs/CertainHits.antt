@@ -89,7 +89,7 @@ same_room_along [] a b along = ap (λ (k : Kept). room_of k.engine) along
 same_room_along (turn ∷ turns) a b (mid, first, rest) =
     same_room_along turns mid b rest ∙ same_room a.engine mid.engine (asks_of_line turn.machine turn.line) first.read
 
--- a line names no `match_patterns`, and so do those after it
+-- if no line names `match_patterns`, neither the first does nor those after it
 matching_lines-cons : (turn : Turn Machine) (turns : List (Turn Machine)) → matching_lines (turn ∷ turns) ≡ 0
     → (is_matching (named_in turn.line) ≡ false) × (matching_lines turns ≡ 0)
 matching_lines-cons turn turns none =
@@ -186,7 +186,7 @@ module _ (k0 k new : Kept) (before : List (Turn Machine)) (now : Turn Machine)
       (subst (λ ts. IsAlong IsAfterLine k0 ts k) hit.place along) in
       again-unfresh hit parts.0 parts.2.0 parts.1 parts.2.1 parts.2.2
 
-  -- and is counted
+  -- a certain hit is counted
   pub hit_is_counted : IsCertainHit before now → new.engine.counts.readings ≡ counted k.engine.counts.readings true
   hit_is_counted hit =
       line.readings ∙ ap (counted k.engine.counts.readings)

@@ -132,7 +132,7 @@ few_entries helpers text none =
     subst (λ n. n ≤ most_patterns) (sym (length-map
     (blocks_of (fold after_line at_start (kept_lines text))) entry_of_block)) few
 
--- so have patterns that are its entries
+-- patterns that are the entries of a text without a fault are few
 pub few_patterns : {A : Type 0} (f : A → Entry) (patterns : List A) (known : List (List ℕ)) (text : List ℕ)
     → first_fault known text ≡ None
     → map f patterns ≡ entries text
@@ -140,7 +140,7 @@ pub few_patterns : {A : Type 0} (f : A → Entry) (patterns : List A) (known : L
 few_patterns f patterns known text none spelled =
     subst (λ n. n ≤ most_patterns) (ap length (sym spelled) ∙ length-map patterns f) (few_entries known text none)
 
--- so has what was read of a text without a fault
+-- what was read of a text without a fault has few patterns
 pub few_read : {V A E : Type 0} (items : V → List A) (f : A → Entry) (result : Result V E)
     (known : List (List ℕ)) (text : List ℕ)
     → IfOk result (λ v. (first_fault known text ≡ None) × (map f (items v) ≡ entries text)) → IfOk result

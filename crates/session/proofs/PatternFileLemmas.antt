@@ -1,4 +1,4 @@
--- How files are joined one after another, and what an outcome says that refuses them.
+-- How files are joined one after another.
 use Rattle.std.proofs.Common.{◌≡◌, ℕ, ◌+◌, ◌<◌, List, [], ◌∷◌, ◌++◌, length, map, take, drop, get_or, Option, Some}
 use Rattle.std.proofs.Common.{None, refl, sym, ap, subst, ◌∙◌, append_assoc, append-nil}
 use Rattle.std.proofs.Math.Seq.{drop-append_seam}
@@ -6,10 +6,7 @@ use Rattle.std.proofs.lemmas.List.{map-append, take_more}
 use Rattle.std.proofs.lemmas.List.Concat.{flat_map-append}
 use Rattle.gtp_io.specs.Loading.{IsLoaded}
 use Rattle.machine_rules.specs.Files.{IsContents}
-use Rattle.session.specs.PatternFiles.{added_feed, ended, joined_text, AreContents, IsJoined, Adds, MissedBy}
-use Rattle.session.specs.PatternFiles.{MissedIn, unloaded}
-use Rattle.gtp_io.specs.declared.errors.LoadError.{LoadError}
-use Rattle.gtp_io.specs.declared.errors.LoadError.TheVariants as load
+use Rattle.session.specs.PatternFiles.{added_feed, ended, joined_text, AreContents, IsJoined, Adds}
 
 -- what was loaded stands behind the bytes that were handed in
 loaded : (contents : Option (List ℕ)) (into bytes : List ℕ) → IsLoaded contents into bytes → (more : List ℕ)
@@ -63,11 +60,3 @@ IsJoined-next f contents words i word text new within is so_far adds =
       joined = adds.added ∙ ap (λ l. l ++ ended adds.text) so_far.joined ∙ sym
           (joined_text-next so_far.texts adds.text);
     }
-
--- Which names are missed when files were not opened.
-module _ (names before now : List (List ℕ)) where
-  -- a file could not be loaded
-  pub missed-unloaded : (cause : LoadError) → MissedBy names before now cause → MissedIn names before now
-      (unloaded cause)
-  missed-unloaded load.Failed missed = missed
-  missed-unloaded load.NoMemory missed = missed

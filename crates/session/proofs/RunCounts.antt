@@ -90,7 +90,7 @@ module _ {M : Type 0} (step : M → RawLine → Step M → Type 0) where
       let both = length-append (one_turn old x first) rest.turns in
       omega (arith, later, all, both)
 
-  -- nor where a reply broke off
+  -- a run that breaks off in a reply has no more turns than lines
   cut-few : (first : M) (lines : List RawLine) (tally : Tally M) → BreaksOff step first lines tally
       → length tally.turns ≤ length lines
   cut-few first lines tally off =
@@ -187,7 +187,7 @@ module _ (turn : Turn Machine) (a b : Kept) (unfresh : b.engine.counts.fresh ≡
       by (Some n) fresh trials = absurd (omega (arith, fresh, unfresh))
   untried_by Many read = (sym read.counts.fresh ∙ unfresh, read.counts.trials)
 
--- the same along lines
+-- if no reading was fresh after the lines, none was before them, and no more plays were tried than before
 untried_along : (turns : List (Turn Machine)) (a b : Kept) → IsAlong IsAfterLine a turns b
     → b.engine.counts.fresh ≡ 0 → (a.engine.counts.fresh ≡ 0) × (b.engine.counts.trials ≡ a.engine.counts.trials)
 untried_along [] a b along unfresh =
@@ -266,15 +266,15 @@ module _ (first last : Kept) (turns : List (Turn Machine)) (along : IsAlong IsAf
   no-readings : first.engine.counts.readings ≡ 0
   no-readings = ap (λ (c : Counts). c.readings) none
 
-  -- and none that was fresh
+  -- it had counted no reading that was fresh
   no-fresh : first.engine.counts.fresh ≡ 0
   no-fresh = ap (λ (c : Counts). c.fresh) none
 
-  -- nor a connection
+  -- it had counted no connection
   no-connections : first.engine.counts.links.connections ≡ 0
   no-connections = ap (λ (c : Counts). c.links.connections) none
 
-  -- and none that was fresh
+  -- it had counted no connection that was fresh
   no-fresh_links : first.engine.counts.links.fresh ≡ 0
   no-fresh_links = ap (λ (c : Counts). c.links.fresh) none
 
@@ -311,7 +311,7 @@ module _ (first last : Kept) (turns : List (Turn Machine)) (along : IsAlong IsAf
       links_along turns first last along (omega (arith, no-connections, no-fresh_links))
       (omega (arith, no-connections, few))
 
-  -- so the counts are those of the lines
+  -- the counts are those of the lines
   pub counts_of : (capacity : ℕ) → first.engine.readings.answers ≡ first_keeping capacity
       → first.engine.links.answers ≡ first_keeping capacity → 8 ≤ capacity
       → AreCountsOf capacity turns last.engine.counts

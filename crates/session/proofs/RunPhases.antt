@@ -21,20 +21,17 @@ use Rattle.workload.specs.GeneratedLines.{generated_text}
 use Rattle.workload.proofs.LengthLemmas.{generated_length}
 use Rattle.helpers.specs.HelperStates.{SlotState}
 use Rattle.machine_rules.specs.Step.{step}
-use Rattle.session_core.specs.Handed.{helper_names}
 use Rattle.session_core.specs.Kept.{Kept, kept_with}
 use Rattle.session_core.specs.EngineView.{EngineView, machine_with, matcher_of, depths_in}
 use Rattle.read_rules.specs.declared.tree.Tree.{Tree}
-use Rattle.session.specs.PatternFiles.{IsRefused, MissedIn}
 use Rattle.session.specs.FirstSession.{Opens, CameBy, ServesCounting, EndsCounting}
-use Rattle.session.specs.Outcomes.{Phase, NotOpened, Served}
+use Rattle.session.specs.Outcomes.{Phase, Served}
 use Rattle.session.specs.Ends.{Streams, streams, IsRight, Serves, most_taken}
 use Rattle.session.specs.CountedRuns.{AreCounts, AreCountsOf}
-use Rattle.session.specs.Headline.{IsSent, IsCauseOf, MissedAfter, ServesGenerated}
+use Rattle.session.specs.Headline.{IsSent, IsCauseOf, ServesGenerated}
 use Rattle.session.specs.Serving.{progress_of}
 use Rattle.session.specs.declared.outcome.End.{End}
 use Rattle.session.specs.declared.outcome.End.TheVariants.{InputTooLong}
-use Rattle.session.specs.declared.outcome.OpenError.{OpenError}
 use Rattle.session.proofs.RunCounts.{counts_of, served-few}
 use Rattle.session.proofs.PlainSessions.{ServesLines-plain}
 
@@ -115,7 +112,7 @@ came-served tree helpers slots contents options session lines missed now before 
           are;
     })
 
--- the same where the files were opened before, which leaves what files hold and which names were missed
+-- the lines were served after the files were opened, which leaves what files hold and which names were missed
 pub came-served-after : (tree : Tree) (helpers slots : List SlotState) (contents contents' : Contents)
     (options : Options) (session : EngineView) (lines : LinesState) (missed missed' now : List (List ℕ))
     (before after : Streams) (end : End) (counts : Counts) (w0 w1 : Option (List ℕ)) (sent : Sent)
@@ -209,7 +206,7 @@ serves-generated n step goes first left piece faults w0 w1 c0 c1 f0 f1 p text re
       advances = counting.advances;
     })
 
--- the same, with the counts that are noted
+-- generated lines were served in place of the source, with the counts that are noted
 pub ends-generated : {M : Type 0} (n : ℕ) (step : M → RawLine → Step M → Type 0)
     (goes : Kept → Turn M → Kept → Type 0)
     (first : M)
@@ -232,24 +229,3 @@ ends-generated n step goes first left piece faults w0 w1 c0 c1 f0 f1 p text rest
       serves = serves-generated n step goes first left piece faults w0 w1 c0 c1 f0 f1 p text rest last end old
           (progress_of written ends.kept sent) generate some few is ends.serves;
     }
-
--- the files were not opened
-module _ (options : Options) (error : OpenError) (phase : Phase) (is : phase ≡ NotOpened error) where
-  -- nothing was taken, put or counted, and the error says why
-  pub came-unopened : (tree : Tree) (helpers : List SlotState) (contents : Contents) (missed now : List (List ℕ))
-      (before : Streams) (counts : Option Counts) (sent : Option Sent)
-      → IsRefused (helper_names helpers) contents options.files options.states error → counts ≡ None → sent ≡ None
-      → CameBy tree helpers options contents missed now before before counts sent phase
-  came-unopened tree helpers contents missed now before counts sent refused uncounted unsent =
-      subst (CameBy tree helpers options contents missed now before before counts sent) (sym is) (
-        refused,
-        record {
-          untouched = record { streams = refl; uncounted = ap counts_line uncounted; unsent = unsent };
-          uncounted = uncounted;
-        },
-      )
-
-  -- the names missed are as the error says
-  pub missed-unopened : (before now : List (List ℕ)) → MissedIn options.files before now error
-      → MissedAfter options.files before now phase
-  missed-unopened before now missed = subst (MissedAfter options.files before now) (sym is) missed

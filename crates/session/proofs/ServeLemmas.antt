@@ -226,7 +226,7 @@ module _ (M : Type 0) (step : M → RawLine → Step M → Type 0) (goes : Kept 
     advances = runs.advances;
   }
 
-  -- the same lines
+  -- a run of some lines is one of the lines that equal them
   pub RunsTo-is : (from to : M) (xs ys : List RawLine) (ended : Bool) (a b : Progress) → xs ≡ ys
       → RunsTo step goes from ys to ended a b → RunsTo step goes from xs to ended a b
   RunsTo-is from to xs ys ended a b same runs = subst (λ l. RunsTo step goes from l to ended a b) (sym same) runs
@@ -258,7 +258,7 @@ module _ (M : Type 0) (step : M → RawLine → Step M → Type 0) (goes : Kept 
     runs = RunsPart-more from xs ys a (progress_of stop.written cuts.kept stop.sent) cuts.runs;
   }
 
-  -- the same lines
+  -- a run that is cut short on some lines is cut short on the lines that equal them
   CutsShort-is : (from : M) (xs ys : List RawLine) (a : Progress) (stop : Stop)
       (missed : List (List ℕ)) → xs ≡ ys → CutsShort step goes from ys a stop missed
       → CutsShort step goes from xs a stop missed
@@ -280,7 +280,7 @@ module _ (M : Type 0) (step : M → RawLine → Step M → Type 0) (goes : Kept 
     };
   }
 
-  -- lines were answered after it
+  -- lines were answered after what stays
   pub RunsTo-after : (from to : M) (lines : List RawLine) (ended : Bool) (w0 w1 : Option (List ℕ))
       (kept : Kept) (s0 s1 : Sent) (b0 b1 : WaitingState) (c : Progress) → Stays w0 w1 s0 s1 b0 b1
       → RunsTo step goes from lines to ended (progress_with w1 kept s1 b1) c
@@ -289,7 +289,7 @@ module _ (M : Type 0) (step : M → RawLine → Step M → Type 0) (goes : Kept 
       RunsTo-append from from to [] lines ended (progress_with w0 kept s0 b0) (progress_with w1 kept s1 b1) c
       (RunsTo-stays from w0 w1 kept s0 s1 b0 b1 stays) runs
 
-  -- and where the output may fail
+  -- lines were answered after what stays, where the output may fail
   pub MayCut-after : (from : M) (lines : List RawLine) (w0 w1 : Option (List ℕ)) (kept : Kept) (s0 s1 : Sent)
       (b0 b1 : WaitingState) (stop : Stop) (missed : List (List ℕ)) → Stays w0 w1 s0 s1 b0 b1
       → MayCut step goes from lines w1 kept s1 b1 stop missed → MayCut step goes from lines w0 kept s0 b0 stop missed
@@ -300,7 +300,7 @@ module _ (M : Type 0) (step : M → RawLine → Step M → Type 0) (goes : Kept 
       (RunsTo-stays from w0 w1 kept s0 s1 b0 b1 stays) cuts))
       may
 
-  -- the same lines, where the output may fail
+  -- a run that may be cut on some lines may be cut on the lines that equal them
   pub MayCut-is : (from : M) (xs ys : List RawLine) (w : Option (List ℕ)) (kept : Kept) (s : Sent)
       (b : WaitingState)
       (stop : Stop) (missed : List (List ℕ)) → xs ≡ ys → MayCut step goes from ys w kept s b stop missed

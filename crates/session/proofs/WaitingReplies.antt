@@ -148,7 +148,7 @@ module _ (bytes reply : List ℕ) (marks : List ReplyMark) (m : ReplyMark) (are 
       let marks_more = length-append marks (m ∷ []) in
       omega (arith, some, same, marks_more)
 
-  -- nor within its own
+  -- within the reply's own bytes not each has ended
   some-back : (k : ℕ) → length bytes ≤ k → k < length (bytes ++ reply)
       → gone (marks ++ m ∷ []) k < length (marks ++ m ∷ [])
   some-back k back less =
@@ -271,7 +271,7 @@ module _ (written : Option (List ℕ)) (sent : Sent) (bytes reply : List ℕ) (m
         same = at.counts ∙ (gone-added stop at back).1;
       }
 
-  -- so the reply is sent
+  -- the reply is sent behind those that wait
   pub sends-added : Sends written written sent sent before after reply m.counts
   sends-added = record {
     whole = added-whole;

@@ -46,7 +46,7 @@ pub record RoseAlong (capacity : ℕ) (turns : List (Turn Machine)) (counts : Co
 
 -- The counts are those of these lines: each that asks for a reading and is answered with a code is counted, and no more
 -- are fresh. Where no keeping was refused, a certain hit is not fresh: n of them leave only the other readings to be.
--- Without a fresh reading no play was tried, and where no line asks for a reading or for matches nothing is counted of
+-- Without a fresh reading no play was tried, and if no line asks for a reading or for matches nothing is counted of
 -- readings. Each line that asks about a connection and is answered with a result is counted, and no more are fresh. The
 -- counts rose line by line, as those of a session that may keep this many questions.
 pub record AreCountsOf (capacity : ℕ) (turns : List (Turn Machine)) (counts : Counts) : Type 0 where
@@ -59,7 +59,7 @@ pub record AreCountsOf (capacity : ℕ) (turns : List (Turn Machine)) (counts : 
   pub fresh_links : counts.links.fresh ≤ counts.links.connections
   pub rose : RoseAlong capacity turns counts
 
--- the counts are told where they are asked for: those of the lines of the tally
+-- the counts are told if they are asked for: those of the lines of the tally
 abbrev pub AreCounts : Bool → ℕ → Option Counts → Tally Machine → Type 0
 AreCounts asked capacity counts tally =
     MatchBool asked (IsSomeAnd counts (AreCountsOf capacity tally.turns)) (counts ≡ None)
@@ -105,7 +105,7 @@ pub record RunsCountedIn (tree : Tree) (helpers : List SlotState) (words : List 
 abbrev pub RunsCounted : List SlotState → List (List ℕ) → Outside → Outside → Outcome → Type 0
 RunsCounted = RunsCountedIn Stated
 
--- what a run with these helpers did that reads in a tree, and what it counted, by its words where they could be had;
+-- what a run with these helpers did that reads in a tree, and what it counted, by its words if they could be had;
 -- texts tells these
 abbrev pub RunsHadCounted : {V : Type 0} → Tree → List SlotState → (V → List (List ℕ)) → Result V WordsError → Outside
     → Outside → Outcome → Type 0

@@ -36,8 +36,8 @@ use Rattle.session.specs.declared.outcome.WordsError.{WordsError}
 use Rattle.session.specs.declared.outcome.End.{End}
 use Rattle.session.specs.declared.outcome.End.TheVariants.{InputTooLong}
 
--- what stands outside a run: the files by their names, those that failed, the streams, and the notes with how often
--- they failed
+-- what stands outside a run: the files by their names, the names that were missed, the streams, and the notes with how
+-- often they failed
 pub record Outside : Type 0 where
   pub contents : Contents
   pub missed : List (List ℕ)
@@ -79,13 +79,13 @@ pub record ServesGenerated {M : Type 0} (n : ℕ) (step : M → RawLine → Step
       (record after { left = Some rest; piece = last }) end tally
   pub not_too_long : end ≢ InputTooLong
 
--- the lines of the source were served, or where so many lines are to be generated, these
+-- the lines of the source were served, or generated lines if so many are to be generated
 abbrev pub ServesLines : {M : Type 0} → Option ℕ → (M → RawLine → Step M → Type 0) → M → Streams → Streams → End
     → Tally M → Type 0
 ServesLines None step first before after end tally = Serves step first before after end tally
 ServesLines (Some n) step first before after end tally = ServesGenerated n step first before after end tally
 
--- what was sent is told where lines are generated: the replies of the tally that went out whole, and its bytes
+-- what was sent is told if lines are generated: the replies of the tally that went out whole, and its bytes
 abbrev pub IsSent : {M : Type 0} → Option ℕ → Option Sent → Tally M → Type 0
 IsSent generate sent tally = MatchOption generate (sent ≡ None) (λ n. IsSomeAnd sent
     (λ s. (s.lines ≡ kept_sum 0 tally.replies) × (s.bytes ≡ kept_sum 0 (length tally.out))))
@@ -134,7 +134,7 @@ MissedAfter names before now NotTaken = now ≡ before
 MissedAfter names before now (NotOpened error) = MissedIn names before now error
 MissedAfter names before now (Served end) = Unit {0}
 
--- a fault is told only where its object's count rose, and the count is greater than before only where the fault is told
+-- a fault is told only if its object's count rose, and the count is greater than before only if the fault is told
 pub record IsCauseOf (fault : Type 0) (before now : ℕ) : Type 0 where
   pub later : before ≤ now
   pub rose : fault → Rose before now
@@ -166,7 +166,7 @@ pub record DoesNothing (before after : Outside) (outcome : Outcome) : Type 0 whe
   pub streams : after.streams ≡ before.streams
   pub notes : IsNoted before.noted after.noted before.notes_faults after.notes_faults (note_of outcome)
 
--- what a run with these helpers did that reads in a tree, by its words where they could be had; texts tells these
+-- what a run with these helpers did that reads in a tree, by its words if they could be had; texts tells these
 abbrev pub RunsHad : {V : Type 0} → Tree → List SlotState → (V → List (List ℕ)) → Result V WordsError → Outside
     → Outside → Outcome → Type 0
 RunsHad tree helpers texts (Ok words) before after outcome = RunsIn tree helpers (texts words) before after outcome

@@ -28,7 +28,7 @@ phase_of FileFault = NotOpened open_error.FileFault
 phase_of (TooManyStates limit) = NotOpened (open_error.TooManyStates limit)
 phase_of InputTooLong = Served served.InputTooLong
 
--- the outcome where the words could not be had
+-- the outcome if the words could not be had
 abbrev pub unhad : WordsError → Outcome
 unhad words.NotText = Usage
 unhad words.NoMemory = NoMemory

@@ -26,7 +26,7 @@ most_patterns = 4096
 abbrev pub needs_feed : List ℕ → Bool
 needs_feed text = not (length text == 0) && not (slice_index text (length text - 1) == line_feed)
 
--- the line feed that is added after the contents of a file, where they need one
+-- the line feed that is added after the contents of a file, if they need one
 abbrev pub added_feed : List ℕ → List ℕ
 added_feed text = if needs_feed text then line_feed ∷ [] else []
 
@@ -63,12 +63,13 @@ pub record MissedOne (names before now : List (List ℕ)) : Type 0 where
   pub named : Contains names name
   pub appended : now ≡ before ++ name ∷ []
 
--- those missed, after a load of files by their names had this error
+-- now are the names missed after a load of files by their names that had this error: one more if a file failed, else
+-- those before
 abbrev pub MissedBy : List (List ℕ) → List (List ℕ) → List (List ℕ) → LoadError → Type 0
 MissedBy names before now load.Failed = MissedOne names before now
 MissedBy names before now load.NoMemory = now ≡ before
 
--- the joined files have no fault where these helpers may be named, and the patterns are their entries
+-- the joined files have no fault if these helpers may be named, and the patterns are their entries
 pub record IsDatabase (known : List (List ℕ)) (contents : Contents) (names : List (List ℕ))
     (patterns : List Pattern) : Type 0 where
   pub text : List ℕ
@@ -76,7 +77,7 @@ pub record IsDatabase (known : List (List ℕ)) (contents : Contents) (names : L
   pub sound : first_fault known text ≡ None
   pub spelled : map entry_of patterns ≡ entries text
 
--- the joined files have this first fault where these helpers may be named
+-- the joined files have this first fault if these helpers may be named
 pub record IsFaulty (known : List (List ℕ)) (contents : Contents) (names : List (List ℕ))
     (line kind : ℕ) : Type 0 where
   pub text : List ℕ

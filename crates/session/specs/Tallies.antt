@@ -21,7 +21,7 @@ pub record Tally (M : Type 0) : Type 0 where
 abbrev pub no_tally : {M : Type 0} → Tally M
 no_tally = record { out = []; replies = 0; turns = [] }
 
--- one tally and then another
+-- the tally of the lines of a and then of those of b
 abbrev pub together : {M : Type 0} → Tally M → Tally M → Tally M
 together a b = record { out = a.out ++ b.out; replies = a.replies + b.replies; turns = a.turns ++ b.turns }
 

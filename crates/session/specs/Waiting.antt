@@ -96,7 +96,7 @@ pub record Sends (w0 w1 : Option (List ℕ)) (s0 s1 : Sent) (b0 b1 : WaitingStat
   pub whole : PutsReply (holds_with w0 b0) (holds_with w1 b1) (sent_with s0 b0) (sent_with s1 b1) reply
   pub stops : (stop : Stop) → IsStop w1 s1 b1 stop → MayStop w0 s0 b0 reply counts stop
 
--- the reply to a line was sent so, and where there is none all is as it was
+-- the reply to a line was sent so, and if there is none all is as it was
 abbrev pub SendsReply : Option (List ℕ) → Option (List ℕ) → Sent → Sent → WaitingState → WaitingState → Reply → Counts
     → Type 0
 SendsReply w0 w1 s0 s1 b0 b1 reply.Nothing counts = (w1 ≡ w0) × (s1 ≡ s0) × (b1 ≡ b0)

@@ -104,7 +104,7 @@ fn cut_at(marks: &[ReplyMark], place: usize) -> (usize, Counts)
     (marks.len(), NO_MARK.counts)
 }
 
-/// Puts a reply behind no other, and counts it where it went out whole.
+/// Puts a reply behind no other, and counts it if it went out whole.
 fn put_directly<K: Sink>(
     reply: &[u8],
     counts: Counts,
@@ -139,7 +139,7 @@ impl Outbox {
         }
     }
 
-    /// Whether a reply of so many bytes may wait too.
+    /// Whether there is room for a reply of so many bytes behind those that wait.
     fn has_room(&self, n: usize) -> bool
         ensures { result ≡ true → (length self.now.bytes + n ≤ outbox_room)
             × (length self.now.marks < most_marks) }
@@ -211,7 +211,7 @@ impl Outbox {
         self.flush(output, sent)
     }
 
-    /// A reply that may wait waits, and is put at once with what waits where `now` says so.
+    /// A reply that may wait waits, and is put at once with what waits if `now` says so.
     fn keep<K: Sink>(
         &mut self,
         reply: &[u8],
@@ -237,7 +237,7 @@ impl Outbox {
     }
 
     /// Takes a reply behind those that wait, with the counts after its line. What waits is put before it where there
-    /// is no room for it, and with it where `now` says so.
+    /// is no room for it, and with it if `now` says so.
     pub(crate) fn put<K: Sink>(
         &mut self,
         reply: &[u8],

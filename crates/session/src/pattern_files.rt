@@ -32,7 +32,7 @@ fn needs_feed(text: &[u8]) -> bool
     !text.is_empty() && text[text.len() - 1] != b'\n'
 }
 
-/// The text with a line feed, where what stands behind its first bytes needs one.
+/// The text with a line feed, if what stands behind its first bytes needs one.
 fn with_feed(mut text: Vec<u8>, before: usize) -> Result<Vec<u8>, AllocError>
     requires { before ≤ length text.items }
     ensures { IfOk result (λ new. new.items ≡ text.items ++ added_feed (drop before text.items)) }

@@ -37,7 +37,7 @@ const PIECE: usize = 4096;
 const MOST_TAKEN: usize = 1 << 32;
 
 // Sends the reply to a line behind those that wait, and says whether it ends the session. It is put at once with what
-// waits where `now` says so.
+// waits if `now` says so.
 fn send<K: Sink>(
     reply: Reply,
     counts: Counts,

@@ -50,7 +50,7 @@ fn unserved(outcome: Outcome) -> Ran
     }
 }
 
-// A run that served the lines until this end, with its counts and what it sent where the options ask for them.
+// A run that served the lines until this end, with its counts and what it sent if the options ask for them.
 fn served(end: End, options: &Options, counts: Counts, sent: Sent) -> Ran
     ensures phase { phase_of result.outcome ≡ Served end }
     ensures input { (result.outcome ≡ Outcome.InputFault) ↔ (end ≡ End.InputFault) }
@@ -226,7 +226,7 @@ fn put_ran<D: Sink>(notes: &mut D, ran: Ran)
 /// some thousand bytes, but none waits while a line is answered that may take long, and no read is made before every
 /// line that has ended is answered and every reply is out. Nothing more is read or answered after the first failure of
 /// the input or the output, after a line that ends the session, and after 2^32 bytes. The notes get the counts and what
-/// was sent, where these are asked for, and how the run ended; a failure of the notes changes no outcome.
+/// was sent, if these are asked for, and how the run ended; a failure of the notes changes no outcome.
 pub fn run<L: Loader, S: Source, K: Sink, D: Sink>(
     alloc: Global,
     words: &[String],
@@ -246,7 +246,7 @@ pub fn run<L: Loader, S: Source, K: Sink, D: Sink>(
         (streams (S.left input.new) (S.piece input.new) (S.faults input.new) (K.written output.new)
         (K.faults output.new)) (D.written notes.new) (D.faults notes.new))
         result }
-    // The same with what the notes tell of counts.
+    // What the run did, as `runs` says it, and that the notes tell the counts of its lines if the options ask for them.
     ensures counted { RunsCounted (handed state helpers.items) (map string_bytes words.now)
         (outside (L.contents files.old) (L.missed files.old)
         (streams (S.left input.old) (S.piece input.old) (S.faults input.old) (K.written output.old)
@@ -272,7 +272,7 @@ pub fn run<L: Loader, S: Source, K: Sink, D: Sink>(
     )
 }
 
-/// The same run, whose readings are in this tree.
+/// Answers the lines of the input as `run` does, with readings in this tree.
 pub fn run_in<L: Loader, S: Source, K: Sink, D: Sink>(
     alloc: Global,
     tree: Tree,
@@ -293,7 +293,7 @@ pub fn run_in<L: Loader, S: Source, K: Sink, D: Sink>(
         (streams (S.left input.new) (S.piece input.new) (S.faults input.new) (K.written output.new)
         (K.faults output.new)) (D.written notes.new) (D.faults notes.new))
         result }
-    // The same with what the notes tell of counts.
+    // What the run did, as `runs` says it, and that the notes tell the counts of its lines if the options ask for them.
     ensures counted { RunsCountedIn tree (handed state helpers.items) (map string_bytes words.now)
         (outside (L.contents files.old) (L.missed files.old)
         (streams (S.left input.old) (S.piece input.old) (S.faults input.old) (K.written output.old)
@@ -312,7 +312,8 @@ pub fn run_in<L: Loader, S: Source, K: Sink, D: Sink>(
     ran.outcome
 }
 
-/// The same for words that perhaps could not be had: then nothing is loaded, taken or put, and the notes say why.
+/// Answers the lines of the input as `run` does, by words that may be missing: then nothing is loaded, taken or put,
+/// and the notes say why.
 pub fn run_words<L: Loader, S: Source, K: Sink, D: Sink>(
     alloc: Global,
     words: Result<Vec<String>, WordsError>,
@@ -330,7 +331,7 @@ pub fn run_words<L: Loader, S: Source, K: Sink, D: Sink>(
         (streams (S.left input.new) (S.piece input.new) (S.faults input.new) (K.written output.new)
         (K.faults output.new)) (D.written notes.new) (D.faults notes.new))
         result }
-    // The same with what the notes tell of counts.
+    // What the run did, as `runs` says it, and that the notes tell the counts of its lines if the options ask for them.
     ensures counted { RunsHadCounted Stated (handed state helpers.items) (λ words. map string_bytes words.items) words
         (outside (L.contents files.old) (L.missed files.old)
         (streams (S.left input.old) (S.piece input.old) (S.faults input.old) (K.written output.old)
@@ -356,7 +357,7 @@ pub fn run_words<L: Loader, S: Source, K: Sink, D: Sink>(
     )
 }
 
-/// The same run for words that perhaps could not be had, whose readings are in this tree.
+/// Answers the lines of the input as `run_words` does, with readings in this tree.
 pub fn run_words_in<L: Loader, S: Source, K: Sink, D: Sink>(
     alloc: Global,
     tree: Tree,
@@ -375,7 +376,7 @@ pub fn run_words_in<L: Loader, S: Source, K: Sink, D: Sink>(
         (streams (S.left input.new) (S.piece input.new) (S.faults input.new) (K.written output.new)
         (K.faults output.new)) (D.written notes.new) (D.faults notes.new))
         result }
-    // The same with what the notes tell of counts.
+    // What the run did, as `runs` says it, and that the notes tell the counts of its lines if the options ask for them.
     ensures counted { RunsHadCounted tree (handed state helpers.items) (λ words. map string_bytes words.items) words
         (outside (L.contents files.old) (L.missed files.old)
         (streams (S.left input.old) (S.piece input.old) (S.faults input.old) (K.written output.old)

@@ -2,11 +2,11 @@
 use Rattle.std.proofs.Common.{◌≡◌, ℕ, false, List, [], ◌∷◌, map, Option, inl, inr, refl, sym, ap, subst}
 use Rattle.std.proofs.Common.{◌∙◌}
 use Rattle.gtp_rules.specs.Transcript.{IsOneOf, MayGive}
-use Rattle.gtp_cmd.specs.Replies.{success_text, refusal_text}
+use Rattle.gtp_cmd.specs.Replies.{refusal_text}
 use Rattle.gtp_cmd.specs.declared.refusals.RefuseText.{RefuseText}
 use Rattle.machine_rules.specs.Machine.{Machine}
 use Rattle.machine_rules.specs.Effects.{Excuse, Effect, IsExcused, fallback, reply_text, replied}
-use Rattle.session_core.specs.CommandAnswers.{Succeeds, IsAnswer}
+use Rattle.session_core.specs.CommandAnswers.{IsAnswer}
 use Rattle.session_core.specs.declared.answer.Answer.TheVariants as answer
 
 -- an excuse that was told may stand in place of the reply
@@ -17,18 +17,7 @@ excused-told id (excuse ∷ excuses) text new (inl is) = inl (ap (refusal_text i
 excused-told id (excuse ∷ excuses) text new (inr is) = inr (excused-told id excuses text new is)
 
 module _ (id : Option ℕ) (effect : Effect) (new : Machine) where
-  -- a success is told behind the id
-  pub gives-success : (result bytes : List ℕ) → bytes ≡ success_text id result → Succeeds effect result new
-      → MayGive (replied id effect) bytes new false
-  gives-success result bytes is succeeds =
-      inl (
-        is ∙ ap (success_text id) (sym succeeds.told)
-            ∙ ap (λ r. reply_text id r effect.result) (sym succeeds.allowed),
-        succeeds.next,
-        sym succeeds.goes_on,
-      )
-
-  -- so is an excuse
+  -- an excuse is told behind the id
   pub gives-excuse : (text : RefuseText) (bytes : List ℕ) → bytes ≡ refusal_text id text
       → IsExcused effect.excuses text new → MayGive (replied id effect) bytes new false
   gives-excuse text bytes is excused = inr (
@@ -37,7 +26,7 @@ module _ (id : Option ℕ) (effect : Effect) (new : Machine) where
     refl,
   )
 
-  -- and a refusal
+  -- a refusal is told behind the id
   pub gives-refusal : (text : RefuseText) (bytes : List ℕ) → bytes ≡ refusal_text id text
       → IsAnswer effect (answer.Refused text) new → MayGive (replied id effect) bytes new false
   gives-refusal text bytes is (inl refused) =

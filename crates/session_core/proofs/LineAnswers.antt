@@ -75,7 +75,7 @@ module _ (contents : Contents) (old : Kept) (line : RawLine) (answer : Reply) (n
   line-read : ReadsAs (asks_of_line (machine_of old) line) old.engine new.engine
   line-read = subst (λ a. ReadsAs a old.engine new.engine) (sym (asks-heard (machine_of old) line)) is.read
 
-  -- of connections too
+  -- a line asks of connections what it says
   line-links : LinksAs (asks_link_of_line (machine_of old) line) old.engine new.engine
   line-links = subst (λ a. LinksAs a old.engine new.engine) (sym (link-heard (machine_of old) line)) is.links
 
@@ -134,7 +134,7 @@ answers-line contents old line said answer new file same of is =
     (subst (λ p. IsFileOf contents (parsed_load (bytes_in line) p) file) (sym same) of)
     (subst (λ p. AnswersParsed old (record { line = bytes_in line; file = file }) p answer new) (sym same) is)
 
--- the same, by bytes that are those of the line
+-- what says the same as a line answers it, by bytes that are those of the line
 pub answers-line-by : (contents : Contents) (old : Kept) (line : RawLine) (said : Parsed) (answer : Reply) (new : Kept)
     (bytes file : List ℕ) → bytes ≡ bytes_in line → heard (machine_of old) line ≡ said
     → IsFileOf contents (parsed_load bytes said) file

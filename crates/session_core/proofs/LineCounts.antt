@@ -97,7 +97,7 @@ module _ (old new : EngineView) where
     few_fresh-command (command.RegGenMove friend) readings read few = few-kept read.counts few
     few_fresh-command _ readings read few = few-kept (nothing-kept read) few
 
-    -- the same of what a line says
+    -- what a line says that is no reading answered with a code keeps the counts
     counts_kept-parsed : (p : Parsed) → ReadsAs (asks_of_parsed machine p) old new
         → (is_parsed_read machine p ≡ true → ⊥) → KeepsCounts old new
     counts_kept-parsed (parsed.Command id c) read never = counts_kept-command c read never
@@ -110,7 +110,7 @@ module _ (old new : EngineView) where
     few_fresh-parsed (parsed.Command id c) readings read few = few_fresh-command c readings read few
     few_fresh-parsed _ readings read few = few-kept (nothing-kept read) few
 
--- and of the line
+-- a line that is no reading answered with a code keeps the counts
 pub counts_kept-line : (machine : Machine) (line : RawLine) (old new : EngineView)
     → ReadsAs (asks_of_line machine line) old new → (is_read_line machine line ≡ true → ⊥) → KeepsCounts old new
 unfolding asks_of_line is_read_line

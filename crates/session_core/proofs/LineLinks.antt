@@ -1,5 +1,5 @@
 -- What a line asks of a session's connections, and what is told of that.
-use Rattle.std.proofs.Common.{◌≡◌, ℕ, true, false, cond, List, Option, Some, None, refl, sym, ap, subst, ◌∙◌}
+use Rattle.std.proofs.Common.{◌≡◌, ℕ, true, cond, List, Option, Some, None, refl, sym, ap, subst, ◌∙◌}
 use Rattle.go_rules.specs.Position.{BoardState, IsPosition}
 use Rattle.helpers.specs.HelperStates.{SlotState}
 use Rattle.connect_rules.specs.Linkages.{asked_on, linkage_of}
@@ -26,19 +26,10 @@ pub unasked-links : (old new : EngineView) (asks : Option LinkQuestion) → Link
 unasked-links old new None links never = links
 unasked-links old new (Some q) links never = absurd (never q refl)
 
--- a question that is refused asks nothing
-pub LinksAs-refused : (session : EngineView) (kind : LinkKind) (a b : ℕ)
-    → have_one_colour (machine_alone session) a b ≡ false
-    → LinksAs (asks_link_at (machine_alone session) kind a b) session session
-LinksAs-refused session kind a b apart =
-    let question = asked_on (board_of session) kind a b session.depths.plies in
-    subst (λ one. LinksAs (cond one (Some question) None) session session) (sym apart)
-    (record { counts = refl; answers = refl })
-
 -- The connections were asked once on the board of a session, where stones of one colour stand at both points.
 module _ (old new : EngineView) (kind : LinkKind) (a b : ℕ)
     (one : have_one_colour (machine_alone old) a b ≡ true) where
-  -- that is what was asked
+  -- the question about the strings of the two points was asked
   pub LinksAs-once : (pos : BoardState) (linkage : Linkage) (before after : ConnectionsView)
       → pos ≡ board_of old → before ≡ old.links → before.plies ≡ old.depths.plies → new.links ≡ after
       → HasAsked (key_on pos kind a b before.plies) pos linkage before.answers after.answers

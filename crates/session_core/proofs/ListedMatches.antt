@@ -68,7 +68,7 @@ module _ (kept new : EngineView) (friend : Colour) (patterns : List Pattern) (ro
   listed-excused result (inl asked) = inr (inl (refl, now-asked asked))
   listed-excused result (inr none) = inl (refl, keeps ∙ ap (λ helpers. machine_with helpers kept) none.1)
 
-  -- so a list that grew is an answer, and so is that there was no memory for it
+  -- a list that grew is an answer, and having no memory for it is one
   pub listed-grown : {T E : Type 0} (view : T → List ℕ) (result : Result T E)
       → IfOk result (λ text. view text ≡ matches_text patterns board.size
       (automaton_matches (codes_of readings) (says_yes before) rows patterns board friend))

@@ -42,7 +42,7 @@ file-of contents line id (command.LoadSgf span) file of =
     file-named contents id (is_utf8 (word_at line span)) (word_at line span) file of
 file-of contents line id _ file of = of
 
--- where a file of the name was loaded or not
+-- what a reply says of a file is what its answer says, whether the file has a name or not
 missed-named : (id : Option ℕ) (text : Bool) (name bytes : List ℕ) (said : Answer)
     → ((name : List ℕ) → missed_by (Some (record { id = id; name = name })) bytes ≡ missed_as (named name) said)
     → missed_by (cond text (Some (record { id = id; name = name })) None) bytes
@@ -60,14 +60,14 @@ missed-told line id _ bytes said told = refl
 
 -- What was answered to a work, which is this one.
 module _ {work done : Work} (is : work ≡ done) where
-  -- it is done as this one is
+  -- what was answered is done as this work is
   pub done-same : (contents : Contents) (matcher : Matcher) (old : Machine) (line : List ℕ) (said : Answer)
       (new : Machine) → IsDone contents matcher old line (command_of done) said new
       → IsDone contents matcher old line (command_of work) said new
   done-same contents matcher old line said new =
       subst (λ (w : Work). IsDone contents matcher old line (command_of w) said new) (sym is)
 
-  -- and misses what this one does
+  -- what was answered misses the names that this work misses
   pub missed-same : (line : List ℕ) (said : Answer) (missed now : List (List ℕ))
       → now ≡ missed ++ missed_as (load_of line None (command_of done)) said
       → now ≡ missed ++ missed_as (load_of line None (command_of work)) said
@@ -83,7 +83,7 @@ module _ {work done : Work} (is : work ≡ done) where
       done-same contents matcher old line said new
       ([], subst (λ load. IsFileOf contents load []) (sym none) tt, answers [])
 
-  -- and nothing is missed
+  -- a work that loads nothing misses no name
   pub missed-unloaded : (line : List ℕ) (said : Answer) (missed : List (List ℕ))
       → load_of line None (command_of done) ≡ None
       → missed ≡ missed ++ missed_as (load_of line None (command_of work)) said

@@ -101,7 +101,7 @@ module _ (name : List ℕ) (utf8 : is_utf8 name ≡ true) where
   misses-name : missed_as (named_load name) (answer.Refused CannotLoadFile) ≡ name ∷ []
   misses-name = ap (λ b. missed_as (cond b (Some load) None) (answer.Refused CannotLoadFile)) utf8
 
-  -- so the loader, which could not load it, missed what the refusal says
+  -- a loader that could not load a file missed the name that the refusal says
   pub miss-told : {T : Type 0} (missed : List (List ℕ)) (given : List ℕ) (result : Result T LoadError)
       → result ≡ Err Failed → given ≡ name
       → missed_after missed given result ≡ missed ++ missed_as (named_load name) (answer.Refused CannotLoadFile)
@@ -122,7 +122,7 @@ module _ (name : List ℕ) (utf8 : is_utf8 name ≡ true) where
         (more-excused (recorded old (game_of file)) (out_of_memory old ∷ not_loaded old ∷ []) said new
         (λ text excused. absurd (none-excused old (game_of file) text new excused)) is)
 
-    -- so is that its file could not be loaded
+    -- that its file could not be loaded is an answer of a load
     pub file-not-loaded : IsAnswer (loaded_by old name file) (answer.Refused CannotLoadFile) old
     file-not-loaded = subst (λ b. IsAnswer (done b) (answer.Refused CannotLoadFile) old) (sym utf8)
         (inr (inr (inl (refl, refl))))

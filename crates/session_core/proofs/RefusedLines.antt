@@ -29,7 +29,7 @@ read-not_refused matcher contents old line bytes new ends (given, gives, may) re
     let says = read-line matcher contents old line given gives reads in
     told-not_refused old new says.0 says.1 bytes ends (subst (λ g. MayGive g bytes new ends) says.2 may) refusal
 
--- nor one that asks about a connection
+-- a line that asks about a connection is not refused
 pub link-not_refused : (matcher : Matcher) (contents : Contents) (old : Machine) (line : RawLine) (bytes : List ℕ)
     (new : Machine) (ends : Bool) → Answers (step matcher contents) old line bytes new ends → IsRefusal bytes
     → (q : LinkQuestion) → asks_link_of_line old line ≡ Some q → ⊥

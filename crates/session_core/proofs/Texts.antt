@@ -115,7 +115,7 @@ module _ (s n : ℕ) (test : ℕ → Bool) (text : List ℕ)
       ∙ append-nil (filter test (range_with_len 0 (n + k)))
       ∙ filter-skip k (λ q from below. none q from (omega arith))
 
-  -- the same, by the last of them
+  -- the points below p, of which none from n on passes
   filter-upto : (p : ℕ) → n ≤ p → ((q : ℕ) → n ≤ q → q < p → test q ≡ false) → filter test (range_with_len 0 p)
       ≡ filter test (range_with_len 0 n)
   filter-upto p from none =

@@ -29,7 +29,7 @@ pub record KeepsCounts (old new : EngineView) : Type 0 where
   pub trials : new.counts.trials ≡ old.counts.trials
   pub refused : old.counts.refused ≤ new.counts.refused
 
--- a count raised by the trial plays of a reading, where it was fresh
+-- a count raised by the trial plays of a reading, if it was fresh
 abbrev pub after_trials : ℕ → Option ℕ → ℕ
 after_trials count None = count
 after_trials count (Some n) = raised count n
@@ -38,7 +38,7 @@ after_trials count (Some n) = raised count n
 abbrev pub CountsRefused : EngineView → Type 0
 CountsRefused session = session.counts.refused ≡ session.readings.answers.refused
 
--- One call of the readings was made, for this question. It counts as fresh, with its trial plays, exactly where the
+-- One call of the readings was made, for this question. It counts as fresh, with its trial plays, exactly if the
 -- readings say so. The board is a position, and each kept answer rests on its facts.
 pub record ReadsOnce (key : Key) (old new : EngineView) : Type 0 where
   pub answer : Answer
@@ -67,7 +67,7 @@ ReadsAs Nothing old new = ReadsNothing old new
 ReadsAs (One key) old new = ReadsOnce key old new
 ReadsAs Many old new = ReadsMany old new
 
--- A session that keeps old keeps new after a line that came to its machine: the line is counted where it asks for a
+-- A session that keeps old keeps new after a line that came to its machine: the line is counted if it asks for a
 -- reading and is answered with a code, what it asks was read, of connections too, and the file that it could not load
 -- is told as missed.
 pub record IsAfterLine (old : Kept) (turn : Turn Machine) (new : Kept) : Type 0 where

@@ -13,7 +13,7 @@ abbrev pub CountsFreshLinks : EngineView → Type 0
 CountsFreshLinks session = session.counts.links.fresh ≡ session.links.answers.fresh
 
 -- The connections were asked once, this question, and the line is counted. The answer was kept, or it was fresh, and is
--- kept first or refused; fresh answers are counted exactly where the connections say so. The board is a position, and
+-- kept first or refused; fresh answers are counted exactly if the connections say so. The board is a position, and
 -- each kept answer rests on its facts.
 pub record LinksOnce (question : LinkQuestion) (old new : EngineView) : Type 0 where
   pub answer : Linkage

@@ -19,7 +19,7 @@ pub record Succeeds (effect : Effect) (result : List ℕ) (new : Machine) : Type
   pub goes_on : effect.ends ≡ false
 
 -- The answer is what the command tells, and the machine is new after it; or it is an excuse that may stand in place of
--- that. There may be no memory for the reply with a result that grew, and so that is excused too.
+-- that. A result that grew is excused too, since there may be no memory for its reply.
 abbrev pub IsAnswer : Effect → Answer → Machine → Type 0
 IsAnswer effect (answer.Told result) new = Succeeds effect result new
 IsAnswer effect (answer.Grown result) new = Succeeds effect result new × IsExcused effect.excuses OutOfMemory new

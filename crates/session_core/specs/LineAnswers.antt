@@ -39,22 +39,22 @@ pub record AnswersLine (contents : Contents) (old : Kept) (line : RawLine) (answ
   -- the reply is one that the step gives
   pub reply : Answers (step (matcher_of old.engine) contents) (machine_of old) line (reply_bytes answer)
       (machine_of new) (reply_ends answer)
-  -- it is nothing exactly for a line without words
+  -- the reply is nothing exactly if the line has no words
   pub nothing : (answer ≡ replies.Nothing) ↔ IsWithoutWords line
   pub bytes : answer ≢ replies.Nothing → reply_count (reply_bytes answer) ≡ 1
   pub patterns : new.engine.patterns ≡ old.engine.patterns
   pub automaton : new.engine.automaton ≡ old.engine.automaton
   -- a line that asks for a reading and is answered with a code is counted
   pub readings : new.engine.counts.readings ≡ counted old.engine.counts.readings (is_read_line (machine_of old) line)
-  -- it makes one reading, which is kept or fresh; a line that asks for matches may make any number, and no other line
-  -- makes one
+  -- a line that asks for a reading makes one, which is kept or fresh; a line that asks for matches may make any number;
+  -- no other line makes one
   pub read : ReadsAs (asks_of_line (machine_of old) line) old.engine new.engine
   -- a line that asks about two stones of one colour asks the connections once, and is counted; no other line asks them
   pub links : LinksAs (asks_link_of_line (machine_of old) line) old.engine new.engine
   -- the file that could not be loaded is told as missed, and no other name
   pub missed : new.missed ≡ old.missed ++ missed_by (load_in (machine_of old) line) (reply_bytes answer)
   pub few_fresh : HasFewFresh old.engine.counts → HasFewFresh new.engine.counts
-  -- a refused line leaves the machine, but for the calls of helpers where there was no memory, and of the counts only
+  -- a refused line leaves the machine, but for the calls of helpers if there was no memory, and of the counts only
   -- that of refused keepings may have risen
   pub refused : IsRefusal (reply_bytes answer)
       → AreSameButCalls (machine_of old) (machine_of new) × KeepsCounts old.engine new.engine

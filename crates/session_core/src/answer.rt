@@ -34,7 +34,7 @@ impl Model for Brief {
 }
 
 impl Brief {
-    /// These bytes.
+    /// A text of these bytes.
     pub(crate) fn new(bytes: &[u8]) -> Brief
         requires { length bytes.now ≤ result_room }
         ensures { result ≡ bytes.now }
@@ -44,7 +44,7 @@ impl Brief {
         Brief { text }
     }
 
-    /// This text, which is handed over as it stands.
+    /// A text that is handed over as it stands.
     pub(crate) fn of(text: Short) -> Brief
         requires { length text ≤ result_room }
         ensures { result ≡ text }
@@ -107,11 +107,11 @@ pub(crate) fn told_number(n: u32) -> Answer
     Answer::Told(Brief::number(n))
 }
 
-/// A success with a result that took memory, where it was found.
+/// A success with a result that took memory, if it was found.
 pub(crate) fn grown(text: Result<Bytes, NoMemory>) -> Answer
     ensures answer { (old : Machine) (told : List ℕ) → IfOk text (λ bytes. bytes ≡ told)
         → IsAnswer (grown old told old) result old }
-    // The same where the machine changes, whether there is memory or not.
+    // If the machine changes: the text is the result of the success, and having no memory is one of the excuses.
     ensures changes { (effect : Effect) (new : Machine) → IfOk text (λ bytes. Succeeds effect bytes new)
         → IsExcused effect.excuses OutOfMemory new → IsAnswer effect result new }
 {
@@ -127,7 +127,7 @@ impl Answer {
         ensures reply { (effect : Effect) (new : Machine) → IsAnswer effect self new
             → MayGive (replied id effect) (reply_bytes result) new (reply_ends result) }
         ensures bytes { reply_count (reply_bytes result) ≡ 1 }
-        // A file was missed exactly where that is told.
+        // A file was missed exactly if that is told.
         ensures missed { (name : List ℕ) → missed_by (Some (record { id = id; name = name })) (reply_bytes result)
             ≡ missed_as (named name) self }
     {

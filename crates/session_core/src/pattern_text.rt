@@ -24,7 +24,7 @@ fn mark_text(mark: Mark) -> &'static [u8]
     }
 }
 
-/// The class letters, and `-` where there are none.
+/// The class letters, and `-` if there are none.
 fn classes_text(classes: &[u8]) -> &[u8]
     ensures { result.now ≡ classes_text classes.now }
 {

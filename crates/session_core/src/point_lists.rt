@@ -43,7 +43,7 @@ pub(crate) fn push_vertex(out: &mut Bytes, size: Size, p: Point) -> Result<(), N
     out.extend(&[letter, b'0' + number / 10, b'0' + number % 10])
 }
 
-/// Puts the vertex of a point of a list, behind a blank where it is not the first.
+/// Puts the vertex of a point of a list, behind a blank if it is not the first.
 fn push_next(out: &mut Bytes, size: Size, p: Point) -> Result<(), NoMemory>
     requires { p < size * size }
     ensures { OnOk result (out.new ≡ out.old ++ blank_after out.old ++ vertex_text size p) }
@@ -54,7 +54,7 @@ fn push_next(out: &mut Bytes, size: Size, p: Point) -> Result<(), NoMemory>
     push_vertex(out, size, p)
 }
 
-/// The least member from a point on, None exactly where there is none below the end.
+/// The least member from a point on, None exactly if there is none below the end.
 fn member_below(points: &PointSet, from: u16, end: u16) -> Option<Point>
     ensures some { IfSome result (λ q. (from ≤ q) × (q < end) × IsTrue (set.contains points.now q)
         × ((r : ℕ) → from ≤ r → r < q → set.contains points.now r ≡ false)) }

@@ -27,7 +27,7 @@ fn spot_text(size: Size, spot: Spot) -> Short
     }
 }
 
-/// A point as it is printed, `PASS` where there is none.
+/// A point as it is printed, `PASS` if there is none.
 pub(crate) fn move_text(size: Size, at: Option<Point>) -> Short
     requires { IfSome at (λ p. p < size * size) }
     ensures text { result ≡ move_or_pass size at }
@@ -53,7 +53,7 @@ pub(crate) fn linkage_text(size: Size, linkage: Linkage) -> Short
     text
 }
 
-/// An answer as it is printed: the code, and the move where there is one.
+/// An answer as it is printed: the code, and the move if there is one.
 pub(crate) fn answer_text(size: Size, answer: Answer) -> Short
     requires { IfSome answer.at (IsOnBoard size) }
     ensures text { result ≡ answer_text size answer }

@@ -64,7 +64,7 @@ impl Session {
         Session::in_tree(alloc, patterns, automaton, helpers, Tree::Stated, options)
     }
 
-    /// The same with readings in this tree.
+    /// A session before its first line, as `new` makes it, with readings in this tree. Takes memory.
     pub fn in_tree(
         alloc: Global,
         patterns: Vec<Pattern>,
@@ -104,9 +104,9 @@ impl Session {
     /// not kept, a list of matches, a chosen move, a game record, a printed proof or the check of one. Then nothing is
     /// done, and `finish` answers it.
     ///
-    /// Nothing comes exactly for a line without words. NoMemory comes only in place of a growing reply. It leaves the
-    /// machine as it was, and so does a refused line; of the counts only that of refused keepings may have risen. The
-    /// empty condition says that the call makes no helper of its own.
+    /// `Nothing` comes exactly for a line without words. `NoMemory` comes only in place of a growing reply. Without
+    /// memory and after a refused line the machine is as it was, and of the counts only that of refused keepings may
+    /// have risen. The empty condition says that the call makes no helper of its own.
     pub fn try_line(&mut self, raw: Raw<'_>) -> Result<Reply, Slow>
         requires own { ⊤ }
         requires short { length (bytes_in (raw_line raw)) ≤ longest_line }
@@ -143,7 +143,7 @@ impl Session {
             .finish(&mut self.helpers, slow, bytes_of(raw), files)
     }
 
-    /// Answers one line, however long it takes: as `try_line` and, where that leaves it, `finish`. A file that it names
+    /// Answers one line, however long it takes: as `try_line` and, if that leaves it, `finish`. A file that it names
     /// is loaded from `files`.
     pub fn line<L: Loader>(&mut self, raw: Raw<'_>, files: &mut L) -> Reply
         requires short { length (bytes_in (raw_line raw)) ≤ longest_line }

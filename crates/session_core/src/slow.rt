@@ -5,9 +5,9 @@ use gtp_cmd::Span;
 /// What may take long.
 #[derive(Clone, Copy, Debug, PartialEq, Eq)]
 pub enum Work {
-    /// Whether the string of a point can be captured, where no kept answer stands.
+    /// Whether the string of a point can be captured, for which no kept answer stands.
     Attack(Point),
-    /// Whether it can be saved, where no kept answer stands.
+    /// Whether the string of a point can be saved, for which no kept answer stands.
     Defend(Point),
     /// The list of matches for a friend.
     Match(Colour),
@@ -24,13 +24,13 @@ pub enum Work {
         code: u8,
         tokens: Span,
     },
-    /// Whether the strings of two points can be joined, where no kept answer stands.
+    /// Whether the strings of two points can be joined, for which no kept answer stands.
     Connect(Point, Point),
-    /// Whether they can be kept apart, where no kept answer stands.
+    /// Whether the strings of two points can be kept apart, for which no kept answer stands.
     Disconnect(Point, Point),
     /// The move for a friend that the patterns choose, which is played.
     GenMove(Colour),
-    /// The same move, which is not played.
+    /// The move for a friend that the patterns choose, which is not played.
     RegGenMove(Colour),
 }
 

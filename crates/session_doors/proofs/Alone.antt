@@ -41,7 +41,7 @@ answers-line-alone contents old new slots after missed now line reply files none
     subst (λ (k : List SlotState). AnswersLine empty_files (kept_alone old) line reply (kept_with k [] new))
     (none-left old new after line reply by_now) by_now
 
--- the same of a session that was made with no helpers, and of the line of its text
+-- a session that was made with no helpers answers the line of its text as the session alone
 pub answers-held : {V : Type 0} {F : V → Type 0} (state : (i : V) × F i → HelperState) (contents : Contents)
     (old new : Session V F) (missed now : List (List ℕ)) (said line : RawLine) (reply : Reply)
     → contents ≡ empty_files → old.helpers.slots.items ≡ [] → missed ≡ [] → now ≡ [] → said ≡ line

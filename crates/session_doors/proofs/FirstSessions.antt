@@ -11,7 +11,7 @@ use Rattle.session_core.specs.EngineView.{first_kept}
 use Rattle.session_core.specs.declared.reply.Reply.TheVariants.{Nothing}
 use Rattle.session_doors.specs.Opened.{IsFirst}
 
--- it is the first one with these patterns
+-- a session before its first line, by the automaton of these patterns, is the first one with them
 pub first-held : (patterns : List Pattern) (rows : List Row) (depths : ReadingDepths) (cache : ℕ)
     → IsAutomatonOf patterns rows
     → IsFirst patterns depths cache (record { engine = first_kept patterns rows depths cache; reply = Nothing })

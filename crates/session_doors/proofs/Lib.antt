@@ -1,5 +1,4 @@
 mod Alone
-mod Faults
 mod FirstSessions
 pub mod NoHelpers
 mod Transcripts

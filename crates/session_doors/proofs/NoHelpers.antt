@@ -47,7 +47,7 @@ abbrev AreAlone : List Excuse → Type 0
 AreAlone [] = Unit {0}
 AreAlone (excuse ∷ excuses) = IsAlone excuse.next × AreAlone excuses
 
--- after what a command does there are no helpers, nor after an excuse
+-- there are no helpers after what a command does, and none after its excuses
 record LeavesNone (effect : Effect) : Type 0 where
   next : IsAlone effect.next
   excuses : AreAlone effect.excuses

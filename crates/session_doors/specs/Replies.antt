@@ -50,7 +50,7 @@ abbrev pub fault_reply : LineFault → LineReply
 fault_reply line.LineFeed = without_bytes bad_line
 fault_reply line.NoMemory = without_bytes no_memory
 
--- the reply with this status, where no session was opened
+-- the reply with this status, if no session was opened
 abbrev pub unopened : ℕ → OpenReply
 unopened status = record { status = status; kind = 0; line = 0; patterns = 0 }
 

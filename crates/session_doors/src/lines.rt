@@ -18,7 +18,7 @@ const LONGEST_LINE: usize = 65_536;
 /// Why a text was not answered.
 #[derive(Clone, Copy, Debug, PartialEq, Eq)]
 pub enum LineFault {
-    /// It has a line feed, so it is no line.
+    /// The text has a line feed, so it is no line.
     LineFeed,
     /// There was no memory.
     NoMemory,

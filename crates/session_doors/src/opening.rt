@@ -66,7 +66,8 @@ fn first(
     })
 }
 
-/// The same by the numbers of a caller, of which the depths are these.
+/// A session of the patterns of a text with these depths, which keeps so many answers and whose automaton has at most
+/// so many states; or why there is none. Takes memory.
 fn first_by(
     alloc: Global,
     text: &[u8],

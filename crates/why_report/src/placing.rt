@@ -22,8 +22,8 @@ pub(crate) fn vertex_bytes(size: Size, at: Point) -> Short {
     }
 }
 
-/// Where a cell of the drawing lies from the star, once the diagram is turned. No cell of a pattern lies farther from it
-/// than the points of a board from each other.
+/// Where a cell of the drawing lies from the star, once the diagram is turned. No cell of a pattern lies farther from
+/// it than the points of a board from each other.
 pub(crate) fn turned(pattern: &Pattern, transform: Transform, row: i16, column: i16) -> Spot {
     let down = row.saturating_sub(i16::from(pattern.star.0));
     let right = column.saturating_sub(i16::from(pattern.star.1));

@@ -105,7 +105,7 @@ const NINE_CODES: &[u8] =
     b"=\n\n=\n\n=\n\n=\n\n=\n\n=\n\n=\n\n=\n\n=\n\n= 0\n\n= 0\n\n= 0\n\n= 0\n\n= 0\n\n= 0\n\n= 0\n\n= 0\n\n= 0\n\n\
         = 0\n\n";
 
-/// The same nine, each asked about with itself. The nine readings between the connections push none out.
+/// Nine stones that stand apart, each asked about with itself. The nine readings between the connections push none out.
 const NINE_CONNECTIONS: &[u8] =
     b"play b D4\nplay b D10\nplay b D16\nplay b K4\nplay b K10\nplay b K16\nplay b Q4\nplay b Q10\n\
         play b Q16\nconnect D4 D4\nconnect D10 D10\nconnect D16 D16\nconnect K4 K4\nconnect K10 K10\n\

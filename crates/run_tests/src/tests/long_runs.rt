@@ -195,11 +195,11 @@ static WAITING_RUNS: [Long; 11] = [
 const SMALLEST: &[u8] = b"Pattern P\nO*\n:8,s\n";
 
 /// Plays on two lines, where Black has a stone at A1 alone, before and after them. White takes one stone and then Black
-/// takes three, and the same again in the other corner.
+/// takes three, first in one corner and then in the other.
 const TAKEN_AGAIN: &[u8] = b"play w A2\nplay w B1\nplay w A1\nplay b B2\n\
     play w A2\nplay w B1\nplay w B2\nplay b A1\n";
 
-/// The same plays in a record.
+/// The plays of `TAKEN_AGAIN` in a record.
 const RECORDED: &[u8] = b";W[aa];W[bb];W[ab];B[ba];W[aa];W[bb];W[ba];B[ab]";
 
 /// No size makes a run give up: as many moves as a game may have, with stones taken and without, as many patterns as

@@ -163,7 +163,7 @@ static CUT_REPLIES: [Case<'static>; 10] = [
     },
 ];
 
-/// The same of a session with connections.
+/// The lines of a session with connections, whose output is cut.
 const CUT_JOINS: &[u8] = b"play b D4\nconnect D4 D4\nconnect D4 D4\nname\ndisconnect D4 D4\n";
 
 /// A connection counts also where its own reply is cut, and one whose line was answered behind the cut does not.

@@ -29,7 +29,7 @@ use move_choice::choose;
 use pat_types::Pattern;
 use std::alloc::Global;
 
-/// The point of the match for a friend that is chosen among those by an automaton, none where no pattern matches. The
+/// The point of the match for a friend that is chosen among those by an automaton, none if no pattern matches. The
 /// helpers that the patterns name are asked last. Takes memory.
 fn point_by(
     alloc: Global,
@@ -63,7 +63,7 @@ fn point_by(
 }
 
 impl Engine {
-    /// The point of the match for a friend that is chosen, none where no pattern matches. Takes memory: where there is
+    /// The point of the match for a friend that is chosen, none if no pattern matches. Takes memory: if there is
     /// none, the helpers may have been asked or not.
     fn chosen_point(
         &mut self,
@@ -111,7 +111,7 @@ impl Engine {
         }
     }
 
-    /// Plays the move for a friend that the patterns choose, the pass where they choose none, and tells it.
+    /// Plays the move for a friend that the patterns choose, the pass if they choose none, and tells it.
     pub(crate) fn make_move(&mut self, helpers: &mut Helpers, friend: Colour) -> Answer
         ensures answer { IsAnswer (move_made (matcher_of self.old)
             (machine_with (states_of state helpers.old) self.old) friend)

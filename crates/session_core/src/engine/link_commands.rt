@@ -57,7 +57,7 @@ impl Engine {
         self.connections = self.connections.saturating_add(1);
     }
 
-    /// Answers a question about the strings of two points, kept or read afresh, where stones of one colour stand there.
+    /// Answers a question about the strings of two points, kept or read afresh, if stones of one colour stand there.
     pub(crate) fn tell_link(&mut self, kind: LinkKind, a: Point, b: Point) -> Answer
         requires a { a < self.old.base.size * self.old.base.size }
         requires b { b < self.old.base.size * self.old.base.size }
@@ -77,7 +77,8 @@ impl Engine {
         told_text(linkage_text(position.size(), linkage))
     }
 
-    /// Answers the same question, which this work is, unless it has to be read afresh. Then nothing is done.
+    /// Answers the question about the strings of two points that `work` stands for, if the answer is kept or the
+    /// question is refused. Else nothing is done, and `work` comes back.
     pub(crate) fn recall_link(
         &mut self,
         kind: LinkKind,

@@ -27,7 +27,7 @@ overflow_mul-number c =
 pub letter-requires-clause-step : goal.letter-requires-clause-step
 letter-requires-clause-step c = c.requires.steps.1.past (1 + c.letters.place) (omega (arith, c.letters-test.true))
 
--- with one digit more it has room too
+-- the number with one digit more has room
 pub overflow_add-number : goal.overflow_add-number
 overflow_add-number c =
     omega (

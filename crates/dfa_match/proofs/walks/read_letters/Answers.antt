@@ -36,11 +36,11 @@ few_passed : (c : After-read_on-met) (n : ℕ) → All (λ w. w.letters < n) c.a
 few_passed c n low = subst (All (λ w. w.letters < n + 256)) (sym (written c))
     (c.read_on-met.ensures.few n (subst (All (λ w. w.letters < n)) (sym c.deref_mut.ensures.value) low))
 
--- where hits were given out too
+-- with hits given out, no walk has passed over too many letters
 pub returns-then-met-ne0-clause-few : goal.returns-then-met-ne0-clause-few
 returns-then-met-ne0-clause-few c = few_passed (goal.at.returns-then-met-ne0-clause-few c).After-read_on-met
 
--- and where there were none
+-- with no hits, no walk has passed over too many letters
 pub returns-clause-few : goal.returns-clause-few
 returns-clause-few c = few_passed (goal.at.returns-clause-few c).After-read_on-met
 

@@ -12,7 +12,7 @@ returns-then-not-is_safe-clause-value c =
     unsafe_refused (codes_of c.args.readings.now) c.args.p.now c.args.position.now c.args.friend c.args.z.now.transform
     c.args.z.now.at (sym c.is_safe.ensures.value ∙ c.if-not-is_safe.true)
 
--- the enemy's is not, by the same codes
+-- the enemy's stone is not safe, by the same codes
 pub returns-then-not-is_enemy_safe-clause-value : goal.returns-then-not-is_enemy_safe-clause-value
 returns-then-not-is_enemy_safe-clause-value c =
     enemy_refused (codes_of c.args.readings.now) c.args.p.now c.args.position.now c.args.friend c.args.z.now.transform
@@ -40,12 +40,12 @@ returns-clause-value c =
 pub returns-then-not-is_safe-clause-unread : goal.returns-then-not-is_safe-clause-unread
 returns-then-not-is_safe-clause-unread c = λ none. c.is_safe.ensures.unread none.need_not_be_safe
 
--- nor is the enemy asked about
+-- the enemy is not asked about without class n
 pub returns-then-not-is_enemy_safe-clause-unread : goal.returns-then-not-is_enemy_safe-clause-unread
 returns-then-not-is_enemy_safe-clause-unread c = λ none.
     c.is_enemy_safe.ensures.unread none.no_enemy_class ∙ c.is_safe.ensures.unread none.need_not_be_safe
 
--- nor is there a constraint
+-- nothing is read without a safety class and a constraint
 pub returns-clause-unread : goal.returns-clause-unread
 returns-clause-unread c = λ none.
     c.is_constraint_true.ensures.unread none.no_constraint

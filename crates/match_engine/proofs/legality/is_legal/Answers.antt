@@ -16,7 +16,7 @@ pub returns-then-ne : goal.returns-then-ne
 returns-then-ne c = ap is_ok (play_occupied c.args.position.now c.args.colour c.args.at
     (sym (told (goal.at.returns-then-ne c).After-ne) ∙ c.if-ne.true))
 
--- nor is one that the ban is on
+-- a play that the ban is on is not legal
 pub returns-then-bans : goal.returns-then-bans
 returns-then-bans c =
     banned_is_illegal c.args.position.now c.args.colour c.args.at (sym c.bans.ensures ∙ c.if-bans.true)

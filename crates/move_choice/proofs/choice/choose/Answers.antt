@@ -48,7 +48,8 @@ loop-z-preserved c =
             (sym c.is_preferred.ensures ∙ w.if-is_preferred.true));
       }
       | else-is_preferred w ↦ record {
-        named = subst (λ (m : Match). m.pattern < length c.args.patterns.now) (sym w.choice-is) c.loop-z.invariant.named;
+        named = subst (λ (m : Match). m.pattern < length c.args.patterns.now) (sym w.choice-is)
+            c.loop-z.invariant.named;
         is =
             subst (IsFirst worth up_to) (sym w.choice-is)
             (IsFirst-keeps_more c.args.found.now c.in_ok-first.rest.now c.in_ok-first.first.now place worth

@@ -6,4 +6,5 @@ use Rattle.pattern_changes.proofs.change.lacking.Given as goal
 -- of the matches so far those that the others do not have
 abbrev pub invariant-matches : goal.invariant-matches
 invariant-matches l =
-    l.lacked.items ≡ filter (λ z. not (list_any (is_same_match l.patterns l.others z) l.theirs)) (take l.z-index l.found)
+    l.lacked.items ≡ filter (λ z. not (list_any (is_same_match l.patterns l.others z) l.theirs))
+    (take l.z-index l.found)

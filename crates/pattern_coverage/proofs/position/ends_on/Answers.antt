@@ -58,7 +58,8 @@ returns-clause-ends g c =
     if_ok _ _ c.ends_of_all.result
     (λ counts all. all c.args.depths advice
     (λ place p one there here part high low.
-    c.in_ok-later.ensures.tally place part one (subst (λ l. slice_get l place ≡ Some one) c.as_slice-4.ensures.value here)
+    c.in_ok-later.ensures.tally place part one
+    (subst (λ l. slice_get l place ≡ Some one) c.as_slice-4.ensures.value here)
     low
     ∙ ap (λ n. min n (2 ^ 64 - 1))
     (later_ends c.args.depths advice p board c.args.friend _ advice patterns bare place

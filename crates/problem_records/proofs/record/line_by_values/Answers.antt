@@ -13,4 +13,5 @@ returns-in-Some c =
     first_of (search rules, cc) in
     let asks : IsInLine c.args.position.now.size c.in-Some.line.now c.line_of.result =
     first_of (search rules, cc) in
-    by_line c.args.position.now (all_shown c.args.values.now) c.args.usual c.in-Some.line.now c.line_of.result counts asks
+    by_line c.args.position.now (all_shown c.args.values.now) c.args.usual c.in-Some.line.now c.line_of.result counts
+    asks

@@ -8,4 +8,5 @@ use Rattle.problem_verdicts.proofs.sure_moves.successes.Given as goal
 -- of the points so far those were found that are looked at and succeed
 abbrev pub invariant-points : goal.invariant-points
 invariant-points l = HasBelow (λ q. true)
-    (λ q. is_seen l.fn.scope l.fn.node l.fn.position q && surely_succeeds l.fn.plies l.fn.node l.fn.position q) l.p l.found
+    (λ q. is_seen l.fn.scope l.fn.node l.fn.position q && surely_succeeds l.fn.plies l.fn.node l.fn.position q)
+    l.p l.found

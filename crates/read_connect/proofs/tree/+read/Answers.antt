@@ -370,7 +370,7 @@ goes_on-some_move-requires-2 g t c κs within =
 pub goes_on-returns-then-own-clause-near : goal.goes_on-returns-then-own-clause-near
 goes_on-returns-then-own-clause-near g t c = λ pos a q root node. c.some_move.ensures.near pos a q root node
 
--- and so does the pass
+-- the other colour's pass looks near
 pub goes_on-returns-then-pass_parts-clause-near : goal.goes_on-returns-then-pass_parts-clause-near
 goes_on-returns-then-pass_parts-clause-near g t c = λ pos a q root node. c.pass_parts.ensures.near pos a q root
     (subst (λ o. IsNodeFor c.args.link q root (suc c.args.plies) o (after pos c.args.board.now.moves)) c.if-own.false

@@ -7,8 +7,8 @@ use Rattle.sure_rules.specs.SureTree.{surely_wins}
 use Rattle.sure_rules.specs.Zones.{WhereverAgrees}
 use Rattle.read_zones.proofs.tree.+zones.Given as goal
 
--- each step down the tree spends a ply, and within a node the order of the calls is fixed: first whether a lone stone is
--- taken back
+-- each step down the tree spends a ply, and within a node the order of the calls is fixed: first whether a lone stone
+-- is taken back
 abbrev pub decreases-back_zone : goal.decreases-back_zone
 decreases-back_zone l = 8 * l.plies
 

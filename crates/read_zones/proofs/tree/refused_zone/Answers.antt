@@ -14,5 +14,5 @@ play_shown-requires-clause-points c = λ q inside. absurd (both_ways (set.contai
 -- it cannot be made wherever it looks the same
 pub returns-in-None-clause-zone : goal.returns-in-None-clause-zone
 returns-in-None-clause-zone c =
-    refused_shown c.args.node c.args.p c.args.position.now (set.contains c.new.result) (set.contains c.play_shown.result)
-    (sym c.child_of.ensures.value ∙ c.in-None.is) c.play_shown.ensures.shown
+    refused_shown c.args.node c.args.p c.args.position.now (set.contains c.new.result)
+    (set.contains c.play_shown.result) (sym c.child_of.ensures.value ∙ c.in-None.is) c.play_shown.ensures.shown

@@ -15,5 +15,6 @@ returns c =
       automaton = subst (IsAutomatonOf list) (sym c.in_ok-scanner.ensures)
           (subst (λ l. IsAutomatonOf l m) c.as_slice.ensures.value c.in_ok-automaton.ensures.accepts);
       numbers = subst Numbers (sym c.in_ok-scanner.ensures)
-          (λ w n there. subst (λ l. n < length l) c.as_slice.ensures.value (c.in_ok-automaton.ensures.numbers w n there));
+          (λ w n there. subst (λ l. n < length l) c.as_slice.ensures.value
+          (c.in_ok-automaton.ensures.numbers w n there));
     }
