@@ -115,11 +115,11 @@ def in_tree(program: str, asked: list[Question], depths: Depths, changes: int, c
     print(f"{tree} {depths.plies} {depths.wide}: {told.sure} sure captures, {len(told.proofs)} proofs,",
           f"{sum(len(one.words) for one in told.proofs)} words, the longest {check_proofs.longest(told.proofs)} bytes;",
           ", ".join(f"{count} {text}" for text, count in told.lacking.items()) or "none without a proof",
-          f"; {refused} refused", flush=True)
+          f"and {refused} refused", flush=True)
     short = [one for one in told.proofs if len(one.words) <= MOST_WORDS and not check_proofs.is_short(one)]
     for _ in range(changes if short else 0):
         differ += not asked_again(gopat, check_proofs.changed(choose, choose.choice(short)))
-    for sort in sorted({sort for sort, _ in COUNTS}):
+    for sort in sorted({sort for sort, _ in COUNTS} - {"proof"}):
         print(f"another {sort}: " + ", ".join(f"{n} {text}" for (one, text), n in sorted(COUNTS.items()) if one == sort))
     print(f"{time.perf_counter() - start:.0f} seconds; gopat_sure ended with status {gopat.end()}; {differ} differ")
     wrong = [text for text in told.lacking if text != "? proof too long"]
