@@ -3,5 +3,6 @@ pub mod MoveAnswers
 pub mod RecordAnswers
 pub mod StoneAnswers
 pub mod LineAnswers
+pub mod ProofAnswers
 pub mod TakenLines
 pub mod SessionLemmas

@@ -38,7 +38,7 @@ some_file contents None = ([], tt)
 some_file contents (Some name) = some_loaded (contents name)
 
 -- an answer is one too if more is excused
-more-excused : (effect : Effect) (excuses : List RefuseText) (said : Answer) (old new : Machine)
+pub more-excused : (effect : Effect) (excuses : List RefuseText) (said : Answer) (old new : Machine)
     → ((text : RefuseText) → IsExcused effect.excuses text → IsExcused excuses text)
     → IsAnswer effect said old new → IsAnswer (record effect { excuses = excuses }) said old new
 more-excused effect excuses (answer.Told result) old new more is =

@@ -3,10 +3,6 @@ use Rattle.std.specs.Prelude.{◌≡◌, ℕ, Bool, ◌==◌, List, [], length, 
 use Rattle.std.specs.Str.Lossy.{utf8_valid_len}
 use Rattle.gtp_cmd.specs.Spans.{spanned}
 use Rattle.gtp_cmd.specs.Words.{cleaned}
-use Rattle.gtp_cmd.specs.declared.commands.Command.{Command}
-use Rattle.gtp_cmd.specs.declared.commands.Command.TheVariants as command
-use Rattle.gtp_cmd.specs.declared.commands.Parsed.{Parsed}
-use Rattle.gtp_cmd.specs.declared.commands.Parsed.TheVariants as parsed
 use Rattle.gtp_cmd.specs.declared.spans.Span.{Span}
 use Rattle.gtp_io.specs.Loading.{IsLoaded}
 
@@ -26,16 +22,6 @@ word_at line span = cleaned (spanned line span)
 -- the file of this name; a name that is no text names none
 abbrev pub named_file : List ℕ → Option (List ℕ)
 named_file name = if is_utf8 name then Some name else None
-
--- the file that a command of this line loads, if it loads one
-abbrev pub file_of : List ℕ → Command → Option (List ℕ)
-file_of line (command.LoadSgf span) = named_file (word_at line span)
-file_of line _ = None
-
--- the same of what the line says
-abbrev pub file_said : List ℕ → Parsed → Option (List ℕ)
-file_said line (parsed.Command id command) = file_of line command
-file_said line _ = None
 
 -- the text is that of the file of this name; any text is, if no file is loaded
 abbrev pub IsFileOf : Contents → Option (List ℕ) → List ℕ → Type 0

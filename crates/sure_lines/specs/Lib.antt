@@ -10,5 +10,7 @@ pub mod BoardCommands
 pub mod AnswerText
 pub mod QuestionCommands
 pub mod RecordCommands
+pub mod ProofCommands
+pub mod Texts
 pub mod SureStep
 pub mod Sessions

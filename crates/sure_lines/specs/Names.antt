@@ -22,6 +22,9 @@ own_names =
     ∷ codes "defend"
     ∷ codes "depths"
     ∷ codes "loadsgf"
+    ∷ codes "attack_proof"
+    ∷ codes "defend_proof"
+    ∷ codes "check_proof"
     ∷ []
 
 -- the word names a command of this program

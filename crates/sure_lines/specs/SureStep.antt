@@ -2,6 +2,7 @@
 use Rattle.std.specs.Prelude.{◌≡◌, ℕ, false, List, [], codes, drop}
 use Rattle.gtp_rules.specs.Lines.{RawLine}
 use Rattle.gtp_rules.specs.Steps.{Step}
+use Rattle.gtp_cmd.specs.Spans.{spanned}
 use Rattle.gtp_cmd.specs.Words.{cleaned, words_of}
 use Rattle.gtp_cmd.specs.declared.commands.Command.{Command}
 use Rattle.gtp_cmd.specs.declared.commands.Command.TheVariants as command
@@ -11,15 +12,18 @@ use Rattle.gtp_cmd.specs.declared.refusals.RefuseText.TheVariants.{UnknownComman
 use Rattle.read_rules.specs.declared.question.Kind.TheVariants.{Attack, Defend}
 use Rattle.sure_lines.specs.BoardCommands.{resized, cleared, played, taken_back, deepened}
 use Rattle.sure_lines.specs.Effects.{Effect, refused, told, ended, growing, replied}
-use Rattle.sure_lines.specs.Files.{Contents, word_at, file_said, IsFileOf}
+use Rattle.sure_lines.specs.Files.{Contents, word_at}
 use Rattle.sure_lines.specs.Heard.{heard, bytes_in, asked_words, names_own}
 use Rattle.sure_lines.specs.Names.{names_text}
+use Rattle.sure_lines.specs.ProofCommands.{proved, checked, kind_of}
 use Rattle.sure_lines.specs.QuestionCommands.{read}
 use Rattle.sure_lines.specs.RecordCommands.{loaded_by}
 use Rattle.sure_lines.specs.Replies.{word_of}
+use Rattle.sure_lines.specs.Texts.{IsTextSaid}
 use Rattle.sure_lines.specs.Machine.{Machine}
 
--- what a command of this line does to the machine, and what it tells; the file that it loads has this text
+-- what a command of this line does to the machine, and what it tells; the file that it loads has this text, or this is
+-- the proof that it tells
 abbrev pub effect_of : Machine → List ℕ → List ℕ → Command → Effect
 effect_of old line file command.ProtocolVersion = told (codes "2") old
 effect_of old line file command.Name = told (codes "gopat_sure") old
@@ -35,6 +39,10 @@ effect_of old line file (command.Play c at) = played old (record { colour = c; a
 effect_of old line file command.Undo = taken_back old old.game.moves
 effect_of old line file (command.Attack p) = read old Attack p
 effect_of old line file (command.Defend p) = read old Defend p
+effect_of old line file (command.AttackProof p) = proved old Attack p file
+effect_of old line file (command.DefendProof p) = proved old Defend p file
+effect_of old line file (command.CheckProof attack p code span) =
+    checked old (kind_of attack) p code (spanned line span)
 effect_of old line file (command.Depths plies wide) = deepened old plies wide
 effect_of old line file (command.LoadSgf span) = loaded_by old (word_at line span) file
 effect_of old line file _ = refused old UnknownCommand
@@ -45,12 +53,12 @@ parsed_step old line file parsed.Nothing = record { reply = []; fallbacks = []; 
 parsed_step old line file (parsed.Refused id text) = replied id old (refused old text)
 parsed_step old line file (parsed.Command id command) = replied id old (effect_of old line file command)
 
--- the answer to a line that loads this text, or to one that loads none
+-- the answer to a line that takes this text, or to one that takes none
 abbrev pub step_on : Machine → List ℕ → RawLine → Step Machine
 step_on old file line = parsed_step old (bytes_in line) file (heard old line)
 
--- the answer to a line: that on a text which is the contents of the file that it loads
+-- the answer to a line: that on a text which is the contents of the file that it loads, or a proof
 abbrev pub step : Contents → Machine → RawLine → Step Machine → Type 0
 step contents old line given =
-    (file : List ℕ) × IsFileOf contents (file_said (bytes_in line) (heard old line)) file
+    (file : List ℕ) × IsTextSaid contents old (bytes_in line) (heard old line) file
     × (given ≡ step_on old file line)

@@ -13,6 +13,7 @@ mod heard;
 mod line;
 mod machine;
 mod names;
+mod proof_commands;
 mod question_commands;
 mod record_commands;
 mod reply;

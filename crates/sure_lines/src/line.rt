@@ -7,11 +7,11 @@ ghost use Rattle.gtp_lex.specs.Raw.{raw_line};
 ghost use Rattle.gtp_rules.specs.Transcript.{MayGive, Answers};
 ghost use Rattle.sure_lines.specs.Answers.{IsAnswer};
 ghost use Rattle.sure_lines.specs.Effects.{growing, told};
-ghost use Rattle.sure_lines.specs.Files.{file_of, IsFileOf};
 ghost use Rattle.sure_lines.specs.Heard.{bytes_in};
 ghost use Rattle.sure_lines.specs.Machine.{Machine};
 ghost use Rattle.sure_lines.specs.Replies.{reply_bytes, reply_ends, word_of};
 ghost use Rattle.sure_lines.specs.SureStep.{effect_of, step};
+ghost use Rattle.sure_lines.specs.Texts.{IsTextOf};
 
 use crate::answer::{Answer, told};
 use crate::heard::{bytes_of, heard, knows_argument};
@@ -27,7 +27,7 @@ use read_rules::Kind;
 use std::alloc::Global;
 
 /// `true` or `false`.
-fn word(known: bool) -> &'static [u8]
+pub(crate) fn word(known: bool) -> &'static [u8]
     ensures text { result.now ≡ word_of known }
     ensures short { length result.now ≤ 5 }
 {
@@ -56,7 +56,7 @@ impl SureMachine {
     ) -> Answer
         requires within { IsWithin self.old.game.base.size command }
         requires spans { IsWithinLine line.now command }
-        ensures answer { (file : List ℕ) × IsFileOf (L.contents files.old) (file_of line.now command) file
+        ensures answer { (file : List ℕ) × IsTextOf (L.contents files.old) self.old line.now command file
             × IsAnswer (effect_of self.old line.now file command) result self.old self.new }
         ensures contents { L.contents files.new ≡ L.contents files.old }
     {
@@ -74,6 +74,14 @@ impl SureMachine {
             Command::Undo => self.undo(),
             Command::Attack(p) => self.read(Kind::Attack, p),
             Command::Defend(p) => self.read(Kind::Defend, p),
+            Command::AttackProof(p) => self.print_proof(alloc, Kind::Attack, p),
+            Command::DefendProof(p) => self.print_proof(alloc, Kind::Defend, p),
+            Command::CheckProof {
+                attack,
+                target,
+                code,
+                tokens,
+            } => self.check_proof(attack, target, code, line, tokens),
             Command::Depths { plies, wide } => self.deepen(plies, wide),
             Command::LoadSgf(span) => self.load_record(alloc, line, span, files),
             _ => Answer::Refused(RefuseText::UnknownCommand),

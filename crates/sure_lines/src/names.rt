@@ -11,7 +11,7 @@ use std::alloc::Global;
 use vertices::spells;
 
 /// The names in the order in which they are listed.
-const NAMES: [&[u8]; 15] = [
+const NAMES: [&[u8]; 18] = [
     b"protocol_version",
     b"name",
     b"version",
@@ -27,6 +27,9 @@ const NAMES: [&[u8]; 15] = [
     b"defend",
     b"depths",
     b"loadsgf",
+    b"attack_proof",
+    b"defend_proof",
+    b"check_proof",
 ];
 
 /// Whether a word is one of these names.

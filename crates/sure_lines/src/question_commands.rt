@@ -1,6 +1,6 @@
 //! The commands that ask whether a capture is sure.
 
-ghost use Rattle.std.specs.Prelude.{◌≡◌, ◌≢◌, ◌*◌, ◌<◌, IfSome};
+ghost use Rattle.std.specs.Prelude.{◌≡◌, ◌≢◌, ◌*◌, ◌<◌, ◌≤◌, IfSome};
 ghost use Rattle.go_rules.specs.Strings.{cell_at};
 ghost use Rattle.read_rules.specs.Answer.{asked_in};
 ghost use Rattle.read_rules.specs.GoodMoves.{IsOnBoard};
@@ -17,9 +17,15 @@ use read_rules::{Depths, Kind};
 use read_zones::{sure_attack, sure_defend};
 
 /// The sure answer to a question about the stone at p.
-fn sure_answer(position: &Position, kind: Kind, p: Point, depths: Depths) -> read_rules::Answer
+pub(crate) fn sure_answer(
+    position: &Position,
+    kind: Kind,
+    p: Point,
+    depths: Depths,
+) -> read_rules::Answer
     requires on_board { p < position.now.size * position.now.size }
     requires stone { cell_at position.now.cells p ≢ Cell.Empty }
+    ensures code { result.code ≤ 3 }
     ensures on_board { IfSome result.at (IsOnBoard position.now.size) }
     ensures answer { result
         ≡ sure_answer_of (asked_in depths.tree position.now kind p depths.plies depths.wide) position.now }

@@ -15,8 +15,10 @@ mod guard;
 pub mod laws;
 mod loss;
 mod play;
+mod replies;
 mod shown;
 mod walk;
 mod words;
 
 pub use checker::{check_node, checks_surely};
+pub use replies::replies_asked;

@@ -9,5 +9,5 @@ use Rattle.sure_lines.proofs.machine.SureMachine.obey.Goals as goal
 pub returns-in-ListCommands-clause-answer : goal.returns-in-ListCommands-clause-answer
 returns-in-ListCommands-clause-answer g c =
     obeyed (g.L.Loader.contents c.args.files.now) c.args.self.now c.args.self.now c.args.line.now c.args.command
-    ListCommands c.grown.result c.in-ListCommands.is refl
+    ListCommands c.grown.result c.in-ListCommands.is tt
     (λ file. c.grown.ensures c.args.self.now names_text c.names_text.ensures)

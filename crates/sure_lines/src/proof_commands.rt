@@ -1,0 +1,148 @@
+//! The commands that print why a capture is sure, and that check such a proof.
+
+ghost use Rattle.std.specs.Prelude.{◌≡◌, ◌≢◌, ◌*◌, ◌<◌, ◌≤◌, ◌&&◌, List, ℕ, [], Ok, Some, IfOk};
+ghost use Rattle.go_rules.specs.Strings.{cell_at};
+ghost use Rattle.gtp_cmd.specs.Spans.{spanned, IsSpanOf};
+ghost use Rattle.read_rules.specs.Answer.{asked_in, first_node};
+ghost use Rattle.read_proof.specs.Tokens.{words_in};
+ghost use Rattle.sure_lines.specs.Answers.{IsAnswer};
+ghost use Rattle.sure_lines.specs.Machine.{Machine};
+ghost use Rattle.sure_lines.specs.ProofCommands.{code_of_capture, has_allowances, coded_proof, proof_told, proved};
+ghost use Rattle.sure_lines.specs.ProofCommands.{IsProofTold, is_sure_proof, checked, kind_of};
+
+use crate::answer::{Answer, told};
+use crate::line::word;
+use crate::machine::SureMachine;
+use crate::question_commands::sure_answer;
+use go_base::{Bytes, Cell, NoMemory, Point, Position};
+use gtp_cmd::{RefuseText, Span};
+use itoa::Buffer;
+use read_rules::{Depths, Kind};
+use std::alloc::Global;
+use sure_proof::checks_surely;
+use write_sure::{SureProofError, sure_proof};
+
+/// The code under whose ko allowances the capture is sure of which a code tells: that of an attack itself, and of a
+/// defence the next one, which it does not have.
+fn code_of_capture(kind: Kind, code: u8) -> u8
+    requires { code ≤ 3 }
+    ensures { result ≡ code_of_capture kind code }
+{
+    match kind {
+        Kind::Attack => code,
+        Kind::Defend => code + 1,
+    }
+}
+
+/// Whether there are allowances of the code: it is 1, 2 or 3.
+fn has_allowances(code: u8) -> bool
+    ensures { result ≡ has_allowances code }
+{
+    code > 0 && code < 4
+}
+
+/// A code, and a proof behind a blank if there is one. Takes memory.
+fn proof_text(alloc: Global, code: u8, proof: &[u8]) -> Result<Bytes, NoMemory>
+    ensures { IfOk result (λ text. text ≡ coded_proof code proof.now) }
+{
+    let mut buffer = Buffer::new();
+    let mut text = Bytes::new(alloc);
+    text.extend(buffer.format(code).as_bytes())?;
+    if !proof.is_empty() {
+        text.push(b' ')?;
+        text.extend(proof)?;
+    }
+    Ok(text)
+}
+
+/// A code and a proof as they are told.
+fn told_proof(alloc: Global, code: u8, proof: &[u8]) -> Answer
+    ensures { (old : Machine) → IsAnswer (proof_told code proof.now old) result old old }
+{
+    match proof_text(alloc, code, proof) {
+        Ok(text) => Answer::Grown(text),
+        Err(NoMemory) => Answer::NoMemory,
+    }
+}
+
+/// A code as it is told with what was found of its proof.
+fn told_found(alloc: Global, code: u8, found: Result<Option<Bytes>, SureProofError>) -> Answer
+    ensures { (text : List ℕ) × (text ≢ [] → found ≡ Ok (Some text))
+        × ((old : Machine) → IsAnswer (proof_told code text old) result old old) }
+{
+    match found {
+        Ok(Some(text)) => told_proof(alloc, code, text.as_slice()),
+        Err(SureProofError::TooLong) => Answer::Refused(RefuseText::ProofTooLong),
+        Err(SureProofError::NoMemory) => Answer::NoMemory,
+        Ok(None) | Err(SureProofError::NotFound) => told_proof(alloc, code, b""),
+    }
+}
+
+/// Whether the words of a text are a proof that the string at p is surely captured under the ko allowances of a code.
+fn is_proof(
+    position: &Position,
+    kind: Kind,
+    p: Point,
+    depths: Depths,
+    code: u8,
+    text: &[u8],
+) -> bool
+    requires on_board { p < position.now.size * position.now.size }
+    requires stone { cell_at position.now.cells p ≢ Cell.Empty }
+    ensures { result ≡ is_sure_proof depths.plies
+        (first_node (asked_in depths.tree position.now kind p depths.plies depths.wide) code) position.now
+        (words_in text.now) }
+{
+    checks_surely(position, kind, p, depths, code, text)
+}
+
+/// Whether both are so.
+fn are_both(first: bool, second: bool) -> bool
+    ensures { result ≡ (first && second) }
+{
+    first && second
+}
+
+impl SureMachine {
+    /// Prints the code of a question about the string of p, and a proof of the sure capture of which it tells.
+    pub(crate) fn print_proof(&self, alloc: Global, kind: Kind, p: Point) -> Answer
+        requires { p < self.now.game.base.size * self.now.game.base.size }
+        ensures { (text : List ℕ) × IsProofTold self.now kind p text
+            × IsAnswer (proved self.now kind p text) result self.now self.now }
+    {
+        let position = self.position();
+        if position.cell(p) == Cell::Empty {
+            return Answer::Refused(RefuseText::VertexEmpty);
+        }
+        let code = sure_answer(&position, kind, p, self.depths).code;
+        let under = code_of_capture(kind, code);
+        let found = sure_proof(alloc, &position, kind, p, self.depths, under);
+        told_found(alloc, code, found)
+    }
+
+    /// Tells whether the words in this part of the line are a proof of the code of a question about the string of p.
+    pub(crate) fn check_proof(
+        &self,
+        attack: bool,
+        p: Point,
+        code: u8,
+        line: &[u8],
+        tokens: Span,
+    ) -> Answer
+        requires on_board { p < self.now.game.base.size * self.now.game.base.size }
+        requires code { code ≤ 3 }
+        requires span { IsSpanOf line.now tokens }
+        ensures { IsAnswer (checked self.now (kind_of attack) p code (spanned line.now tokens)) result self.now
+            self.now }
+    {
+        let position = self.position();
+        if position.cell(p) == Cell::Empty {
+            return Answer::Refused(RefuseText::VertexEmpty);
+        }
+        let kind = if attack { Kind::Attack } else { Kind::Defend };
+        let under = code_of_capture(kind, code);
+        let words = &line[tokens.from as usize..tokens.to as usize];
+        let holds = is_proof(&position, kind, p, self.depths, under, words);
+        told(word(are_both(has_allowances(under), holds)))
+    }
+}
