@@ -55,6 +55,18 @@ module _ {X : Type 0} (d : X) where
     grown = inr (refl, new, less);
   }
 
+module _ {X : Type 0} (d e : X) where
+  -- a value has its number whatever stands past the end
+  pub IsNumberOf-default : (values : List X) (v : X) (r : ℕ) → IsNumberOf d values v r → IsNumberOf e values v r
+  IsNumberOf-default values v r at = record {
+    within = at.within;
+    here = get_or_default values r e d at.within ∙ at.here;
+  }
+
+  -- a value that is new is so whatever stands past the end
+  pub IsNew-default : (values : List X) (v : X) → IsNew d values v → IsNew e values v
+  IsNew-default values v new r low is = new r low (get_or_default values r d e low ∙ is)
+
 module _ {X : Type 0} (m : Steps X) (limit : ℕ) where
   -- a reached value is added
   pub IsWork-push : (values : List X) (v : X) → IsWork m limit values → IsReached m v → IsNew m.start values v
