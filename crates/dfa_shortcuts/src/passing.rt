@@ -1,11 +1,11 @@
 //! Letters that are passed over, since each of them leads on to one row.
-ghost use Rattle.std.specs.Prelude.{◌≡◌, ◌+◌, ◌*◌, ◌<◌, ◌≤◌, List, length};
+ghost use Rattle.std.specs.Prelude.{◌≡◌, ◌+◌, ◌*◌, ◌<◌, ◌≤◌, true, List, length, slice_index_or};
 ghost use Rattle.dfa_core.specs.Automata.{Row};
 ghost use Rattle.dfa_core.specs.Entries.{AreEntries};
 ghost use Rattle.dfa_shortcuts.specs.Shortcuts.{IsOfRow, HaveRows, AreShortcuts, has_one_target, is_passed};
 
 use crate::entries::{is_accepting, is_dead};
-use dfa_core::row_in;
+use dfa_core::{RowKind, row_in};
 
 /// Whether each letter leads from a row to one and the same row.
 fn leads_one_way(entries: &[u32], row: u32) -> bool
@@ -25,11 +25,43 @@ fn is_passed_over(entries: &[u32], entry: u32) -> bool
     !is_accepting(entry) && !is_dead(entry) && leads_one_way(entries, row_in(entry))
 }
 
-/// Makes one shortcut longer if the row to which its letter leads is passed over: it leads then to where the
-/// shortcut from that row leads, unless this passes over as many letters as a byte counts.
+/// An entry, and whether its row is passed over.
+#[derive(Clone, Copy)]
+struct Asked {
+    /// The entry.
+    entry: u32,
+    /// Whether its row is passed over.
+    over: bool,
+}
+
+/// An entry of a dead row, which is not passed over.
+const DEAD: u32 = RowKind::Dead as u32;
+
+/// Whether the row of an entry is passed over. The row is asked for only if the entry is not the one asked for last.
+fn ask(from: &[u32], entry: u32, last: Asked) -> Asked
+    requires row { IsOfRow from.now entry }
+    requires last { last.over ≡ is_passed from.now last.entry }
+    ensures entry { result.entry ≡ entry }
+    ensures over { result.over ≡ is_passed from.now entry }
+{
+    if entry == last.entry {
+        return Asked {
+            entry,
+            over: last.over,
+        };
+    }
+    Asked {
+        entry,
+        over: is_passed_over(from, entry),
+    }
+}
+
+/// Makes one shortcut longer, to whose entry belongs a row that is passed over: it leads then to where the shortcut from
+/// that row leads, unless this passes over as many letters as a byte counts.
 fn lengthen(from: &[u32], entries: &mut [u32], passed: &mut [u8], place: usize)
     requires rows { HaveRows from.now }
     requires place { place < length from.now }
+    requires over { is_passed from.now (slice_index_or from.now place 0) ≡ true }
     requires entries { length entries.old ≡ length from.now }
     requires passed { length passed.old ≡ length from.now }
     ensures entries { length entries.new ≡ length from.now }
@@ -37,11 +69,7 @@ fn lengthen(from: &[u32], entries: &mut [u32], passed: &mut [u8], place: usize)
     ensures shortcuts { (automaton : List Row) → AreEntries automaton from.now
         → AreShortcuts automaton entries.old passed.old → AreShortcuts automaton entries.new passed.new }
 {
-    let entry = from[place];
-    if !is_passed_over(from, entry) {
-        return;
-    }
-    let first = 4 * row_in(entry) as usize;
+    let first = 4 * row_in(from[place]) as usize;
     let letters = passed[first];
     if letters == u8::MAX {
         return;
@@ -51,7 +79,7 @@ fn lengthen(from: &[u32], entries: &mut [u32], passed: &mut [u8], place: usize)
 }
 
 /// Makes all shortcuts longer, from the last one on: most letters lead to a row further back, whose shortcuts are final
-/// then.
+/// then. Several letters of a row mostly lead to one row, which is asked for once.
 pub fn lengthen_all(from: &[u32], entries: &mut [u32], passed: &mut [u8])
     requires rows { HaveRows from.now }
     requires entries { length entries.old ≡ length from.now }
@@ -61,9 +89,16 @@ pub fn lengthen_all(from: &[u32], entries: &mut [u32], passed: &mut [u8])
     ensures shortcuts { (automaton : List Row) → AreEntries automaton from.now
         → AreShortcuts automaton entries.old passed.old → AreShortcuts automaton entries.new passed.new }
 {
+    let mut asked = Asked {
+        entry: DEAD,
+        over: false,
+    };
     let mut place = from.len();
     'places: while place > 0 {
         place -= 1;
-        lengthen(from, entries, passed, place);
+        asked = ask(from, from[place], asked);
+        if asked.over {
+            lengthen(from, entries, passed, place);
+        }
     }
 }

@@ -5,7 +5,8 @@ use Rattle.std.proofs.Common.{refl, sym}
 use Rattle.std.proofs.Common.{ap, subst, inl, inr, arith, add-one, append_assoc, codes}
 use Rattle.std.specs.List.{filter_map, cons_option, filter, range_with_len, AllByRecursion}
 use Rattle.std.specs.Option.{option_and_then}
-use Rattle.std.proofs.lemmas.Bool.{cases_Bool, and_parts, and_from, or_parts, both_ways, not-true, not_from_false}
+use Rattle.std.proofs.lemmas.Bool.{cases_Bool, and_parts, and_from, or_parts, or_left, or_right, both_ways, not-true}
+use Rattle.std.proofs.lemmas.Bool.{not_from_false, eq-eqb, ne_eqb}
 use Rattle.go_rules.specs.Board.{IsSize}
 use Rattle.go_rules.specs.Position.{BoardState}
 use Rattle.go_rules.specs.Strings.{liberties}
@@ -16,20 +17,22 @@ use Rattle.read_rules.specs.declared.node.Node.{Node}
 use Rattle.read_rules.specs.declared.question.Spot.{Spot}
 use Rattle.read_rules.specs.declared.question.Spot.TheVariants.{At, Pass}
 use Rattle.read_rules.specs.GameTree.{is_captured, has_many_liberties, attacker_wins, child_of}
-use Rattle.read_rules.specs.GameTree.{first_move}
+use Rattle.read_rules.specs.GameTree.{first_move, taking_back}
 use Rattle.read_rules.specs.GoodMoves.{is_barred, good_move, IsOnBoard}
 use Rattle.read_rules.specs.Rules.{IsFirstMove}
 use Rattle.read_rules.proofs.RuleLemmas.{attacker_from, defender_gives, child_gives, child_from, first_move_gives}
-use Rattle.read_rules.proofs.WinLemmas.{wins-captured, wins-attacker_move, wins-defender_move}
+use Rattle.read_rules.proofs.RuleLemmas.{taking_back_gives}
+use Rattle.read_rules.proofs.WinLemmas.{wins-captured, wins-attacker_move, wins-defender_move, wins-taken_back}
+use Rattle.read_rules.proofs.WinLemmas.{some_or_none}
 use Rattle.read_rules.proofs.LibertyLemmas.{child_free, play_size}
 use Rattle.read_proof.specs.declared.token.Token.TheVariants.{Each}
 use Rattle.read_proof.specs.Tokens.{Word}
 use Rattle.read_proof.specs.Proves.{has_too_many, is_settled, is_wanted, move_may_prove, each_may_prove, passed}
-use Rattle.read_proof.specs.Proves.{child_after}
+use Rattle.read_proof.specs.Proves.{can_take_back, child_after, back_after, child_behind}
 use Rattle.read_proof.specs.Proves.{pass_children, play_children, children_of, at_child, at_each, proves}
-use Rattle.read_proof.specs.FirstProof.{move_word, write_child, write_each, write_move, first_words}
+use Rattle.read_proof.specs.FirstProof.{move_word, write_child, write_each, write_move, write_back, first_words}
 use Rattle.read_proof.specs.FirstProof.{BeginsWithFirstMove}
-use Rattle.read_proof.proofs.SoundLemmas.{both_rows, made_by, passed_by, IsSo}
+use Rattle.read_proof.proofs.SoundLemmas.{both_rows, made_by, passed_by, behind_standing, IsSo}
 use Rattle.read_proof.proofs.ChildLemmas.{after_candidate, after_pass}
 use Rattle.read_proof.proofs.StepLemmas.{by_word, settled_word, move_decides}
 use Rattle.read_proof.proofs.PrintLemmas.{said_settled, said_each, said_move, is_word, move_is_word}
@@ -106,7 +109,13 @@ settled_at_end : (won : Bool) (node : Node) (pos : BoardState) → attacker_wins
     → is_settled zero won node pos ≡ true
 unfolding attacker_wins is_settled
 settled_at_end true node pos so = so
-settled_at_end false node pos so = ap (λ b. not b && true) so
+settled_at_end false node pos so = by (is_captured pos node.turn.target) (taking_back node pos) so
+  where
+    by : (taken : Bool) (o : Option (Node × BoardState)) → (taken && is_none o) ≡ false
+        → cond taken (true && is_some o) (true || has_too_many zero node pos) ≡ true
+    by true None e = absurd (let w = e in cc)
+    by true (Some child) e = refl
+    by false o e = refl
 
 -- the side to play wants a claim where it is the attacker and he wins, or the defender and he does not
 wanted_turn : (won turn : Bool) → cond turn won (not won) ≡ true → turn ≡ won
@@ -115,21 +124,31 @@ wanted_turn true false e = e
 wanted_turn false true e = absurd (let w = e in cc)
 wanted_turn false false e = refl
 
--- The claim is so at a node with some plies left, and it is not settled.
+-- a target that the defender takes back is taken
+pub back_taken : (node : Node) (pos : BoardState) (child : Node × BoardState) → taking_back node pos ≡ Some child
+    → is_captured pos node.turn.target ≡ true
+back_taken node pos child back = (and_parts _ _ (and_parts _ _ (taking_back_gives node pos child back).0).0).1
+
+-- The claim is so at a node with some plies left, it is not settled, and the defender does not take back.
 module _ (n : ℕ) (won : Bool) (node : Node) (pos : BoardState) (so : attacker_wins (suc n) node pos ≡ won)
-    (hidden : is_settled (suc n) won node pos ≡ false) where
+    (hidden : is_settled (suc n) won node pos ≡ false) (none : taking_back node pos ≡ None) where
   -- the target stands
   target_stands : is_captured pos node.turn.target ≡ false
   unfolding is_settled
   target_stands = by won so hidden
     where
+      alone : (taken : Bool) → (taken && true) ≡ false → taken ≡ false
+      alone true e = e
+      alone false e = refl
+
       by : (won : Bool) → attacker_wins (suc n) node pos ≡ won → is_settled (suc n) won node pos ≡ false
           → is_captured pos node.turn.target ≡ false
-      by true so hidden = hidden
+      by true so hidden = alone (is_captured pos node.turn.target)
+          (sym (ap (λ o. is_captured pos node.turn.target && not (is_some o)) none) ∙ hidden)
       by false so hidden = elim (cases_Bool (is_captured pos node.turn.target)) [
         | inr stands ↦ stands
         | inl captured ↦ absurd (both_ways (attacker_wins (suc n) node pos) so
-            (wins-captured (suc n) node pos captured))
+            (wins-captured (suc n) node pos captured none))
       ]
 
   -- at the attacker's turn it has not too many liberties
@@ -138,11 +157,12 @@ module _ (n : ℕ) (won : Bool) (node : Node) (pos : BoardState) (so : attacker_
   unfolding is_settled has_too_many
   few_liberties lost turn =
       let l = liberties pos.size pos.cells node.turn.target in
-      let stands = target_stands in
+      let taken = is_captured pos node.turn.target in
+      let back = eqb (suc n) 0 && can_take_back node pos in
       let over = eqb (suc n) 0 || has_too_many (suc n) node pos in
       let not_over : over ≡ false =
-      sym (ap (λ b. not b && over) stands)
-      ∙ sym (ap (λ w. cond w (is_captured pos node.turn.target) (not (is_captured pos node.turn.target) && over)) lost)
+      sym (ap (λ b. cond b back over) target_stands)
+      ∙ sym (ap (λ w. cond w (taken && not (can_take_back node pos)) (cond taken back over)) lost)
       ∙ hidden in
       let not_many = (or_parts (eqb (suc n) 0) (has_too_many (suc n) node pos) not_over).1 in
       (or_parts (ltb ((suc n + 1) / 2) l) (has_many_liberties node.turn pos)
@@ -255,50 +275,102 @@ module _ (n : ℕ) (won : Bool) (node : Node) (pos : BoardState) (so : attacker_
 
 -- The words of the first proof, by what it begins with.
 module _ (n : ℕ) (won : Bool) (node : Node) (pos : BoardState) where
-  -- `.` where the claim is settled, a move where it is not and the side to play wants it, and else `*`
-  pub words_by : (settled wanted : Bool) → is_settled (suc n) won node pos ≡ settled → is_wanted won node ≡ wanted
-      → first_words (suc n) won node pos ≡ cond settled (codes "." ∷ []) (cond wanted
-      (write_move (first_words n won) node pos (first_move n node pos))
-      (codes "*" ∷ write_each (first_words n won) (children_of node pos)))
+  -- the words of the moves: the first one, if the side to play wants the claim, and else `*`
+  abbrev pub moves_words : Bool → List Word
+  moves_words wanted = cond wanted (write_move (first_words n won) node pos (first_move n node pos))
+      (codes "*" ∷ write_each (first_words n won) (children_of node pos))
+
+  -- `.` where the claim is settled, and else what taking back or the moves give
+  words_by : (settled : Bool) (back : Option (Node × BoardState)) → is_settled (suc n) won node pos ≡ settled
+      → taking_back node pos ≡ back → first_words (suc n) won node pos ≡ cond settled (codes "." ∷ [])
+      (write_back (first_words n won) node pos back (moves_words (is_wanted won node)))
   unfolding first_words
-  words_by settled wanted is wants =
-      ap (λ b. cond b (codes "." ∷ []) (cond (is_wanted won node)
-      (write_move (first_words n won) node pos (first_move n node pos))
-      (codes "*" ∷ write_each (first_words n won) (children_of node pos)))) is
-      ∙ ap (λ b. cond settled (codes "." ∷ []) (cond b
-      (write_move (first_words n won) node pos (first_move n node pos))
-      (codes "*" ∷ write_each (first_words n won) (children_of node pos)))) wants
+  words_by settled back is taken =
+      ap (λ b. cond b (codes "." ∷ []) (write_back (first_words n won) node pos (taking_back node pos)
+      (moves_words (is_wanted won node)))) is
+      ∙ ap (λ o. cond settled (codes "." ∷ []) (write_back (first_words n won) node pos o
+      (moves_words (is_wanted won node)))) taken
+
+  -- `.` where the claim is settled
+  pub words-settled : is_settled (suc n) won node pos ≡ true → first_words (suc n) won node pos ≡ codes "." ∷ []
+  words-settled is = words_by true (taking_back node pos) is refl
+
+  -- where it is not, and the defender does not take back, those of the moves
+  pub words-moves : (wanted : Bool) → is_settled (suc n) won node pos ≡ false → taking_back node pos ≡ None
+      → is_wanted won node ≡ wanted → first_words (suc n) won node pos ≡ moves_words wanted
+  words-moves wanted is none wants = words_by false None is none ∙ ap moves_words wants
+
+  -- no claim is settled where the defender takes back with a ply left for it
+  pub open_back : (child : Node × BoardState) → taking_back node pos ≡ Some child
+      → is_settled (suc n) won node pos ≡ false
+  unfolding is_settled
+  open_back child back = by won (back_taken node pos child back) (ne_eqb (suc n) 0 (λ e. cc))
+    where
+      no_more : (b : Bool) → (b && false) ≡ false
+      no_more true = refl
+      no_more false = refl
+
+      by : (won : Bool) → is_captured pos node.turn.target ≡ true → eqb (suc n) 0 ≡ false
+          → is_settled (suc n) won node pos ≡ false
+      by true taken some = ap (λ o. is_captured pos node.turn.target && not (is_some o)) back
+          ∙ no_more (is_captured pos node.turn.target)
+      by false taken some =
+          ap (λ b. cond b (eqb (suc n) 0 && can_take_back node pos) (eqb (suc n) 0 || has_too_many (suc n) node pos))
+          taken
+          ∙ ap (λ b. b && can_take_back node pos) some
+
+  -- where he does, the word of his play, and those at the child to which it leads
+  pub words-back : (child : Node × BoardState) → taking_back node pos ≡ Some child
+      → first_words (suc n) won node pos
+      ≡ move_word pos.size (At node.turn.target) ∷ first_words n won child.0 child.1
+  words-back child back = words_by false (Some child) (open_back child back) back
 
   -- the move's word, and those at the child to which it leads
   words-move : (spot : Spot) (child : Node × BoardState) → is_settled (suc n) won node pos ≡ false
+      → taking_back node pos ≡ None
       → is_wanted won node ≡ true → first_move n node pos ≡ Some spot → child_after node pos spot ≡ Some child
       → first_words (suc n) won node pos ≡ move_word pos.size spot ∷ first_words n won child.0 child.1
-  words-move spot child is wanted first leads =
-      words_by false true is wanted
+  words-move spot child is none wanted first leads =
+      words-moves true is none wanted
       ∙ ap (write_move (first_words n won) node pos) first
       ∙ ap (λ o. move_word pos.size spot ∷ write_child (first_words n won) o) leads
 
--- where the claim is so, not settled, and what the side to play wants, its first words begin with the first move
+-- where the claim is so, not settled, and what the side to play wants, and the defender does not take back, its first
+-- words begin with the first move
 pub begins_with_first : (n : ℕ) (won : Bool) (node : Node) (pos : BoardState) → attacker_wins (suc n) node pos ≡ won
-    → is_settled (suc n) won node pos ≡ false → is_wanted won node ≡ true → BeginsWithFirstMove n won node pos
-begins_with_first n won node pos so hidden wanted =
-    let found = first_leads n won node pos so hidden wanted in
+    → taking_back node pos ≡ None → is_settled (suc n) won node pos ≡ false → is_wanted won node ≡ true
+    → BeginsWithFirstMove n won node pos
+begins_with_first n won node pos so none hidden wanted =
+    let found = first_leads n won node pos so hidden none wanted in
     record {
       spot = found.spot;
       child = found.child;
       first = first_move_gives n node pos found.spot found.is_first;
       leads = found.leads;
-      words = words-move n won node pos found.spot found.child hidden wanted found.is_first found.leads;
+      words = words-move n won node pos found.spot found.child hidden none wanted found.is_first found.leads;
     }
 
--- a move may prove what the side to play wants where the target stands and the attacker may play at it
+-- a move may prove what the side to play wants where the attacker may play at the target
 move_may : (won : Bool) (node : Node) (pos : BoardState) → is_wanted won node ≡ true
-    → is_captured pos node.turn.target ≡ false
     → (node.turn.attacker_to_play && has_many_liberties node.turn pos) ≡ false
     → move_may_prove won node pos ≡ true
 unfolding move_may_prove
-move_may won node pos wanted stands few =
-    and_from _ _ (and_from _ _ wanted (not_from_false _ stands)) (not_from_false _ few)
+move_may won node pos wanted few = or_right (is_captured pos node.turn.target) _
+    (and_from _ _ wanted (not_from_false _ few))
+
+-- a move may prove a claim where the target is taken
+back_may : (won : Bool) (node : Node) (pos : BoardState) → is_captured pos node.turn.target ≡ true
+    → move_may_prove won node pos ≡ true
+unfolding move_may_prove
+back_may won node pos taken = or_left _ _ taken
+
+-- the defender takes back by the play at the target's point
+behind_target : (node : Node) (pos : BoardState) → is_captured pos node.turn.target ≡ true
+    → child_behind node pos (At node.turn.target) ≡ taking_back node pos
+unfolding child_behind
+behind_target node pos taken =
+    ap (λ b. cond b (back_after node pos (At node.turn.target)) (child_after node pos (At node.turn.target))) taken
+    ∙ ap (λ b. cond b (taking_back node pos) None) (eq-eqb node.turn.target node.turn.target refl)
 
 -- all moves may prove what it does not want where the target stands
 each_may : (won : Bool) (node : Node) (pos : BoardState) → is_wanted won node ≡ false
@@ -346,33 +418,47 @@ module _ (s : ℕ) (size : IsSize s) where
       (settled_at_end won node pos so)
   first_complete (suc n) won node pos rest here so = elim (cases_Bool (is_settled (suc n) won node pos)) [
     | inl settled ↦
-        ap (λ words. proves (suc n) won node pos (words ++ rest))
-        (words_by n won node pos true (is_wanted won node) settled refl)
+        ap (λ words. proves (suc n) won node pos (words ++ rest)) (words-settled n won node pos settled)
         ∙ settled_word won node pos (codes "." ∷ rest) (codes ".") rest refl (suc n) true (said_settled pos.size)
         settled
-    | inr hidden ↦ elim (cases_Bool (is_wanted won node)) [
-      | inl wanted ↦
-          let first = first_leads n won node pos so hidden wanted in
-          let words = first_words n won first.child.0 first.child.1 ++ rest in
-          ap (λ ws. proves (suc n) won node pos (ws ++ rest))
-          (words-move n won node pos first.spot first.child hidden wanted first.is_first first.leads)
-          ∙ move_decides won node pos (move_word pos.size first.spot ∷ words) (move_word pos.size first.spot) words refl
-          (suc n) first.spot true (said_move s pos.size size first.spot here.0
-          (spot_on node pos first.spot first.child here first.leads)) (λ e. cc)
-          (move_may won node pos wanted (target_stands n won node pos so hidden) first.few)
-          ∙ ap (λ m. at_child (proves m won) (child_after node pos first.spot) words) (less n)
-          ∙ ap (λ o. at_child (proves n won) o words) first.leads
-          ∙ first_complete n won first.child.0 first.child.1 rest
-          (move_at s node pos first.spot first.child here first.leads)
-          first.claim
-      | inr wanted ↦
-          let words = write_each (first_words n won) (children_of node pos) ++ rest in
-          ap (λ ws. proves (suc n) won node pos (ws ++ rest)) (words_by n won node pos false false hidden wanted)
-          ∙ by_word won node pos (codes "*" ∷ words) (codes "*") words refl (suc n) (Some Each) (said_each pos.size)
-          ∙ ap (λ b. cond b (at_each (proves n won) (children_of node pos) words) None)
-          (each_may won node pos wanted (target_stands n won node pos so hidden))
-          ∙ each_complete n won (first_complete n won) (children_of node pos) rest (each_at s node pos here)
-          (each_so n won node pos so hidden wanted)
+    | inr hidden ↦ elim (some_or_none (taking_back node pos)) [
+      | inl none ↦ elim (cases_Bool (is_wanted won node)) [
+        | inl wanted ↦
+            let first = first_leads n won node pos so hidden none wanted in
+            let stands = target_stands n won node pos so hidden none in
+            let words = first_words n won first.child.0 first.child.1 ++ rest in
+            ap (λ ws. proves (suc n) won node pos (ws ++ rest))
+            (words-move n won node pos first.spot first.child hidden none wanted first.is_first first.leads)
+            ∙ move_decides won node pos (move_word pos.size first.spot ∷ words) (move_word pos.size first.spot) words
+            refl (suc n) first.spot true (said_move s pos.size size first.spot here.0
+            (spot_on node pos first.spot first.child here first.leads)) (λ e. cc)
+            (move_may won node pos wanted first.few)
+            ∙ ap (λ m. at_child (proves m won) (child_behind node pos first.spot) words) (less n)
+            ∙ ap (λ o. at_child (proves n won) o words) (behind_standing node pos first.spot stands ∙ first.leads)
+            ∙ first_complete n won first.child.0 first.child.1 rest
+            (move_at s node pos first.spot first.child here first.leads)
+            first.claim
+        | inr wanted ↦
+            let words = write_each (first_words n won) (children_of node pos) ++ rest in
+            ap (λ ws. proves (suc n) won node pos (ws ++ rest)) (words-moves n won node pos false hidden none wanted)
+            ∙ by_word won node pos (codes "*" ∷ words) (codes "*") words refl (suc n) (Some Each) (said_each pos.size)
+            ∙ ap (λ b. cond b (at_each (proves n won) (children_of node pos) words) None)
+            (each_may won node pos wanted (target_stands n won node pos so hidden none))
+            ∙ each_complete n won (first_complete n won) (children_of node pos) rest (each_at s node pos here)
+            (each_so n won node pos so hidden none wanted)
+      ]
+      | inr back ↦
+          let taken = back_taken node pos back.0 back.1 in
+          let target : Spot = At node.turn.target in
+          let words = first_words n won back.0.0 back.0.1 ++ rest in
+          ap (λ ws. proves (suc n) won node pos (ws ++ rest)) (words-back n won node pos back.0 back.1)
+          ∙ move_decides won node pos (move_word pos.size target ∷ words) (move_word pos.size target) words refl
+          (suc n) target true (said_move s pos.size size target here.0 here.1) (λ e. cc) (back_may won node pos taken)
+          ∙ ap (λ m. at_child (proves m won) (child_behind node pos target) words) (less n)
+          ∙ ap (λ o. at_child (proves n won) o words) (behind_target node pos taken ∙ back.1)
+          ∙ first_complete n won back.0.0 back.0.1 rest
+          (play_at s node pos node.turn.target back.0 here (taking_back_gives node pos back.0 back.1).1)
+          (sym (wins-taken_back n node pos back.0 taken back.1) ∙ so)
     ]
   ]
 
@@ -411,22 +497,45 @@ module _ (s : ℕ) (size : IsSize s) where
       behind None e = tt
       behind (Some child) e = words child.0 child.1 (move_at s node pos spot child here e)
 
+  -- the word of the play that takes back and those of the proof behind it are words
+  back_is_words : (n : ℕ) (won : Bool)
+      → ((node : Node) (pos : BoardState) → IsAt s (node, pos)
+      → AllByRecursion (λ w. is_word w ≡ true) (first_words n won node pos))
+      → (node : Node) (pos : BoardState) → IsAt s (node, pos) → (o : Option (Node × BoardState))
+      → taking_back node pos ≡ o → (others : List Word) → AllByRecursion (λ w. is_word w ≡ true) others
+      → AllByRecursion (λ w. is_word w ≡ true) (write_back (first_words n won) node pos o others)
+  back_is_words n won words node pos here None e others all = all
+  back_is_words n won words node pos here (Some child) e others all = (
+    move_is_word s pos.size size (At node.turn.target) here.0 here.1,
+    words child.0 child.1
+        (play_at s node pos node.turn.target child here (taking_back_gives node pos child e).1),
+  )
+
+  -- the words of the moves are words
+  moves_are_words : (n : ℕ) (won : Bool) (node : Node) (pos : BoardState) (wanted : Bool)
+      → AllByRecursion (λ w. is_word w ≡ true) (write_move (first_words n won) node pos (first_move n node pos))
+      → AllByRecursion (λ w. is_word w ≡ true) (write_each (first_words n won) (children_of node pos))
+      → AllByRecursion (λ w. is_word w ≡ true) (moves_words n won node pos wanted)
+  moves_are_words n won node pos true move each = move
+  moves_are_words n won node pos false move each = (refl, each)
+
   -- the words of a first proof are words
   pub first_are_words : (n : ℕ) (won : Bool) (node : Node) (pos : BoardState) → IsAt s (node, pos)
       → AllByRecursion (λ w. is_word w ≡ true) (first_words n won node pos)
   unfolding first_words
   first_are_words zero won node pos here = (refl, tt)
   first_are_words (suc n) won node pos here =
-      by (is_settled (suc n) won node pos) (is_wanted won node)
+      by (is_settled (suc n) won node pos)
+      (back_is_words n won (first_are_words n won) node pos here (taking_back node pos) refl
+      (moves_words n won node pos (is_wanted won node)) (moves_are_words n won node pos (is_wanted won node)
       (move_is_words n won (first_are_words n won) node pos here (first_move n node pos) refl)
-      (each_is_word n won (first_are_words n won) (children_of node pos) (each_at s node pos here))
+      (each_is_word n won (first_are_words n won) (children_of node pos) (each_at s node pos here))))
     where
-      by : (settled wanted : Bool)
-          → AllByRecursion (λ w. is_word w ≡ true) (write_move (first_words n won) node pos (first_move n node pos))
-          → AllByRecursion (λ w. is_word w ≡ true) (write_each (first_words n won) (children_of node pos))
+      by : (settled : Bool) → AllByRecursion (λ w. is_word w ≡ true)
+          (write_back (first_words n won) node pos (taking_back node pos)
+          (moves_words n won node pos (is_wanted won node)))
           → AllByRecursion (λ w. is_word w ≡ true) (cond settled (codes "." ∷ [])
-          (cond wanted (write_move (first_words n won) node pos (first_move n node pos))
-          (codes "*" ∷ write_each (first_words n won) (children_of node pos))))
-      by true wanted move each = (refl, tt)
-      by false true move each = move
-      by false false move each = (refl, each)
+          (write_back (first_words n won) node pos (taking_back node pos)
+          (moves_words n won node pos (is_wanted won node))))
+      by true others = (refl, tt)
+      by false others = others

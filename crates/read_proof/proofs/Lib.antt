@@ -9,3 +9,4 @@ pub mod PrintLemmas
 pub mod FirstLemmas
 pub mod TextLemmas
 pub mod QuestionLemmas
+pub mod WalledLemmas

@@ -1,7 +1,7 @@
 -- What is proved at a node is so: by the word, by the children, and by induction on the plies.
 use Rattle.std.proofs.Common.{◌≡◌, ◌∙◌, ℕ, zero, suc, ◌+◌, ◌*◌, ◌/◌, ◌<◌, ◌≤◌, Bool, true, false, ◌&&◌, ◌||◌, cond, ltb}
-use Rattle.std.proofs.Common.{eqb, List, [], ◌∷◌, ◌++◌, Option, Some, None, refl, sym, ap, subst, inl, inr}
-use Rattle.std.proofs.Common.{arith, add-one}
+use Rattle.std.proofs.Common.{eqb, List, [], ◌∷◌, ◌++◌, Option, Some, None, is_some, not, refl, sym, ap, subst}
+use Rattle.std.proofs.Common.{inl, inr, arith, add-one}
 use Rattle.std.specs.List.{filter_map, cons_option, filter, range_with_len, AllByRecursion}
 use Rattle.std.proofs.lemmas.Option.{option_and_then_some}
 use Rattle.std.proofs.lemmas.Bool.{cases_Bool, cases_eq, and_parts, or_cases, both_ways, eqb-true, ltb-true}
@@ -15,18 +15,18 @@ use Rattle.read_rules.specs.declared.node.Node.{Node}
 use Rattle.read_rules.specs.declared.question.Spot.{Spot}
 use Rattle.read_rules.specs.declared.question.Spot.TheVariants.{At, Pass}
 use Rattle.read_rules.specs.Candidates.{candidates_of}
-use Rattle.read_rules.specs.GameTree.{is_captured, has_many_liberties, attacker_wins, child_of}
+use Rattle.read_rules.specs.GameTree.{is_captured, has_many_liberties, attacker_wins, child_of, taking_back}
 use Rattle.read_rules.specs.Rules.{IsChild, EachChildWins}
 use Rattle.read_rules.proofs.RuleLemmas.{attacker_gives, attacker_from, defender_gives, defender_from, child_gives}
-use Rattle.read_rules.proofs.RuleLemmas.{child_from, many_gives}
-use Rattle.read_rules.proofs.WinLemmas.{wins-captured, wins-no_plies}
+use Rattle.read_rules.proofs.RuleLemmas.{child_from, many_gives, there, taking_back_gives}
+use Rattle.read_rules.proofs.WinLemmas.{wins-captured, wins-no_plies, wins-none_left, wins-taken_back}
 use Rattle.read_rules.specs.Bound.{outlasts, outlasts_at}
 use Rattle.read_rules.proofs.LibertyLemmas.{bounded, to_attacker, to_defender, many_outlast, child_free, play_size}
 use Rattle.read_proof.specs.declared.token.Token.{Token}
 use Rattle.read_proof.specs.declared.token.Token.TheVariants.{Settled, Move, Each}
 use Rattle.read_proof.specs.Tokens.{Word, token_of}
 use Rattle.read_proof.specs.Proves.{has_too_many, is_settled, is_wanted, move_may_prove, each_may_prove, passed}
-use Rattle.read_proof.specs.Proves.{child_after}
+use Rattle.read_proof.specs.Proves.{can_take_back, child_after, back_after, child_behind}
 use Rattle.read_proof.specs.Proves.{pass_children, play_children, children_of, at_child, at_each, by_token, proves}
 
 -- a target with too many liberties for the plies outlasts them
@@ -48,16 +48,31 @@ too_many_outlast n node pos h =
           (sym (ap (λ b. cond b (ltb ((n + 1) / 2) l || many) (ltb (n / 2) l)) f) ∙ h)))
     ]
 
+-- a child to which the defender takes back is there, or not
+none_there : (o : Option (Node × BoardState)) → not (is_some o) ≡ true → o ≡ None
+none_there None e = refl
+none_there (Some child) e = cc
+
 -- what is settled is so
 settled_sound : (n : ℕ) (won : Bool) (node : Node) (pos : BoardState) → node.turn.target < pos.size * pos.size
     → is_settled n won node pos ≡ true → attacker_wins n node pos ≡ won
 unfolding is_settled
-settled_sound n true node pos on h = wins-captured n node pos h
-settled_sound n false node pos on h =
+settled_sound n true node pos on h =
     let parts = and_parts _ _ h in
-    elim (or_cases (eqb n 0) (has_too_many n node pos) parts.1) [
-      | inl over ↦ wins-no_plies n node pos (not-true _ parts.0) (eqb-true n 0 over)
-      | inr many ↦ bounded n node pos on (too_many_outlast n node pos many)
+    wins-captured n node pos parts.0 (none_there (taking_back node pos) parts.1)
+settled_sound n false node pos on h =
+    let back = eqb n 0 && can_take_back node pos in
+    let over = eqb n 0 || has_too_many n node pos in
+    elim (cases_Bool (is_captured pos node.turn.target)) [
+      | inl taken ↦
+          let parts = and_parts (eqb n 0) (can_take_back node pos) (sym (ap (λ b. cond b back over) taken) ∙ h) in
+          let child = there (taking_back node pos) parts.1 in
+          ap (λ m. attacker_wins m node pos) (eqb-true n 0 parts.0) ∙ wins-none_left node pos child.0 child.1
+      | inr stands ↦ elim (or_cases (eqb n 0) (has_too_many n node pos)
+          (sym (ap (λ b. cond b back over) stands) ∙ h)) [
+            | inl none_left ↦ wins-no_plies n node pos stands (eqb-true n 0 none_left)
+            | inr many ↦ bounded n node pos on (too_many_outlast n node pos many)
+          ]
     ]
 
 -- the target of a node is on the board of its position
@@ -222,6 +237,33 @@ after_on_board node pos (At p) child on e =
 after_on_board node pos Pass child on e =
     subst IsOn (passed_by node.turn.attacker_to_play (passed node pos) child e).1 on
 
+-- behind a move at a node whose target stands is the child to which it leads
+pub behind_standing : (node : Node) (pos : BoardState) (spot : Spot) → is_captured pos node.turn.target ≡ false
+    → child_behind node pos spot ≡ child_after node pos spot
+unfolding child_behind
+behind_standing node pos spot stands = ap (λ b. cond b (back_after node pos spot) (child_after node pos spot)) stands
+
+-- behind a move at a node whose target is taken is the child to which the defender takes back
+behind_taken : (node : Node) (pos : BoardState) (spot : Spot) (child : Node × BoardState)
+    → is_captured pos node.turn.target ≡ true → child_behind node pos spot ≡ Some child
+    → taking_back node pos ≡ Some child
+unfolding child_behind
+behind_taken node pos spot child taken e =
+    by spot (sym (ap (λ b. cond b (back_after node pos spot) (child_after node pos spot)) taken) ∙ e)
+  where
+    by : (spot : Spot) → back_after node pos spot ≡ Some child → taking_back node pos ≡ Some child
+    by (At p) e = (made_by (eqb p node.turn.target) (taking_back node pos) child e).1
+    by Pass e = absurd (let w = e in cc)
+
+-- the target is on the board at the child behind a move
+behind_on_board : (node : Node) (pos : BoardState) (spot : Spot) (child : Node × BoardState)
+    → node.turn.target < pos.size * pos.size → child_behind node pos spot ≡ Some child → IsOn child
+behind_on_board node pos spot child on e = elim (cases_Bool (is_captured pos node.turn.target)) [
+  | inl taken ↦ played_on_board node pos node.turn.target child on
+      (taking_back_gives node pos child (behind_taken node pos spot child taken e)).1
+  | inr stands ↦ after_on_board node pos spot child on (sym (behind_standing node pos spot stands) ∙ e)
+]
+
 -- The claim at a node whose target stands, with one ply more than is left at its children.
 module _ (n : ℕ) (node : Node) (pos : BoardState) (stands : is_captured pos node.turn.target ≡ false) where
   -- the sum of the definitions is the next number
@@ -325,21 +367,33 @@ child_there : (prove : Node → BoardState → List Word → Option (List Word))
 child_there prove None words left e = absurd (let w = e in cc)
 child_there prove (Some child) words left e = (child, refl, e)
 
--- a move that may prove the claim is of the side that wants it, the target stands, and the attacker may play at it
+-- a move that may prove the claim where the target stands is of the side that wants it, and the attacker may play at it
 may_move_parts : (won : Bool) (node : Node) (pos : BoardState) → move_may_prove won node pos ≡ true
-    → (is_wanted won node ≡ true) × (is_captured pos node.turn.target ≡ false)
-    × ((node.turn.attacker_to_play && has_many_liberties node.turn pos) ≡ false)
+    → is_captured pos node.turn.target ≡ false
+    → (is_wanted won node ≡ true) × ((node.turn.attacker_to_play && has_many_liberties node.turn pos) ≡ false)
 unfolding move_may_prove
-may_move_parts won node pos h =
-    let parts = and_parts _ _ h in
-    let first = and_parts _ _ parts.0 in
-    (first.0, not-true _ first.1, not-true _ parts.1)
+may_move_parts won node pos h stands =
+    let barred = node.turn.attacker_to_play && has_many_liberties node.turn pos in
+    let parts = and_parts (is_wanted won node) (not barred)
+    (sym (ap (λ b. b || (is_wanted won node && not barred)) stands) ∙ h) in
+    (parts.0, not-true _ parts.1)
 
 -- all moves that may prove the claim are of the side that does not want it, and the target stands
 may_each_parts : (won : Bool) (node : Node) (pos : BoardState) → each_may_prove won node pos ≡ true
     → (is_wanted won node ≡ false) × (is_captured pos node.turn.target ≡ false)
 unfolding each_may_prove
 may_each_parts won node pos h = let parts = and_parts _ _ h in (not-true _ parts.0, not-true _ parts.1)
+
+-- where the claim is so at the child behind a move that may prove it, it is so
+move_sound : (n : ℕ) (won : Bool) (node : Node) (pos : BoardState) (spot : Spot) (child : Node × BoardState)
+    → move_may_prove won node pos ≡ true → child_behind node pos spot ≡ Some child → IsSo n won child
+    → attacker_wins (suc n) node pos ≡ won
+move_sound n won node pos spot child may e so = elim (cases_Bool (is_captured pos node.turn.target)) [
+  | inl taken ↦ wins-taken_back n node pos child taken (behind_taken node pos spot child taken e) ∙ so
+  | inr stands ↦
+      let parts = may_move_parts won node pos may stands in
+      move_decides n node pos stands won spot child parts.0 parts.1 (sym (behind_standing node pos spot stands) ∙ e) so
+]
 
 -- what is proved at a node by words is so
 pub proved_sound : (n : ℕ) (won : Bool) → IsSound n won
@@ -351,15 +405,14 @@ proved_sound zero won node pos (word ∷ rest) left on e =
     (λ none. absurd (let w = none in cc))
 proved_sound (suc n) won node pos (word ∷ rest) left on e =
     begins (attacker_wins (suc n) node pos ≡ won) (is_settled (suc n) won node pos)
-    (λ spot left. cond (move_may_prove won node pos) (at_child (proves n won) (child_after node pos spot) left) None)
+    (λ spot left. cond (move_may_prove won node pos) (at_child (proves n won) (child_behind node pos spot) left) None)
     (λ left. cond (each_may_prove won node pos) (at_each (proves n won) (children_of node pos) left) None)
     (token_of pos.size word) rest left e (settled_sound (suc n) won node pos on)
     (λ spot found.
     let may = there_by (move_may_prove won node pos) _ left found in
-    let parts = may_move_parts won node pos may.0 in
-    let child = child_there (proves n won) (child_after node pos spot) rest left may.1 in
-    move_decides n node pos parts.1 won spot child.0 parts.0 parts.2 child.1
-    (proved_sound n won child.0.0 child.0.1 rest left (after_on_board node pos spot child.0 on child.1) child.2))
+    let child = child_there (proves n won) (child_behind node pos spot) rest left may.1 in
+    move_sound n won node pos spot child.0 may.0 child.1
+    (proved_sound n won child.0.0 child.0.1 rest left (behind_on_board node pos spot child.0 on child.1) child.2))
     (λ found.
     let may = there_by (each_may_prove won node pos) _ left found in
     let parts = may_each_parts won node pos may.0 in

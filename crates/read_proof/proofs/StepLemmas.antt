@@ -12,7 +12,7 @@ use Rattle.read_rules.specs.Answer.{first_node}
 use Rattle.read_proof.specs.declared.token.Token.{Token}
 use Rattle.read_proof.specs.declared.token.Token.TheVariants.{Settled, Move, Each}
 use Rattle.read_proof.specs.Tokens.{Word, token_of}
-use Rattle.read_proof.specs.Proves.{is_settled, move_may_prove, each_may_prove, child_after, pass_children}
+use Rattle.read_proof.specs.Proves.{is_settled, move_may_prove, each_may_prove, child_behind, pass_children}
 use Rattle.read_proof.specs.Proves.{play_children, children_of, at_child, at_each, by_token, proves}
 use Rattle.read_proof.specs.ProofOf.{codes_down_to, claim_under, letter_of, proves_under, proves_all}
 use Rattle.read_proof.proofs.ChildLemmas.{at_rows}
@@ -33,7 +33,7 @@ module _ (won : Bool) (node : Node) (pos : BoardState) where
   abbrev pub by_move : ℕ → Spot → List Word → Option (List Word)
   by_move zero spot left = None
   by_move (suc n) spot left =
-      cond (move_may_prove won node pos) (at_child (proves n won) (child_after node pos spot) left) None
+      cond (move_may_prove won node pos) (at_child (proves n won) (child_behind node pos spot) left) None
 
   -- what `*` proves with n plies left
   abbrev pub by_each : ℕ → List Word → Option (List Word)
@@ -80,13 +80,13 @@ module _ (won : Bool) (node : Node) (pos : BoardState) where
     pub move_decides : (n : ℕ) (spot : Spot) (may : Bool) → Some (Move spot) ≡ token_of pos.size word → n ≢ 0
         → move_may_prove won node pos ≡ may
         → proves n won node pos words
-        ≡ cond may (at_child (proves (n - 1) won) (child_after node pos spot) rest) None
+        ≡ cond may (at_child (proves (n - 1) won) (child_behind node pos spot) rest) None
     move_decides zero spot may e some is = absurd (some refl)
     move_decides (suc n) spot may e some is =
         let less : n ≡ suc n - 1 = omega arith in
         by_word (suc n) (Some (Move spot)) e
-        ∙ ap (λ b. cond b (at_child (proves n won) (child_after node pos spot) rest) None) is
-        ∙ ap (λ m. cond may (at_child (proves m won) (child_after node pos spot) rest) None) less
+        ∙ ap (λ b. cond b (at_child (proves n won) (child_behind node pos spot) rest) None) is
+        ∙ ap (λ m. cond may (at_child (proves m won) (child_behind node pos spot) rest) None) less
 
     -- `*` that may prove the claim proves it where the rest does at each child
     pub each_decides : (n : ℕ) (may : Bool) → Some Each ≡ token_of pos.size word → n ≢ 0

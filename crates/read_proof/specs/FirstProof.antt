@@ -1,5 +1,6 @@
--- The first proof of a claim that is so, and of the code of a question: `.` wherever it will do, else the first move in
--- reading order that will, the pass before all points, and else `*`.
+-- The first proof of a claim that is so, and of the code of a question: `.` wherever it will do, else the play that
+-- takes back if the defender can, else the first move in reading order that will do, the pass before all points, and
+-- else `*`.
 use Rattle.std.specs.Prelude.{◌≡◌, ℕ, zero, suc, Bool, List, [], ◌∷◌, ◌++◌, Option, None, Some, if◌then◌else◌}
 use Rattle.std.specs.Prelude.{codes}
 use Rattle.std.specs.List.{join_with_byte}
@@ -10,7 +11,7 @@ use Rattle.read_rules.specs.declared.node.Node.{Node}
 use Rattle.read_rules.specs.declared.question.Spot.{Spot}
 use Rattle.read_rules.specs.declared.question.Spot.TheVariants.{At, Pass}
 use Rattle.read_rules.specs.declared.question.ReadingQuestion.{ReadingQuestion}
-use Rattle.read_rules.specs.GameTree.{first_move}
+use Rattle.read_rules.specs.GameTree.{first_move, taking_back}
 use Rattle.read_rules.specs.Rules.{IsFirstMove}
 use Rattle.read_rules.specs.Answer.{first_node, code_of}
 use Rattle.read_proof.specs.Tokens.{Word}
@@ -41,13 +42,20 @@ abbrev pub write_move : Writer → Node → BoardState → Option Spot → List 
 write_move write node pos None = []
 write_move write node pos (Some spot) = move_word pos.size spot ∷ write_child write (child_after node pos spot)
 
+-- the words of the play at the target's point and of the proof at the child to which it takes back, if there is such a
+-- child; else the other words
+abbrev pub write_back : Writer → Node → BoardState → Option (Node × BoardState) → List Word → List Word
+write_back write node pos None others = others
+write_back write node pos (Some child) others = move_word pos.size (At node.turn.target) ∷ write child.0 child.1
+
 -- the words of the first proof of the claim at the node with n plies left, where the claim is so
 unfoldable pub first_words : ℕ → Bool → Writer
 first_words zero won node pos = codes "." ∷ []
 first_words (suc n) won node pos =
     if is_settled (suc n) won node pos then codes "." ∷ []
-    else if is_wanted won node then write_move (first_words n won) node pos (first_move n node pos)
-    else codes "*" ∷ write_each (first_words n won) (children_of node pos)
+    else write_back (first_words n won) node pos (taking_back node pos)
+    (if is_wanted won node then write_move (first_words n won) node pos (first_move n node pos)
+    else codes "*" ∷ write_each (first_words n won) (children_of node pos))
 
 -- the first words of the claim are a move and the first words of the claim at the child to which it leads; the move is
 -- the first that gives the side to play its way, the defender's pass before all points

@@ -1,7 +1,7 @@
 -- When a text proves a claim about a node of the game tree: that the attacker wins there, or that he does not. A claim
 -- is written as a test value, true where it is the first.
 use Rattle.std.specs.Prelude.{ℕ, zero, suc, ◌+◌, ◌/◌, Bool, not, ◌&&◌, ◌||◌, ◌==◌, nat_lt, List, [], ◌∷◌}
-use Rattle.std.specs.Prelude.{◌++◌, Option, None, Some, if◌then◌else◌}
+use Rattle.std.specs.Prelude.{◌++◌, Option, None, Some, is_some, if◌then◌else◌}
 use Rattle.std.specs.List.{filter_map}
 use Rattle.std.specs.Option.{option_and_then}
 use Rattle.go_rules.specs.Position.{BoardState}
@@ -9,7 +9,7 @@ use Rattle.go_rules.specs.Play.{pass}
 use Rattle.go_rules.specs.Strings.{liberties}
 use Rattle.read_rules.specs.Candidates.{is_candidate}
 use Rattle.read_rules.specs.Candidates.{candidates_of}
-use Rattle.read_rules.specs.GameTree.{is_captured, has_many_liberties, child_of, next_node, allowance_of}
+use Rattle.read_rules.specs.GameTree.{is_captured, has_many_liberties, child_of, next_node, allowance_of, taking_back}
 use Rattle.read_rules.specs.declared.node.Node.{Node}
 use Rattle.read_rules.specs.declared.question.Spot.{Spot}
 use Rattle.read_rules.specs.declared.question.Spot.TheVariants.{At, Pass}
@@ -24,22 +24,28 @@ has_too_many n node pos =
     || has_many_liberties node.turn pos
     else nat_lt (n / 2) (liberties pos.size pos.cells node.turn.target)
 
--- the claim is settled at the node with n plies left: the target is captured; or it stands, and no ply is left or it
--- has too many liberties
+-- the defender can take back the target: it is a lone stone that is taken, and a play at its point takes stones
+abbrev pub can_take_back : Node → BoardState → Bool
+can_take_back node pos = is_some (taking_back node pos)
+
+-- the claim is settled at the node with n plies left: that the attacker wins, if the target is taken and cannot be
+-- taken back; that he does not, if it can be but no ply is left for it, or if it stands, and no ply is left or it has
+-- too many liberties
 unfoldable pub is_settled : ℕ → Bool → Node → BoardState → Bool
 is_settled n won node pos =
-    if won then is_captured pos node.turn.target else not (is_captured pos node.turn.target)
-    && ((n == 0) || has_too_many n node pos)
+    if won then is_captured pos node.turn.target && not (can_take_back node pos)
+    else if is_captured pos node.turn.target then (n == 0) && can_take_back node pos
+    else (n == 0) || has_too_many n node pos
 
 -- the claim is what the side to play wants: that the attacker wins, at his turn, or that he does not, at the defender's
 abbrev pub is_wanted : Bool → Node → Bool
 is_wanted won node = if node.turn.attacker_to_play then won else not won
 
--- one move may prove the claim: it is what the side to play wants, the target stands, and the attacker may play at it
+-- one move may prove the claim: the target is taken, and the move takes it back; or the claim is what the side to play
+-- wants, and the attacker may play at the target
 unfoldable pub move_may_prove : Bool → Node → BoardState → Bool
-move_may_prove won node pos =
-    is_wanted won node && not (is_captured pos node.turn.target)
-    && not (node.turn.attacker_to_play && has_many_liberties node.turn pos)
+move_may_prove won node pos = is_captured pos node.turn.target
+    || (is_wanted won node && not (node.turn.attacker_to_play && has_many_liberties node.turn pos))
 
 -- all moves together may prove the claim: it is not what the side to play wants, and the target stands
 unfoldable pub each_may_prove : Bool → Node → BoardState → Bool
@@ -54,6 +60,17 @@ passed node pos = (next_node node (allowance_of node), pass pos)
 unfoldable pub child_after : Node → BoardState → Spot → Option (Node × BoardState)
 child_after node pos (At p) = if is_candidate node.turn pos p then child_of node pos p else None
 child_after node pos Pass = if node.turn.attacker_to_play then None else Some (passed node pos)
+
+-- the child to which a move takes back the target: the play at its point does, where the defender can take back
+abbrev pub back_after : Node → BoardState → Spot → Option (Node × BoardState)
+back_after node pos (At p) = if p == node.turn.target then taking_back node pos else None
+back_after node pos Pass = None
+
+-- the child at which a proof goes on behind a move: the one to which it takes back, if the target is taken, and else
+-- the one to which it leads
+unfoldable pub child_behind : Node → BoardState → Spot → Option (Node × BoardState)
+child_behind node pos spot =
+    if is_captured pos node.turn.target then back_after node pos spot else child_after node pos spot
 
 -- the child after the defender's pass; none at the attacker's turn
 abbrev pub pass_children : Node → BoardState → List (Node × BoardState)
@@ -97,6 +114,6 @@ proves zero won node pos (word ∷ rest) =
 proves (suc n) won node pos (word ∷ rest) =
     by_token (is_settled (suc n) won node pos)
     (λ spot left.
-    if move_may_prove won node pos then at_child (proves n won) (child_after node pos spot) left else None)
+    if move_may_prove won node pos then at_child (proves n won) (child_behind node pos spot) left else None)
     (λ left. if each_may_prove won node pos then at_each (proves n won) (children_of node pos) left else None)
     (token_of pos.size word) rest

@@ -18,6 +18,7 @@ mod further;
 pub mod laws;
 mod settled;
 mod strings;
+pub mod taking_back;
 mod token;
 mod walk;
 

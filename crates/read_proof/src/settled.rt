@@ -1,37 +1,12 @@
 //! What may prove a claim at a node, by the target's liberties and by whose turn it is.
 
-ghost use Rattle.std.specs.Prelude.{◌≡◌, ◌*◌, ◌<◌, ◌==◌, ◌&&◌, ◌||◌, nat_lt};
-ghost use Rattle.read_rules.specs.GameTree.{is_captured, has_many_liberties};
-ghost use Rattle.read_rules.specs.Trees.{most_narrow};
+ghost use Rattle.std.specs.Prelude.{◌≡◌, ◌*◌, ◌<◌};
+ghost use Rattle.read_rules.specs.GameTree.{has_many_liberties};
 ghost use Rattle.read_proof.specs.Proves.{is_settled, has_too_many, is_wanted, move_may_prove, each_may_prove};
 
-use go_base::{Cell, Position};
-use read_rules::{Node, Tree, Turn};
-
-/// Whether the target's point is empty.
-pub fn is_captured(pos: &Position, node: Node) -> bool
-    requires { node.turn.target < pos.now.size * pos.now.size }
-    ensures { result ≡ is_captured pos.now node.turn.target }
-{
-    pos.cell(node.turn.target) == Cell::Empty
-}
-
-/// How many liberties a target of the tree may have, where no wide ply is left, that the attacker may play at.
-fn most_narrow(tree: Tree) -> u16
-    ensures { result ≡ most_narrow tree }
-{
-    match tree {
-        Tree::Stated => 2,
-        Tree::Wider => 4,
-    }
-}
-
-/// Whether these are more liberties than the attacker may play at in the tree, with `wide` wide plies left.
-fn are_many(tree: Tree, liberties: u16, wide: u8) -> bool
-    ensures { result ≡ (nat_lt 4 liberties || ((wide == 0) && nat_lt (most_narrow tree) liberties)) }
-{
-    liberties > 4 || (wide == 0 && liberties > most_narrow(tree))
-}
+use crate::taking_back::{can_take_back, is_captured};
+use go_base::Position;
+use read_rules::{Node, Turn};
 
 /// Whether the target has more liberties than the attacker may play at.
 #[tactic(auto, unfolding(read_rules::specs::GameTree::has_many_liberties))]
@@ -39,7 +14,7 @@ pub fn has_many_liberties(pos: &Position, turn: Turn) -> bool
     requires { turn.target < pos.now.size * pos.now.size }
     ensures { result ≡ has_many_liberties turn pos.now }
 {
-    are_many(turn.tree, pos.liberties(turn.target), turn.wide)
+    turn.has_many(pos.liberties(turn.target))
 }
 
 /// Whether the target has more liberties than the attacker can fill with `plies` plies left, or than he may play at.
@@ -50,8 +25,7 @@ fn has_too_many(pos: &Position, node: Node, plies: u8) -> bool
 {
     let liberties = pos.liberties(node.turn.target);
     if node.turn.attacker_to_play {
-        liberties > (u16::from(plies) + 1) / 2
-            || are_many(node.turn.tree, liberties, node.turn.wide)
+        liberties > (u16::from(plies) + 1) / 2 || node.turn.has_many(liberties)
     } else {
         liberties > u16::from(plies) / 2
     }
@@ -64,9 +38,12 @@ pub fn is_settled(pos: &Position, node: Node, plies: u8, won: bool) -> bool
     ensures { result ≡ is_settled plies won node pos.now }
 {
     if won {
-        return is_captured(pos, node);
+        return is_captured(pos, node) && !can_take_back(pos, node);
     }
-    !is_captured(pos, node) && (plies == 0 || has_too_many(pos, node, plies))
+    if is_captured(pos, node) {
+        return plies == 0 && can_take_back(pos, node);
+    }
+    plies == 0 || has_too_many(pos, node, plies)
 }
 
 /// Whether the claim is what the side to play wants.
@@ -86,9 +63,9 @@ pub fn move_may_prove(pos: &Position, node: Node, won: bool) -> bool
     requires { node.turn.target < pos.now.size * pos.now.size }
     ensures { result ≡ move_may_prove won node pos.now }
 {
-    is_wanted(node, won)
-        && !is_captured(pos, node)
-        && !(node.turn.attacker_to_play && has_many_liberties(pos, node.turn))
+    is_captured(pos, node)
+        || (is_wanted(node, won)
+            && !(node.turn.attacker_to_play && has_many_liberties(pos, node.turn)))
 }
 
 /// Whether all moves together may prove the claim.

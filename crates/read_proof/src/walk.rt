@@ -5,17 +5,18 @@ ghost use Rattle.std.specs.Prelude.{◌≡◌, ◌*◌, ◌<◌, None, Some, Mat
 ghost use Rattle.std.specs.Option.{option_to_list};
 ghost use Rattle.read_rules.specs.GameTree.{child_of};
 ghost use Rattle.read_proof.specs.Tokens.{words_in};
-ghost use Rattle.read_proof.specs.Proves.{proves, at_child, child_after, at_each, pass_children, play_children};
+ghost use Rattle.read_proof.specs.Proves.{proves, at_child, child_behind, at_each, pass_children, play_children};
 
 use crate::candidates::candidates;
-use crate::children::{child_after, child_of, passed};
+use crate::children::{child_of, passed};
 use crate::settled::{each_may_prove, is_settled, move_may_prove};
+use crate::taking_back::child_behind;
 use crate::token::{Token, token_said};
 use go_base::{Point, Position};
 use read_rules::{Node, Spot};
 use vertices::next_word;
 
-/// The text behind the proof, in front of it, of the claim at the child to which a move leads, with `plies` plies left.
+/// The text behind the proof, in front of it, of the claim at the child behind a move, with `plies` plies left.
 #[cycle(proof)]
 fn move_proved<'a>(
     pos: &Position,
@@ -27,11 +28,11 @@ fn move_proved<'a>(
 ) -> Option<&'a [u8]>
     requires { node.turn.target < pos.now.size * pos.now.size }
     ensures { MatchOption result
-        (at_child (proves plies won) (child_after node pos.now spot) (words_in text.now) ≡ None)
-        (λ left. at_child (proves plies won) (child_after node pos.now spot) (words_in text.now)
+        (at_child (proves plies won) (child_behind node pos.now spot) (words_in text.now) ≡ None)
+        (λ left. at_child (proves plies won) (child_behind node pos.now spot) (words_in text.now)
         ≡ Some (words_in left.now)) }
 {
-    let (next, new) = child_after(pos, node, spot)?;
+    let (next, new) = child_behind(pos, node, spot)?;
     proved(&new, next, plies, won, text)
 }
 

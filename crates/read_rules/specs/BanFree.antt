@@ -27,7 +27,8 @@ pub record IsFreeToTakeBack (below : Node → BoardState → Type 0) (node : Nod
   pub played : (new : BoardState) → play pos (mover_of node.turn) node.turn.target ≡ Ok new
       → below (next_node node (allowance_of node)) new
 
--- with n plies left the ban forbids no candidate, and does not forbid to take back a lone stone, in the tree of the node
+-- with n plies left the ban forbids no candidate, and does not forbid to take back a lone stone, in the tree of the
+-- node
 abbrev pub IsBanFree : ℕ → Node → BoardState → Type 0
 IsBanFree zero node pos = has_lost_one_stone node pos ≡ true
     → IsFreeToTakeBack (λ (next : Node) (new : BoardState). Unit {0}) node pos

@@ -1,7 +1,7 @@
 //! Which of two game trees is read.
 
 ghost use Rattle.std.specs.Prelude.{◌≡◌};
-ghost use Rattle.read_rules.specs.Trees.{is_wider};
+ghost use Rattle.read_rules.specs.Trees.{is_wider, most_narrow};
 
 /// Which moves a reading tries, and how many liberties a target may have that is still played at.
 #[derive(Clone, Copy, Debug, PartialEq, Eq, Hash)]
@@ -23,6 +23,16 @@ impl Tree {
         match self {
             Tree::Stated => false,
             Tree::Wider => true,
+        }
+    }
+
+    /// How many liberties a target may have, if no wide ply is left, that the attacker still plays at.
+    pub fn most_narrow(self) -> u16
+        ensures { result ≡ most_narrow self }
+    {
+        match self {
+            Tree::Stated => 2,
+            Tree::Wider => 4,
         }
     }
 }

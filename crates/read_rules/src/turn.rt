@@ -1,7 +1,8 @@
 //! Whose turn it is at a node of the game tree, under whatever ko allowances.
 
-ghost use Rattle.std.specs.Prelude.{◌≡◌};
+ghost use Rattle.std.specs.Prelude.{◌≡◌, ◌&&◌, ◌||◌, ◌==◌, nat_lt};
 ghost use Rattle.read_rules.specs.Stages.{has_later_candidates};
+ghost use Rattle.read_rules.specs.Trees.{most_narrow};
 ghost use Rattle.read_rules.specs.Turns.{mover_of, next_turn};
 
 use crate::tree::Tree;
@@ -52,5 +53,12 @@ impl Turn {
         ensures { result ≡ has_later_candidates self }
     {
         self.wide > 0 || self.tree.is_wider()
+    }
+
+    /// Whether so many liberties of the target are more than the attacker may play at.
+    pub fn has_many(self, liberties: u16) -> bool
+        ensures { result ≡ (nat_lt 4 liberties || ((self.wide == 0) && nat_lt (most_narrow self.tree) liberties)) }
+    {
+        liberties > 4 || (self.wide == 0 && liberties > self.tree.most_narrow())
     }
 }

@@ -1,2 +1,3 @@
 pub mod SureSteps
 pub mod SureCode
+pub mod LossLemmas

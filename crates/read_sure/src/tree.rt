@@ -1,52 +1,23 @@
 //! Whether a string is surely captured at a node, and which move there is the first that succeeds, on a board with
 //! trial moves.
 
-ghost use Rattle.std.specs.Prelude.{◌≡◌, ◌+◌, ◌<◌, ◌≤◌, ◌&&◌, ◌||◌, ◌==◌, nat_lt, IfSome, length, is_some};
-ghost use Rattle.trial_board.specs.Trials.{Stays, most_moves};
-ghost use Rattle.read_rules.specs.GoodMoves.{is_barred, IsOnBoard};
-ghost use Rattle.read_rules.specs.Trees.{most_narrow};
+ghost use Rattle.std.specs.Prelude.{◌≡◌, ◌+◌, ◌<◌, ◌≤◌, true, IfSome, length, is_some};
+ghost use Rattle.go_rules.specs.Position.{BoardState, IsPosition};
+ghost use Rattle.go_base.specs.Facts.{Agrees};
+ghost use Rattle.trial_board.specs.Trials.{Stays, most_moves, after};
+ghost use Rattle.read_rules.specs.GoodMoves.{IsOnBoard};
 ghost use Rattle.read_tree.specs.Walk.{IsPointOf, OnEachAgreeing};
+ghost use Rattle.sure_rules.specs.Nodes.{is_gone};
 ghost use Rattle.sure_rules.specs.SureTree.{surely_wins};
 ghost use Rattle.sure_rules.specs.SureAnswer.{surely_succeeds, pass_holds, first_sure, first_sure_move, sure_move};
 
 use crate::points::tried_points;
+use crate::taking_back::has_lost_one_stone;
 use go_base::{Cell, Look, Point};
-use read_rules::{Node, Spot, Tree};
-use read_tree::nodes::make_at;
+use read_rules::{Node, Spot};
+use read_tree::nodes::{is_barred, make_at};
+use read_tree::taking_back::may_take_back_at;
 use trial_board::Trial;
-
-/// How many liberties a target may have, if no wide ply is left, that the attacker still plays at.
-fn most_narrow(tree: Tree) -> u16
-    ensures { result ≡ most_narrow tree }
-{
-    match tree {
-        Tree::Stated => 2,
-        Tree::Wider => 4,
-    }
-}
-
-/// Whether so many liberties are more than the attacker may play at in the tree.
-fn has_many(tree: Tree, liberties: u16, wide: u8) -> bool
-    ensures { result ≡ (nat_lt 4 liberties || ((wide == 0) && nat_lt (most_narrow tree) liberties)) }
-{
-    liberties > 4 || (wide == 0 && liberties > most_narrow(tree))
-}
-
-/// Whether it is the attacker's turn, and the target has more liberties than he may play at.
-fn is_barred<L: Look>(board: &mut Trial<L>, node: Node) -> bool
-    requires target { IsPointOf L.shows board.old node.turn.target }
-    ensures stays { Stays L.shows L.seen board.old board.new }
-    ensures over { OnEachAgreeing L.seen board.old board.new (λ here. result ≡ is_barred node here) }
-{
-    if !node.turn.attacker_to_play {
-        return false;
-    }
-    has_many(
-        node.turn.tree,
-        board.liberties(node.turn.target).count(),
-        node.turn.wide,
-    )
-}
 
 /// Whether the mover's play at p can be made, and with `plies` plies left after it the target is surely captured if the
 /// attacker played, and is not if the defender did.
@@ -140,6 +111,28 @@ pub fn sure_move<L: Look>(board: &mut Trial<L>, node: Node, plies: u8) -> Option
     first_sure_move(board, node, plies)
 }
 
+/// Whether the target, whose point is empty, is surely captured, with `plies` plies left: it is, if the defender has
+/// not just lost a lone stone, or if he cannot take back; else if a ply is left for it and the target is surely
+/// captured after it.
+#[cycle(sure)]
+fn taken<L: Look>(board: &mut Trial<L>, node: Node, plies: u8) -> bool
+    requires room { length board.old.moves + plies ≤ most_moves }
+    requires target { IsPointOf L.shows board.old node.turn.target }
+    requires gone { (pos : BoardState) → Agrees (L.seen board.old.look) pos
+        → is_gone node (after pos board.old.moves) ≡ true }
+    requires sound { (pos : BoardState) → Agrees (L.seen board.old.look) pos → IsPosition (after pos board.old.moves) }
+    ensures stays { Stays L.shows L.seen board.old board.new }
+    ensures over { OnEachAgreeing L.seen board.old board.new (λ here. result ≡ surely_wins plies node here) }
+{
+    if !has_lost_one_stone(board, node) {
+        return true;
+    }
+    if plies == 0 {
+        return !may_take_back_at(board, node);
+    }
+    !succeeds(board, node, node.turn.target, plies - 1)
+}
+
 /// Whether the target is surely captured at the node, with `plies` plies left.
 #[cycle(sure)]
 fn surely_wins<L: Look>(board: &mut Trial<L>, node: Node, plies: u8) -> bool
@@ -149,7 +142,7 @@ fn surely_wins<L: Look>(board: &mut Trial<L>, node: Node, plies: u8) -> bool
     ensures over { OnEachAgreeing L.seen board.old board.new (λ here. result ≡ surely_wins plies node here) }
 {
     if board.cell(node.turn.target) == Cell::Empty {
-        return true;
+        return taken(board, node, plies);
     }
     if plies == 0 {
         return false;

@@ -3,20 +3,10 @@
 ghost use Rattle.std.specs.Prelude.{◌≡◌, ℕ, ◌-◌, ◌&&◌, ◌||◌, false, nat_lt};
 ghost use Rattle.std.specs.FinSet as set;
 ghost use Rattle.read_rules.specs.Bound.{most_by_wide, outlasts, outlasts_at};
-ghost use Rattle.read_rules.specs.Trees.{most_narrow, most_few};
+ghost use Rattle.read_rules.specs.Trees.{most_few};
 
 use go_base::points::PointSet;
 use read_rules::{Tree, Turn};
-
-/// How many liberties a target may have, where no wide ply is left, that the attacker still plays at.
-pub fn most_narrow(tree: Tree) -> u16
-    ensures { result ≡ most_narrow tree }
-{
-    match tree {
-        Tree::Stated => 2,
-        Tree::Wider => 4,
-    }
-}
 
 /// How many liberties a target may have, where one or two wide plies are left, that can be captured.
 fn most_few(tree: Tree) -> u16
@@ -33,7 +23,7 @@ fn most_by_wide(tree: Tree, wide: u8) -> u16
     ensures { result ≡ most_by_wide tree wide }
 {
     if wide == 0 {
-        most_narrow(tree)
+        tree.most_narrow()
     } else if wide < 3 {
         most_few(tree)
     } else {

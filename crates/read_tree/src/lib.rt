@@ -22,11 +22,11 @@ pub mod making;
 pub mod memory;
 pub mod nodes;
 mod order;
-mod outlook;
+pub mod outlook;
 pub mod reading;
 pub mod report;
 pub mod table;
-mod taking_back;
+pub mod taking_back;
 pub mod tree;
 
 pub use allowances::Allowances;

@@ -8,13 +8,11 @@ ghost use Rattle.trial_board.specs.Trials.{Stays, most_moves, after, tail};
 ghost use Rattle.read_rules.specs.GameTree.{child_of, attacker_wins, pass_saves, succeeds, first_success, first_move};
 ghost use Rattle.read_rules.specs.GameTree.{is_captured};
 ghost use Rattle.read_rules.specs.GoodMoves.{good_move, is_barred, IsOnBoard};
-ghost use Rattle.read_rules.specs.Trees.{most_narrow};
 ghost use Rattle.read_tree.specs.Nodes.{has_one_at_most, the_allowance, LeadsTo, SameReading, game_node};
 ghost use Rattle.read_tree.specs.Table.{IsTrueTable, IsTrueTableAt};
 ghost use Rattle.read_tree.specs.Walk.{IsPointOf, OnEachAgreeing};
 
 use crate::allowances::Allowances;
-use crate::bound::most_narrow;
 use crate::memory::Memory;
 use crate::table::{Entry, empty_table};
 use crate::taking_back::{is_walled_in, may_take_back_at};
@@ -108,15 +106,8 @@ pub fn make_at<L: Look>(board: &mut Trial<L>, node: Node, p: Point) -> Option<No
     }
 }
 
-/// Whether so many liberties are more than the attacker may play at in the tree.
-fn has_many(tree: Tree, liberties: u16, wide: u8) -> bool
-    ensures { result ≡ (nat_lt 4 liberties || ((wide == 0) && nat_lt (most_narrow tree) liberties)) }
-{
-    liberties > 4 || (wide == 0 && liberties > most_narrow(tree))
-}
-
 /// Whether it is the attacker's turn, and the target has more liberties than he may play at.
-fn is_barred<L: Look>(board: &mut Trial<L>, node: Node) -> bool
+pub fn is_barred<L: Look>(board: &mut Trial<L>, node: Node) -> bool
     requires target { IsPointOf L.shows board.old node.turn.target }
     ensures stays { Stays L.shows L.seen board.old board.new }
     ensures over { OnEachAgreeing L.seen board.old board.new (λ here. result ≡ is_barred node here) }
@@ -124,11 +115,8 @@ fn is_barred<L: Look>(board: &mut Trial<L>, node: Node) -> bool
     if !node.turn.attacker_to_play {
         return false;
     }
-    has_many(
-        node.turn.tree,
-        board.liberties(node.turn.target).count(),
-        node.turn.wide,
-    )
+    node.turn
+        .has_many(board.liberties(node.turn.target).count())
 }
 
 /// Whether the attacker's play at p, or the defender's, can be made and gives him his way, with `plies` plies left.

@@ -73,7 +73,7 @@ fn can_fill<L: Look>(board: &mut Trial<L>, turn: Turn, liberties: &PointSet) -> 
 }
 
 /// Whether it is the attacker's turn and he may take the target by its only liberty, for good.
-fn can_take<L: Look>(board: &mut Trial<L>, turn: Turn, liberties: &PointSet) -> bool
+pub fn can_take<L: Look>(board: &mut Trial<L>, turn: Turn, liberties: &PointSet) -> bool
     requires target { turn.target < (L.shows board.old.look).size * (L.shows board.old.look).size }
     requires liberties { liberties.now ≡ liberty_points (L.shows board.old.look).size
         (after (L.shows board.old.look) board.old.moves).cells turn.target }

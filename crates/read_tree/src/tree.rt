@@ -209,8 +209,8 @@ fn some_of<L: Look>(
     asked.without(missing)
 }
 
-/// Of `asked`, the allowances under which a later candidate, neither a liberty of the target nor a capture, gives the side
-/// to play its way, with `plies` plies left after it. No later candidate saves a target in atari.
+/// Of `asked`, the allowances under which a later candidate, neither a liberty of the target nor a capture, gives the
+/// side to play its way, with `plies` plies left after it. No later candidate saves a target in atari.
 #[cycle(read)]
 fn some_later<L: Look>(
     board: &mut Trial<L>,
@@ -239,9 +239,9 @@ fn some_later<L: Look>(
     some_of(board, turn, plies, asked, &others, known, memory)
 }
 
-/// Of `asked`, the allowances under which a candidate off the liberties of the target gives the side to play its way, with
-/// `plies` plies left after it: none if such an attacker's play leaves too many liberties. The captures are tried first;
-/// the later candidates are found only if these leave something.
+/// Of `asked`, the allowances under which a candidate off the liberties of the target gives the side to play its way,
+/// with `plies` plies left after it: none if such an attacker's play leaves too many liberties. The captures are tried
+/// first; the later candidates are found only if these leave something.
 #[cycle(read)]
 fn some_other<L: Look>(
     board: &mut Trial<L>,
@@ -371,9 +371,9 @@ pub fn pass_saves<L: Look>(
     good
 }
 
-/// Of `asked`, the allowances under which a capture or a play at a liberty of the target gives the side to play its way,
-/// with `plies` plies left after it. The captures are tried first: most captures of the defender save the target, and only
-/// a third of his plays at its liberties do.
+/// Of `asked`, the allowances under which a capture or a play at a liberty of the target gives the side to play its
+/// way, with `plies` plies left after it. The captures are tried first: most captures of the defender save the target,
+/// and only a third of his plays at its liberties do.
 #[cycle(read)]
 fn some_capture_or_liberty<L: Look>(
     board: &mut Trial<L>,
@@ -403,9 +403,10 @@ fn some_capture_or_liberty<L: Look>(
 
 /// Of `asked`, the allowances under which the defender has his way, with `plies` plies left after his move.
 ///
-/// He tries the captures, the liberties of the target, the pass, and the later candidates, in this order. If the target can
-/// be saved, a capture or a liberty mostly does it. To read the pass is to read all of the attacker's candidates, so it
-/// comes after them. The later candidates are dear to find, and few of them save the target. The order changes no answer.
+/// He tries the captures, the liberties of the target, the pass, and the later candidates, in this order. If the target
+/// can be saved, a capture or a liberty mostly does it. To read the pass is to read all of the attacker's candidates,
+/// so it comes after them. The later candidates are dear to find, and few of them save the target. The order changes no
+/// answer.
 #[cycle(read)]
 fn defender_has_good_move<L: Look>(
     board: &mut Trial<L>,

@@ -5,3 +5,4 @@ pub mod TreeLemmas
 pub mod UnreadLemmas
 pub mod AnswerLemmas
 pub mod TakingLemmas
+pub mod BackLemmas

@@ -20,6 +20,7 @@ use Rattle.sure_rules.specs.SureTree.{surely_wins}
 use Rattle.sure_rules.specs.SureInWords.{EveryReplyFails}
 use Rattle.sure_rules.specs.Zones.{points_of, WhereverAgrees, IsZone}
 use Rattle.sure_rules.proofs.SureLemmas.{sure-captured, sure_attacker_gives, sure_attacker_from, sure_defender_gives}
+use Rattle.sure_rules.proofs.SureLemmas.{none_at_attackers}
 use Rattle.sure_rules.proofs.ZoneLemmas.{zone_defender}
 use Rattle.read_zones.specs.Alike.{AreAlikeChildren, AreCandidates, IsGuarded}
 
@@ -106,7 +107,7 @@ pub attacker_has : (n : ℕ) (node : Node) (pos : BoardState) (points Y W Z : �
     → ((q : ℕ) → Y q ≡ true → Z q ≡ true) → ((q : ℕ) → W q ≡ true → Z q ≡ true) → IsZone (n + 1) node pos Z
 attacker_has n node pos points Y W Z p turn inside shown captures y_in w_in = λ here sound same.
     ap (λ m. surely_wins m node here) (add-one n) ∙ elim (cases_Bool (is_gone node here)) [
-      | inl gone ↦ sure-captured (suc n) node here gone
+      | inl gone ↦ sure-captured (suc n) node here gone (none_at_attackers node here turn)
       | inr stands ↦
           let few = shown here sound (agree_less y_in same) in
           let w = some_there n (child_of node here p) (captures here sound (agree_less w_in same)) in

@@ -1,56 +1,21 @@
 //! What is looked at to show a play, the attacker's candidates, or that no reply but those that are read captures.
 
-ghost use Rattle.std.specs.Prelude.{◌≡◌, ℕ, ◌+◌, ◌*◌, ◌<◌, ◌≤◌, ◌&&◌, ◌||◌, ◌==◌, nat_lt, true, length, []};
+ghost use Rattle.std.specs.Prelude.{◌≡◌, ℕ, ◌+◌, ◌*◌, ◌<◌, ◌≤◌, ◌==◌, true, length, []};
 ghost use Rattle.std.specs.FinSet as set;
 ghost use Rattle.go_rules.specs.Position.{BoardState};
 ghost use Rattle.go_base.specs.Facts.{Agrees, Grows};
 ghost use Rattle.trial_board.specs.Trials.{Stays, most_moves, after};
 ghost use Rattle.read_rules.specs.Candidates.{is_candidate};
 ghost use Rattle.read_rules.specs.GameTree.{child_of};
-ghost use Rattle.read_rules.specs.GoodMoves.{is_barred};
-ghost use Rattle.read_rules.specs.Trees.{most_narrow};
 ghost use Rattle.read_tree.specs.Walk.{IsPointOf, OnEachAgreeing};
 ghost use Rattle.go_base.specs.Views.{alone};
 ghost use Rattle.go_rules.specs.Board.{largest_points};
 ghost use Rattle.read_zones.specs.Alike.{AreAlike, AreAlikeChildren, IsGuarded};
 
 use go_base::{Cell, Colour, Look, Point, PointSet};
-use read_rules::{Node, Tree};
+use read_rules::Node;
 use read_tree::nodes::make_at;
 use trial_board::Trial;
-
-/// How many liberties a target may have, if no wide ply is left, that the attacker still plays at.
-fn most_narrow(tree: Tree) -> u16
-    ensures { result ≡ most_narrow tree }
-{
-    match tree {
-        Tree::Stated => 2,
-        Tree::Wider => 4,
-    }
-}
-
-/// Whether so many liberties are more than the attacker may play at in the tree.
-fn has_many(tree: Tree, liberties: u16, wide: u8) -> bool
-    ensures { result ≡ (nat_lt 4 liberties || ((wide == 0) && nat_lt (most_narrow tree) liberties)) }
-{
-    liberties > 4 || (wide == 0 && liberties > most_narrow(tree))
-}
-
-/// Whether it is the attacker's turn, and the target has more liberties than he may play at.
-pub fn is_barred<L: Look>(board: &mut Trial<L>, node: Node) -> bool
-    requires target { IsPointOf L.shows board.old node.turn.target }
-    ensures stays { Stays L.shows L.seen board.old board.new }
-    ensures over { OnEachAgreeing L.seen board.old board.new (λ here. result ≡ is_barred node here) }
-{
-    if !node.turn.attacker_to_play {
-        return false;
-    }
-    has_many(
-        node.turn.tree,
-        board.liberties(node.turn.target).count(),
-        node.turn.wide,
-    )
-}
 
 /// The liberties of the target, which are the first candidates of either side.
 pub fn liberties_to_try<L: Look>(board: &mut Trial<L>, node: Node) -> PointSet

@@ -8,17 +8,19 @@ ghost use Rattle.go_base.specs.AmongFacts.{told};
 ghost use Rattle.go_base.specs.Watches.{shown_by, facts_of};
 ghost use Rattle.read_rules.specs.ActiveArea.{AgreeOn};
 ghost use Rattle.read_rules.specs.Candidates.{is_candidate};
-ghost use Rattle.read_rules.specs.GameTree.{child_of};
+ghost use Rattle.read_rules.specs.GameTree.{child_of, has_lost_one_stone};
 ghost use Rattle.read_tree.specs.Steps.{IsTaken};
-ghost use Rattle.sure_rules.specs.Nodes.{is_attackers, has_too_many};
+ghost use Rattle.sure_rules.specs.Nodes.{is_attackers, is_gone, has_too_many};
 ghost use Rattle.sure_rules.specs.Zones.{points_of, WhereverAgrees};
 ghost use Rattle.read_zones.specs.Alike.{AreAlikeChildren, AreCandidates, IsGuarded};
 
-use crate::looks::{is_barred, liberties_to_try, look_at_play, replies_to_read};
+use crate::looks::{liberties_to_try, look_at_play, replies_to_read};
 use crate::taking::takes;
 use go_base::{Point, PointSet, Position, Watch};
 use read_moves::candidates;
 use read_rules::Node;
+use read_sure::taking_back::has_lost_one_stone;
+use read_tree::nodes::is_barred;
 use trial_board::Trial;
 
 /// Points that a look told, and the points on which they rest.
@@ -27,6 +29,16 @@ pub struct Shown {
     /// The points.
     pub points: PointSet,
     /// On every position that agrees here they are the same.
+    pub zone: PointSet,
+}
+
+/// Whether a lone stone was just taken where the target stood, which may be taken back, and the points on which that
+/// rests.
+#[derive(Drop)]
+pub struct Loss {
+    /// Whether it was a lone stone.
+    pub is_lone: bool,
+    /// On every position that agrees here the target's point is empty, and it is the same.
     pub zone: PointSet,
 }
 
@@ -85,6 +97,25 @@ pub fn taking_shown(position: &Position, node: Node) -> Option<PointSet>
     }
     let _look = board.finish();
     None
+}
+
+/// Whether the defender has just lost a lone stone at the target's point, which is empty.
+pub fn loss_shown(position: &Position, node: Node) -> Loss
+    requires target { node.turn.target < position.now.size * position.now.size }
+    requires gone { is_gone node position.now ≡ true }
+    ensures turn { result.is_lone ≡ true → is_attackers node ≡ false }
+    ensures shown { WhereverAgrees position.now (set.contains result.zone) (λ here.
+        (is_gone node here ≡ true) × (has_lost_one_stone node here ≡ result.is_lone)) }
+    ensures on_board { (q : ℕ) → set.contains result.zone q ≡ true → q < position.now.size * position.now.size }
+{
+    let mut board = Trial::new(Watch::new(position));
+    // That it is captured rests on the target's point first of all.
+    let _gone = board.cell(node.turn.target);
+    let is_lone = has_lost_one_stone(&mut board, node);
+    Loss {
+        is_lone,
+        zone: points_seen(board),
+    }
 }
 
 /// The liberties of the target, which are the attacker's first candidates; none if they are too many for him.

@@ -3,16 +3,15 @@
 ghost use Rattle.std.specs.Prelude.{◌≡◌, ℕ, ◌+◌, ◌*◌, ◌<◌, ◌&&◌, true, false, MatchOption, IsTrue, IfSome};
 ghost use Rattle.std.specs.FinSet as set;
 ghost use Rattle.go_rules.specs.Position.{BoardState};
-ghost use Rattle.read_rules.specs.GameTree.{child_of, some_child, each_child};
+ghost use Rattle.read_rules.specs.GameTree.{child_of, can_play, some_child, each_child, has_lost_one_stone};
 ghost use Rattle.sure_rules.specs.Nodes.{is_attackers, is_gone};
 ghost use Rattle.sure_rules.specs.SureTree.{surely_wins};
 ghost use Rattle.sure_rules.specs.Zones.{IsZone, WhereverAgrees};
 ghost use Rattle.read_zones.specs.Alike.{AreCandidates};
 
-use crate::looks::one_point;
 use crate::outlook::is_lost;
 use crate::seen::{
-    Shown, candidates_shown, liberties_shown, play_shown, replies_shown, taking_shown,
+    Shown, candidates_shown, liberties_shown, loss_shown, play_shown, replies_shown, taking_shown,
 };
 use go_base::{Cell, Point, PointSet, Position};
 use read_proof::children::{child_of, passed};
@@ -137,6 +136,59 @@ fn defender_zone(position: &Position, node: Node, plies: u8) -> Option<PointSet>
     Some(zone)
 }
 
+/// The zone that shows that the mover cannot play at p; none if he can.
+fn refused_zone(position: &Position, node: Node, p: Point) -> Option<PointSet>
+    requires target { node.turn.target < position.now.size * position.now.size }
+    requires on_board { p < position.now.size * position.now.size }
+    ensures zone { MatchOption result (can_play node position.now p ≡ true)
+        (λ zone. WhereverAgrees position.now (set.contains zone) (λ here. can_play node here p ≡ false)) }
+    ensures on_board { IfSome result (λ zone. (q : ℕ) → set.contains zone q ≡ true
+        → q < position.now.size * position.now.size) }
+{
+    match child_of(position, node, p) {
+        Some(_child) => None,
+        None => Some(play_shown(position, node, p, &PointSet::new())),
+    }
+}
+
+/// The zone that shows that a lone stone that was just taken is surely captured, with `plies` plies left: the defender
+/// cannot take back, or a ply is left for it and the target is surely captured after it; none if that is not so.
+#[cycle(zones)]
+fn back_zone(position: &Position, node: Node, plies: u8) -> Option<PointSet>
+    requires target { node.turn.target < position.now.size * position.now.size }
+    requires lost { has_lost_one_stone node position.now ≡ true }
+    ensures zone { MatchOption result (surely_wins plies node position.now ≡ false)
+        (λ zone. WhereverAgrees position.now (set.contains zone) (λ here. has_lost_one_stone node here ≡ true
+        → surely_wins plies node here ≡ true)) }
+    ensures on_board { IfSome result (λ zone. (q : ℕ) → set.contains zone q ≡ true
+        → q < position.now.size * position.now.size) }
+{
+    if plies == 0 {
+        return refused_zone(position, node, node.turn.target);
+    }
+    reply_zone(position, node, node.turn.target, plies - 1)
+}
+
+/// The zone of a target whose point is empty, with `plies` plies left.
+#[cycle(zones)]
+fn taken_zone(position: &Position, node: Node, plies: u8) -> Option<PointSet>
+    requires target { node.turn.target < position.now.size * position.now.size }
+    requires gone { is_gone node position.now ≡ true }
+    ensures zone { MatchOption result (surely_wins plies node position.now ≡ false)
+        (λ zone. IsZone plies node position.now (set.contains zone)) }
+    ensures on_board { IfSome result (λ zone. (q : ℕ) → set.contains zone q ≡ true
+        → q < position.now.size * position.now.size) }
+{
+    let _ = position.size();
+    let loss = loss_shown(position, node);
+    if !loss.is_lone {
+        return Some(loss.zone);
+    }
+    let mut zone = back_zone(position, node, plies)?;
+    zone.join(&loss.zone);
+    Some(zone)
+}
+
 /// The points on which it rests that the target is surely captured at the node, with `plies` plies left; none exactly if
 /// it is not. On every position that agrees on them it is surely captured too.
 #[cycle(zones)]
@@ -149,7 +201,7 @@ pub fn zone_of(position: &Position, node: Node, plies: u8) -> Option<PointSet>
 {
     let _ = position.size().points();
     if position.cell(node.turn.target) == Cell::Empty {
-        return Some(one_point(node.turn.target));
+        return taken_zone(position, node, plies);
     }
     if plies == 0 {
         return None;

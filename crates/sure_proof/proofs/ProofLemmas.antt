@@ -26,29 +26,31 @@ use Rattle.read_rules.specs.Candidates.{is_candidate, is_empty_beside, IsCandida
 use Rattle.read_rules.specs.declared.node.Node.{Node}
 use Rattle.read_rules.specs.declared.turn.Turn.{Turn}
 use Rattle.read_rules.specs.declared.question.Spot.TheVariants.{At}
-use Rattle.read_rules.specs.GameTree.{has_many_liberties, child_of, next_node, allowance_of}
+use Rattle.read_rules.specs.GameTree.{has_many_liberties, child_of, next_node, allowance_of, taking_back}
 use Rattle.read_rules.specs.Turns.{mover_of}
 use Rattle.read_rules.specs.Rules.{IsChild}
 use Rattle.read_rules.proofs.CandidateLaws.{candidate_from, candidate_on}
 use Rattle.read_rules.proofs.LibertyLemmas.{child_free}
-use Rattle.read_rules.proofs.RuleLemmas.{child_gives, child_from}
+use Rattle.read_rules.proofs.RuleLemmas.{child_gives, child_from, takes_back_gives}
 use Rattle.read_proof.specs.Tokens.{Word}
 use Rattle.read_proof.specs.Proves.{child_after}
 use Rattle.read_proof.proofs.SoundLemmas.{played_on_board}
 use Rattle.vertices.specs.Vertices.{target_of as target_named}
-use Rattle.sure_rules.specs.Nodes.{is_attackers, is_gone, has_too_many, target_of}
+use Rattle.sure_rules.specs.Nodes.{is_attackers, is_gone, is_taken_for_good, has_too_many, target_of}
 use Rattle.sure_rules.specs.SureTree.{surely_wins}
 use Rattle.sure_rules.specs.Zones.{points_of, IsZone}
-use Rattle.sure_rules.proofs.ZoneLemmas.{zone_captured, zone_attacker, zone_defender}
-use Rattle.sure_proof.specs.Rests.{Points, union_below, first_two, close_to, shows_atari, play_rests_on}
+use Rattle.sure_rules.proofs.ZoneLemmas.{zone_taken_back, zone_attacker, zone_defender}
+use Rattle.sure_proof.specs.Rests.{Points, union_below, first_two, close_to, shows_atari, play_rests_on, loss_rests_on}
 use Rattle.sure_proof.specs.Rests.{candidate_rests_on, all_points, guard_at, guard_of, asked_at, asked_of, last_of}
-use Rattle.sure_proof.specs.SureProofs.{Proved, Prover, with_points, behind_word, behind_vertex, by_capture, by_child}
+use Rattle.sure_proof.specs.SureProofs.{Proved, Prover, proved_by, with_points, behind_word, behind_vertex, is_to, by_capture, by_back}
+use Rattle.sure_proof.specs.SureProofs.{by_child}
 use Rattle.sure_proof.specs.SureProofs.{by_move, at_reply, at_replies, replies_to, at_end, behind_pass, by_replies, by_turn}
 use Rattle.sure_proof.specs.SureProofs.{proves_surely}
 use Rattle.sure_proof.proofs.ShownLemmas.{insert_self, insert_more, union_first, union_second, union_all, below_in}
 use Rattle.sure_proof.proofs.ShownLemmas.{IsShown, has_two, all_same, SameOn, shown, first_two_give, liberty_in}
 use Rattle.sure_proof.proofs.PlayLemmas.{state}
 use Rattle.sure_proof.proofs.SoundLemmas.{has, IsWithin, on_board, zone_on_board, child_there, child_here, stone_of_cell}
+use Rattle.sure_proof.proofs.LossLemmas.{loss_point, loss_zone, play_within}
 use Rattle.sure_proof.proofs.SoundLemmas.{liberties_same, count_same, many_same, candidate_without_ban}
 
 -- positions that agree on all points have the same cells
@@ -224,6 +226,24 @@ module _ (n : ℕ) (node : Node) (pos : BoardState) (p : ℕ) (Z : Points) (good
       let first_sound = free_keeps pos (mover_of node.turn) p first good p_on (child_free node pos p after first mine).1 in
       subst (λ (v : Node × BoardState). surely_wins n v.0 v.1 ≡ true) pair
       (zone_on_board n after first W first_sound zone w.0 second_sound w.2)
+
+-- The play that takes back, on points among which are those that show it and a zone of its child.
+module _ (n : ℕ) (node : Node) (pos : BoardState) (good : IsPosition pos) (on : node.turn.target < pos.size * pos.size)
+    (child : Node × BoardState) (is : taking_back node pos ≡ Some child) (W Z : Points)
+    (zone : IsZone n child.0 child.1 (has W)) (rests : IsWithin (loss_rests_on node pos) Z) (within : IsWithin W Z) where
+  -- these points are a zone
+  back_zone : IsZone (suc n) node pos (has Z)
+  back_zone =
+      let back = takes_back_gives node pos child.0 child.1 is in
+      zone_taken_back n node pos (has Z) (same_cell-from (cell_at pos.cells (target_of node)) Empty back.lost.taken)
+      (record {
+        point = rests (target_of node) (loss_point node pos);
+        fails = λ here sound same next made there.
+            fails_made n node pos (target_of node) Z good on
+            (play_within node pos good on Z rests here sound same next made there) child.0 child.1 W
+            (child_from node pos (target_of node) child.0 child.1 back.child) zone within here sound same next made
+            there.child;
+      })
 
 -- what an optional value that was mapped came of
 mapped : (M : Points) (o : Option Proved) (found : Proved) → option_map (with_points M) o ≡ Some found
@@ -430,18 +450,14 @@ module _ (n : ℕ) (node : Node) (pos : BoardState) (P Z : Points) (good : IsPos
       })
 
 -- `.` shows a zone
-capture_shows : (node : Node) (pos : BoardState) (m : ℕ) (rest : List Word) (found : Proved) → by_capture node pos rest ≡ Some found
-    → IsZone m node pos (has found.zone)
-capture_shows node pos m rest found e = elim (cases_Bool (is_gone node pos)) [
+capture_shows : (node : Node) (pos : BoardState) (m : ℕ) (rest : List Word) (found : Proved) → IsPosition pos
+    → node.turn.target < pos.size * pos.size → by_capture node pos rest ≡ Some found → IsZone m node pos (has found.zone)
+capture_shows node pos m rest found good on e = elim (cases_Bool (is_taken_for_good node pos)) [
   | inl t ↦
-      let is : record { rest = rest; zone = sets.insert sets.empty (target_of node) } ≡ found =
-      (let w = sym (ap (λ v. cond v (Some (record { rest = rest; zone = sets.insert sets.empty (target_of node) })) None)
-      t) ∙ e in cc) in
-      zone_captured m node pos (has found.zone) t
-      (ap (λ (v : Proved). has v.zone (target_of node)) (sym is) ∙ insert_self (target_of node) sets.empty)
-  | inr f ↦ absurd (
-      let wrong = sym (ap (λ v. cond v (Some (record { rest = rest; zone = sets.insert sets.empty (target_of node) })) None)
-      f) ∙ e in cc)
+      let is : proved_by rest (loss_rests_on node pos) ≡ found =
+      (let w = sym (ap (λ v. cond v (Some (proved_by rest (loss_rests_on node pos))) None) t) ∙ e in cc) in
+      subst (λ (v : Proved). IsZone m node pos (has v.zone)) is (loss_zone node pos m good on t)
+  | inr f ↦ absurd (let wrong = sym (ap (λ v. cond v (Some (proved_by rest (loss_rests_on node pos))) None) f) ∙ e in cc)
 ]
 
 -- What each kind of proof shows, by a prover that is sound.
@@ -504,6 +520,29 @@ module _ (n : ℕ) (prove : Prover) (sound : IsSound n prove) (node : Node) (pos
           let is : record { rest = left; zone = before.zone } ≡ after = (let w = e in cc) in
           ap (λ (v : Proved). v.zone) is
 
+  -- the vertex of a target that is taken back
+  back_shows : (word : Word) (rest : List Word) (found : Proved) (o : Option (Node × BoardState)) → taking_back node pos ≡ o
+      → by_back prove node pos word o rest ≡ Some found → IsZone (suc n) node pos (has found.zone)
+  back_shows word rest found None is e = absurd (let wrong = e in cc)
+  back_shows word rest found (Some child) is e = by (is_to (target_named pos.size word) (target_of node)) e
+    where
+      by : (named : Bool)
+          → cond named (option_map (with_points (loss_rests_on node pos)) (prove child.0 child.1 rest)) None ≡ Some found
+          → IsZone (suc n) node pos (has found.zone)
+      by false e = absurd (let wrong = e in cc)
+      by true e =
+          let M : Points = loss_rests_on node pos in
+          let inner = mapped M (prove child.0 child.1 rest) found e in
+          let back = takes_back_gives node pos child.0 child.1 is in
+          let led = child_from node pos (target_of node) child.0 child.1 back.child in
+          let child_sound = free_keeps pos (mover_of node.turn) (target_of node) child.1 good on
+          (child_free node pos (target_of node) child.0 child.1 back.child).1 in
+          let zone = sound child.0 child.1 rest inner.0 child_sound
+          (played_on_board node pos (target_of node) child on led) inner.1 in
+          subst (λ (S : Points). IsZone (suc n) node pos (has S)) inner.2
+          (back_zone n node pos good on child is inner.0.zone (sets.union M inner.0.zone) zone
+          (λ q inside. union_first q M inner.0.zone inside) (λ q inside. union_second q M inner.0.zone inside))
+
   -- what follows by the turn
   turn_shows : (word : Word) (rest : List Word) (found : Proved) → by_turn prove node pos word rest ≡ Some found
       → IsZone (suc n) node pos (has found.zone)
@@ -511,11 +550,13 @@ module _ (n : ℕ) (prove : Prover) (sound : IsSound n prove) (node : Node) (pos
     | inl turn ↦ attackers turn (is_gone node pos || has_too_many node pos) refl
         (sym (ap (λ v. cond v (cond (is_gone node pos || has_too_many node pos) None
         (by_move prove node pos (target_named pos.size word) rest))
-        (cond (bytes_eq word (codes "*")) (by_replies prove node pos rest) None)) turn) ∙ e)
+        (cond (bytes_eq word (codes "*")) (by_replies prove node pos rest)
+        (by_back prove node pos word (taking_back node pos) rest))) turn) ∙ e)
     | inr turn ↦ defenders turn (bytes_eq word (codes "*"))
         (sym (ap (λ v. cond v (cond (is_gone node pos || has_too_many node pos) None
         (by_move prove node pos (target_named pos.size word) rest))
-        (cond (bytes_eq word (codes "*")) (by_replies prove node pos rest) None)) turn) ∙ e)
+        (cond (bytes_eq word (codes "*")) (by_replies prove node pos rest)
+        (by_back prove node pos word (taking_back node pos) rest))) turn) ∙ e)
   ]
     where
       attackers : is_attackers node ≡ true → (barred : Bool) → (is_gone node pos || has_too_many node pos) ≡ barred
@@ -527,9 +568,11 @@ module _ (n : ℕ) (prove : Prover) (sound : IsSound n prove) (node : Node) (pos
           move_shows turn parts.0 parts.1 (target_named pos.size word) rest found h
 
       defenders : is_attackers node ≡ false → (every : Bool)
-          → cond every (by_replies prove node pos rest) None ≡ Some found → IsZone (suc n) node pos (has found.zone)
+          → cond every (by_replies prove node pos rest) (by_back prove node pos word (taking_back node pos) rest)
+          ≡ Some found
+          → IsZone (suc n) node pos (has found.zone)
       defenders turn true h = replies_show turn rest found h
-      defenders turn false h = absurd (let wrong = h in cc)
+      defenders turn false h = back_shows word rest found (taking_back node pos) refl h
 
 -- a proof with n plies left shows a zone
 pub proof_shows : (n : ℕ) → IsSound n (proves_surely n)
@@ -537,12 +580,12 @@ unfolding proves_surely
 proof_shows zero node pos [] found good on e = absurd (let wrong = e in cc)
 proof_shows (suc n) node pos [] found good on e = absurd (let wrong = e in cc)
 proof_shows zero node pos (word ∷ rest) found good on e = elim (cases_Bool (bytes_eq word (codes "."))) [
-  | inl t ↦ capture_shows node pos zero rest found
+  | inl t ↦ capture_shows node pos zero rest found good on
       (sym (ap (λ v. cond v (by_capture node pos rest) None) t) ∙ e)
   | inr f ↦ absurd (let wrong = sym (ap (λ v. cond v (by_capture node pos rest) None) f) ∙ e in cc)
 ]
 proof_shows (suc n) node pos (word ∷ rest) found good on e = elim (cases_Bool (bytes_eq word (codes "."))) [
-  | inl t ↦ capture_shows node pos (suc n) rest found
+  | inl t ↦ capture_shows node pos (suc n) rest found good on
       (sym (ap (λ v. cond v (by_capture node pos rest) (by_turn (proves_surely n) node pos word rest)) t) ∙ e)
   | inr f ↦ turn_shows n (proves_surely n) (proof_shows n) node pos good on word rest found
       (sym (ap (λ v. cond v (by_capture node pos rest) (by_turn (proves_surely n) node pos word rest)) f) ∙ e)

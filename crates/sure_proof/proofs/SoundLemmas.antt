@@ -110,12 +110,12 @@ bare pos s e good = subst (λ t. IsPosition (board_of t pos.cells)) e (record {
 })
 
 -- q is among what shows whether its string is in atari
-shows_self : (s : ℕ) (cells : List Cell) (q : ℕ) → has (shows_atari s cells q) q ≡ true
+pub shows_self : (s : ℕ) (cells : List Cell) (q : ℕ) → has (shows_atari s cells q) q ≡ true
 unfolding shows_atari
 shows_self s cells q = insert_self q _
 
 -- what shows whether a neighbour is in atari is among what the play rests on
-play_beside : (s : ℕ) (cells : List Cell) (p q x : ℕ) → p < s * s → q < s * s → are_neighbours s p q ≡ true
+pub play_beside : (s : ℕ) (cells : List Cell) (p q x : ℕ) → p < s * s → q < s * s → are_neighbours s p q ≡ true
     → has (shows_atari s cells q) x ≡ true → has (play_rests_on s cells p) x ≡ true
 unfolding play_rests_on
 play_beside s cells p q x on q_on near inside =
@@ -125,7 +125,7 @@ play_beside s cells p q x on q_on near inside =
     (subst (λ o. has (shows_neighbour s cells o) x ≡ true) (sym side.2) inside))
 
 -- and so is its point
-play_self : (s : ℕ) (cells : List Cell) (p : ℕ) → has (play_rests_on s cells p) p ≡ true
+pub play_self : (s : ℕ) (cells : List Cell) (p : ℕ) → has (play_rests_on s cells p) p ≡ true
 unfolding play_rests_on
 play_self s cells p = insert_self p _
 

@@ -10,18 +10,18 @@ use Rattle.read_rules.specs.declared.node.Node.{Node}
 use Rattle.read_rules.specs.GameTree.{child_of}
 use Rattle.read_proof.specs.Tokens.{Word}
 use Rattle.read_proof.proofs.ChildLemmas.{walk_next}
-use Rattle.read_rules.specs.GameTree.{next_node, allowance_of}
+use Rattle.read_rules.specs.GameTree.{next_node, allowance_of, taking_back}
 use Rattle.read_rules.specs.Turns.{mover_of}
 use Rattle.go_rules.specs.Play.{pass}
 use Rattle.go_rules.specs.Position.{other}
 use Rattle.vertices.specs.Vertices.{target_of as target_named}
-use Rattle.sure_rules.specs.Nodes.{is_attackers, is_gone, has_too_many}
+use Rattle.sure_rules.specs.Nodes.{is_attackers, is_gone, has_too_many, target_of}
 use Rattle.std.specs.Option.{option_map}
 use Rattle.std.specs.FinSet as sets
 use Rattle.std.proofs.Common.{◌||◌}
-use Rattle.sure_proof.specs.Rests.{Points, candidate_rests_on, play_rests_on, guard_of, asked_of}
+use Rattle.sure_proof.specs.Rests.{Points, candidate_rests_on, play_rests_on, loss_rests_on, guard_of, asked_of}
 use Rattle.sure_proof.specs.SureProofs.{Proved, Prover, proved_by, points_in, with_points, behind_word, behind_vertex}
-use Rattle.sure_proof.specs.SureProofs.{by_capture, by_child, by_move, by_replies, by_turn, behind_pass, at_end}
+use Rattle.sure_proof.specs.SureProofs.{is_to, by_capture, by_back, by_child, by_move, by_replies, by_turn, behind_pass, at_end}
 use Rattle.sure_proof.specs.SureProofs.{at_reply, at_replies, proves_surely}
 
 -- A node, and the words at it.
@@ -126,6 +126,41 @@ module _ (prove : Prover) (node : Node) (pos : BoardState) (p : ℕ) (o : Option
         ∙ ap (option_map (with_points (sets.union (candidate_rests_on node.turn pos p)
         (play_rests_on pos.size pos.cells p)))) e
 
+-- The proof of the node after the play that takes back.
+module _ (prove : Prover) (node : Node) (pos : BoardState) (word : Word) (o : Option (Node × BoardState))
+    (words : List Word) where
+  -- if the defender cannot take back there is none
+  pub back_refused : o ≡ None → by_back prove node pos word o words ≡ None
+  back_refused e = ap (λ v. by_back prove node pos word v words) e
+
+  module _ (child : Node × BoardState) (is : o ≡ Some child) where
+    -- what follows the word if it is the vertex
+    named : by_back prove node pos word o words
+        ≡ cond (is_to (target_named pos.size word) (target_of node))
+        (option_map (with_points (loss_rests_on node pos)) (prove child.0 child.1 words)) None
+    named = ap (λ v. by_back prove node pos word v words) is
+
+    -- another word than the vertex of the target's point proves nothing
+    pub back_unnamed : is_to (target_named pos.size word) (target_of node) ≡ false
+        → by_back prove node pos word o words ≡ None
+    back_unnamed f = named ∙ ap (λ b. cond b
+        (option_map (with_points (loss_rests_on node pos)) (prove child.0 child.1 words)) None) f
+
+    -- nor does the vertex behind which no proof comes
+    pub back_fails : is_to (target_named pos.size word) (target_of node) ≡ true
+        → prove child.0 child.1 words ≡ None → by_back prove node pos word o words ≡ None
+    back_fails t e = named
+        ∙ ap (λ b. cond b (option_map (with_points (loss_rests_on node pos)) (prove child.0 child.1 words)) None) t
+        ∙ ap (option_map (with_points (loss_rests_on node pos))) e
+
+    -- with a proof behind it, it rests on its points and on those of that proof
+    pub back_holds : is_to (target_named pos.size word) (target_of node) ≡ true → (rest : List Word) (zone : Points)
+        → prove child.0 child.1 words ≡ Some (proved_by rest zone)
+        → by_back prove node pos word o words ≡ Some (proved_by rest (sets.union (loss_rests_on node pos) zone))
+    back_holds t rest zone e = named
+        ∙ ap (λ b. cond b (option_map (with_points (loss_rests_on node pos)) (prove child.0 child.1 words)) None) t
+        ∙ ap (option_map (with_points (loss_rests_on node pos))) e
+
 -- The proof of the node after a reply.
 module _ (prove : Prover) (pos : BoardState) (p : ℕ) (o : Option (Node × BoardState)) (words : List Word)
     (Z : Points) where
@@ -206,15 +241,16 @@ module _ (prove : Prover) (node : Node) (pos : BoardState) (word : Word) (rest :
       → (is_gone node pos || has_too_many node pos) ≡ barred → bytes_eq word (codes "*") ≡ every
       → by_turn prove node pos word rest ≡ cond turn
       (cond barred None (by_move prove node pos (target_named pos.size word) rest))
-      (cond every (by_replies prove node pos rest) None)
+      (cond every (by_replies prove node pos rest) (by_back prove node pos word (taking_back node pos) rest))
   by_three turn barred every a b c =
+      let back = by_back prove node pos word (taking_back node pos) rest in
       ap (λ v. cond v (cond (is_gone node pos || has_too_many node pos) None
       (by_move prove node pos (target_named pos.size word) rest))
-      (cond (bytes_eq word (codes "*")) (by_replies prove node pos rest) None)) a
+      (cond (bytes_eq word (codes "*")) (by_replies prove node pos rest) back)) a
       ∙ ap (λ v. cond turn (cond v None (by_move prove node pos (target_named pos.size word) rest))
-      (cond (bytes_eq word (codes "*")) (by_replies prove node pos rest) None)) b
+      (cond (bytes_eq word (codes "*")) (by_replies prove node pos rest) back)) b
       ∙ ap (λ v. cond turn (cond barred None (by_move prove node pos (target_named pos.size word) rest))
-      (cond v (by_replies prove node pos rest) None)) c
+      (cond v (by_replies prove node pos rest) back)) c
 
   -- an attacker that is barred proves nothing
   pub turn_barred : is_attackers node ≡ true → (is_gone node pos || has_too_many node pos) ≡ true
@@ -226,10 +262,10 @@ module _ (prove : Prover) (node : Node) (pos : BoardState) (word : Word) (rest :
       → by_turn prove node pos word rest ≡ by_move prove node pos (target_named pos.size word) rest
   turn_moves a b = by_three true false (bytes_eq word (codes "*")) a b refl
 
-  -- a defender without `*` proves nothing
-  pub turn_other : is_attackers node ≡ false → bytes_eq word (codes "*") ≡ false
-      → by_turn prove node pos word rest ≡ None
-  turn_other a c = by_three false (is_gone node pos || has_too_many node pos) false a refl c
+  -- a defender without `*` takes back
+  pub turn_back : is_attackers node ≡ false → bytes_eq word (codes "*") ≡ false
+      → by_turn prove node pos word rest ≡ by_back prove node pos word (taking_back node pos) rest
+  turn_back a c = by_three false (is_gone node pos || has_too_many node pos) false a refl c
 
   -- with it he passes and replies
   pub turn_replies : is_attackers node ≡ false → bytes_eq word (codes "*") ≡ true

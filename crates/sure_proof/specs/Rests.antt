@@ -1,5 +1,6 @@
 -- The points on which the parts of a sure capture rest, each found on the position before the play.
-use Rattle.std.specs.Prelude.{ℕ, zero, suc, ◌*◌, ◌&&◌, Bool, true, nat_lt, List, Option, None, Some, if◌then◌else◌}
+use Rattle.std.specs.Prelude.{ℕ, zero, suc, ◌*◌, ◌&&◌, Bool, true, false, not, nat_lt, List, Option, None, Some}
+use Rattle.std.specs.Prelude.{if◌then◌else◌}
 use Rattle.std.specs.Option.{option_map, option_and_then}
 use Rattle.std.specs.Ordering.{nat_cmp}
 use Rattle.std.specs.FinSet as set
@@ -9,11 +10,13 @@ use Rattle.go_rules.specs.declared.Colour.{Colour}
 use Rattle.go_rules.specs.Below.{first_below, set_below}
 use Rattle.go_rules.specs.Board.{largest_points}
 use Rattle.go_rules.specs.Strings.{cell_at, same_cell, is_liberty, liberties, string_at, liberty_points}
-use Rattle.go_rules.specs.Position.{BoardState, stone_of}
+use Rattle.go_rules.specs.Position.{BoardState, other, stone_of}
 use Rattle.go_base.specs.Floods.{enemy_points}
 use Rattle.go_base.specs.Sides.{neighbour_at}
 use Rattle.read_rules.specs.Candidates.{is_empty_beside}
+use Rattle.read_rules.specs.declared.node.Node.{Node}
 use Rattle.read_rules.specs.declared.turn.Turn.{Turn}
+use Rattle.read_rules.specs.Trees.{is_wider}
 
 -- a set of points
 abbrev pub Points : Type 0
@@ -54,6 +57,31 @@ shows_neighbour s cells (Some q) = shows_atari s cells q
 -- play can be made, what it captures and which ban it leaves
 unfoldable pub play_rests_on : ℕ → List Cell → ℕ → Points
 play_rests_on s cells p = set.insert (union_below 4 (λ side. shows_neighbour s cells (neighbour_at s p side))) p
+
+-- there is a neighbour, and it holds no stone of c
+abbrev pub is_open : List Cell → Colour → Option ℕ → Bool
+is_open cells c None = false
+is_open cells c (Some q) = not (same_cell (cell_at cells q) (stone_of c))
+
+-- the first neighbour of p, side by side, that holds no stone of c
+unfoldable pub open_neighbour : ℕ → List Cell → Colour → ℕ → Option ℕ
+open_neighbour s cells c p =
+    option_and_then (neighbour_at s p) (first_below 4 (λ side. is_open cells c (neighbour_at s p side)))
+
+-- what shows whether each neighbour of the empty point p holds a stone of one colour, and whether the other colour can
+-- play there: p and a neighbour that does not; if there is none, what a play at p rests on
+abbrev pub wall_rests_on : ℕ → List Cell → ℕ → Option ℕ → Points
+wall_rests_on s cells p None = play_rests_on s cells p
+wall_rests_on s cells p (Some q) = set.insert (set.insert set.empty p) q
+
+-- what shows whether the defender takes back the target that is taken, and where that leads. Its point shows that he does
+-- not if it is the attacker's turn or the stated tree
+unfoldable pub loss_rests_on : Node → BoardState → Points
+loss_rests_on node pos =
+    if is_wider node.turn.tree && not node.turn.attacker_to_play
+    then wall_rests_on pos.size pos.cells node.turn.target
+    (open_neighbour pos.size pos.cells (other node.turn.defender) node.turn.target)
+    else set.insert set.empty node.turn.target
 
 -- all points of a board of s rows
 abbrev pub all_points : ℕ → Points

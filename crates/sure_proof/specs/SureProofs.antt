@@ -10,12 +10,12 @@ use Rattle.go_rules.specs.Play.{pass}
 use Rattle.vertices.specs.Vertices.{target_of as target_named}
 use Rattle.read_rules.specs.declared.node.Node.{Node}
 use Rattle.read_rules.specs.declared.question.Spot.TheVariants.{At}
-use Rattle.read_rules.specs.GameTree.{allowance_of, next_node, child_of}
+use Rattle.read_rules.specs.GameTree.{allowance_of, next_node, child_of, taking_back}
 use Rattle.read_rules.specs.Turns.{mover_of}
 use Rattle.read_proof.specs.Tokens.{Word}
 use Rattle.read_proof.specs.Proves.{child_after}
-use Rattle.sure_rules.specs.Nodes.{is_attackers, is_gone, has_too_many, target_of}
-use Rattle.sure_proof.specs.Rests.{Points, play_rests_on, candidate_rests_on, guard_of, asked_of}
+use Rattle.sure_rules.specs.Nodes.{is_attackers, is_gone, is_taken_for_good, has_too_many, target_of}
+use Rattle.sure_proof.specs.Rests.{Points, play_rests_on, loss_rests_on, candidate_rests_on, guard_of, asked_of}
 
 -- what words proved: the words behind the proof, and the points on which it rests
 pub record Proved : Type 0 where
@@ -50,10 +50,16 @@ abbrev pub behind_vertex : ℕ → ℕ → List Word → Option (List Word)
 behind_vertex s p [] = None
 behind_vertex s p (first ∷ rest) = if is_to (target_named s first) p then Some rest else None
 
--- `.` proves that the target is captured if its point is empty, and rests on this point
+-- `.` proves that the target is captured if it is taken and cannot be taken back, and rests on what shows this
 abbrev pub by_capture : Node → BoardState → List Word → Option Proved
-by_capture node pos rest = if is_gone node pos
-    then Some (record { rest = rest; zone = set.insert set.empty (target_of node) })
+by_capture node pos rest = if is_taken_for_good node pos then Some (proved_by rest (loss_rests_on node pos)) else None
+
+-- the vertex of the target's point proves a sure capture if the defender takes back there and the proof of the child
+-- follows. It rests on what shows where this leads, and on what the proof of the child rests on
+abbrev pub by_back : Prover → Node → BoardState → Word → Option (Node × BoardState) → List Word → Option Proved
+by_back prove node pos word None rest = None
+by_back prove node pos word (Some child) rest = if is_to (target_named pos.size word) (target_of node)
+    then option_map (with_points (loss_rests_on node pos)) (prove child.0 child.1 rest)
     else None
 
 -- a vertex proves a sure capture if the attacker can play there and the proof of the child follows. It rests on what
@@ -114,14 +120,14 @@ by_replies prove node pos rest =
     option_and_then (behind_pass prove node pos) (prove (next_node node (allowance_of node)) (pass pos) rest)
 
 -- what the first word proves with plies left: a vertex at the attacker's turn, if the target stands and has not too many
--- liberties, and `*` at the defender's
+-- liberties; at the defender's turn `*`, or the vertex of the target's point if he takes back
 abbrev pub by_turn : Prover → Node → BoardState → Word → List Word → Option Proved
 by_turn prove node pos word rest =
     if is_attackers node
     then (if is_gone node pos || has_too_many node pos then None
     else by_move prove node pos (target_named pos.size word) rest)
     else if bytes_eq word (codes "*") then by_replies prove node pos rest
-    else None
+    else by_back prove node pos word (taking_back node pos) rest
 
 -- the proof, in front of these words, that with n plies left the target is surely captured at the node
 unfoldable pub proves_surely : ℕ → Prover

@@ -45,7 +45,7 @@ fn last_of(liberties: PointSet) -> PointSet
 }
 
 /// A set of one point.
-fn one_point(p: Point) -> PointSet
+pub(crate) fn one_point(p: Point) -> PointSet
     requires { p < largest_points }
     ensures { result ≡ set.insert set.empty p }
 {

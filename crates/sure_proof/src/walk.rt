@@ -3,41 +3,24 @@
 
 ghost use Rattle.std.specs.Prelude.{◌≡◌, ◌*◌, ◌<◌, ◌||◌, None, Some, MatchOption};
 ghost use Rattle.go_rules.specs.Board.{largest_points};
-ghost use Rattle.read_rules.specs.Trees.{most_narrow};
 ghost use Rattle.vertices.specs.Words.{kept};
-ghost use Rattle.read_rules.specs.GameTree.{child_of};
+ghost use Rattle.read_rules.specs.GameTree.{child_of, taking_back};
 ghost use Rattle.read_proof.specs.Tokens.{words_in};
 ghost use Rattle.read_proof.specs.Proves.{child_after};
-ghost use Rattle.sure_rules.specs.Nodes.{is_gone, has_too_many};
-ghost use Rattle.sure_proof.specs.SureProofs.{by_capture, by_child, by_move, at_reply, at_replies};
+ghost use Rattle.sure_rules.specs.Nodes.{is_gone, is_taken_for_good, has_too_many};
+ghost use Rattle.sure_proof.specs.SureProofs.{by_capture, by_back, by_child, by_move, at_reply, at_replies};
 ghost use Rattle.sure_proof.specs.SureProofs.{by_replies, by_turn, proves_surely, proved_by, points_in};
 
 use crate::candidate::candidate_rests_on;
 use crate::guard::{asked_of, guard_of};
+use crate::loss::loss_rests_on;
 use crate::play::play_rests_on;
-use crate::words::{behind_end, behind_vertex};
-use go_base::{Cell, Point, PointSet, Position};
+use crate::words::{behind_end, behind_vertex, is_vertex};
+use go_base::{Point, PointSet, Position};
 use read_proof::children::{child_after, child_of, passed};
-use read_rules::{Node, Spot, Tree};
+use read_proof::taking_back::{is_captured, taking_back};
+use read_rules::{Node, Spot};
 use vertices::{next_word, spells, target_named};
-
-/// Whether the target's point is empty.
-fn is_gone(pos: &Position, node: Node) -> bool
-    requires { node.turn.target < pos.now.size * pos.now.size }
-    ensures { result ≡ is_gone node pos.now }
-{
-    pos.cell(node.turn.target) == Cell::Empty
-}
-
-/// How many liberties a target of the tree may have at the end of the wide plies.
-fn most_narrow(tree: Tree) -> u16
-    ensures { result ≡ most_narrow tree }
-{
-    match tree {
-        Tree::Stated => 2,
-        Tree::Wider => 4,
-    }
-}
 
 /// Whether the target has more liberties than the attacker may play at.
 #[tactic(auto, unfolding(read_rules::specs::GameTree::has_many_liberties))]
@@ -45,8 +28,7 @@ fn has_too_many(pos: &Position, node: Node) -> bool
     requires { node.turn.target < pos.now.size * pos.now.size }
     ensures { result ≡ has_too_many node pos.now }
 {
-    let liberties = pos.liberties(node.turn.target);
-    liberties > 4 || (node.turn.wide == 0 && liberties > most_narrow(node.turn.tree))
+    node.turn.has_many(pos.liberties(node.turn.target))
 }
 
 /// Whether the attacker may not play: the target is gone, or has too many liberties.
@@ -55,10 +37,18 @@ fn is_barred(pos: &Position, node: Node) -> bool
     ensures { result ≡ (is_gone node pos.now || has_too_many node pos.now) }
 {
     let many = has_too_many(pos, node);
-    is_gone(pos, node) || many
+    is_captured(pos, node) || many
 }
 
-/// The text behind `.`, if the target's point is empty. The proof rests on this point.
+/// Whether the target is taken, and the defender cannot take back at once.
+fn is_taken_for_good(pos: &Position, node: Node) -> bool
+    requires { node.turn.target < pos.now.size * pos.now.size }
+    ensures { result ≡ is_taken_for_good node pos.now }
+{
+    is_captured(pos, node) && taking_back(pos, node).is_none()
+}
+
+/// The text behind `.`, if the target is taken and cannot be taken back. The proof rests on what shows this.
 fn capture_proved<'a>(
     pos: &Position,
     node: Node,
@@ -70,12 +60,10 @@ fn capture_proved<'a>(
         (λ left. by_capture node pos.now (words_in text.now) ≡ Some (proved_by (words_in left.now) zone.new)) }
 {
     let _ = pos.size().points();
-    if !is_gone(pos, node) {
+    if !is_taken_for_good(pos, node) {
         return None;
     }
-    let mut points = PointSet::new();
-    points.add(node.turn.target);
-    *zone = points;
+    *zone = loss_rests_on(pos, node);
     Some(text)
 }
 
@@ -209,8 +197,35 @@ fn defence_proved<'a>(
     Some(rest)
 }
 
-/// The text behind what the first word proves with `plies` plies left after the move: a vertex at the attacker's turn,
-/// and `*` at the defender's.
+/// The text behind the proof of the node after the defender's play that takes back, if he can and the word is the vertex
+/// of the target's point, with `plies` plies left there, and the points on which this play and the proof rest.
+#[cycle(proof)]
+fn back_proved<'a>(
+    pos: &Position,
+    node: Node,
+    plies: u8,
+    word: &[u8],
+    text: &'a [u8],
+    zone: &mut PointSet,
+) -> Option<&'a [u8]>
+    requires target { node.turn.target < pos.now.size * pos.now.size }
+    ensures { MatchOption result (by_back (proves_surely plies) node pos.now (kept word.now) (taking_back node pos.now) (words_in text.now) ≡ None)
+        (λ left. by_back (proves_surely plies) node pos.now (kept word.now) (taking_back node pos.now) (words_in text.now) ≡ Some (proved_by (words_in left.now) zone.new)) }
+{
+    let _ = pos.size().points();
+    let (next, new) = taking_back(pos, node)?;
+    if !is_vertex(word, pos.size(), node.turn.target) {
+        return None;
+    }
+    let mut points = loss_rests_on(pos, node);
+    let left = proved(&new, next, plies, text, zone)?;
+    points.join(zone);
+    *zone = points;
+    Some(left)
+}
+
+/// The text behind what the first word proves with `plies` plies left after the move: a vertex at the attacker's turn;
+/// at the defender's `*`, or the vertex of the target's point if he takes back.
 #[cycle(proof)]
 fn turn_proved<'a>(
     pos: &Position,
@@ -230,10 +245,10 @@ fn turn_proved<'a>(
         }
         return move_proved(pos, node, plies, target_named(word, pos.size()), text, zone);
     }
-    if !spells(word, b"*") {
-        return None;
+    if spells(word, b"*") {
+        return defence_proved(pos, node, plies, text, zone);
     }
-    defence_proved(pos, node, plies, text, zone)
+    back_proved(pos, node, plies, word, text, zone)
 }
 
 /// The text behind the proof, in front of it, that with `plies` plies left the target is surely captured at the node,

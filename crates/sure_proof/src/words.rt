@@ -22,7 +22,7 @@ pub(crate) fn behind_end(text: &[u8]) -> Option<&[u8]>
 }
 
 /// Whether the word is the vertex of p.
-fn is_vertex(word: &[u8], size: Size, p: Point) -> bool
+pub(crate) fn is_vertex(word: &[u8], size: Size, p: Point) -> bool
     ensures { result ≡ is_to (target_named size (kept word.now)) p }
 {
     match target_named(word, size) {

@@ -1,7 +1,10 @@
 pub mod SureLemmas
 pub mod SureMoves
 pub mod StayLemmas
+pub mod WiderLemmas
 pub mod SureCodes
+pub mod MoveLemmas
+pub mod TakenLemmas
 pub mod DefenceLemmas
 pub mod ZoneLemmas
 pub mod PlanLemmas

@@ -1,32 +1,30 @@
 -- The plan of a sure capture: at each turn of the attacker the first move that succeeds.
-use Rattle.std.proofs.Common.{◌≡◌, ◌≢◌, ℕ, suc, ◌+◌, ◌-◌, ◌*◌, ◌<◌, ◌≤◌, Bool, true, false, cond, List, [], ◌∷◌}
-use Rattle.std.proofs.Common.{length, Option, Some, None, refl, sym, ap, subst, ◌∙◌, arith, inl, inr}
-use Rattle.std.proofs.lemmas.Bool.{cases_Bool, both_ways}
-use Rattle.go_rules.specs.declared.Cell.TheVariants.{Empty}
+use Rattle.std.proofs.Common.{◌≡◌, ◌≢◌, ℕ, suc, ◌+◌, ◌-◌, ◌≤◌, true, false, List, [], ◌∷◌}
+use Rattle.std.proofs.Common.{length, Option, Some, None, refl, sym, ap, subst, ◌∙◌, arith}
 use Rattle.go_rules.specs.declared.Colour.{Colour}
-use Rattle.go_rules.specs.declared.Colour.TheVariants.{Black, White}
-use Rattle.go_rules.specs.Strings.{cell_at}
 use Rattle.go_rules.specs.Position.{BoardState, other}
 use Rattle.go_rules.specs.Play.{pass}
-use Rattle.go_rules.proofs.Paths.{same_cell-true}
 use Rattle.read_rules.specs.declared.node.Node.{Node}
 use Rattle.read_rules.specs.declared.question.Kind.TheVariants.{Attack, Defend}
 use Rattle.read_rules.specs.declared.question.ReadingQuestion.{ReadingQuestion}
 use Rattle.read_rules.specs.declared.question.Spot.{Spot}
 use Rattle.read_rules.specs.declared.question.Spot.TheVariants.{At, Pass}
-use Rattle.read_rules.specs.GameTree.{is_captured, child_of, some_child, allowance_of, next_node}
+use Rattle.read_rules.specs.declared.tree.Tree.{Tree}
+use Rattle.read_rules.specs.GameTree.{child_of, some_child, allowance_of, next_node}
 use Rattle.read_rules.specs.Answer.{first_node, is_about}
 use Rattle.read_rules.specs.Rules.{IsChild}
 use Rattle.read_rules.proofs.RuleLemmas.{child_gives, child_from}
-use Rattle.sure_rules.specs.Nodes.{is_attackers, defender_of, target_of, is_gone}
+use Rattle.sure_rules.specs.Nodes.{is_attackers, defender_of, target_of, is_gone, is_taken_for_good}
 use Rattle.sure_rules.specs.SureTree.{surely_wins}
 use Rattle.sure_rules.specs.SureAnswer.{first_sure, sure_code_of}
 use Rattle.sure_rules.specs.SureInWords.{EveryReplyFails}
-use Rattle.sure_rules.specs.Defences.{Standing, IsMove, passes, plays, ignores_the_ban, IsPlayed, opens, follows, answers}
+use Rattle.sure_rules.specs.Defences.{Standing, IsMove, IsTaken, IsPlayed, opens, follows, answers}
 use Rattle.sure_rules.specs.Defences.{HasPlanWithin, standing_at, start_of}
-use Rattle.sure_rules.proofs.SureLemmas.{sure_now, sure_defender_gives, tried_on}
+use Rattle.sure_rules.proofs.SureLemmas.{tried_on}
 use Rattle.sure_rules.proofs.SureMoves.{first_sure_there}
-use Rattle.sure_rules.proofs.DefenceLemmas.{stands_next, child_is_move, child_target, start_is}
+use Rattle.sure_rules.proofs.MoveLemmas.{child_is_move, child_target, moved_child, moved_pass, attackers_by, defenders_by}
+use Rattle.sure_rules.proofs.TakenLemmas.{not_taken_for_good, some_ply_left, stands_at_attackers, every_reply_fails}
+use Rattle.sure_rules.proofs.DefenceLemmas.{start_is}
 use Rattle.sure_rules.proofs.DefenceLemmas.{attack_sure, defence_sure}
 
 -- the plies that are left, the node and its position
@@ -63,68 +61,31 @@ point_or_first (Some p) = p
 point_at : Stage → ℕ
 point_at stage = point_or_first (first_sure (stage.plies - 1) stage.node stage.board)
 
--- no colour is its other
-other_differs : (c : Colour) → other c ≡ c → ⊥
-other_differs Black e = cc
-other_differs White e = cc
-
--- whose turn it is, by the colour that is to play
-attackers_by : (attacker : Bool) (d : Colour) → cond attacker (other d) d ≡ other d → attacker ≡ true
-attackers_by true d e = refl
-attackers_by false d e = absurd (other_differs d (sym e))
-
--- the same of the defender
-defenders_by : (attacker : Bool) (d : Colour) → cond attacker (other d) d ≡ d → attacker ≡ false
-defenders_by true d e = absurd (other_differs d e)
-defenders_by false d e = refl
-
--- a play that may be made at a node leads to where the two sides stand at its child
-moved_child : (node : Node) (pos : BoardState) (p : ℕ) (there : Standing) → IsMove (standing_at node pos) (At p) there
-    → (next : Node) × (new : BoardState) × IsChild node pos p next new × (there ≡ standing_at next new)
-    × (p < pos.size * pos.size)
-moved_child node pos p there (plays q new on legal) = (
-  next_node node (allowance_of node),
-  new,
-  inl (record { legal = legal; next_is = refl }),
-  sym (stands_next node pos new (allowance_of node)),
-  on,
-)
-moved_child node pos p there (ignores_the_ban q new on banned free some) = (
-  next_node node (allowance_of node - 1),
-  new,
-  inr (record { banned = banned; free = free; some_left = some; next_is = refl }),
-  sym (stands_next node pos new (allowance_of node - 1)),
-  on,
-)
-
--- a pass leads to where they stand at the next node
-moved_pass : (node : Node) (pos : BoardState) (there : Standing) → IsMove (standing_at node pos) Pass there
-    → there ≡ standing_at (next_node node (allowance_of node)) (pass pos)
-moved_pass node pos there passes = sym (stands_next node pos (pass pos) (allowance_of node))
-
 -- a game by the plan has come to this stage, at which the target is surely captured with the plies that are left
-record IsStage (target total : ℕ) (defender : Colour) (count : ℕ) (here : Standing) (stage : Stage) : Type 0 where
+record IsStage (tree : Tree) (target total : ℕ) (defender : Colour) (count : ℕ) (here : Standing)
+    (stage : Stage) : Type 0 where
   stands : here ≡ standing_at stage.node stage.board
+  in_tree : stage.node.turn.tree ≡ tree
   its : target_of stage.node ≡ target
   his : defender_of stage.node ≡ defender
   sure : surely_wins stage.plies stage.node stage.board ≡ true
   plies : stage.plies + count ≡ total
 
--- A game of so many moves at a stage where the target stands.
-module _ (target total : ℕ) (defender : Colour) (count : ℕ) (here : Standing) (stage : Stage)
-    (w : IsStage target total defender count here stage) (on_target : cell_at here.board.cells target ≢ Empty) where
-  -- the target's point is not empty
-  not_gone : is_gone stage.node stage.board ≡ false
-  not_gone = elim (cases_Bool (is_gone stage.node stage.board)) [
-    | inr f ↦ f
-    | inl gone ↦ absurd (on_target (ap (λ (s : Standing). cell_at s.board.cells target) w.stands
-        ∙ same_cell-true _ _ (sym (ap (is_captured stage.board) w.its) ∙ gone)))
-  ]
+-- A game of so many moves at a stage where the target is not yet taken.
+module _ (tree : Tree) (target total : ℕ) (defender : Colour) (count : ℕ) (here : Standing) (stage : Stage)
+    (w : IsStage tree target total defender count here stage) (not_taken : IsTaken tree target defender here → ⊥) where
+  -- the target is not taken for good at the node
+  not_yet : is_taken_for_good stage.node stage.board ≡ false
+  not_yet = not_taken_for_good stage.node stage.board (λ taken. not_taken
+      (subst (IsTaken tree target defender) (sym w.stands)
+      (subst (λ (r : Tree). IsTaken r target defender (standing_at stage.node stage.board)) w.in_tree
+      (subst (λ t. IsTaken stage.node.turn.tree t defender (standing_at stage.node stage.board)) w.its
+      (subst (λ (c : Colour). IsTaken stage.node.turn.tree (target_of stage.node) c
+      (standing_at stage.node stage.board)) w.his taken)))))
 
   -- some ply is left
   some_left : stage.plies ≢ 0
-  some_left e = both_ways (is_gone stage.node stage.board) not_gone
-      (sure_now stage.node stage.board (sym (ap (λ m. surely_wins m stage.node stage.board) e) ∙ w.sure))
+  some_left = some_ply_left stage.plies stage.node stage.board not_yet w.sure
 
   -- and one less is left after a move
   one_less : stage.plies ≡ suc (stage.plies - 1)
@@ -147,25 +108,30 @@ module _ (target total : ℕ) (defender : Colour) (count : ℕ) (here : Standing
   -- a play that leads to a child where it is surely captured leads to the next stage
   by_child : (p : ℕ) (next : Node) (new : BoardState) (there : Standing) → IsChild stage.node stage.board p next new
       → there ≡ standing_at next new → surely_wins (stage.plies - 1) next new ≡ true
-      → IsStage target total defender (suc count) there (stage_next stage (At p))
+      → IsStage tree target total defender (suc count) there (stage_next stage (At p))
   unfolding stage_next stage_by
   by_child p next new there child is sure =
       let led : stage_by stage (Some (next, new)) ≡ stage_next stage (At p) =
       ap (stage_by stage) (sym (child_from stage.node stage.board p next new child)) in
       let same = child_target stage.node stage.board p next new child in
-      subst (IsStage target total defender (suc count) there) led (record {
+      subst (IsStage tree target total defender (suc count) there) led (record {
         stands = is;
+        in_tree = same.2 ∙ w.in_tree;
         its = same.0 ∙ w.its;
         his = same.1 ∙ w.his;
         sure = sure;
         plies = let some = one_less in let sum = w.plies in omega (arith, some, sum);
       })
 
+  -- at the attacker's turn the target stands
+  not_gone : here.to_play ≡ other defender → is_gone stage.node stage.board ≡ false
+  not_gone turn = stands_at_attackers stage.node stage.board not_yet (his_turn turn)
+
   -- the plan's point may be played
   plan_goes_on : here.to_play ≡ other defender → (there : Standing) × IsMove here (At (point_at stage)) there
   unfolding point_or_first point_at
   plan_goes_on turn =
-      let found = first_sure_there (stage.plies - 1) stage.node stage.board not_gone (his_turn turn) sure_here in
+      let found = first_sure_there (stage.plies - 1) stage.node stage.board (not_gone turn) (his_turn turn) sure_here in
       let point : found.0 ≡ point_at stage = sym (ap point_or_first found.1) in
       let child = child_there (child_of stage.node stage.board found.0) found.3 in
       let move = child_is_move stage.node stage.board found.0 child.0 child.1
@@ -183,10 +149,10 @@ module _ (target total : ℕ) (defender : Colour) (count : ℕ) (here : Standing
 
   -- the plan's move leads to the next stage
   by_plan : here.to_play ≡ other defender → (there : Standing) → IsMove here (At (point_at stage)) there
-      → IsStage target total defender (suc count) there (stage_next stage (At (point_at stage)))
+      → IsStage tree target total defender (suc count) there (stage_next stage (At (point_at stage)))
   unfolding point_or_first point_at
   by_plan turn there move =
-      let found = first_sure_there (stage.plies - 1) stage.node stage.board not_gone (his_turn turn) sure_here in
+      let found = first_sure_there (stage.plies - 1) stage.node stage.board (not_gone turn) (his_turn turn) sure_here in
       let point : found.0 ≡ point_at stage = sym (ap point_or_first found.1) in
       let led = moved_child stage.node stage.board (point_at stage) there
       (subst (λ (s : Standing). IsMove s (At (point_at stage)) there) w.stands move) in
@@ -199,14 +165,15 @@ module _ (target total : ℕ) (defender : Colour) (count : ℕ) (here : Standing
   -- at the defender's turn every reply fails
   every_fails : here.to_play ≡ defender → EveryReplyFails (stage.plies - 1) stage.node stage.board
   every_fails turn =
-      sure_defender_gives (stage.plies - 1) stage.node stage.board not_gone (defenders_turn turn) sure_here
+      every_reply_fails (stage.plies - 1) stage.node stage.board not_yet (defenders_turn turn) sure_here
 
   -- his pass leads to the next stage
   by_pass : here.to_play ≡ defender → (there : Standing) → IsMove (standing_at stage.node stage.board) Pass there
-      → IsStage target total defender (suc count) there (stage_next stage Pass)
+      → IsStage tree target total defender (suc count) there (stage_next stage Pass)
   unfolding stage_next
   by_pass turn there move = record {
     stands = moved_pass stage.node stage.board there move;
+    in_tree = w.in_tree;
     its = w.its;
     his = w.his;
     sure = (every_fails turn).passed;
@@ -215,7 +182,7 @@ module _ (target total : ℕ) (defender : Colour) (count : ℕ) (here : Standing
 
   -- and so does each reply
   by_reply : here.to_play ≡ defender → (spot : Spot) (there : Standing) → IsMove here spot there
-      → IsStage target total defender (suc count) there (stage_next stage spot)
+      → IsStage tree target total defender (suc count) there (stage_next stage spot)
   by_reply turn Pass there move = by_pass turn there (subst (λ (s : Standing). IsMove s Pass there) w.stands move)
   by_reply turn (At p) there move =
       let led = moved_child stage.node stage.board p there (subst (λ (s : Standing). IsMove s (At p) there) w.stands move)
@@ -234,48 +201,55 @@ module _ (n : ℕ) (node : Node) (pos : BoardState) (sure : surely_wins n node p
 
   -- each game by the plan comes to such a stage
   comes_to : (moves : List Spot) (here : Standing)
-      → IsPlayed (target_of node) (defender_of node) the_plan (standing_at node pos) moves here
-      → IsStage (target_of node) n (defender_of node) (length moves) here (stage_after first_stage moves)
+      → IsPlayed node.turn.tree (target_of node) (defender_of node) the_plan (standing_at node pos) moves here
+      → IsStage node.turn.tree (target_of node) n (defender_of node) (length moves) here (stage_after first_stage moves)
   unfolding stage_after
-  comes_to moves here opens = record { stands = refl; its = refl; his = refl; sure = sure; plies = omega arith }
-  comes_to moves there (follows {moves = before} {here = at} game stands turn move) =
-      by_plan (target_of node) n (defender_of node) (length before) at (stage_after first_stage before)
-      (comes_to before at game) stands turn there move
-  comes_to moves there (answers {moves = before} {here = at} game stands turn spot move) =
-      by_reply (target_of node) n (defender_of node) (length before) at (stage_after first_stage before)
-      (comes_to before at game) stands turn spot there move
+  comes_to moves here opens = record {
+    stands = refl;
+    in_tree = refl;
+    its = refl;
+    his = refl;
+    sure = sure;
+    plies = omega arith;
+  }
+  comes_to moves there (follows {moves = before} {here = at} game not_taken turn move) =
+      by_plan node.turn.tree (target_of node) n (defender_of node) (length before) at (stage_after first_stage before)
+      (comes_to before at game) not_taken turn there move
+  comes_to moves there (answers {moves = before} {here = at} game not_taken turn spot move) =
+      by_reply node.turn.tree (target_of node) n (defender_of node) (length before) at (stage_after first_stage before)
+      (comes_to before at game) not_taken turn spot there move
 
   -- so the plan takes the target in time
-  pub plan_takes : HasPlanWithin n (target_of node) (defender_of node) (standing_at node pos)
+  pub plan_takes : HasPlanWithin node.turn.tree n (target_of node) (defender_of node) (standing_at node pos)
   plan_takes = (
     the_plan,
     record {
-      in_time = λ moves here game stands.
+      in_time = λ moves here game not_taken.
           let stage = stage_after first_stage moves in
           let w = comes_to moves here game in
-          let some = some_left (target_of node) n (defender_of node) (length moves) here stage w stands in
+          let some = some_left node.turn.tree (target_of node) n (defender_of node) (length moves) here stage w not_taken in
           let sum = w.plies in omega (arith, some, sum);
-      can_go_on = λ moves here game stands turn.
-          plan_goes_on (target_of node) n (defender_of node) (length moves) here (stage_after first_stage moves)
-          (comes_to moves here game) stands turn;
+      can_go_on = λ moves here game not_taken turn.
+          plan_goes_on node.turn.tree (target_of node) n (defender_of node) (length moves) here (stage_after first_stage moves)
+          (comes_to moves here game) not_taken turn;
     },
   )
 
 -- a target that is surely captured at the first node of a question is taken by a plan
 question_plan : (q : ReadingQuestion) (pos : BoardState) (code : ℕ)
-    → surely_wins q.plies (first_node q code) pos ≡ true → HasPlanWithin q.plies q.target q.colour (start_of q pos code)
+    → surely_wins q.plies (first_node q code) pos ≡ true → HasPlanWithin q.tree q.plies q.target q.colour (start_of q pos code)
 question_plan q pos code sure =
-    subst (HasPlanWithin q.plies q.target q.colour) (start_is q pos code q.kind)
+    subst (HasPlanWithin q.tree q.plies q.target q.colour) (start_is q pos code q.kind)
     (plan_takes q.plies (first_node q code) pos sure)
 
 -- a sure attack has a plan
 pub attack_plan : (q : ReadingQuestion) (pos : BoardState) → q.kind ≡ Attack → sure_code_of q pos ≢ 0
-    → HasPlanWithin q.plies q.target q.colour (start_of q pos (sure_code_of q pos))
+    → HasPlanWithin q.tree q.plies q.target q.colour (start_of q pos (sure_code_of q pos))
 attack_plan q pos kind some = question_plan q pos (sure_code_of q pos) (attack_sure q pos kind some)
 
 -- against a string that is surely not to be saved there is one under each of the codes
 pub defence_plan : (q : ReadingQuestion) (pos : BoardState) → is_about q pos ≡ true → q.kind ≡ Defend
     → sure_code_of q pos ≡ 0 → (code : ℕ) → 1 ≤ code → code ≤ 3
-    → HasPlanWithin q.plies q.target q.colour (start_of q pos code)
+    → HasPlanWithin q.tree q.plies q.target q.colour (start_of q pos code)
 defence_plan q pos about kind none code lo hi =
     question_plan q pos code (defence_sure q pos about kind none code lo hi)

@@ -1,11 +1,13 @@
--- A sure capture stays sure with more plies, with further candidates of the attacker, and with fewer allowances of the
--- defender.
+-- A sure capture stays sure with more plies, with further candidates of the attacker in the same tree, and with fewer
+-- allowances of the defender.
 use Rattle.std.proofs.Common.{◌≡◌, ◌⊎◌, ℕ, zero, suc, ◌-◌, ◌<◌, ◌≤◌, Bool, true, false, not, ◌&&◌, ◌||◌, cond}
-use Rattle.std.proofs.Common.{refl, sym, ap, ◌∙◌, arith, inl, inr, subst, ltb}
+use Rattle.std.proofs.Common.{Some, refl, sym, ap, ◌∙◌, arith, inl, inr, subst, ltb}
 use Rattle.std.proofs.lemmas.Bool.{cases_Bool, and_parts, and_from, both_ways, or_cases, or_left, or_right}
 use Rattle.std.proofs.lemmas.Bool.{lt-ltb, ltb-true}
-use Rattle.go_rules.specs.Strings.{liberties, is_liberty}
-use Rattle.go_rules.specs.Position.{BoardState, other}
+use Rattle.go_rules.specs.declared.Colour.{Colour}
+use Rattle.go_rules.specs.Board.{are_neighbours}
+use Rattle.go_rules.specs.Strings.{cell_at, liberties, is_liberty}
+use Rattle.go_rules.specs.Position.{BoardState, other, stone_of}
 use Rattle.go_rules.specs.Play.{play, play_free, pass}
 use Rattle.go_base.specs.Surroundings.{is_last_liberty_of_enemy}
 use Rattle.wider_rules.specs.Further.{is_further_always, is_further_wide, is_further}
@@ -17,13 +19,14 @@ use Rattle.read_rules.specs.declared.tree.Tree.TheVariants.{Stated, Wider}
 use Rattle.read_rules.specs.Trees.{is_wider, most_narrow}
 use Rattle.read_rules.specs.Stages.{is_wide_by_liberties, is_later_candidate}
 use Rattle.read_rules.proofs.StageLemmas.{candidate_stages}
-use Rattle.read_rules.specs.GameTree.{is_captured, has_many_liberties, allowance_of, next_node}
+use Rattle.read_rules.specs.GameTree.{is_captured, has_many_liberties, allowance_of, next_node, taking_back}
 use Rattle.read_rules.specs.Turns.{mover_of}
-use Rattle.read_rules.specs.Rules.{IsChild}
-use Rattle.read_rules.proofs.RuleLemmas.{many_gives, many_from}
-use Rattle.sure_rules.specs.Nodes.{is_attackers, is_gone, has_too_many, IsNoHarder, in_wider_tree}
+use Rattle.read_rules.specs.Rules.{IsChild, TakesBack}
+use Rattle.read_rules.proofs.RuleLemmas.{many_gives, many_from, takes_back_from}
+use Rattle.sure_rules.specs.Nodes.{is_attackers, is_gone, target_of, has_too_many, IsNoHarder}
 use Rattle.sure_rules.specs.SureTree.{surely_wins}
-use Rattle.sure_rules.proofs.SureLemmas.{sure-captured, sure_now, sure_attacker_gives, sure_attacker_from}
+use Rattle.sure_rules.proofs.SureLemmas.{sure-taken_back, sure_at_end, sure_by_rules, sure_if_back_fails}
+use Rattle.sure_rules.proofs.SureLemmas.{none_and_some, sure_attacker_gives, sure_attacker_from}
 use Rattle.sure_rules.proofs.SureLemmas.{sure_defender_gives, sure_defender_from}
 
 -- one tree is the other, or the wider one
@@ -37,7 +40,7 @@ most_as_wide Stated larger (inr e) = subst (λ t. 2 ≤ most_narrow t) (sym e) (
 most_as_wide Wider larger (inr e) = subst (λ t. 4 ≤ most_narrow t) (sym e) (omega arith)
 
 -- with more wide plies, or in the wider tree, no target has too many liberties that had few enough
-few_stay : (small large : Turn) (pos : BoardState) → large.target ≡ small.target → IsAsWide small.tree large.tree
+pub few_stay : (small large : Turn) (pos : BoardState) → large.target ≡ small.target → IsAsWide small.tree large.tree
     → small.wide ≤ large.wide → has_many_liberties small pos ≡ false → has_many_liberties large pos ≡ false
 few_stay small large pos same as_wide more few = elim (cases_Bool (has_many_liberties large pos)) [
   | inr f ↦ f
@@ -103,7 +106,7 @@ later_stays small large pos p same side as_wide more h =
     ]
 
 -- a candidate is one with more wide plies and in the wider tree too
-candidate_stays : (small large : Turn) (pos : BoardState) (p : ℕ) → large.target ≡ small.target
+pub candidate_stays : (small large : Turn) (pos : BoardState) (p : ℕ) → large.target ≡ small.target
     → large.attacker_to_play ≡ small.attacker_to_play → IsAsWide small.tree large.tree → small.wide ≤ large.wide
     → is_candidate small pos p ≡ true → is_candidate large pos p ≡ true
 candidate_stays small large pos p same side as_wide more h =
@@ -167,12 +170,12 @@ module _ (node more : Node) (h : IsNoHarder node more) where
 
   -- the target has few enough liberties at the other node too
   still_few : (pos : BoardState) → has_too_many node pos ≡ false → has_too_many more pos ≡ false
-  still_few pos few = few_stay node.turn more.turn pos h.target h.tree h.wide few
+  still_few pos few = few_stay node.turn more.turn pos h.target (inl h.tree) h.wide few
 
   -- a candidate of the attacker is one at the other node too
   still_candidate : (pos : BoardState) (p : ℕ) → is_candidate node.turn pos p ≡ true
       → is_candidate more.turn pos p ≡ true
-  still_candidate pos p candidate = candidate_stays node.turn more.turn pos p h.target h.turn h.tree h.wide candidate
+  still_candidate pos p candidate = candidate_stays node.turn more.turn pos p h.target h.turn (inl h.tree) h.wide candidate
 
   -- the passes lead to such nodes
   passes_stay : is_attackers node ≡ false
@@ -226,14 +229,42 @@ module _ (node more : Node) (h : IsNoHarder node more) where
             (λ t. absurd (both_ways (is_attackers node) turn t)) (λ _. omega (arith, most))),
       )
 
+-- If the defender takes back at the other node, he does at the node, and it leads to such a node.
+taking_back_stays : (node more : Node) (h : IsNoHarder node more) (pos : BoardState) (other_next : Node) (new : BoardState)
+    → TakesBack more pos other_next new
+    → (next : Node) × (taking_back node pos ≡ Some (next, new)) × IsNoHarder next other_next
+taking_back_stays node more h pos other_next new back =
+    let turn : is_attackers node ≡ false = sym h.turn ∙ back.lost.turn in
+    let at_target = subst (λ t. IsChild more pos t other_next new) h.target back.child in
+    let reply = replies_stay node more h pos (target_of node) other_next new turn at_target in (
+      reply.0,
+      takes_back_from node pos reply.0 new (record {
+        lost = record {
+          tree = sym h.tree ∙ back.lost.tree;
+          turn = turn;
+          taken = ap (cell_at pos.cells) (sym h.target) ∙ back.lost.taken;
+        };
+        lone = λ q on near. back.lone q on (ap (λ t. are_neighbours pos.size t q) h.target ∙ near)
+            ∙ ap (λ (c : Colour). stone_of (other c)) h.defender;
+        child = reply.1;
+      }),
+      reply.2,
+    )
+
 -- What is surely captured is surely captured with more plies, from a node that gives the attacker at least as much.
 pub stays_sure : (n m : ℕ) (node more : Node) (pos : BoardState) → n ≤ m → IsNoHarder node more
     → surely_wins n node pos ≡ true → surely_wins m more pos ≡ true
 stays_sure zero m node more pos plies h sure =
-    sure-captured m more pos (same_target node more h pos ∙ sure_now node pos sure)
+    let taken = sure_at_end node pos sure in
+    sure_by_rules m more pos (same_target node more h pos ∙ taken.0)
+    (λ next new back. none_and_some taken.1 (taking_back_stays node more h pos next new back).1)
 stays_sure (suc n) zero node more pos plies h sure = absurd (omega (arith, plies))
 stays_sure (suc n) (suc m) node more pos plies h sure = elim (cases_Bool (is_gone node pos)) [
-  | inl t ↦ sure-captured (suc m) more pos (same_target node more h pos ∙ t)
+  | inl t ↦ sure_if_back_fails m more pos (same_target node more h pos ∙ t)
+      (λ next new back.
+      let reply = taking_back_stays node more h pos next new back in
+      stays_sure n m reply.0 next new (omega (arith, plies)) reply.2
+      (sym (sure-taken_back n node pos (reply.0, new) t reply.1) ∙ sure))
   | inr stands ↦ elim (cases_Bool (is_attackers node)) [
     | inl turn ↦
         let w = sure_attacker_gives n node pos stands turn sure in
@@ -268,19 +299,7 @@ no_harder-refl node = record {
   target = refl;
   defender = refl;
   turn = refl;
-  tree = inl refl;
-  wide = omega arith;
-  attacker_ko = omega arith;
-  defender_ko = omega arith;
-}
-
--- the node of the wider tree gives him at least as much
-pub wider_no_harder : (node : Node) → IsNoHarder node (in_wider_tree node)
-wider_no_harder node = record {
-  target = refl;
-  defender = refl;
-  turn = refl;
-  tree = inr refl;
+  tree = refl;
   wide = omega arith;
   attacker_ko = omega arith;
   defender_ko = omega arith;

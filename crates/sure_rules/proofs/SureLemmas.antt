@@ -1,16 +1,20 @@
 -- The four rules of sure captures, and that a sure capture is a capture of the game tree.
-use Rattle.std.proofs.Common.{◌≡◌, ℕ, zero, suc, ◌+◌, ◌*◌, ◌<◌, Bool, true, false, not, ◌&&◌, ◌||◌, cond, nat_lt}
+use Rattle.std.proofs.Common.{◌≡◌, ℕ, zero, suc, ◌+◌, ◌*◌, ◌<◌, Bool, true, false, not, ◌&&◌, cond, nat_lt, is_none}
 use Rattle.std.proofs.Common.{Option, Some, None, refl, sym, ap, ◌∙◌, arith, inl, inr, add-one}
 use Rattle.std.specs.List.{list_any, list_all}
 use Rattle.std.proofs.lemmas.Bool.{cases_Bool, and_parts, and_from, both_ways, not-true, not_from_false, lt-ltb, ltb-true}
+use Rattle.go_rules.proofs.Paths.{same_cell-from}
 use Rattle.go_rules.specs.Position.{BoardState}
 use Rattle.go_rules.specs.Play.{pass}
 use Rattle.read_rules.specs.Candidates.{is_candidate}
 use Rattle.read_rules.specs.declared.node.Node.{Node}
 use Rattle.read_rules.specs.GameTree.{attacker_wins, child_of, next_node, allowance_of, some_child, each_child}
+use Rattle.read_rules.specs.GameTree.{taking_back}
+use Rattle.read_rules.specs.Rules.{TakesBack}
 use Rattle.read_rules.proofs.CandidateLaws.{candidate_on}
 use Rattle.read_rules.proofs.RuleLemmas.{child_gives, child_from, attacker_from, defender_from}
-use Rattle.read_rules.proofs.WinLemmas.{wins-captured}
+use Rattle.read_rules.proofs.RuleLemmas.{takes_back_gives, takes_back_from}
+use Rattle.read_rules.proofs.WinLemmas.{wins-captured, wins-taken_back, some_or_none}
 use Rattle.read_rules.proofs.WalkLemmas.{any_gives, any_from, all_gives, all_from}
 use Rattle.sure_rules.specs.Nodes.{is_attackers, is_gone, has_too_many}
 use Rattle.sure_rules.specs.SureTree.{is_tried, tried_points, surely_wins}
@@ -33,18 +37,35 @@ tried_on node pos p h = elim (cases_Bool (is_attackers node)) [
   | inr turn ↦ ltb-true p (pos.size * pos.size) (sym (tried_anywhere node pos p turn) ∙ h)
 ]
 
--- the target is captured
-pub sure-captured : (n : ℕ) (node : Node) (pos : BoardState) → is_gone node pos ≡ true
+-- the target is taken, and is not taken back
+pub sure-captured : (n : ℕ) (node : Node) (pos : BoardState) → is_gone node pos ≡ true → taking_back node pos ≡ None
     → surely_wins n node pos ≡ true
 unfolding surely_wins
-sure-captured zero node pos h = h
-sure-captured (suc n) node pos h = rw h refl
+sure-captured zero node pos h none = rw (h, none) refl
+sure-captured (suc n) node pos h none = rw (h, none) refl
+
+-- the target is taken, and can be taken back, but no ply is left for it
+pub sure-none_left : (node : Node) (pos : BoardState) (child : Node × BoardState) → taking_back node pos ≡ Some child
+    → surely_wins zero node pos ≡ false
+unfolding surely_wins
+sure-none_left node pos child some = by (is_gone node pos) (taking_back node pos) some
+  where
+    by : (c : Bool) (o : Option (Node × BoardState)) → o ≡ Some child → (c && is_none o) ≡ false
+    by true (Some x) e = refl
+    by true None e = cc
+    by false o e = refl
+
+-- the target is taken, and the defender takes it back
+pub sure-taken_back : (n : ℕ) (node : Node) (pos : BoardState) (child : Node × BoardState) → is_gone node pos ≡ true
+    → taking_back node pos ≡ Some child → surely_wins (suc n) node pos ≡ surely_wins n child.0 child.1
+unfolding surely_wins
+sure-taken_back n node pos child h some = rw (h, some) refl
 
 -- it stands, and no ply is left
 pub sure-no_plies : (n : ℕ) (node : Node) (pos : BoardState) → is_gone node pos ≡ false → n ≡ 0
     → surely_wins n node pos ≡ false
 unfolding surely_wins
-sure-no_plies zero node pos h e = h
+sure-no_plies zero node pos h e = rw h refl
 sure-no_plies (suc n) node pos h e = cc
 
 -- it stands, and it is the attacker's turn
@@ -52,20 +73,20 @@ pub sure-attacker : (n : ℕ) (node : Node) (pos : BoardState) → is_gone node 
     → surely_wins (suc n) node pos ≡ (not (has_too_many node pos)
     && list_any (λ p. some_child (surely_wins n) (child_of node pos p)) (tried_points node pos))
 unfolding surely_wins
-sure-attacker n node pos h e = choose (is_gone node pos) (is_attackers node) true _ _ h e
+sure-attacker n node pos h e = choose (is_gone node pos) (is_attackers node) true _ _ _ h e
   where
-    choose : (c turn b x y : Bool) → c ≡ false → turn ≡ b → (c || cond turn x y) ≡ cond b x y
-    choose c turn b x y h e = ap (λ v. v || cond turn x y) h ∙ ap (λ v. cond v x y) e
+    choose : (c turn b z x y : Bool) → c ≡ false → turn ≡ b → cond c z (cond turn x y) ≡ cond b x y
+    choose c turn b z x y h e = ap (λ v. cond v z (cond turn x y)) h ∙ ap (λ v. cond v x y) e
 
 -- it stands, and it is the defender's turn
 pub sure-defender : (n : ℕ) (node : Node) (pos : BoardState) → is_gone node pos ≡ false → is_attackers node ≡ false
     → surely_wins (suc n) node pos ≡ (surely_wins n (next_node node (allowance_of node)) (pass pos)
     && list_all (λ p. each_child (surely_wins n) (child_of node pos p)) (tried_points node pos))
 unfolding surely_wins
-sure-defender n node pos h e = choose (is_gone node pos) (is_attackers node) false _ _ h e
+sure-defender n node pos h e = choose (is_gone node pos) (is_attackers node) false _ _ _ h e
   where
-    choose : (c turn b x y : Bool) → c ≡ false → turn ≡ b → (c || cond turn x y) ≡ cond b x y
-    choose c turn b x y h e = ap (λ v. v || cond turn x y) h ∙ ap (λ v. cond v x y) e
+    choose : (c turn b z x y : Bool) → c ≡ false → turn ≡ b → cond c z (cond turn x y) ≡ cond b x y
+    choose c turn b z x y h e = ap (λ v. cond v z (cond turn x y)) h ∙ ap (λ v. cond v x y) e
 
 -- a child that is there and passes a test is a child, and passes it
 some_gives : (test : Node → BoardState → Bool) (o : Option (Node × BoardState)) → some_child test o ≡ true
@@ -144,12 +165,56 @@ sure_defender_from n node pos stands turn w =
     (λ p tried. each_from (surely_wins n) (child_of node pos p)
     (λ next new e. w.played p next new (tried_on node pos p tried) (child_gives node pos p next new e))))
 
--- a target that is surely captured with no ply left is captured
-pub sure_now : (node : Node) (pos : BoardState) → surely_wins 0 node pos ≡ true → is_gone node pos ≡ true
-sure_now node pos h = elim (cases_Bool (is_gone node pos)) [
-  | inl t ↦ t
+-- a target that is surely captured with no ply left is taken, and is not taken back
+pub sure_at_end : (node : Node) (pos : BoardState) → surely_wins 0 node pos ≡ true
+    → (is_gone node pos ≡ true) × (taking_back node pos ≡ None)
+sure_at_end node pos h = elim (cases_Bool (is_gone node pos)) [
   | inr f ↦ absurd (both_ways (surely_wins 0 node pos) (sure-no_plies 0 node pos f refl) h)
+  | inl t ↦ elim (some_or_none (taking_back node pos)) [
+    | inl none ↦ (t, none)
+    | inr back ↦ absurd (both_ways (surely_wins 0 node pos) (sure-none_left node pos back.0 back.1) h)
+  ]
 ]
+
+-- so it is taken
+pub sure_now : (node : Node) (pos : BoardState) → surely_wins 0 node pos ≡ true → is_gone node pos ≡ true
+sure_now node pos h = (sure_at_end node pos h).0
+
+-- nothing is both there and not
+pub none_and_some : {o : Option (Node × BoardState)} {child : Node × BoardState} → o ≡ None → o ≡ Some child → ⊥
+none_and_some none some = let wrong = sym none ∙ some in cc
+
+-- at the attacker's turn nothing is taken back
+pub none_at_attackers : (node : Node) (pos : BoardState) → is_attackers node ≡ true → taking_back node pos ≡ None
+none_at_attackers node pos turn = elim (some_or_none (taking_back node pos)) [
+  | inl none ↦ none
+  | inr back ↦ absurd (both_ways (is_attackers node) (takes_back_gives node pos back.0.0 back.0.1 back.1).lost.turn turn)
+]
+
+-- a target that is taken, and is not taken back by the rules, is surely captured
+pub sure_by_rules : (n : ℕ) (node : Node) (pos : BoardState) → is_gone node pos ≡ true
+    → ((next : Node) (new : BoardState) → TakesBack node pos next new → ⊥) → surely_wins n node pos ≡ true
+sure_by_rules n node pos t none = elim (some_or_none (taking_back node pos)) [
+  | inl e ↦ sure-captured n node pos t e
+  | inr back ↦ absurd (none back.0.0 back.0.1 (takes_back_gives node pos back.0.0 back.0.1 back.1))
+]
+
+-- a target that is taken is surely captured with a ply more if it is at the child to which the defender takes back
+pub sure_if_back_fails : (n : ℕ) (node : Node) (pos : BoardState) → is_gone node pos ≡ true
+    → ((next : Node) (new : BoardState) → TakesBack node pos next new → surely_wins n next new ≡ true)
+    → surely_wins (suc n) node pos ≡ true
+sure_if_back_fails n node pos t fails = elim (some_or_none (taking_back node pos)) [
+  | inl e ↦ sure-captured (suc n) node pos t e
+  | inr back ↦ sure-taken_back n node pos back.0 t back.1
+      ∙ fails back.0.0 back.0.1 (takes_back_gives node pos back.0.0 back.0.1 back.1)
+]
+
+-- a target that is taken back is surely captured if it is after that
+pub taken_back_by_rules : (n : ℕ) (node : Node) (pos : BoardState) (next : Node) (new : BoardState)
+    → TakesBack node pos next new → surely_wins (n + 1) node pos ≡ surely_wins n next new
+taken_back_by_rules n node pos next new w =
+    ap (λ m. surely_wins m node pos) (add-one n)
+    ∙ sure-taken_back n node pos (next, new) (same_cell-from _ _ w.lost.taken) (takes_back_from node pos next new w)
 
 -- the same of the game tree, with the next number written as a sum
 as_next : (n : ℕ) (node : Node) (pos : BoardState) → attacker_wins (n + 1) node pos ≡ true
@@ -159,9 +224,13 @@ as_next n node pos h = ap (λ m. attacker_wins m node pos) (sym (add-one n)) ∙
 -- what is surely captured is captured in the game tree
 pub sure_is_won : (n : ℕ) (node : Node) (pos : BoardState) → surely_wins n node pos ≡ true
     → attacker_wins n node pos ≡ true
-sure_is_won zero node pos h = wins-captured 0 node pos (sure_now node pos h)
+sure_is_won zero node pos h = let taken = sure_at_end node pos h in wins-captured 0 node pos taken.0 taken.1
 sure_is_won (suc n) node pos h = elim (cases_Bool (is_gone node pos)) [
-  | inl t ↦ wins-captured (suc n) node pos t
+  | inl t ↦ elim (some_or_none (taking_back node pos)) [
+    | inl none ↦ wins-captured (suc n) node pos t none
+    | inr back ↦ wins-taken_back n node pos back.0 t back.1
+        ∙ sure_is_won n back.0.0 back.0.1 (sym (sure-taken_back n node pos back.0 t back.1) ∙ h)
+  ]
   | inr stands ↦ elim (cases_Bool (is_attackers node)) [
     | inl turn ↦
         let w = sure_attacker_gives n node pos stands turn h in

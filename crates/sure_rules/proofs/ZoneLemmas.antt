@@ -20,11 +20,13 @@ use Rattle.read_rules.specs.ActiveArea.{AgreeOn}
 use Rattle.read_rules.specs.declared.node.Node.{Node}
 use Rattle.read_rules.specs.GameTree.{allowance_of, next_node}
 use Rattle.read_rules.specs.Turns.{mover_of}
-use Rattle.read_rules.specs.Rules.{IsChild}
+use Rattle.read_rules.specs.Rules.{IsChild, TakesBack}
 use Rattle.sure_rules.specs.Nodes.{is_attackers, is_gone, target_of}
 use Rattle.sure_rules.specs.SureTree.{surely_wins}
-use Rattle.sure_rules.specs.Zones.{points_of, IsZone, IsPlayZone, IsReplyZone}
-use Rattle.sure_rules.proofs.SureLemmas.{sure-captured, sure_attacker_from, sure_defender_from}
+use Rattle.sure_rules.specs.Zones.{points_of, IsZone, IsTakenZone, IsTakingBackZone, IsPlayZone, IsReplyZone}
+use Rattle.sure_rules.proofs.SureLemmas.{sure-captured, none_at_attackers, sure_by_rules, sure_if_back_fails}
+use Rattle.sure_rules.proofs.SureLemmas.{sure_attacker_from, sure_defender_from}
+use Rattle.sure_rules.proofs.TakenLemmas.{child_on_board}
 use Rattle.sure_rules.proofs.StayLemmas.{stays_sure, next_stays, no_harder-refl}
 
 -- What a play captures.
@@ -53,17 +55,29 @@ module _ (pos : BoardState) (c : Colour) (p : ℕ) (new : BoardState) (sound : I
         only = only;
       }
 
--- the target's point alone is a zone of a node whose target is captured
+-- a target that is taken is taken on every position that agrees on its point
+gone_there : (node : Node) (pos here : BoardState) (Z : ℕ → Bool) → is_gone node pos ≡ true → Z (target_of node) ≡ true
+    → AgreeOn (points_of Z) pos here → is_gone node here ≡ true
+gone_there node pos here Z gone inside agrees =
+    ap (λ k. same_cell k Empty) (sym (agrees.cells (target_of node) inside)) ∙ gone
+
+-- what shows that a taken target is not taken back is a zone
 pub zone_captured : (n : ℕ) (node : Node) (pos : BoardState) (Z : ℕ → Bool) → is_gone node pos ≡ true
-    → Z (target_of node) ≡ true → IsZone n node pos Z
-zone_captured n node pos Z gone inside = λ here sound agrees.
-    sure-captured n node here (ap (λ k. same_cell k Empty) (sym (agrees.cells (target_of node) inside)) ∙ gone)
+    → IsTakenZone node pos Z → IsZone n node pos Z
+zone_captured n node pos Z gone w = λ here sound agrees.
+    sure_by_rules n node here (gone_there node pos here Z gone w.point agrees) (w.kept here sound agrees)
+
+-- and so is, with a ply more, what shows that to take back does not save it
+pub zone_taken_back : (n : ℕ) (node : Node) (pos : BoardState) (Z : ℕ → Bool) → is_gone node pos ≡ true
+    → IsTakingBackZone n node pos Z → IsZone (suc n) node pos Z
+zone_taken_back n node pos Z gone w = λ here sound agrees.
+    sure_if_back_fails n node here (gone_there node pos here Z gone w.point agrees) (w.fails here sound agrees)
 
 -- a play of the attacker that captures on every position that agrees shows a zone
 pub zone_attacker : (n : ℕ) (node : Node) (pos : BoardState) (Z : ℕ → Bool) → is_attackers node ≡ true
     → IsPlayZone n node pos Z → IsZone (suc n) node pos Z
 zone_attacker n node pos Z turn w = λ here sound agrees. elim (cases_Bool (is_gone node here)) [
-  | inl gone ↦ sure-captured (suc n) node here gone
+  | inl gone ↦ sure-captured (suc n) node here gone (none_at_attackers node here turn)
   | inr stands ↦
       let made = w.leads here sound agrees in
       let candidate = w.candidate here sound agrees in
@@ -163,11 +177,16 @@ module _ (n : ℕ) (node : Node) (pos : BoardState) (Z : ℕ → Bool) (turn : i
     ]
   ]
 
+  -- and so does to take back
+  back_fails : (next : Node) (new : BoardState) → TakesBack node here next new → surely_wins n next new ≡ true
+  back_fails next new back =
+      reply_fails (target_of node) next new (child_on_board node here (target_of node) next new back.child) back.child
+
 -- a node at which no reply holds on every position that agrees has that zone
 pub zone_defender : (n : ℕ) (node : Node) (pos : BoardState) (Z : ℕ → Bool) → is_attackers node ≡ false
     → IsReplyZone n node pos Z → IsZone (suc n) node pos Z
 zone_defender n node pos Z turn w = λ here sound agrees. elim (cases_Bool (is_gone node here)) [
-  | inl gone ↦ sure-captured (suc n) node here gone
+  | inl gone ↦ sure_if_back_fails n node here gone (back_fails n node pos Z turn w here sound agrees)
   | inr stands ↦ sure_defender_from n node here stands turn (record {
     passed = w.zone (pass here) (pass_keeps here sound) (after_pass n node pos Z turn w here sound agrees);
     played = reply_fails n node pos Z turn w here sound agrees;

@@ -1,16 +1,20 @@
--- Play against every defence, told by moves alone. Nothing here speaks of game trees or of candidates: two sides move in
--- turn, and the one that defends a stone may answer as it likes.
-use Rattle.std.specs.Prelude.{◌≡◌, ◌≢◌, ℕ, ◌-◌, ◌*◌, ◌<◌, ◌≤◌, List, [], ◌∷◌, length, Ok, Err, if◌then◌else◌}
+-- Play against every defence, told by moves alone. Nothing here speaks of game trees or of candidates: two sides move
+-- in turn, and the one that defends a stone may answer as it likes. Where the question is asked in the wider tree, a
+-- lone stone counts as taken only if it cannot be taken back at once.
+use Rattle.std.specs.Prelude.{◌≡◌, ℕ, ◌-◌, ◌*◌, ◌<◌, ◌≤◌, true, List, [], ◌∷◌, length, Ok, Err, if◌then◌else◌}
 use Rattle.go_rules.specs.declared.Cell.TheVariants.{Empty}
 use Rattle.go_rules.specs.declared.Colour.{Colour}
 use Rattle.go_rules.specs.declared.Illegal.TheVariants.{Ko}
+use Rattle.go_rules.specs.Board.{are_neighbours}
 use Rattle.go_rules.specs.Strings.{cell_at}
-use Rattle.go_rules.specs.Position.{BoardState, other}
+use Rattle.go_rules.specs.Position.{BoardState, other, stone_of}
 use Rattle.go_rules.specs.Play.{play, play_free, pass}
 use Rattle.read_rules.specs.declared.node.Node.{Node}
 use Rattle.read_rules.specs.declared.question.Spot.{Spot}
 use Rattle.read_rules.specs.declared.question.Spot.TheVariants.{At, Pass}
 use Rattle.read_rules.specs.declared.question.ReadingQuestion.{ReadingQuestion}
+use Rattle.read_rules.specs.declared.tree.Tree.{Tree}
+use Rattle.read_rules.specs.declared.tree.Tree.TheVariants.{Stated, Wider}
 use Rattle.read_rules.specs.GameTree.{allowance_of}
 use Rattle.read_rules.specs.Turns.{mover_of}
 use Rattle.read_rules.specs.Answer.{is_attack, own_allowance, other_allowance}
@@ -59,43 +63,68 @@ abbrev pub IsDefence : Colour → (List Spot → Spot) → Standing → Type 0
 IsDefence defender reply start = (moves : List Spot) (here : Standing) → IsGame defender reply start moves here
     → here.to_play ≡ defender → (there : Standing) × IsMove here (reply moves) there
 
--- against this reply some game of at most n moves leaves the target's point empty
-pub record IsTakenAgainst (n target : ℕ) (defender : Colour) (start : Standing) (reply : List Spot → Spot) : Type 0 where
+-- the defender can take back the lone stone that was taken at the target: its point is empty, each neighbour of the
+-- point holds a stone of the other side, it is his turn, and he may play at the point
+pub record CanTakeBack (target : ℕ) (defender : Colour) (here : Standing) : Type 0 where
+  pub empty : cell_at here.board.cells target ≡ Empty
+  pub lone : (q : ℕ) → q < here.board.size * here.board.size → are_neighbours here.board.size target q ≡ true
+      → cell_at here.board.cells q ≡ stone_of (other defender)
+  pub turn : here.to_play ≡ defender
+  pub there : Standing
+  pub move : IsMove here (At target) there
+
+-- the stone at the target is taken and cannot be taken back at once
+pub record IsTakenForGood (target : ℕ) (defender : Colour) (here : Standing) : Type 0 where
+  pub empty : cell_at here.board.cells target ≡ Empty
+  pub kept : CanTakeBack target defender here → ⊥
+
+-- what is to be reached in a tree: in the stated one the target's point is empty; in the wider one the stone is taken
+-- and cannot be taken back at once
+abbrev pub IsTaken : Tree → ℕ → Colour → Standing → Type 0
+IsTaken Stated target defender here = cell_at here.board.cells target ≡ Empty
+IsTaken Wider target defender here = IsTakenForGood target defender here
+
+-- against this reply some game of at most n moves ends where the stone is taken
+pub record IsTakenAgainst (tree : Tree) (n target : ℕ) (defender : Colour) (start : Standing)
+    (reply : List Spot → Spot) : Type 0 where
   pub moves : List Spot
   pub end : Standing
   pub game : IsGame defender reply start moves end
   pub few : length moves ≤ n
-  pub taken : cell_at end.board.cells target ≡ Empty
+  pub taken : IsTaken tree target defender end
 
 -- against every defence the stone at the target is taken within n moves
-abbrev pub IsTakenAnyway : ℕ → ℕ → Colour → Standing → Type 0
-IsTakenAnyway n target defender start = (reply : List Spot → Spot) → IsDefence defender reply start
-    → IsTakenAgainst n target defender start reply
+abbrev pub IsTakenAnyway : Tree → ℕ → ℕ → Colour → Standing → Type 0
+IsTakenAnyway tree n target defender start = (reply : List Spot → Spot) → IsDefence defender reply start
+    → IsTakenAgainst tree n target defender start reply
 
--- these moves, the newest first, lead from the start to here: each may be made, the attacker plays at the point that his
--- plan names for the moves so far, the defender moves as he likes, and the stone at the target stood before each move
-pub data IsPlayed (target : ℕ) (defender : Colour) (plan : List Spot → ℕ) (start : Standing) : List Spot → Standing
-    → Type 0 where
-  opens : IsPlayed target defender plan start [] start
-  follows : {moves : List Spot} {here there : Standing} → IsPlayed target defender plan start moves here
-      → cell_at here.board.cells target ≢ Empty → here.to_play ≡ other defender → IsMove here (At (plan moves)) there
-      → IsPlayed target defender plan start (At (plan moves) ∷ moves) there
-  answers : {moves : List Spot} {here there : Standing} → IsPlayed target defender plan start moves here
-      → cell_at here.board.cells target ≢ Empty → here.to_play ≡ defender → (spot : Spot) → IsMove here spot there
-      → IsPlayed target defender plan start (spot ∷ moves) there
+-- these moves, the newest first, lead from the start to here: each may be made, the attacker plays at the point that
+-- his plan names for the moves so far, the defender moves as he likes, and before each move the stone was not yet
+-- taken
+pub data IsPlayed (tree : Tree) (target : ℕ) (defender : Colour) (plan : List Spot → ℕ) (start : Standing) : List Spot
+    → Standing → Type 0 where
+  opens : IsPlayed tree target defender plan start [] start
+  follows : {moves : List Spot} {here there : Standing} → IsPlayed tree target defender plan start moves here
+      → (IsTaken tree target defender here → ⊥) → here.to_play ≡ other defender → IsMove here (At (plan moves)) there
+      → IsPlayed tree target defender plan start (At (plan moves) ∷ moves) there
+  answers : {moves : List Spot} {here there : Standing} → IsPlayed tree target defender plan start moves here
+      → (IsTaken tree target defender here → ⊥) → here.to_play ≡ defender → (spot : Spot) → IsMove here spot there
+      → IsPlayed tree target defender plan start (spot ∷ moves) there
 
--- the plan takes the stone at the target within n moves, whatever the defender plays: in every game by the plan, as long
--- as the stone stands, fewer than n moves were made, and at the attacker's turn the plan's move may be made
-pub record IsPlanWithin (n target : ℕ) (defender : Colour) (start : Standing) (plan : List Spot → ℕ) : Type 0 where
-  pub in_time : (moves : List Spot) (here : Standing) → IsPlayed target defender plan start moves here
-      → cell_at here.board.cells target ≢ Empty → length moves < n
-  pub can_go_on : (moves : List Spot) (here : Standing) → IsPlayed target defender plan start moves here
-      → cell_at here.board.cells target ≢ Empty → here.to_play ≡ other defender
+-- the plan takes the stone at the target within n moves, whatever the defender plays: in every game by the plan, as
+-- long as the stone is not taken, fewer than n moves were made, and at the attacker's turn the plan's move may be
+-- made
+pub record IsPlanWithin (tree : Tree) (n target : ℕ) (defender : Colour) (start : Standing)
+    (plan : List Spot → ℕ) : Type 0 where
+  pub in_time : (moves : List Spot) (here : Standing) → IsPlayed tree target defender plan start moves here
+      → (IsTaken tree target defender here → ⊥) → length moves < n
+  pub can_go_on : (moves : List Spot) (here : Standing) → IsPlayed tree target defender plan start moves here
+      → (IsTaken tree target defender here → ⊥) → here.to_play ≡ other defender
       → (there : Standing) × IsMove here (At (plan moves)) there
 
 -- some plan takes the stone at the target within n moves, whatever the defender plays
-abbrev pub HasPlanWithin : ℕ → ℕ → Colour → Standing → Type 0
-HasPlanWithin n target defender start = (plan : List Spot → ℕ) × IsPlanWithin n target defender start plan
+abbrev pub HasPlanWithin : Tree → ℕ → ℕ → Colour → Standing → Type 0
+HasPlanWithin tree n target defender start = (plan : List Spot → ℕ) × IsPlanWithin tree n target defender start plan
 
 -- where the two sides stand at a node
 abbrev pub standing_at : Node → BoardState → Standing

@@ -11,8 +11,8 @@ use Rattle.read_rules.specs.Candidates.{is_candidate}
 use Rattle.read_rules.specs.declared.node.Node.{Node}
 use Rattle.read_rules.specs.GameTree.{allowance_of, next_node}
 use Rattle.read_rules.specs.Turns.{mover_of}
-use Rattle.read_rules.specs.Rules.{IsChild}
-use Rattle.sure_rules.specs.Nodes.{has_too_many}
+use Rattle.read_rules.specs.Rules.{IsChild, TakesBack}
+use Rattle.sure_rules.specs.Nodes.{target_of, has_too_many}
 use Rattle.sure_rules.specs.SureTree.{surely_wins}
 
 -- the points of a set
@@ -27,6 +27,20 @@ WhereverAgrees pos Z P = (here : BoardState) → IsPosition here → AgreeOn (po
 -- left
 abbrev pub IsZone : ℕ → Node → BoardState → (ℕ → Bool) → Type 0
 IsZone n node pos Z = WhereverAgrees pos Z (λ here. IsTrue (surely_wins n node here))
+
+-- Z shows that a taken target is not taken back: it contains the target's point, and on no position that agrees with
+-- this one on Z can the defender take back
+pub record IsTakenZone (node : Node) (pos : BoardState) (Z : ℕ → Bool) : Type 0 where
+  pub point : IsTrue (Z (target_of node))
+  pub kept : WhereverAgrees pos Z (λ here. (next : Node) (made : BoardState) → TakesBack node here next made → ⊥)
+
+-- Z shows that to take back does not save a target that is taken: it contains the target's point, and on every position
+-- that agrees with this one on Z, where the defender can take back, the target is surely captured at the child, with n
+-- plies left
+pub record IsTakingBackZone (n : ℕ) (node : Node) (pos : BoardState) (Z : ℕ → Bool) : Type 0 where
+  pub point : IsTrue (Z (target_of node))
+  pub fails : WhereverAgrees pos Z (λ here. (next : Node) (made : BoardState) → TakesBack node here next made
+      → IsTrue (surely_wins n next made))
 
 -- Z shows that one play of the attacker captures: on every position that agrees on Z, the target has not too many
 -- liberties, the point is a candidate, and the play there leads to the same next node and to a position that agrees with

@@ -11,23 +11,29 @@ ghost use Rattle.read_rules.specs.declared.question.ReadingQuestion.{ReadingQues
 ghost use Rattle.read_rules.specs.declared.question.Spot.{Spot};
 ghost use Rattle.read_rules.specs.GameTree.{attacker_wins};
 ghost use Rattle.read_rules.specs.Answer.{is_about, code_of, first_node};
-ghost use Rattle.read_rules.specs.Rules.{node_under};
+ghost use Rattle.read_rules.specs.Rules.{TakesBack, node_under};
 ghost use Rattle.sure_rules.specs.Nodes.{is_attackers, is_gone, has_too_many, target_of, defender_of};
-ghost use Rattle.sure_rules.specs.Nodes.{IsNoHarder, in_wider_tree};
-ghost use Rattle.sure_rules.specs.SureTree.{surely_wins};
+ghost use Rattle.sure_rules.specs.Nodes.{IsNoHarder, HasMoreStones, in_wider_tree};
+ghost use Rattle.sure_rules.specs.SureTree.{surely_wins, IsNeverTakenBack};
 ghost use Rattle.sure_rules.specs.SureAnswer.{surely_attains, sure_code_of, sure_answer_of};
 ghost use Rattle.sure_rules.specs.SureInWords.{SomeCandidateCaptures, EveryReplyFails};
 ghost use Rattle.sure_rules.specs.SureInWords.{IsFirstSureMove, IsGreatestSureCode};
 ghost use Rattle.sure_rules.specs.Defences.{IsTakenAnyway, HasPlanWithin, standing_at, start_of};
-ghost use Rattle.sure_rules.specs.Zones.{IsZone, IsPlayZone, IsReplyZone};
+ghost use Rattle.sure_rules.specs.Zones.{IsZone, IsTakenZone, IsTakingBackZone, IsPlayZone, IsReplyZone};
 
 use read_rules::Kind;
 
 /// The four rules of a sure capture, in their order. The attacker plays a candidate; the defender passes, or plays
-/// anywhere on the board.
+/// anywhere on the board. A target that is taken is surely captured, but where the defender can take back the lone
+/// stone only if a ply is left for it and the capture is sure after it too.
 pub fn sure_captures_are_by_four_rules()
     ensures captured { (n : ℕ) (node : Node) (pos : BoardState) → IsTrue (is_gone node pos)
+        → ((next : Node) (new : BoardState) → TakesBack node pos next new → ⊥)
         → IsTrue (surely_wins n node pos) }
+    ensures taken_back { (n : ℕ) (node : Node) (pos : BoardState) (next : Node) (new : BoardState)
+        → TakesBack node pos next new → surely_wins (n + 1) node pos ≡ surely_wins n next new }
+    ensures none_left { (node : Node) (pos : BoardState) (next : Node) (new : BoardState)
+        → TakesBack node pos next new → surely_wins 0 node pos ≡ false }
     ensures out_of_plies { (node : Node) (pos : BoardState) → is_gone node pos ≡ false
         → surely_wins 0 node pos ≡ false }
     ensures attacker_to_play { (n : ℕ) (node : Node) (pos : BoardState) → is_gone node pos ≡ false
@@ -51,40 +57,47 @@ pub fn sure_captures_are_captures()
 {}
 
 /// A sure capture stays sure with more plies; if the attacker may ignore the ko ban more often, or the defender less
-/// often; and if the attacker tries further candidates, in the wider tree or with more wide plies.
+/// often; and if the attacker tries further candidates, with more wide plies, or in the wider tree. There a string of
+/// two stones or more stays surely captured, and so does a lone stone that, wherever it is taken, cannot be taken
+/// back: since in the wider tree a stone that is taken back at once, by a snapback or a ko, does not count as
+/// captured, the capture of a lone stone may be sure in the stated tree alone.
 pub fn sure_captures_stay_sure()
     ensures more_plies { (n : ℕ) (node : Node) (pos : BoardState) → IsTrue (surely_wins n node pos)
         → IsTrue (surely_wins (n + 1) node pos) }
-    ensures wider_tree { (n : ℕ) (node : Node) (pos : BoardState) → IsTrue (surely_wins n node pos)
-        → IsTrue (surely_wins n (in_wider_tree node) pos) }
+    ensures wider_tree { (n : ℕ) (node : Node) (pos : BoardState) → IsPosition pos → HasMoreStones node pos
+        → IsTrue (surely_wins n node pos) → IsTrue (surely_wins n (in_wider_tree node) pos) }
+    ensures never_taken_back { (n : ℕ) (node : Node) (pos : BoardState) → IsNeverTakenBack n node pos
+        → IsTrue (surely_wins n node pos) → IsTrue (surely_wins n (in_wider_tree node) pos) }
     ensures no_harder { (n m : ℕ) (node more : Node) (pos : BoardState) → n ≤ m → IsNoHarder node more
         → IsTrue (surely_wins n node pos) → IsTrue (surely_wins m more pos) }
 {}
 
-/// A sure capture stands against every defence: whatever the defender answers, by moves that he may make, some game of
-/// at most so many moves takes the stone. The sides move in turn, and each may play where the ko ban alone forbids it as
-/// often as its allowance says. A sure attack takes the stone under the allowances of its code; a string that is surely
-/// not to be saved is taken under those of every code, whatever the defender plays first.
+/// A sure capture stands against every defence: whatever the defender answers, by moves that he may make, some game
+/// of at most so many moves takes the stone; in the wider tree it ends where the stone is taken and cannot be taken
+/// back at once. The sides move in turn, and each may play where the ko ban alone forbids it as often as its
+/// allowance says. A sure attack takes the stone under the allowances of its code; a string that is surely not to be
+/// saved is taken under those of every code, whatever the defender plays first.
 pub fn sure_captures_stand_against_every_defence()
     ensures node { (n : ℕ) (node : Node) (pos : BoardState) → IsTrue (surely_wins n node pos)
-        → IsTakenAnyway n (target_of node) (defender_of node) (standing_at node pos) }
+        → IsTakenAnyway node.turn.tree n (target_of node) (defender_of node) (standing_at node pos) }
     ensures attack { (q : ReadingQuestion) (pos : BoardState) → q.kind ≡ Kind.Attack → sure_code_of q pos ≢ 0
-        → IsTakenAnyway q.plies q.target q.colour (start_of q pos (sure_code_of q pos)) }
+        → IsTakenAnyway q.tree q.plies q.target q.colour (start_of q pos (sure_code_of q pos)) }
     ensures defend { (q : ReadingQuestion) (pos : BoardState) → is_about q pos ≡ true → q.kind ≡ Kind.Defend
         → sure_code_of q pos ≡ 0 → (code : ℕ) → 1 ≤ code → code ≤ 3
-        → IsTakenAnyway q.plies q.target q.colour (start_of q pos code) }
+        → IsTakenAnyway q.tree q.plies q.target q.colour (start_of q pos code) }
 {}
 
-/// A sure capture has a plan: a point for each list of moves so far, such that in every game in which the attacker plays
-/// by it, and the defender as he likes, the plan's move may be made and the stone is taken within so many moves.
+/// A sure capture has a plan: a point for each list of moves so far, such that in every game in which the attacker
+/// plays by it, and the defender as he likes, the plan's move may be made and the stone is taken within so many
+/// moves.
 pub fn sure_captures_have_a_plan()
     ensures node { (n : ℕ) (node : Node) (pos : BoardState) → IsTrue (surely_wins n node pos)
-        → HasPlanWithin n (target_of node) (defender_of node) (standing_at node pos) }
+        → HasPlanWithin node.turn.tree n (target_of node) (defender_of node) (standing_at node pos) }
     ensures attack { (q : ReadingQuestion) (pos : BoardState) → q.kind ≡ Kind.Attack → sure_code_of q pos ≢ 0
-        → HasPlanWithin q.plies q.target q.colour (start_of q pos (sure_code_of q pos)) }
+        → HasPlanWithin q.tree q.plies q.target q.colour (start_of q pos (sure_code_of q pos)) }
     ensures defend { (q : ReadingQuestion) (pos : BoardState) → is_about q pos ≡ true → q.kind ≡ Kind.Defend
         → sure_code_of q pos ≡ 0 → (code : ℕ) → 1 ≤ code → code ≤ 3
-        → HasPlanWithin q.plies q.target q.colour (start_of q pos code) }
+        → HasPlanWithin q.tree q.plies q.target q.colour (start_of q pos code) }
 {}
 
 /// The codes of a sure answer by their ko allowances of attacker and defender, each code within the one below it, the
@@ -121,9 +134,10 @@ pub fn sure_answers_are_by_codes()
 {}
 
 /// A zone of a sure capture is a set of points on which it rests: on every position that agrees there, in cells and
-/// bans, the target is surely captured with the same plies. A captured target rests on its own point. At the attacker's
-/// turn a capture rests on what shows one play of his, and on what its child rests on. At the defender's turn it rests
-/// on what the pass rests on and on the replies that are read: those at an empty point of that zone, and those at the
+/// bans, the target is surely captured with the same plies. A target that is taken rests on its own point and on what
+/// shows that it is not taken back; where it can be, on what the capture after that rests on. At the attacker's turn
+/// a capture rests on what shows one play of his, and on what its child rests on. At the defender's turn it rests on
+/// what the pass rests on and on the replies that are read: those at an empty point of that zone, and those at the
 /// only liberty of an attacker's string that has a stone in it. Every other reply changes nothing there, since what a
 /// play captures had its only liberty at the point of the play.
 pub fn zones_are_by_rules()
@@ -132,7 +146,9 @@ pub fn zones_are_by_rules()
     ensures larger { (n : ℕ) (node : Node) (pos : BoardState) (Z W : ℕ → Bool) → ((p : ℕ) → IsTrue (Z p) → IsTrue (W p))
         → IsZone n node pos Z → IsZone n node pos W }
     ensures captured { (n : ℕ) (node : Node) (pos : BoardState) (Z : ℕ → Bool) → IsTrue (is_gone node pos)
-        → IsTrue (Z (target_of node)) → IsZone n node pos Z }
+        → IsTakenZone node pos Z → IsZone n node pos Z }
+    ensures taken_back { (n : ℕ) (node : Node) (pos : BoardState) (Z : ℕ → Bool) → IsTrue (is_gone node pos)
+        → IsTakingBackZone n node pos Z → IsZone (n + 1) node pos Z }
     ensures attacker { (n : ℕ) (node : Node) (pos : BoardState) (Z : ℕ → Bool) → is_attackers node ≡ true
         → IsPlayZone n node pos Z → IsZone (n + 1) node pos Z }
     ensures defender { (n : ℕ) (node : Node) (pos : BoardState) (Z : ℕ → Bool) → is_attackers node ≡ false

@@ -16,7 +16,6 @@ use Rattle.read_tree.specs.Allowances.{under, Tells, own_ko, own_where, without,
 use Rattle.read_tree.proofs.AllowanceLemmas.{some_of, none_of, has-without, in_other, and_parts_not, has_all}
 use Rattle.read_tree.proofs.TableLemmas.{has_both}
 use Rattle.read_tree.proofs.NodeLemmas.{under_by, first_point}
-use Rattle.read_proof.specs.Proves.{is_settled, has_too_many}
 use Rattle.read_proof.specs.FirstProof.{first_words, first_words_of}
 use Rattle.read_proof.specs.ProofOf.{codes_down_to, claim_under, letter_of}
 use Rattle.write_proof.specs.declared.alike.Told.{Told}
@@ -40,12 +39,6 @@ puts_up_told {U} old new after x y e (Err k) same h =
 pub yes_told : (b : Bool) → b ≡ true → ◌≢◌ {A = Result Bool NoRoom} (Ok b) (Ok false)
 yes_told true e = λ w. cc
 yes_told false e = absurd (let w = e in cc)
-
--- whether a claim is settled is the same under each allowance
-pub settled_alike : (n : ℕ) (won : Bool) (turn : Turn) (ko : Ko) (here : BoardState) (node : Node)
-    → node ≡ under turn neither_may → is_settled n won node here ≡ is_settled n won (under turn ko) here
-unfolding is_settled has_too_many
-settled_alike n won turn ko here node is = ap (λ (m : Node). is_settled n won m here) is
 
 -- where the negation fails, the test passes
 pub not_false : (b : Bool) → not b ≡ true → b ≡ false

@@ -1,3 +1,4 @@
 pub mod PutLemmas
 pub mod WriteLemmas
 pub mod AlikeLemmas
+pub mod BackLemmas

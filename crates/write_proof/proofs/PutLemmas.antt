@@ -12,16 +12,19 @@ use Rattle.vertices.specs.Words.{blank}
 use Rattle.read_rules.specs.declared.node.Node.{Node}
 use Rattle.read_rules.specs.declared.question.ReadingQuestion.{ReadingQuestion}
 use Rattle.read_rules.specs.Answer.{first_node, code_of}
-use Rattle.read_rules.specs.GameTree.{first_move}
+use Rattle.read_rules.specs.GameTree.{first_move, child_of, taking_back}
+use Rattle.read_rules.specs.declared.question.Spot.TheVariants.{At}
+use Rattle.read_rules.proofs.RuleLemmas.{there, taking_back_gives}
 use Rattle.write_proof.specs.declared.text.NoRoom.{NoRoom}
 use Rattle.read_proof.specs.Tokens.{Word}
-use Rattle.read_proof.specs.Proves.{is_settled, is_wanted, pass_children, play_children, children_of}
-use Rattle.read_proof.specs.FirstProof.{Writer, write_each, write_move, first_words, first_words_of, first_text}
+use Rattle.read_proof.specs.Proves.{can_take_back, is_settled, is_wanted, pass_children, play_children, children_of}
+use Rattle.read_proof.specs.FirstProof.{Writer, move_word, write_each, write_move, first_words, first_words_of}
+use Rattle.read_proof.specs.FirstProof.{first_text}
 use Rattle.read_proof.specs.ProofOf.{codes_down_to, claim_under, letter_of}
 use Rattle.write_proof.specs.Printed.{behind_blanks, Puts}
 use Rattle.write_proof.specs.Room.{most_bytes}
 use Rattle.read_proof.proofs.ChildLemmas.{walk_next, walk_over}
-use Rattle.read_proof.proofs.FirstLemmas.{words_by}
+use Rattle.read_proof.proofs.FirstLemmas.{words-settled, words-moves, words-back}
 
 -- what is put behind what was put
 pub puts_both : {T : Type 0} (old mid new x y : List ℕ) (r : Result T NoRoom) → mid ≡ old ++ x → Puts mid y new r
@@ -60,29 +63,44 @@ pub dot_words : (n : ℕ) (won : Bool) (node : Node) (pos : BoardState) → (n �
 unfolding first_words
 dot_words zero won node pos h = refl
 dot_words (suc n) won node pos (inl none) = absurd (let w = none in cc)
-dot_words (suc n) won node pos (inr settled) = words_by n won node pos true (is_wanted won node) settled refl
+dot_words (suc n) won node pos (inr settled) = words-settled n won node pos settled
+
+-- where the defender takes back, the word of his play is written, and then the proof at the child to which it leads
+pub back_words : (n : ℕ) (won : Bool) (node : Node) (pos : BoardState) → n ≢ 0 → can_take_back node pos ≡ true
+    → first_words n won node pos ≡ move_word pos.size (At node.turn.target)
+    ∷ write_each (first_words (n - 1) won) (option_to_list (child_of node pos node.turn.target))
+back_words zero won node pos some back = absurd (some refl)
+back_words (suc n) won node pos some back =
+    let less : n ≡ suc n - 1 = omega arith in
+    let child = there (taking_back node pos) back in
+    let played = (taking_back_gives node pos child.0 child.1).1 in
+    let word = move_word pos.size (At node.turn.target) in
+    words-back n won node pos child.0 child.1
+    ∙ ap (λ ws. word ∷ ws) (sym (append-nil (first_words n won child.0.0 child.0.1))
+    ∙ sym (ap (λ o. write_each (first_words n won) (option_to_list o)) played))
+    ∙ ap (λ m. word ∷ write_each (first_words m won) (option_to_list (child_of node pos node.turn.target))) less
 
 -- a move is written where the side to play wants the claim
 pub move_words : (n : ℕ) (won : Bool) (node : Node) (pos : BoardState) → n ≢ 0 → is_settled n won node pos ≡ false
-    → is_wanted won node ≡ true → first_words n won node pos
+    → taking_back node pos ≡ None → is_wanted won node ≡ true → first_words n won node pos
     ≡ write_move (first_words (n - 1) won) node pos (first_move (n - 1) node pos)
-move_words zero won node pos some settled wanted = absurd (some refl)
-move_words (suc n) won node pos some settled wanted =
+move_words zero won node pos some settled none wanted = absurd (some refl)
+move_words (suc n) won node pos some settled none wanted =
     let less : n ≡ suc n - 1 = omega arith in
-    words_by n won node pos false true settled wanted
+    words-moves n won node pos true settled none wanted
     ∙ ap (λ m. write_move (first_words m won) node pos (first_move m node pos)) less
 
 -- else `*`, and then the proofs after the pass and after the plays
 pub each_words : (n : ℕ) (won : Bool) (node : Node) (pos : BoardState) → n ≢ 0 → is_settled n won node pos ≡ false
-    → is_wanted won node ≡ false → behind_blanks (first_words n won node pos)
+    → taking_back node pos ≡ None → is_wanted won node ≡ false → behind_blanks (first_words n won node pos)
     ≡ behind_blanks (codes "*" ∷ []) ++ (behind_blanks (write_each (first_words (n - 1) won) (pass_children node pos))
     ++ behind_blanks (write_each (first_words (n - 1) won) (play_children node pos)))
 unfolding children_of
-each_words zero won node pos some settled wanted = absurd (some refl)
-each_words (suc n) won node pos some settled wanted =
+each_words zero won node pos some settled none wanted = absurd (some refl)
+each_words (suc n) won node pos some settled none wanted =
     let less : n ≡ suc n - 1 = omega arith in
     let write = first_words n won in
-    ap behind_blanks (words_by n won node pos false false settled wanted)
+    ap behind_blanks (words-moves n won node pos false settled none wanted)
     ∙ ap (λ t. blank ∷ (codes "*" ++ t)) (ap behind_blanks (each_both write (pass_children node pos)
     (play_children node pos))
     ∙ blanks_both (write_each write (pass_children node pos)) (write_each write (play_children node pos)))

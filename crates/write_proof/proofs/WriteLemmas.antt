@@ -1,7 +1,7 @@
 -- What is written at a node, by what is written at the nodes to which its moves lead.
 use Rattle.std.proofs.Common.{◌≡◌, ◌∙◌, ℕ, ◌-◌, ◌≤◌, Bool, true, false, cond, List, [], ◌∷◌, ◌++◌, length}
 use Rattle.std.proofs.Common.{Option, Some, None, Result, Ok, Err, refl, sym, ap, subst, arith, ltb, eqb, ◌||◌, ◌&&◌}
-use Rattle.std.proofs.Common.{not, ◌+◌, ◌*◌, ◌/◌, ◌<◌, ◌≢◌, drop, ◌↔◌}
+use Rattle.std.proofs.Common.{not, is_some, ◌+◌, ◌*◌, ◌/◌, ◌<◌, ◌≢◌, drop, ◌↔◌}
 use Rattle.std.proofs.lemmas.Bool.{ne_eqb}
 use Rattle.std.specs.List.{filter_map, filter, range_with_len}
 use Rattle.std.specs.Option.{option_to_list, option_map}
@@ -19,9 +19,11 @@ use Rattle.read_rules.specs.declared.question.Spot.{Spot}
 use Rattle.read_rules.specs.declared.question.Spot.TheVariants.{At, Pass}
 use Rattle.read_rules.specs.Trees.{most_narrow}
 use Rattle.read_rules.specs.GameTree.{child_of, next_node, allowance_of, first_move, is_captured, has_many_liberties}
+use Rattle.read_rules.specs.GameTree.{taking_back}
 use Rattle.read_rules.proofs.RuleLemmas.{first_move_gives}
 use Rattle.read_tree.specs.Nodes.{LeadsTo}
 use Rattle.read_proof.specs.Proves.{child_after, passed, pass_children, play_children, is_settled, has_too_many}
+use Rattle.read_proof.specs.Tokens.{Word}
 use Rattle.read_proof.specs.FirstProof.{Writer, move_word, write_child, write_each, write_move, first_words}
 use Rattle.write_proof.specs.declared.text.ProofError.{ProofError}
 use Rattle.write_proof.specs.declared.text.ProofError.TheVariants.{TooLong, NoMemory}
@@ -165,6 +167,29 @@ module _ (n : ℕ) (won : Bool) (node : Node) (here : BoardState) where
   unfolding child_after
   pass_child = ap behind_blanks (sym (pass_each (first_words n won) node.turn.attacker_to_play (passed node here)))
 
+-- The word of a move on a board of this size, and the words behind it.
+module _ (size s : ℕ) (same : size ≡ s) (spot : Spot) (more : List Word) (old : List ℕ) where
+  -- a word behind a blank and the others are all of them
+  word_parts : behind_blanks (move_word size spot ∷ []) ++ behind_blanks more ≡ behind_blanks (move_word s spot ∷ more)
+  word_parts =
+      sym (blanks_both (move_word size spot ∷ []) more) ∙ ap (λ m. behind_blanks (move_word m spot ∷ more)) same
+
+  -- what is written behind its word
+  pub word_written : {T : Type 0} (mid out : List ℕ) (r : Result T NoRoom)
+      → mid ≡ old ++ behind_blanks (move_word size spot ∷ []) → Puts mid (behind_blanks more) out r
+      → Puts old (behind_blanks (move_word s spot ∷ more)) out r
+  word_written mid out r behind h =
+      subst (λ ws. Puts old ws out r) word_parts
+      (puts_both old mid out (behind_blanks (move_word size spot ∷ [])) (behind_blanks more) r behind h)
+
+  -- there was no room for its word
+  pub word_refused : {T : Type 0} (out end : List ℕ) (e : NoRoom) (r : Result T NoRoom) → IsErrAnd r (λ k. k ≡ e)
+      → Puts {T = Unit {0}} old (behind_blanks (move_word size spot ∷ [])) out (Err e)
+      → Puts old (behind_blanks (move_word s spot ∷ more)) end r
+  word_refused out end e r up h =
+      subst (λ ws. Puts old ws end r) word_parts
+      (puts_up old out end (behind_blanks (move_word size spot ∷ [])) (behind_blanks more) e r up h)
+
 -- before the first candidate everything is left to write
 pub all_left : (write : Writer) (f : ℕ → Option (Node × BoardState)) (g : ℕ → Bool) (n : ℕ) (out : List ℕ)
     → out ++ behind_blanks (write_each write (filter_map f (filter g (range_with_len 0 (n - 0)))))
@@ -173,48 +198,64 @@ all_left write f g n out =
     let less : n - 0 ≡ n = omega arith in
     ap (λ m. out ++ behind_blanks (write_each write (filter_map f (filter g (range_with_len 0 m))))) less
 
--- The claim at a node with n plies left, by what was found of the target.
-module _ (n : ℕ) (node : Node) (here : BoardState) (captured : Bool) (found : captured ≡ is_captured here node.turn.target)
-  where
-    -- that the attacker wins is settled where the target is captured
-    pub settled_won : (won : Bool) → won ≡ true → captured ≡ is_settled n won node here
-    unfolding is_settled
-    settled_won won e =
-        found ∙ sym (ap (λ b. cond b (is_captured here node.turn.target) (not (is_captured here node.turn.target)
-        && (eqb n 0 || has_too_many n node here))) e)
+-- The claim at a node with n plies left at which the defender cannot take back, by what was found of the target.
+module _ (n : ℕ) (node : Node) (here : BoardState) (captured : Bool)
+    (found : captured ≡ is_captured here node.turn.target) (none : taking_back node here ≡ None) where
+  -- the claim is settled by whether the target is taken, how many plies are left, and how many liberties it has
+  settled_by : (won : Bool) → is_settled n won node here ≡ cond won (captured && true)
+      (cond captured (eqb n 0 && false) (eqb n 0 || has_too_many n node here))
+  unfolding is_settled
+  settled_by won =
+      ap (λ o. cond won (is_captured here node.turn.target && not (is_some o))
+      (cond (is_captured here node.turn.target) (eqb n 0 && is_some o) (eqb n 0 || has_too_many n node here))) none
+      ∙ sym (ap (λ b. cond won (b && true) (cond b (eqb n 0 && false) (eqb n 0 || has_too_many n node here))) found)
 
-    -- that he does not is not, where it is
-    pub settled_captured : (won : Bool) → won ≡ false → captured ≡ true → false ≡ is_settled n won node here
-    unfolding is_settled
-    settled_captured won e taken =
-        sym (ap (λ b. cond b (is_captured here node.turn.target) (not (is_captured here node.turn.target)
-        && (eqb n 0 || has_too_many n node here))) e
-        ∙ ap (λ b. not b && (eqb n 0 || has_too_many n node here)) (sym found ∙ taken))
+  -- that the attacker wins is settled where the target is captured
+  pub settled_won : (won : Bool) → won ≡ true → captured ≡ is_settled n won node here
+  settled_won won e = sym (settled_by won
+      ∙ ap (λ b. cond b (captured && true)
+      (cond captured (eqb n 0 && false) (eqb n 0 || has_too_many n node here))) e ∙ by captured)
+    where
+      by : (b : Bool) → (b && true) ≡ b
+      by true = refl
+      by false = refl
 
-    -- else it is where no ply is left
-    pub settled_end : (won : Bool) → won ≡ false → captured ≡ false → n ≡ 0 → true ≡ is_settled n won node here
-    unfolding is_settled
-    settled_end won e stands none =
-        sym (ap (λ b. cond b (is_captured here node.turn.target) (not (is_captured here node.turn.target)
-        && (eqb n 0 || has_too_many n node here))) e
-        ∙ ap (λ b. not b && (eqb n 0 || has_too_many n node here)) (sym found ∙ stands)
-        ∙ ap (λ m. eqb m 0 || has_too_many n node here) none)
+  -- that he does not is not, where it is
+  pub settled_captured : (won : Bool) → won ≡ false → captured ≡ true → false ≡ is_settled n won node here
+  settled_captured won e taken = sym (settled_by won
+      ∙ ap (λ b. cond b (captured && true)
+      (cond captured (eqb n 0 && false) (eqb n 0 || has_too_many n node here))) e
+      ∙ ap (λ b. cond b (eqb n 0 && false) (eqb n 0 || has_too_many n node here)) taken ∙ by (eqb n 0))
+    where
+      by : (b : Bool) → (b && false) ≡ false
+      by true = refl
+      by false = refl
 
-    -- or the target has too many liberties
-    pub settled_many : (won : Bool) (many : ℕ) → won ≡ false → captured ≡ false → n ≢ 0
-        → many ≡ liberties here.size here.cells node.turn.target
-        → cond node.turn.attacker_to_play (ltb ((n + 1) / 2) many
-        || (ltb 4 many || (eqb node.turn.wide 0 && ltb (most_narrow node.turn.tree) many)))
-        (ltb (n / 2) many) ≡ is_settled n won node here
-    unfolding is_settled has_too_many has_many_liberties
-    settled_many won many e stands some is =
-        ap (λ m. cond node.turn.attacker_to_play (ltb ((n + 1) / 2) m
-        || (ltb 4 m || (eqb node.turn.wide 0 && ltb (most_narrow node.turn.tree) m)))
-        (ltb (n / 2) m)) is
-        ∙ sym (ap (λ b. cond b (is_captured here node.turn.target) (not (is_captured here node.turn.target)
-        && (eqb n 0 || has_too_many n node here))) e
-        ∙ ap (λ b. not b && (eqb n 0 || has_too_many n node here)) (sym found ∙ stands)
-        ∙ ap (λ b. b || has_too_many n node here) (ne_eqb n 0 some))
+  -- else it is by the plies left and the liberties
+  settled_standing : (won : Bool) → won ≡ false → captured ≡ false
+      → is_settled n won node here ≡ (eqb n 0 || has_too_many n node here)
+  settled_standing won e stands = settled_by won
+      ∙ ap (λ b. cond b (captured && true)
+      (cond captured (eqb n 0 && false) (eqb n 0 || has_too_many n node here))) e
+      ∙ ap (λ b. cond b (eqb n 0 && false) (eqb n 0 || has_too_many n node here)) stands
+
+  -- it is where no ply is left
+  pub settled_end : (won : Bool) → won ≡ false → captured ≡ false → n ≡ 0 → true ≡ is_settled n won node here
+  settled_end won e stands over =
+      sym (settled_standing won e stands ∙ ap (λ m. eqb m 0 || has_too_many n node here) over)
+
+  -- or the target has too many liberties
+  pub settled_many : (won : Bool) (many : ℕ) → won ≡ false → captured ≡ false → n ≢ 0
+      → many ≡ liberties here.size here.cells node.turn.target
+      → cond node.turn.attacker_to_play (ltb ((n + 1) / 2) many
+      || (ltb 4 many || (eqb node.turn.wide 0 && ltb (most_narrow node.turn.tree) many)))
+      (ltb (n / 2) many) ≡ is_settled n won node here
+  unfolding has_too_many has_many_liberties
+  settled_many won many e stands some is =
+      ap (λ m. cond node.turn.attacker_to_play (ltb ((n + 1) / 2) m
+      || (ltb 4 m || (eqb node.turn.wide 0 && ltb (most_narrow node.turn.tree) m)))
+      (ltb (n / 2) m)) is
+      ∙ sym (settled_standing won e stands ∙ ap (λ b. b || has_too_many n node here) (ne_eqb n 0 some))
 
 -- The whole text, by its words behind blanks.
 module _ (bytes text : List ℕ) (is : drop 1 bytes ≡ text) where

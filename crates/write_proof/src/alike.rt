@@ -50,7 +50,7 @@ pub fn is_own_alone(asked: Allowances, attacker: bool) -> bool
 }
 
 /// What the asked tell, by those under which the move gives the side to play its way.
-fn told_by(asked: Allowances, good: Allowances) -> Told
+pub fn told_by(asked: Allowances, good: Allowances) -> Told
     ensures told { IsTold asked result (has good) }
     ensures one { IsOne asked → result ≢ Told.Differs }
 {

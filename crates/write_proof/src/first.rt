@@ -180,8 +180,9 @@ fn words_of(
 /// Writes the first proof of the code of an attack on the string at `target`, or of its defence, into an empty text,
 /// behind one blank, and tells the code.
 ///
-/// The proof takes `.` wherever it will do, else the first move in reading order that will, the pass before all points,
-/// and else `*`. `NoRoom` exactly if it has more than 60,000 bytes. Takes no memory.
+/// The proof takes `.` wherever it will do, else the play that takes back if the defender can, else the first move in
+/// reading order that will do, the pass before all points, and else `*`. `NoRoom` exactly if it has more than 60,000
+/// bytes. Takes no memory.
 pub fn write_first(
     pos: &Position,
     of: Kind,
@@ -226,8 +227,9 @@ fn without_first(alloc: Global, text: &Text) -> Result<Bytes, NoMemory>
 
 /// The code of an attack on the string at `target`, or of its defence, with these depths, and the first proof of it.
 ///
-/// The proof takes `.` wherever it will do, else the first move in reading order that will, the pass before all points,
-/// and else `*`. `TooLong` exactly where it has more than 60,000 bytes, if memory lasts. Takes memory.
+/// The proof takes `.` wherever it will do, else the play that takes back if the defender can, else the first move in
+/// reading order that will do, the pass before all points, and else `*`. `TooLong` exactly where it has more than
+/// 60,000 bytes, if memory lasts. Takes memory.
 pub fn first_proof(
     alloc: Global,
     pos: &Position,

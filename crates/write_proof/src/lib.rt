@@ -9,6 +9,7 @@ mod codes;
 mod first;
 mod room;
 mod settled;
+mod taking_back;
 mod text;
 mod thrice;
 mod walk;

@@ -1,22 +1,24 @@
 //! The first proof of a claim at a node under each of the asked ko allowances, where it is the same under all of them.
 //! It is written once, on one board with trial moves from its first word to its last.
 
-ghost use Rattle.std.specs.Prelude.{◌≡◌, ◌≢◌, ◌+◌, ◌<◌, ◌≤◌, [], ◌∷◌, codes, length, Ok, true, false};
+ghost use Rattle.std.specs.Prelude.{◌≡◌, ◌≢◌, ◌+◌, ◌<◌, ◌≤◌, [], ◌∷◌, codes, length, Ok, None, true, false};
 ghost use Rattle.std.specs.Option.{option_to_list};
 ghost use Rattle.trial_board.specs.Trials.{Stays, most_moves};
-ghost use Rattle.read_rules.specs.GameTree.{child_of, first_move};
-ghost use Rattle.read_tree.specs.Allowances.{under, neither_may, has_some};
+ghost use Rattle.read_rules.specs.declared.question.Spot.TheVariants.{At};
+ghost use Rattle.read_rules.specs.GameTree.{child_of, first_move, taking_back};
+ghost use Rattle.read_tree.specs.Allowances.{Ko, under, neither_may, has, has_some};
 ghost use Rattle.read_tree.specs.Table.{IsTrueTableAt};
 ghost use Rattle.read_tree.specs.Walk.{IsPointOf};
 ghost use Rattle.read_proof.specs.Proves.{pass_children, play_children};
-ghost use Rattle.read_proof.specs.FirstProof.{write_each, write_move, first_words};
+ghost use Rattle.read_proof.specs.FirstProof.{move_word, write_each, write_move, first_words};
 ghost use Rattle.write_proof.specs.Printed.{behind_blanks, Puts, position_on};
 ghost use Rattle.write_proof.specs.Room.{most_bytes};
 ghost use Rattle.write_proof.specs.Alike.{IsOne, PutsAlike};
 
-use crate::alike::{Common, first_alike, is_own_alone};
+use crate::alike::{Common, Told, first_alike, is_own_alone};
 use crate::room::Text;
 use crate::settled::{is_settled, is_wanted};
+use crate::taking_back::back_told;
 use crate::text::{NoRoom, put_move, put_word};
 use go_base::{Look, Point};
 use read_moves::candidates;
@@ -194,6 +196,74 @@ fn write_move<L: Look>(
     }
 }
 
+/// Writes the word of the play at the target's point and the first proof of the claim at the child to which it leads,
+/// where it can be played: there the defender takes back.
+#[cycle(write)]
+fn write_back<L: Look>(
+    board: &mut Trial<L>,
+    turn: Turn,
+    asked: Allowances,
+    plies: u8,
+    won: bool,
+    memory: &mut Memory,
+    out: &mut Text,
+) -> Result<bool, NoRoom>
+    requires room { length board.old.moves + plies < most_moves }
+    requires target { IsPointOf L.shows board.old turn.target }
+    requires some { has_some asked ≡ true }
+    requires table { IsTrueTableAt (L.seen board.old.look) turn memory.old.table.now }
+    requires bytes { length out.old ≤ most_bytes }
+    ensures stays { Stays L.shows L.seen board.old board.new }
+    ensures table { IsTrueTableAt (L.seen board.new.look) turn memory.new.table.now }
+    ensures puts { PutsAlike asked out.old (λ ko. move_word (position_on L.shows board.old).size (At turn.target)
+        ∷ write_each (first_words plies won)
+        (option_to_list (child_of (under turn ko) (position_on L.shows board.old) turn.target))) out.new result }
+    ensures one { IsOne asked → result ≢ Ok false }
+{
+    put_move(out, board.size(), Spot::At(turn.target))?;
+    write_play(board, turn, asked, turn.target, plies, won, memory, out)
+}
+
+/// Writes the first proof of the claim at a node at which the defender cannot take back under any of the asked ko
+/// allowances, with `plies` plies left, at least one.
+#[cycle(write)]
+fn write_moves<L: Look>(
+    board: &mut Trial<L>,
+    turn: Turn,
+    asked: Allowances,
+    plies: u8,
+    won: bool,
+    memory: &mut Memory,
+    out: &mut Text,
+) -> Result<bool, NoRoom>
+    requires room { length board.old.moves + plies ≤ most_moves }
+    requires plies { plies ≢ 0 }
+    requires none { (ko : Ko) → has asked ko ≡ true
+        → taking_back (under turn ko) (position_on L.shows board.old) ≡ None }
+    requires target { IsPointOf L.shows board.old turn.target }
+    requires some { has_some asked ≡ true }
+    requires table { IsTrueTableAt (L.seen board.old.look) turn memory.old.table.now }
+    requires bytes { length out.old ≤ most_bytes }
+    ensures stays { Stays L.shows L.seen board.old board.new }
+    ensures table { IsTrueTableAt (L.seen board.new.look) turn memory.new.table.now }
+    ensures puts { PutsAlike asked out.old (λ ko. first_words plies won (under turn ko) (position_on L.shows board.old))
+        out.new result }
+    ensures one { IsOne asked → result ≢ Ok false }
+{
+    if is_settled(board, turn, plies, won) {
+        return put_dot(out);
+    }
+    if is_wanted(node_of(turn), won) {
+        return write_move(board, turn, asked, plies - 1, won, memory, out);
+    }
+    put_word(out, b"*")?;
+    let alike = write_pass(board, turn, asked, plies - 1, won, memory, out)?;
+    if !alike {
+        return Ok(false);
+    }
+    write_plays(board, turn, asked, plies - 1, won, memory, out)
+}
+
 /// Writes the first proof of the claim at the node, with `plies` plies left, each word behind a blank, where it is the
 /// same under each asked ko allowance. Else it answers false, and what is written then counts for nothing. The table
 /// remembers attacker's nodes over the position that the view shows.
@@ -221,17 +291,9 @@ pub fn write<L: Look>(
     if plies == 0 {
         return put_dot(out);
     }
-    let node = node_of(turn);
-    if is_settled(board, node, plies, won) {
-        return put_dot(out);
+    match back_told(board, turn, asked) {
+        Told::Always => write_back(board, turn, asked, plies - 1, won, memory, out),
+        Told::Differs => Ok(false),
+        Told::Never => write_moves(board, turn, asked, plies, won, memory, out),
     }
-    if is_wanted(node, won) {
-        return write_move(board, turn, asked, plies - 1, won, memory, out);
-    }
-    put_word(out, b"*")?;
-    let alike = write_pass(board, turn, asked, plies - 1, won, memory, out)?;
-    if !alike {
-        return Ok(false);
-    }
-    write_plays(board, turn, asked, plies - 1, won, memory, out)
 }

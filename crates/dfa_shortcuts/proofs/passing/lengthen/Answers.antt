@@ -1,4 +1,3 @@
-use Rattle.std.proofs.Common.{sym, ◌∙◌}
 use Rattle.dfa_shortcuts.proofs.LongerShortcuts.{AreShortcuts-longer}
 use Rattle.dfa_shortcuts.proofs.passing.lengthen.Goals as goal
 
@@ -6,5 +5,5 @@ use Rattle.dfa_shortcuts.proofs.passing.lengthen.Goals as goal
 pub returns-clause-shortcuts : goal.returns-clause-shortcuts
 returns-clause-shortcuts c = λ automaton are shortcuts.
     AreShortcuts-longer automaton c.args.from.now c.args.entries.now c.args.passed.now c.args.place are c.requires.place
-    (c.requires.rows c.args.place 0 c.requires.place) (sym c.is_passed_over.ensures ∙ c.if-not-is_passed_over.false)
+    (c.requires.rows c.args.place 0 c.requires.place) c.requires.over
     shortcuts c.row_in.result c.row_in.ensures

@@ -1,18 +1,23 @@
 -- The walk over the moves of a node answers what the definition says, over every position that agrees with what was
 -- seen.
-use Rattle.std.proofs.Common.{◌∙◌, ap, sym, arith, is_some, rules}
+use Rattle.std.proofs.Common.{◌≡◌, ◌∙◌, ◌+◌, ◌-◌, ◌<◌, true, not, length, ap, sym, subst, arith, is_some, rules}
 use Rattle.std.specs.FinSet as set
-use Rattle.go_base.specs.Facts.{agrees_before, Grows-refl, Grows-trans}
+use Rattle.go_base.specs.Facts.{Agrees, agrees_before, Grows-refl, Grows-trans}
 use Rattle.go_rules.specs.declared.Cell.TheVariants.{Empty}
+use Rattle.go_rules.specs.Position.{BoardState, IsPosition, other}
 use Rattle.go_rules.proofs.Cells.{eq_is_same_cell}
-use Rattle.trial_board.specs.Trials.{after, Stays-trans}
+use Rattle.trial_board.specs.Trials.{after, most_moves, Stays-trans}
+use Rattle.trial_board.proofs.AfterLemmas.{size-after}
+use Rattle.read_rules.specs.GameTree.{is_walled_in}
 use Rattle.read_rules.proofs.WinLemmas.{none_up_to}
 use Rattle.read_tree.proofs.ReadyLemmas.{point_after}
+use Rattle.sure_rules.specs.Nodes.{is_gone}
 use Rattle.sure_rules.specs.SureAnswer.{surely_succeeds}
-use Rattle.sure_rules.proofs.SureLemmas.{sure-captured, sure-no_plies}
+use Rattle.sure_rules.proofs.SureLemmas.{sure-no_plies}
 use Rattle.sure_rules.proofs.SureMoves.{sure-by_move, first_sure-found, first_sure-none}
 use Rattle.read_sure.proofs.SureSteps.{play_made, play_refused, no_pass, pass_made, first_pass, first_point}
 use Rattle.read_sure.proofs.SureSteps.{move_barred, move_first}
+use Rattle.read_sure.proofs.LossLemmas.{sure_for_good, lone_walled, sure_left, sure_read}
 use Rattle.read_sure.proofs.tree.+sure.Goals as goal
 
 -- the play is made
@@ -134,12 +139,64 @@ sure_move-returns-clause-over g t c = λ pos a.
     move_first c.args.plies c.args.node (after pos c.args.board.now.moves) c.first_sure_move.result
     (sym c.if-is_barred.false ∙ c.is_barred.ensures.over pos a1) first
 
--- the target is captured
+-- a target that was no lone stone is captured
+pub taken-returns-then-not-has_lost_one_stone-clause-over : goal.taken-returns-then-not-has_lost_one_stone-clause-over
+taken-returns-then-not-has_lost_one_stone-clause-over g t c = λ pos a.
+    sym (sure_for_good c.args.plies c.args.node (after pos c.args.board.now.moves)
+    (c.requires.gone pos (agrees_before c.has_lost_one_stone.ensures.stays.grows a))
+    (sym (c.has_lost_one_stone.ensures.over pos a) ∙ c.if-not-has_lost_one_stone.true))
+
+-- with no ply left it is captured where it cannot be taken back
+pub taken-returns-then-plies-eq0-clause-over : goal.taken-returns-then-plies-eq0-clause-over
+taken-returns-then-plies-eq0-clause-over g t c = λ pos a.
+    let here = after pos c.args.board.now.moves in
+    let node = c.args.node in
+    let a1 = agrees_before c.may_take_back_at.ensures.stays.grows a in
+    let a2 = agrees_before c.has_lost_one_stone.ensures.stays.grows a1 in
+    let lone = sym (c.has_lost_one_stone.ensures.over pos a1) ∙ c.if-not-has_lost_one_stone.false in
+    let walled = subst (λ m. is_walled_in m here.cells node.turn.target (other node.turn.defender) ≡ true)
+    (size-after pos c.args.board.now.moves) (lone_walled node here lone) in
+    let told = (rw c.has_lost_one_stone.ensures.stays.moves at (c.may_take_back_at.ensures.over pos a))
+    (c.requires.sound pos a2) (c.requires.gone pos a2) walled in
+    ap not told ∙ sym (sure_left node here lone c.args.plies c.if-plies-eq0.true)
+
+-- the play that takes back may be read
+pub taken-succeeds-requires : goal.taken-succeeds-requires
+taken-succeeds-requires g t c κs within =
+    let stays = c.has_lost_one_stone.ensures.stays in
+    let target = point_after stays c.args.node.turn.target c.requires.target in
+    let more = c.requires.room in
+    let some = c.if-plies-eq0.false in
+    let room : length c.has_lost_one_stone.new.board.moves + (c.args.plies - 1) < most_moves =
+    rw stays.moves (omega (arith, more, some)) in
+    search rules
+
+-- it is captured where the play that takes it back does not succeed
+pub taken-returns-clause-over : goal.taken-returns-clause-over
+taken-returns-clause-over g t c = λ pos a.
+    let here = after pos c.args.board.now.moves in
+    let lone = sym (c.has_lost_one_stone.ensures.over pos (agrees_before c.succeeds.ensures.stays.grows a))
+    ∙ c.if-not-has_lost_one_stone.false in
+    ap not (rw c.has_lost_one_stone.ensures.stays.moves at (c.succeeds.ensures.over pos a))
+    ∙ sure_read c.args.node here lone c.args.plies c.if-plies-eq0.false
+
+-- a target that is taken may be taken back: it is on the board, and its point is empty
+pub surely_wins-taken-requires : goal.surely_wins-taken-requires
+surely_wins-taken-requires g t c κs within =
+    let stays = c.cell.ensures.stays in
+    let target = point_after stays c.args.node.turn.target c.requires.target in
+    let gone : (pos : BoardState) → Agrees (g.L.Look.seen c.cell.new.self.look) pos
+    → is_gone c.args.node (after pos c.cell.new.self.moves) ≡ true =
+    λ pos a. rw stays.moves (rw (c.cell.ensures.over pos a) at
+    (sym (eq_is_same_cell c.cell.result Empty) ∙ sym c.eq.ensures ∙ c.if-eq.true)) in
+    let sound : (pos : BoardState) → Agrees (g.L.Look.seen c.cell.new.self.look) pos
+    → IsPosition (after pos c.cell.new.self.moves) = λ pos a. rw stays.moves (c.cell.ensures.sound pos a) in
+    search rules
+
+-- so it is surely captured or not
 pub surely_wins-returns-then-eq-clause-over : goal.surely_wins-returns-then-eq-clause-over
 surely_wins-returns-then-eq-clause-over g t c = λ pos a.
-    let cell = c.cell.ensures.over pos a in
-    let taken = sym (eq_is_same_cell c.cell.result Empty) ∙ sym c.eq.ensures ∙ c.if-eq.true in
-    sym (sure-captured c.args.plies c.args.node (after pos c.args.board.now.moves) (rw cell at taken))
+    rw c.cell.ensures.stays.moves at (c.taken.ensures.over pos a)
 
 -- no ply is left
 pub surely_wins-returns-then-plies-eq0-clause-over : goal.surely_wins-returns-then-plies-eq0-clause-over

@@ -7,29 +7,34 @@ use Rattle.trial_board.specs.Trials.{Stays, after}
 use Rattle.sure_rules.specs.SureAnswer.{surely_succeeds}
 use Rattle.read_sure.proofs.tree.+sure.Given as goal
 
--- each step down the tree spends a ply, and within a node the order of the calls is fixed
+-- each step down the tree spends a ply, and within a node the order of the calls is fixed: a target that is taken is
+-- asked about first
+abbrev pub decreases-taken : goal.decreases-taken
+decreases-taken g l = 8 * l.plies
+
+-- the result at a node is one step above it
 abbrev pub decreases-surely_wins : goal.decreases-surely_wins
-decreases-surely_wins g l = 8 * l.plies
+decreases-surely_wins g l = 8 * l.plies + 1
 
 -- a play is one step above the node after it, with as many plies
 abbrev pub decreases-succeeds : goal.decreases-succeeds
-decreases-succeeds g l = 8 * l.plies + 1
+decreases-succeeds g l = 8 * l.plies + 2
 
 -- and so is the pass
 abbrev pub decreases-pass_holds : goal.decreases-pass_holds
-decreases-pass_holds g l = 8 * l.plies + 1
+decreases-pass_holds g l = 8 * l.plies + 2
 
 -- the points are one step above each of them
 abbrev pub decreases-first_sure : goal.decreases-first_sure
-decreases-first_sure g l = 8 * l.plies + 2
+decreases-first_sure g l = 8 * l.plies + 3
 
 -- the moves are one step above the points
 abbrev pub decreases-first_sure_move : goal.decreases-first_sure_move
-decreases-first_sure_move g l = 8 * l.plies + 3
+decreases-first_sure_move g l = 8 * l.plies + 4
 
 -- the move of a node is one step above the moves, and below a node with one ply more
 abbrev pub decreases-sure_move : goal.decreases-sure_move
-decreases-sure_move g l = 8 * l.plies + 4
+decreases-sure_move g l = 8 * l.plies + 5
 
 -- no point so far succeeds, on any position that agrees
 abbrev pub invariant-first_sure-plays : goal.invariant-first_sure-plays

@@ -1,14 +1,13 @@
 -- The recursion, by the zones of plays and replies.
-use Rattle.std.proofs.Common.{◌≡◌, ◌∙◌, ◌+◌, ◌*◌, ◌<◌, ℕ, true, not, refl, sym}
+use Rattle.std.proofs.Common.{◌≡◌, ◌∙◌, ◌+◌, ◌*◌, ◌<◌, ℕ, true, not, sym}
 use Rattle.std.proofs.Common.{ap, subst, arith, inl, inr, rules}
 use Rattle.std.specs.FinSet as set
 use Rattle.std.specs.Ordering.{nat_cmp}
-use Rattle.std.proofs.lemmas.Bool.{and_parts, and_from, both_ways, cases_eq, cases_lt, eq-eqb, eqb-true}
+use Rattle.std.proofs.lemmas.Bool.{and_parts, and_from, both_ways, cases_eq, cases_lt}
 use Rattle.go_rules.specs.declared.Cell.TheVariants.{Empty}
 use Rattle.go_rules.specs.Strings.{same_cell}
 use Rattle.go_rules.proofs.Cells.{eq_is_same_cell}
 use Rattle.sure_rules.proofs.SureLemmas.{sure-no_plies}
-use Rattle.sure_rules.proofs.ZoneLemmas.{zone_captured}
 use Rattle.sure_rules.specs.Zones.{IsZone}
 use Rattle.read_zones.proofs.GuardLemmas.{in_either, in_first, in_second, in_rest}
 use Rattle.read_zones.proofs.TreeLemmas.{some_shown, each_shown, agree_less, agree_self, attacker_has}
@@ -16,6 +15,7 @@ use Rattle.read_zones.proofs.TreeLemmas.{attacker_none, attacker_barred, defende
 use Rattle.read_zones.proofs.TreeLemmas.{child_size, none_left, none_gives}
 use Rattle.read_zones.specs.Alike.{AreCandidates}
 use Rattle.read_zones.proofs.TakingLemmas.{taken_zone}
+use Rattle.read_zones.proofs.BackLemmas.{back_refused, back_fails, zone_for_good, zone_of_loss}
 use Rattle.read_rules.specs.GameTree.{child_of, some_child, each_child}
 use Rattle.read_rules.proofs.CandidateLaws.{candidate_on}
 use Rattle.sure_rules.specs.SureTree.{surely_wins}
@@ -212,15 +212,44 @@ defender_zone-returns-clause-zone t c =
           (c.in_default.ensures.none p more) read)
     ])
 
--- the target is gone
-pub zone_of-returns-then-eq-clause-zone : goal.zone_of-returns-then-eq-clause-zone
-zone_of-returns-then-eq-clause-zone t c =
-    zone_captured c.args.plies c.args.node c.args.position.now (set.contains c.one_point.result)
-    (ap (λ k. same_cell k Empty) (sym c.cell.ensures) ∙ sym (eq_is_same_cell c.cell.result Empty) ∙ sym c.eq.ensures
-    ∙ c.if-eq.true) (c.one_point.ensures c.args.node.turn.target ∙ eq-eqb c.args.node.turn.target c.args.node.turn.target refl)
+-- with no ply left a lone stone is surely captured where it cannot be taken back
+pub back_zone-returns-then-plies-eq0-clause-zone : goal.back_zone-returns-then-plies-eq0-clause-zone
+back_zone-returns-then-plies-eq0-clause-zone t c =
+    back_refused c.args.plies c.args.node c.args.position.now c.requires.lost c.refused_zone.result c.if-plies-eq0.true
+    c.refused_zone.ensures.zone
 
--- its point is on the board
-pub zone_of-returns-then-eq-clause-on_board : goal.zone_of-returns-then-eq-clause-on_board
-zone_of-returns-then-eq-clause-on_board t c = λ q inside.
-    subst (λ p. p < c.args.position.now.size * c.args.position.now.size)
-    (sym (eqb-true q c.args.node.turn.target (sym (c.one_point.ensures q) ∙ inside))) c.requires.target
+-- with a ply left where the play that takes it back fails
+pub back_zone-returns-clause-zone : goal.back_zone-returns-clause-zone
+back_zone-returns-clause-zone t c =
+    back_fails c.args.plies c.args.node c.args.position.now c.requires.lost c.reply_zone.result c.if-plies-eq0.false
+    c.reply_zone.ensures.zone
+
+-- a target that was no lone stone rests on what shows that
+pub taken_zone-returns-then-not-loss-clause-zone : goal.taken_zone-returns-then-not-loss-clause-zone
+taken_zone-returns-then-not-loss-clause-zone t c =
+    zone_for_good c.args.plies c.args.node c.args.position.now c.loss_shown-loss.result.is_lone
+    (set.contains c.loss_shown-loss.result.zone) c.loss_shown-loss.ensures.shown c.if-not-loss.true
+
+-- the lone stone was lost on the position itself
+pub taken_zone-back_zone-requires : goal.taken_zone-back_zone-requires
+taken_zone-back_zone-requires t c =
+    let lost = (c.loss_shown-loss.ensures.shown c.args.position.now c.size.ensures.position
+    (agree_self c.args.position.now)).1 ∙ c.if-not-loss.false in
+    search rules
+
+-- one that was rests on that too
+pub taken_zone-returns-clause-zone : goal.taken_zone-returns-clause-zone
+taken_zone-returns-clause-zone t c =
+    zone_of_loss c.args.plies c.args.node c.args.position.now c.loss_shown-loss.result.is_lone
+    (set.contains c.loss_shown-loss.result.zone) c.loss_shown-loss.ensures.shown (set.contains c.in_ok-zone.zone)
+    (set.contains c.join.new.self) c.if-not-loss.false c.in_ok-zone.ensures.zone
+    (λ q. in_first c.in_ok-zone.zone c.loss_shown-loss.result.zone c.join.new.self q c.join.ensures)
+    (λ q. in_second c.in_ok-zone.zone c.loss_shown-loss.result.zone c.join.new.self q c.join.ensures)
+
+-- both zones are on the board
+pub taken_zone-returns-clause-on_board : goal.taken_zone-returns-clause-on_board
+taken_zone-returns-clause-on_board t c = λ q inside.
+    elim (in_either c.in_ok-zone.zone c.loss_shown-loss.result.zone c.join.new.self q c.join.ensures inside) [
+      | inl first ↦ c.in_ok-zone.ensures.on_board q first
+      | inr second ↦ c.loss_shown-loss.ensures.on_board q second
+    ]

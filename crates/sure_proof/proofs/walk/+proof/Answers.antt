@@ -3,7 +3,7 @@ use Rattle.std.proofs.Common.{◌≡◌, ◌∙◌, ◌-◌, ◌*◌, ◌<◌, �
 use Rattle.std.specs.FinSet as set
 use Rattle.vertices.specs.Words.{kept}
 use Rattle.read_rules.specs.declared.question.Spot.TheVariants.{At}
-use Rattle.read_rules.specs.GameTree.{child_of}
+use Rattle.read_rules.specs.GameTree.{child_of, taking_back}
 use Rattle.read_proof.specs.Tokens.{words_in}
 use Rattle.read_proof.specs.Proves.{child_after}
 use Rattle.read_proof.proofs.ChildLemmas.{after_off}
@@ -12,7 +12,8 @@ use Rattle.sure_proof.specs.SureProofs.{proves_surely, proved_by}
 use Rattle.sure_proof.proofs.StepLemmas.{no_words, capture_word, out_of_plies, turn_word, replies_end, replies_on}
 use Rattle.sure_proof.proofs.StepLemmas.{replies_fail, play_refused, play_fails, play_holds, reply_refused, reply_unnamed}
 use Rattle.sure_proof.proofs.StepLemmas.{reply_fails, reply_holds, pass_fails, replies_missing, end_missing, end_comes}
-use Rattle.sure_proof.proofs.StepLemmas.{turn_barred, turn_moves, turn_other, turn_replies}
+use Rattle.sure_proof.proofs.StepLemmas.{turn_barred, turn_moves, turn_back, turn_replies}
+use Rattle.sure_proof.proofs.StepLemmas.{back_refused, back_unnamed, back_fails, back_holds}
 use Rattle.sure_proof.proofs.walk.+proof.Goals as goal
 
 -- no word is left
@@ -52,17 +53,51 @@ turn_proved-returns-then-node t c =
     rw (turn_moves (proves_surely c.args.plies) c.args.node c.args.pos.now (kept c.args.word.now) (words_in c.args.text.now) c.if-node.true
     (sym c.is_barred.ensures ∙ c.if-is_barred.false)) made
 
--- the defender has no `*`
-pub turn_proved-returns-then-not-spells : goal.turn_proved-returns-then-not-spells
-turn_proved-returns-then-not-spells t c =
-    turn_other (proves_surely c.args.plies) c.args.node c.args.pos.now (kept c.args.word.now) (words_in c.args.text.now)
-    c.if-node.false (sym c.spells.ensures ∙ c.if-not-spells.true)
+-- the defender passes and replies
+pub turn_proved-returns-then-spells : goal.turn_proved-returns-then-spells
+turn_proved-returns-then-spells t c =
+    rw (turn_replies (proves_surely c.args.plies) c.args.node c.args.pos.now (kept c.args.word.now) (words_in c.args.text.now)
+    c.if-node.false (sym c.spells.ensures ∙ c.if-spells.true)) c.defence_proved.ensures
 
--- he passes and replies
+-- he takes back
 pub turn_proved-returns : goal.turn_proved-returns
 turn_proved-returns t c =
-    rw (turn_replies (proves_surely c.args.plies) c.args.node c.args.pos.now (kept c.args.word.now) (words_in c.args.text.now)
-    c.if-node.false (sym c.spells.ensures ∙ c.if-not-spells.false)) c.defence_proved.ensures
+    rw (turn_back (proves_surely c.args.plies) c.args.node c.args.pos.now (kept c.args.word.now) (words_in c.args.text.now)
+    c.if-node.false (sym c.spells.ensures ∙ c.if-spells.false)) c.back_proved.ensures
+
+-- he cannot take back
+pub back_proved-returns-in_err-next : goal.back_proved-returns-in_err-next
+back_proved-returns-in_err-next t c =
+    rw c.from_residual.ensures (back_refused (proves_surely c.args.plies) c.args.node c.args.pos.now
+    (kept c.args.word.now) (taking_back c.args.node c.args.pos.now) (words_in c.args.text.now)
+    (sym c.taking_back.ensures.value ∙ c.in_err-next.was))
+
+-- the word is another one than the vertex of the target's point
+pub back_proved-returns-then-not-is_vertex : goal.back_proved-returns-then-not-is_vertex
+back_proved-returns-then-not-is_vertex t c =
+    back_unnamed (proves_surely c.args.plies) c.args.node c.args.pos.now (kept c.args.word.now)
+    (taking_back c.args.node c.args.pos.now) (words_in c.args.text.now) (c.in_ok-next.next, c.in_ok-next.new)
+    (sym c.taking_back.ensures.value ∙ c.in_ok-next.was)
+    (rw c.size-2.ensures.value at (sym c.is_vertex.ensures ∙ c.if-not-is_vertex.true))
+
+-- no proof comes behind it
+pub back_proved-returns-in_err-left : goal.back_proved-returns-in_err-left
+back_proved-returns-in_err-left t c =
+    rw c.from_residual-in_err-left.ensures (back_fails (proves_surely c.args.plies) c.args.node c.args.pos.now
+    (kept c.args.word.now) (taking_back c.args.node c.args.pos.now) (words_in c.args.text.now)
+    (c.in_ok-next.next, c.in_ok-next.new) (sym c.taking_back.ensures.value ∙ c.in_ok-next.was)
+    (rw c.size-2.ensures.value at (sym c.is_vertex.ensures ∙ c.if-not-is_vertex.false)) c.in_err-left.ensures)
+
+-- one does
+pub back_proved-returns : goal.back_proved-returns
+back_proved-returns t c =
+    let points = c.join.ensures ∙ ap (λ S. set.union S c.proved.new.zone) c.loss_rests_on-points.ensures in
+    back_holds (proves_surely c.args.plies) c.args.node c.args.pos.now (kept c.args.word.now)
+    (taking_back c.args.node c.args.pos.now) (words_in c.args.text.now) (c.in_ok-next.next, c.in_ok-next.new)
+    (sym c.taking_back.ensures.value ∙ c.in_ok-next.was)
+    (rw c.size-2.ensures.value at (sym c.is_vertex.ensures ∙ c.if-not-is_vertex.false))
+    (words_in c.in_ok-left.left.now) c.proved.new.zone c.in_ok-left.ensures
+    ∙ ap (λ S. Some (proved_by (words_in c.in_ok-left.left.now) S)) (sym points)
 
 -- the word is no move
 pub move_proved-returns-in_err-spot : goal.move_proved-returns-in_err-spot

@@ -19,6 +19,10 @@ decreases-play_proved l = 8 * l.plies + 1
 abbrev pub decreases-reply_proved : goal.decreases-reply_proved
 decreases-reply_proved l = 8 * l.plies + 1
 
+-- and that after the play that takes back
+abbrev pub decreases-back_proved : goal.decreases-back_proved
+decreases-back_proved l = 8 * l.plies + 1
+
 -- a move is one step above its play
 abbrev pub decreases-move_proved : goal.decreases-move_proved
 decreases-move_proved l = 8 * l.plies + 2

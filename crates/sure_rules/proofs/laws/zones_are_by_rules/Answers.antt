@@ -1,7 +1,7 @@
 -- The rules of zones.
 use Rattle.std.proofs.Common.{ap, ◌∙◌, add-one, refl}
 use Rattle.sure_rules.specs.SureTree.{surely_wins}
-use Rattle.sure_rules.proofs.ZoneLemmas.{captured_at_last, zone_captured, zone_attacker, zone_defender}
+use Rattle.sure_rules.proofs.ZoneLemmas.{captured_at_last, zone_captured, zone_taken_back, zone_attacker, zone_defender}
 use Rattle.sure_rules.proofs.laws.zones_are_by_rules.Goals as goal
 
 -- a position agrees with itself
@@ -17,9 +17,14 @@ returns-clause-larger c = λ n node pos Z W within zone here sound agrees. zone 
   bans = λ p k inside. agrees.bans p k (within p inside);
 })
 
--- a target that is gone
+-- a target that is taken and not taken back
 pub returns-clause-captured : goal.returns-clause-captured
 returns-clause-captured c = zone_captured
+
+-- a target that is taken back without success
+pub returns-clause-taken_back : goal.returns-clause-taken_back
+returns-clause-taken_back c = λ n node pos Z gone w here sound agrees.
+    ap (λ m. surely_wins m node here) (add-one n) ∙ zone_taken_back n node pos Z gone w here sound agrees
 
 -- the attacker's turn
 pub returns-clause-attacker : goal.returns-clause-attacker

@@ -6,6 +6,7 @@ use Rattle.go_rules.specs.Strings.{same_cell}
 use Rattle.go_rules.proofs.Cells.{eq_is_same_cell}
 use Rattle.read_rules.specs.GameTree.{is_captured}
 use Rattle.trial_board.proofs.AfterLemmas.{size-after}
+use Rattle.read_tree.specs.Allowances.{under}
 use Rattle.read_tree.proofs.StageLemmas.{its_count}
 use Rattle.write_proof.specs.Printed.{position_on}
 use Rattle.write_proof.proofs.WriteLemmas.{settled_won, settled_captured, settled_end, settled_many}
@@ -15,40 +16,41 @@ use Rattle.write_proof.proofs.settled.is_settled.Goals.{After-eq-captured}
 
 -- whether the target is captured
 captured : (g : Over) (c : After-eq-captured g)
-    → c.eq-captured.result ≡ is_captured (position_on g.L.Look.shows c.args.board.now) c.args.node.turn.target
+    → c.eq-captured.result ≡ is_captured (position_on g.L.Look.shows c.args.board.now) c.args.turn.target
 captured g c =
     c.eq-captured.ensures ∙ eq_is_same_cell c.cell.result Empty ∙ ap (λ (x : Cell). same_cell x Empty)
     c.cell.ensures.answer
 
 -- the claim is that the attacker wins
 pub returns-then-won-clause-answer : goal.returns-then-won-clause-answer
-returns-then-won-clause-answer g c =
-    settled_won c.args.plies c.args.node (position_on g.L.Look.shows c.args.board.now) c.eq-captured.result
-    (captured g (goal.at.returns-then-won-clause-answer g c).After-eq-captured) c.args.won c.if-won.true
+returns-then-won-clause-answer g c = λ ko none.
+    settled_won c.args.plies (under c.args.turn ko) (position_on g.L.Look.shows c.args.board.now) c.eq-captured.result
+    (captured g (goal.at.returns-then-won-clause-answer g c).After-eq-captured) none c.args.won c.if-won.true
 
 -- the claim is that he does not, and the target is captured
 pub returns-then-captured-clause-answer : goal.returns-then-captured-clause-answer
-returns-then-captured-clause-answer g c =
-    settled_captured c.args.plies c.args.node (position_on g.L.Look.shows c.args.board.now) c.eq-captured.result
-    (captured g (goal.at.returns-then-captured-clause-answer g c).After-eq-captured) c.args.won c.if-won.false
+returns-then-captured-clause-answer g c = λ ko none.
+    settled_captured c.args.plies (under c.args.turn ko) (position_on g.L.Look.shows c.args.board.now)
+    c.eq-captured.result
+    (captured g (goal.at.returns-then-captured-clause-answer g c).After-eq-captured) none c.args.won c.if-won.false
     c.if-captured.true
 
 -- no ply is left
 pub returns-then-plies-eq0-clause-answer : goal.returns-then-plies-eq0-clause-answer
-returns-then-plies-eq0-clause-answer g c =
-    settled_end c.args.plies c.args.node (position_on g.L.Look.shows c.args.board.now) c.eq-captured.result
-    (captured g (goal.at.returns-then-plies-eq0-clause-answer g c).After-eq-captured) c.args.won c.if-won.false
+returns-then-plies-eq0-clause-answer g c = λ ko none.
+    settled_end c.args.plies (under c.args.turn ko) (position_on g.L.Look.shows c.args.board.now) c.eq-captured.result
+    (captured g (goal.at.returns-then-plies-eq0-clause-answer g c).After-eq-captured) none c.args.won c.if-won.false
     c.if-captured.false c.if-plies-eq0.true
 
 -- the target has too many liberties, or not
 pub returns-clause-answer : goal.returns-clause-answer
-returns-clause-answer g c =
+returns-clause-answer g c = λ ko none.
     let shown = g.L.Look.shows c.args.board.now.look in
     let here = position_on g.L.Look.shows c.args.board.now in
     c.are_too_many.ensures
-    ∙ settled_many c.args.plies c.args.node here c.eq-captured.result
-    (captured g (goal.at.returns-clause-answer g c).After-eq-captured) c.args.won c.count.result c.if-won.false
+    ∙ settled_many c.args.plies (under c.args.turn ko) here c.eq-captured.result
+    (captured g (goal.at.returns-clause-answer g c).After-eq-captured) none c.args.won c.count.result c.if-won.false
     c.if-captured.false c.if-plies-eq0.false
-    (c.count.ensures.value ∙ its_count shown.size here c.args.node.turn.target c.liberties.result
+    (c.count.ensures.value ∙ its_count shown.size here c.args.turn.target c.liberties.result
     (size-after shown c.args.board.now.moves)
     (rw (c.cell.ensures.stays.moves, c.cell.ensures.stays.shown) at c.liberties.ensures.answer))

@@ -1,7 +1,8 @@
 -- What is written for the asked allowances at once is the first proof under each of them.
 use Rattle.std.proofs.Common.{◌≡◌, ◌∙◌, ℕ, ◌+◌, ◌-◌, ◌*◌, ◌<◌, ◌≤◌, List, ◌++◌, length, Bool, not, Result}
 use Rattle.std.proofs.Common.{[], ◌∷◌, ap, sym, refl, subst, inl, inr, codes, append_assoc, rules, Ok, Err}
-use Rattle.std.proofs.Common.{None, Some}
+use Rattle.std.proofs.Common.{None, Some, true}
+use Rattle.std.specs.Option.{option_to_list}
 use Rattle.go_base.specs.Facts.{Agrees}
 use Rattle.go_rules.specs.Position.{BoardState}
 use Rattle.go_rules.specs.Play.{pass}
@@ -12,21 +13,23 @@ use Rattle.read_rules.specs.Candidates.{is_candidate}
 use Rattle.read_rules.specs.declared.node.Node.{Node}
 use Rattle.read_rules.specs.declared.question.Spot.{Spot}
 use Rattle.read_rules.specs.declared.question.Spot.TheVariants.{At, Pass}
-use Rattle.read_rules.specs.GameTree.{child_of, first_move}
+use Rattle.read_rules.specs.GameTree.{child_of, first_move, taking_back}
 use Rattle.read_rules.specs.GoodMoves.{IsOnBoard}
 use Rattle.read_tree.specs.Allowances.{Ko, neither_may, under}
 use Rattle.read_tree.proofs.AllowanceLemmas.{next_keeps}
 use Rattle.read_tree.proofs.TableLemmas.{table_more}
 use Rattle.read_proof.specs.Proves.{is_wanted}
 use Rattle.write_proof.specs.declared.text.NoRoom.{NoRoom}
-use Rattle.read_proof.specs.FirstProof.{write_move, move_word, first_words}
+use Rattle.read_proof.specs.FirstProof.{write_move, write_each, move_word, first_words}
 use Rattle.write_proof.specs.Printed.{behind_blanks, Puts, position_on}
 use Rattle.write_proof.specs.Room.{most_bytes}
-use Rattle.write_proof.proofs.PutLemmas.{puts_both, puts_up, puts_same, dot_words, move_words, each_words, walk_written}
+use Rattle.write_proof.proofs.PutLemmas.{puts_both, puts_up, puts_same, dot_words, back_words, move_words, each_words}
+use Rattle.write_proof.proofs.PutLemmas.{walk_written}
 use Rattle.write_proof.proofs.WriteLemmas.{here_stays, nothing_put, no_move_written, play_written, refused_written}
 use Rattle.write_proof.proofs.WriteLemmas.{no_pass_written, pass_written, move_written, move_refused, play_child}
-use Rattle.write_proof.proofs.WriteLemmas.{pass_child, all_left}
-use Rattle.write_proof.proofs.AlikeLemmas.{puts_up_told, yes_told, settled_alike, own_alone, alone_own, not_false}
+use Rattle.write_proof.proofs.WriteLemmas.{pass_child, all_left, word_written, word_refused}
+use Rattle.write_proof.proofs.AlikeLemmas.{puts_up_told, yes_told, own_alone, alone_own, not_false}
+use Rattle.write_proof.proofs.BackLemmas.{not_back}
 use Rattle.std.proofs.lemmas.Bool.{both_ways}
 use Rattle.trial_board.specs.Trials.{Stays-trans}
 use Rattle.read_tree.specs.Allowances.{has, own_ko}
@@ -38,7 +41,7 @@ use Rattle.write_proof.specs.Alike.{IsMoveOn}
 use Rattle.write_proof.proofs.WriteLemmas.{play_words, words_from, pass_words, plays_words, next_words}
 use Rattle.write_proof.proofs.walk.+write.Given.{Over}
 use Rattle.write_proof.proofs.walk.+write.Goals.{write_play-After-make, write_plays-After-write_play}
-use Rattle.write_proof.proofs.walk.+write.Goals.{write_move-After-size, write-After-put_word}
+use Rattle.write_proof.proofs.walk.+write.Goals.{write_move-After-size, write_moves-After-put_word}
 use Rattle.write_proof.proofs.walk.+write.Goals as goal
 
 -- the attacker does not pass
@@ -301,30 +304,93 @@ write-returns-then-plies-eq0-clause-puts g t c = λ same ko asked.
     rw (dot_words c.args.plies c.args.won (under c.args.turn ko) (position_on g.L.Look.shows c.args.board.now)
     (inl c.if-plies-eq0.true)) c.put_dot.ensures.puts
 
--- the target is on the board
-pub write-is_settled-requires : goal.write-is_settled-requires
-write-is_settled-requires g t c = record {
-  target = subst (λ (m : Node). m.turn.target < (g.L.Look.shows c.args.board.now.look).size
-      * (g.L.Look.shows c.args.board.now.look).size) (sym c.node_of-node.ensures) c.requires.target;
-}
+-- under each asked allowance the defender takes back, so the word of his play is written, and the proof behind it
+pub write-returns-in-Always-clause-puts : goal.write-returns-in-Always-clause-puts
+write-returns-in-Always-clause-puts g t c = λ same ko asked.
+    let node = under c.args.turn ko in
+    let told = rw c.in-Always.is at c.back_told.ensures.told in
+    rw (back_words c.args.plies c.args.won node (position_on g.L.Look.shows c.args.board.now) c.if-plies-eq0.false
+    (told ko asked))
+    (subst (λ (p : BoardState). Puts c.args.out.now (behind_blanks (move_word p.size (At c.args.turn.target)
+    ∷ write_each (first_words (c.args.plies - 1) c.args.won) (option_to_list (child_of node p c.args.turn.target))))
+    c.write_back.new.out c.write_back.result)
+    (here_stays g.L.Look.shows g.L.Look.seen c.args.board.now c.back_told.new.board c.back_told.ensures.stays)
+    (c.write_back.ensures.puts same ko asked))
+
+-- under some of the asked alone he does
+pub write-returns-in-Differs-clause-puts : goal.write-returns-in-Differs-clause-puts
+write-returns-in-Differs-clause-puts g t c = λ same ko asked. absurd (same refl)
+
+-- the table stays true
+pub write-returns-in-Differs-clause-table : goal.write-returns-in-Differs-clause-table
+write-returns-in-Differs-clause-table g t c = table_more c.requires.table c.back_told.ensures.stays.grows
+
+-- of one allowance alone it does not differ
+pub write-returns-in-Differs-clause-one : goal.write-returns-in-Differs-clause-one
+write-returns-in-Differs-clause-one g t c = λ one e. c.back_told.ensures.one one c.in-Differs.is
+
+-- under none of them he does
+pub write-write_moves-requires : goal.write-write_moves-requires
+write-write_moves-requires g t c κs within =
+    let told = rw c.in-Never.is at c.back_told.ensures.told in
+    let stays = c.back_told.ensures.stays in
+    let here = here_stays g.L.Look.shows g.L.Look.seen c.args.board.now c.back_told.new.board stays in
+    let none : (ko : Ko) → has c.args.asked ko ≡ true
+    → taking_back (under c.args.turn ko) (position_on g.L.Look.shows c.back_told.new.board) ≡ None =
+    λ ko asked. ap (taking_back (under c.args.turn ko)) here ∙ not_back _ (told ko asked) in
+    let target = point_after stays c.args.turn.target c.requires.target in
+    let table = table_more c.requires.table stays.grows in
+    search rules
+
+-- so the moves are written
+pub write-returns-in-Never-clause-puts : goal.write-returns-in-Never-clause-puts
+write-returns-in-Never-clause-puts g t c = λ same ko asked.
+    subst (λ (p : BoardState). Puts c.args.out.now (behind_blanks (first_words c.args.plies c.args.won
+    (under c.args.turn ko) p)) c.write_moves.new.out c.write_moves.result)
+    (here_stays g.L.Look.shows g.L.Look.seen c.args.board.now c.back_told.new.board c.back_told.ensures.stays)
+    (c.write_moves.ensures.puts same ko asked)
+
+-- there is no room for the word of the play that takes back
+pub write_back-returns-in_err-put_move-clause-puts : goal.write_back-returns-in_err-put_move-clause-puts
+write_back-returns-in_err-put_move-clause-puts g t c = λ same ko asked.
+    let here = position_on g.L.Look.shows c.args.board.now in
+    word_refused c.size.result here.size
+    (c.size.ensures ∙ sym (size-after (g.L.Look.shows c.args.board.now.look) c.args.board.now.moves))
+    (At c.args.turn.target)
+    (write_each (first_words c.args.plies c.args.won)
+    (option_to_list (child_of (under c.args.turn ko) here c.args.turn.target))) c.args.out.now
+    c.put_move.new.out c.put_move.new.out c.in_err-put_move.field-0.0 c.from_residual.result c.from_residual.ensures.1
+    c.in_err-put_move.ensures
+
+-- the proof at the child after it is written behind its word
+pub write_back-returns-clause-puts : goal.write_back-returns-clause-puts
+write_back-returns-clause-puts g t c = λ same ko asked.
+    let here = position_on g.L.Look.shows c.args.board.now in
+    word_written c.size.result here.size
+    (c.size.ensures ∙ sym (size-after (g.L.Look.shows c.args.board.now.look) c.args.board.now.moves))
+    (At c.args.turn.target)
+    (write_each (first_words c.args.plies c.args.won)
+    (option_to_list (child_of (under c.args.turn ko) here c.args.turn.target))) c.args.out.now
+    c.put_move.new.out c.write_play.new.out c.write_play.result c.in_ok-put_move.ensures.0
+    (c.write_play.ensures.puts same ko asked)
 
 -- the claim is settled
-pub write-returns-then-is_settled-clause-puts : goal.write-returns-then-is_settled-clause-puts
-write-returns-then-is_settled-clause-puts g t c = λ same ko asked.
+pub write_moves-returns-then-is_settled-clause-puts : goal.write_moves-returns-then-is_settled-clause-puts
+write_moves-returns-then-is_settled-clause-puts g t c = λ same ko asked.
     let here = position_on g.L.Look.shows c.args.board.now in
     rw (dot_words c.args.plies c.args.won (under c.args.turn ko) here
-    (inr (sym (settled_alike c.args.plies c.args.won c.args.turn ko here c.node_of-node.result c.node_of-node.ensures)
-    ∙ sym c.is_settled.ensures.answer ∙ c.if-is_settled.true))) c.put_dot-then-is_settled.ensures.puts
+    (inr (sym (c.is_settled.ensures.answer ko (c.requires.none ko asked)) ∙ c.if-is_settled.true)))
+    c.put_dot.ensures.puts
 
 -- the side to play wants the claim
-pub write-returns-then-is_wanted-clause-puts : goal.write-returns-then-is_wanted-clause-puts
-write-returns-then-is_wanted-clause-puts g t c = λ same ko asked.
+pub write_moves-returns-then-is_wanted-clause-puts : goal.write_moves-returns-then-is_wanted-clause-puts
+write_moves-returns-then-is_wanted-clause-puts g t c = λ same ko asked.
     let here = position_on g.L.Look.shows c.args.board.now in
     let node = under c.args.turn ko in
-    rw (move_words c.args.plies c.args.won node here c.if-plies-eq0.false
-    (sym (settled_alike c.args.plies c.args.won c.args.turn ko here c.node_of-node.result c.node_of-node.ensures)
-    ∙ sym c.is_settled.ensures.answer ∙ c.if-is_settled.false)
-    (sym (ap (is_wanted c.args.won) c.node_of-node.ensures) ∙ sym c.is_wanted.ensures ∙ c.if-is_wanted.true))
+    rw (move_words c.args.plies c.args.won node here c.requires.plies
+    (sym (c.is_settled.ensures.answer ko (c.requires.none ko asked)) ∙ c.if-is_settled.false)
+    (c.requires.none ko asked)
+    (sym (ap (is_wanted c.args.won) c.node_of.ensures) ∙ sym c.is_wanted.ensures ∙ c.if-is_wanted.true))
     (subst (λ (p : BoardState). Puts c.args.out.now (behind_blanks (write_move
     (first_words (c.args.plies - 1) c.args.won) node p (first_move (c.args.plies - 1) node p)))
     c.write_move.new.out c.write_move.result)
@@ -332,36 +398,36 @@ write-returns-then-is_wanted-clause-puts g t c = λ same ko asked.
     (c.write_move.ensures.puts same ko asked))
 
 -- where the claim is neither settled nor wanted, its words are the star, those after the pass and those after the plays
-star_words : (g : Over) (t : ℕ) (c : write-After-put_word g t) (ko : Ko)
+star_words : (g : Over) (t : ℕ) (c : write_moves-After-put_word g t) (ko : Ko) → has c.args.asked ko ≡ true
     → let pos = position_on g.L.Look.shows c.args.board.now in
     behind_blanks (first_words c.args.plies c.args.won (under c.args.turn ko) pos) ≡ behind_blanks (codes "*" ∷ [])
     ++ (pass_words (c.args.plies - 1) c.args.won (under c.args.turn ko) pos
     ++ plays_words (c.args.plies - 1) c.args.won (under c.args.turn ko) pos)
-star_words g t c ko =
+star_words g t c ko asked =
     let pos = position_on g.L.Look.shows c.args.board.now in
-    each_words c.args.plies c.args.won (under c.args.turn ko) pos c.if-plies-eq0.false
-    (sym (settled_alike c.args.plies c.args.won c.args.turn ko pos c.node_of-node.result c.node_of-node.ensures)
-    ∙ sym c.is_settled.ensures.answer ∙ c.if-is_settled.false)
-    (sym (ap (is_wanted c.args.won) c.node_of-node.ensures) ∙ sym c.is_wanted.ensures ∙ c.if-is_wanted.false)
+    each_words c.args.plies c.args.won (under c.args.turn ko) pos c.requires.plies
+    (sym (c.is_settled.ensures.answer ko (c.requires.none ko asked)) ∙ c.if-is_settled.false)
+    (c.requires.none ko asked)
+    (sym (ap (is_wanted c.args.won) c.node_of.ensures) ∙ sym c.is_wanted.ensures ∙ c.if-is_wanted.false)
 
 -- there is no room for the star
-pub write-returns-in_err-put_word-clause-puts : goal.write-returns-in_err-put_word-clause-puts
-write-returns-in_err-put_word-clause-puts g t c = λ same ko asked.
+pub write_moves-returns-in_err-put_word-clause-puts : goal.write_moves-returns-in_err-put_word-clause-puts
+write_moves-returns-in_err-put_word-clause-puts g t c = λ same ko asked.
     let pos = position_on g.L.Look.shows c.args.board.now in
     let passed = pass_words (c.args.plies - 1) c.args.won (under c.args.turn ko) pos in
     let played = plays_words (c.args.plies - 1) c.args.won (under c.args.turn ko) pos in
-    rw (star_words g t (goal.at.write-returns-in_err-put_word-clause-puts g t c).After-put_word ko)
+    rw (star_words g t (goal.at.write_moves-returns-in_err-put_word-clause-puts g t c).After-put_word ko asked)
     (puts_up c.args.out.now c.put_word.new.out c.put_word.new.out (behind_blanks (codes "*" ∷ [])) (passed ++ played)
     c.in_err-put_word.field-0.0 c.from_residual.result c.from_residual.ensures.1 c.in_err-put_word.ensures)
 
 -- there is none for the proof after the pass
-pub write-returns-in_err-alike-clause-puts : goal.write-returns-in_err-alike-clause-puts
-write-returns-in_err-alike-clause-puts g t c = λ same ko asked.
+pub write_moves-returns-in_err-alike-clause-puts : goal.write_moves-returns-in_err-alike-clause-puts
+write_moves-returns-in_err-alike-clause-puts g t c = λ same ko asked.
     let pos = position_on g.L.Look.shows c.args.board.now in
     let node = under c.args.turn ko in
     let passed = pass_words (c.args.plies - 1) c.args.won node pos in
     let played = plays_words (c.args.plies - 1) c.args.won node pos in
-    rw (star_words g t (goal.at.write-returns-in_err-alike-clause-puts g t c).After-put_word ko)
+    rw (star_words g t (goal.at.write_moves-returns-in_err-alike-clause-puts g t c).After-put_word ko asked)
     (puts_both c.args.out.now c.put_word.new.out c.write_pass.new.out (behind_blanks (codes "*" ∷ []))
     (passed ++ played) c.from_residual-in_err-alike.result c.in_ok-put_word.ensures.0
     (puts_up_told c.put_word.new.out c.write_pass.new.out c.write_pass.new.out passed played
@@ -372,24 +438,24 @@ write-returns-in_err-alike-clause-puts g t c = λ same ko asked.
     (c.in_err-alike.ensures.puts (λ e. cc) ko asked))))
 
 -- there is room behind what is written after the pass
-pub write-write_plays-requires : goal.write-write_plays-requires
-write-write_plays-requires g t c κs within =
+pub write_moves-write_plays-requires : goal.write_moves-write_plays-requires
+write_moves-write_plays-requires g t c κs within =
     let one = some_of c.args.asked c.requires.some in
     let bytes : length c.write_pass.new.out ≤ most_bytes =
     (c.in_ok-alike.ensures.puts (yes_told c.in_ok-alike.alike c.if-not-alike.false) one.0 one.1).1 in
     search rules
 
 -- the proofs after the pass differ
-pub write-returns-then-not-alike-clause-puts : goal.write-returns-then-not-alike-clause-puts
-write-returns-then-not-alike-clause-puts g t c = λ same ko asked. absurd (same refl)
+pub write_moves-returns-then-not-alike-clause-puts : goal.write_moves-returns-then-not-alike-clause-puts
+write_moves-returns-then-not-alike-clause-puts g t c = λ same ko asked. absurd (same refl)
 
 -- of one allowance alone they do not
-pub write-returns-then-not-alike-clause-one : goal.write-returns-then-not-alike-clause-one
-write-returns-then-not-alike-clause-one g t c = λ one e. c.in_ok-alike.ensures.one one (ap Ok c.if-not-alike.true)
+pub write_moves-returns-then-not-alike-clause-one : goal.write_moves-returns-then-not-alike-clause-one
+write_moves-returns-then-not-alike-clause-one g t c = λ one e. c.in_ok-alike.ensures.one one (ap Ok c.if-not-alike.true)
 
 -- the star, the proof after the pass and those after the plays
-pub write-returns-clause-puts : goal.write-returns-clause-puts
-write-returns-clause-puts g t c = λ same ko asked.
+pub write_moves-returns-clause-puts : goal.write_moves-returns-clause-puts
+write_moves-returns-clause-puts g t c = λ same ko asked.
     let pos = position_on g.L.Look.shows c.args.board.now in
     let node = under c.args.turn ko in
     let passed = pass_words (c.args.plies - 1) c.args.won node in
@@ -399,7 +465,7 @@ write-returns-clause-puts g t c = λ same ko asked.
     let walked = here_stays g.L.Look.shows g.L.Look.seen c.is_settled.new.board c.write_pass.new.board
     c.write_pass.ensures.stays ∙ looked in
     let first = c.in_ok-alike.ensures.puts (yes_told c.in_ok-alike.alike c.if-not-alike.false) ko asked in
-    rw (star_words g t (goal.at.write-returns-clause-puts g t c).After-put_word ko)
+    rw (star_words g t (goal.at.write_moves-returns-clause-puts g t c).After-put_word ko asked)
     (puts_both c.args.out.now c.put_word.new.out c.write_plays.new.out (behind_blanks (codes "*" ∷ []))
     (passed pos ++ played pos) c.write_plays.result c.in_ok-put_word.ensures.0
     (puts_both c.put_word.new.out c.write_pass.new.out c.write_plays.new.out (passed pos) (played pos)

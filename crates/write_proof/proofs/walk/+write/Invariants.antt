@@ -14,23 +14,31 @@ use Rattle.write_proof.proofs.walk.+write.Given as goal
 
 -- each step down the tree spends a ply
 abbrev pub decreases-write : goal.decreases-write
-decreases-write g l = 4 * l.plies
+decreases-write g l = 6 * l.plies + 1
+
+-- the moves are written one step below
+abbrev pub decreases-write_moves : goal.decreases-write_moves
+decreases-write_moves g l = 6 * l.plies
 
 -- a play is written with as many plies as the node after it
 abbrev pub decreases-write_play : goal.decreases-write_play
-decreases-write_play g l = 4 * l.plies + 1
+decreases-write_play g l = 6 * l.plies + 2
 
 -- and so is the pass
 abbrev pub decreases-write_pass : goal.decreases-write_pass
-decreases-write_pass g l = 4 * l.plies + 1
+decreases-write_pass g l = 6 * l.plies + 2
 
 -- the plays are one step above each of them
 abbrev pub decreases-write_plays : goal.decreases-write_plays
-decreases-write_plays g l = 4 * l.plies + 2
+decreases-write_plays g l = 6 * l.plies + 3
 
 -- and so is the first move
 abbrev pub decreases-write_move : goal.decreases-write_move
-decreases-write_move g l = 4 * l.plies + 2
+decreases-write_move g l = 6 * l.plies + 3
+
+-- and the play that takes back
+abbrev pub decreases-write_back : goal.decreases-write_back
+decreases-write_back g l = 6 * l.plies + 3
 
 -- under each asked allowance, what is written so far, and what is left to write from the next candidate on, are what
 -- was to be written

@@ -1,0 +1,145 @@
+-- What shows whether the defender takes back a target that is taken.
+use Rattle.std.proofs.Common.{◌≡◌, ◌∙◌, ℕ, ◌*◌, ◌<◌, ◌&&◌, Bool, true, false, not, cond, List, Option, Some, None, is_none}
+use Rattle.std.proofs.Common.{refl, sym, ap, subst}
+use Rattle.std.specs.FinSet as sets
+use Rattle.std.specs.Option.{option_and_then}
+use Rattle.std.proofs.lemmas.Bool.{and_from, and_parts, both_ways, not-true, not_from_false}
+use Rattle.go_rules.specs.declared.Cell.{Cell}
+use Rattle.go_rules.specs.declared.Cell.TheVariants.{Empty}
+use Rattle.go_rules.specs.declared.Colour.{Colour}
+use Rattle.go_rules.specs.Below.{first_below}
+use Rattle.go_rules.specs.Board.{are_neighbours}
+use Rattle.go_rules.specs.Strings.{cell_at, same_cell}
+use Rattle.go_rules.specs.Position.{BoardState, IsPosition, other, stone_of}
+use Rattle.go_rules.proofs.Counts.{first_below_gives}
+use Rattle.go_rules.proofs.Paths.{same_cell-true, same_cell-from}
+use Rattle.go_base.specs.Sides.{neighbour_at}
+use Rattle.go_base.proofs.SidesOfPoints.{neighbour_at-near}
+use Rattle.read_rules.specs.ActiveArea.{AgreeOn}
+use Rattle.read_rules.specs.declared.node.Node.{Node}
+use Rattle.read_rules.specs.declared.tree.Tree.TheVariants.{Wider}
+use Rattle.read_rules.specs.Trees.{is_wider}
+use Rattle.read_rules.specs.GameTree.{taking_back}
+use Rattle.read_rules.specs.Rules.{IsChild, TakesBack}
+use Rattle.read_rules.proofs.RuleLemmas.{takes_back_from}
+use Rattle.sure_rules.specs.Nodes.{is_attackers, is_gone, is_taken_for_good, target_of}
+use Rattle.sure_rules.specs.Zones.{points_of, IsZone}
+use Rattle.sure_rules.proofs.SureLemmas.{none_and_some}
+use Rattle.sure_rules.proofs.ZoneLemmas.{zone_captured}
+use Rattle.sure_proof.specs.Rests.{Points, play_rests_on, is_open, open_neighbour, wall_rests_on, loss_rests_on}
+use Rattle.sure_proof.proofs.ShownLemmas.{insert_self, insert_more}
+use Rattle.sure_proof.proofs.SoundLemmas.{has, IsWithin, shows_self, play_beside, play_self, child_here}
+
+-- the point is among what shows it
+pub loss_point : (node : Node) (pos : BoardState) → has (loss_rests_on node pos) (target_of node) ≡ true
+unfolding loss_rests_on
+loss_point node pos =
+    by (is_wider node.turn.tree && not node.turn.attacker_to_play)
+    (open_neighbour pos.size pos.cells (other node.turn.defender) (target_of node))
+  where
+    by : (late : Bool) (o : Option ℕ)
+        → has (cond late (wall_rests_on pos.size pos.cells (target_of node) o) (sets.insert sets.empty (target_of node)))
+        (target_of node) ≡ true
+    by false o = insert_self (target_of node) sets.empty
+    by true None = play_self pos.size pos.cells (target_of node)
+    by true (Some q) = insert_more (target_of node) (sets.insert sets.empty (target_of node)) q
+        (insert_self (target_of node) sets.empty)
+
+-- in the wider tree, at the defender's turn, it is what shows whether the point is walled in
+loss_is : (node : Node) (pos : BoardState) → node.turn.tree ≡ Wider → is_attackers node ≡ false
+    → loss_rests_on node pos ≡ wall_rests_on pos.size pos.cells (target_of node)
+    (open_neighbour pos.size pos.cells (other node.turn.defender) (target_of node))
+unfolding loss_rests_on
+loss_is node pos tree turn =
+    ap (λ b. cond b (wall_rests_on pos.size pos.cells (target_of node)
+    (open_neighbour pos.size pos.cells (other node.turn.defender) (target_of node)))
+    (sets.insert sets.empty (target_of node)))
+    (and_from (is_wider node.turn.tree) (not node.turn.attacker_to_play) (ap is_wider tree)
+    (not_from_false node.turn.attacker_to_play turn))
+
+-- an open neighbour is at a side, and holds no stone of c
+open_gives : (s : ℕ) (cells : List Cell) (c : Colour) (p q : ℕ) → open_neighbour s cells c p ≡ Some q
+    → (side : ℕ) × (neighbour_at s p side ≡ Some q) × (same_cell (cell_at cells q) (stone_of c) ≡ false)
+unfolding open_neighbour
+open_gives s cells c p q e = by (first_below 4 (λ side. is_open cells c (neighbour_at s p side))) refl e
+  where
+    by : (o : Option ℕ) → first_below 4 (λ side. is_open cells c (neighbour_at s p side)) ≡ o
+        → option_and_then (neighbour_at s p) o ≡ Some q
+        → (side : ℕ) × (neighbour_at s p side ≡ Some q) × (same_cell (cell_at cells q) (stone_of c) ≡ false)
+    by None is at = absurd (let wrong = at in cc)
+    by (Some side) is at =
+        let found = first_below_gives 4 (λ k. is_open cells c (neighbour_at s p k)) side is in
+        (side, at, not-true (same_cell (cell_at cells q) (stone_of c)) (ap (is_open cells c) (sym at) ∙ found.1))
+
+-- A target that is taken, and points among which is what shows whether it is taken back.
+module _ (node : Node) (pos : BoardState) (good : IsPosition pos) (on : node.turn.target < pos.size * pos.size)
+    (Z : Points) (rests : IsWithin (loss_rests_on node pos) Z) where
+  -- A position that agrees on these points, on which the defender takes back.
+  module _ (here : BoardState) (sound : IsPosition here) (same : AgreeOn (points_of (has Z)) pos here) (next : Node)
+      (made : BoardState) (back : TakesBack node here next made) where
+    -- what shows whether the point is walled in is among the points
+    wall_within : IsWithin (wall_rests_on pos.size pos.cells (target_of node)
+        (open_neighbour pos.size pos.cells (other node.turn.defender) (target_of node))) Z
+    wall_within q inside =
+        rests q (ap (λ (S : Points). has S q) (loss_is node pos back.lost.tree back.lost.turn) ∙ inside)
+
+    -- each neighbour there holds a stone of the attacker
+    walled_there : (q : ℕ) → q < pos.size * pos.size → are_neighbours pos.size (target_of node) q ≡ true
+        → cell_at here.cells q ≡ stone_of (other node.turn.defender)
+    walled_there q q_on near = back.lone q (subst (λ s. q < s * s) same.sizes q_on)
+        (ap (λ s. are_neighbours s (target_of node) q) (sym same.sizes) ∙ near)
+
+    -- so no neighbour is open here
+    none_open : open_neighbour pos.size pos.cells (other node.turn.defender) (target_of node) ≡ None
+    none_open = by (open_neighbour pos.size pos.cells (other node.turn.defender) (target_of node)) refl wall_within
+      where
+        by : (o : Option ℕ) → open_neighbour pos.size pos.cells (other node.turn.defender) (target_of node) ≡ o
+            → IsWithin (wall_rests_on pos.size pos.cells (target_of node) o) Z → o ≡ None
+        by None is within = refl
+        by (Some q) is within =
+            let w = open_gives pos.size pos.cells (other node.turn.defender) (target_of node) q is in
+            let near = neighbour_at-near pos.size (target_of node) w.0 q on w.1 in
+            let cell = same.cells q (within q (insert_self q (sets.insert sets.empty (target_of node)))) in
+            absurd (both_ways (same_cell (cell_at pos.cells q) (stone_of (other node.turn.defender))) w.2
+            (same_cell-from (cell_at pos.cells q) (stone_of (other node.turn.defender))
+            (cell ∙ walled_there q near.0 near.1)))
+
+    -- what the play at its point rests on is among the points
+    pub play_within : IsWithin (play_rests_on pos.size pos.cells (target_of node)) Z
+    play_within q inside =
+        wall_within q (ap (λ o. has (wall_rests_on pos.size pos.cells (target_of node) o) q) none_open ∙ inside)
+
+    -- he takes back here too
+    pub back_here : is_gone node pos ≡ true → (first : BoardState) × TakesBack node pos next first
+    back_here gone =
+        let child = child_here node pos here (target_of node) Z good sound on same play_within next made back.child in (
+          child.0,
+          record {
+            lost = record {
+              tree = back.lost.tree;
+              turn = back.lost.turn;
+              taken = same_cell-true (cell_at pos.cells (target_of node)) Empty gone;
+            };
+            lone = λ q q_on near. same.cells q (play_within q
+                (play_beside pos.size pos.cells (target_of node) q q on q_on near (shows_self pos.size pos.cells q)))
+                ∙ walled_there q q_on near;
+            child = child.1;
+          },
+        )
+
+-- what shows that a target is taken for good is a zone
+pub loss_zone : (node : Node) (pos : BoardState) (m : ℕ) → IsPosition pos → node.turn.target < pos.size * pos.size
+    → is_taken_for_good node pos ≡ true → IsZone m node pos (has (loss_rests_on node pos))
+loss_zone node pos m good on kept =
+    let parts = and_parts (is_gone node pos) (is_none (taking_back node pos)) kept in
+    zone_captured m node pos (has (loss_rests_on node pos)) parts.0 (record {
+      point = loss_point node pos;
+      kept = λ here sound same next made back.
+          let w = back_here node pos good on (loss_rests_on node pos) (λ q inside. inside) here sound same next made back
+          parts.0 in
+          none_and_some (none_by (taking_back node pos) parts.1) (takes_back_from node pos next w.0 w.1);
+    })
+  where
+    none_by : (o : Option (Node × BoardState)) → is_none o ≡ true → o ≡ None
+    none_by None e = refl
+    none_by (Some child) e = cc

@@ -1,0 +1,70 @@
+//! What shows whether the defender takes back a stone that is taken, and where that leads.
+
+ghost use Rattle.std.specs.Prelude.{◌≡◌, ◌*◌, ◌<◌, IfSome};
+ghost use Rattle.std.specs.FinSet as set;
+ghost use Rattle.go_rules.specs.Board.{largest_points};
+ghost use Rattle.go_base.specs.Sides.{neighbour_at};
+ghost use Rattle.sure_proof.specs.Rests.{is_open, open_neighbour, wall_rests_on, loss_rests_on};
+
+use crate::guard::one_point;
+use crate::play::play_rests_on;
+use go_base::sides::neighbour;
+use go_base::{Colour, Point, PointSet, Position};
+use read_rules::Node;
+
+/// Whether there is a neighbour at a side of p, and it holds no stone of c.
+fn is_open(pos: &Position, p: Point, side: u8, c: Colour) -> bool
+    requires on_board { p < pos.now.size * pos.now.size }
+    requires side { side < 4 }
+    ensures { result ≡ is_open pos.now.cells c (neighbour_at pos.now.size p side) }
+{
+    match neighbour(pos.size(), p, side) {
+        Some(q) => pos.cell(q) != c.cell(),
+        None => false,
+    }
+}
+
+/// The first neighbour of p, side by side, that holds no stone of c.
+fn open_neighbour(pos: &Position, p: Point, c: Colour) -> Option<Point>
+    requires { p < pos.now.size * pos.now.size }
+    ensures value { result ≡ open_neighbour pos.now.size pos.now.cells c p }
+    ensures small { IfSome result (λ q. q < largest_points) }
+{
+    for side in 0..4 {
+        if is_open(pos, p, side, c) {
+            return neighbour(pos.size(), p, side);
+        }
+    }
+    None
+}
+
+/// What shows whether each neighbour of the empty point p holds a stone of c, and whether the other colour can play
+/// there.
+fn wall_rests_on(pos: &Position, p: Point, c: Colour) -> PointSet
+    requires on_board { p < pos.now.size * pos.now.size }
+    requires small { p < largest_points }
+    ensures { result ≡ wall_rests_on pos.now.size pos.now.cells p (open_neighbour pos.now.size pos.now.cells c p) }
+{
+    match open_neighbour(pos, p, c) {
+        Some(q) => {
+            let mut points = one_point(p);
+            points.add(q);
+            points
+        }
+        None => play_rests_on(pos, p),
+    }
+}
+
+/// What shows whether the defender takes back the target that is taken, and where that leads.
+#[tactic(auto, unfolding(crate::specs::Rests::loss_rests_on))]
+pub(crate) fn loss_rests_on(pos: &Position, node: Node) -> PointSet
+    requires on_board { node.turn.target < pos.now.size * pos.now.size }
+    requires small { node.turn.target < largest_points }
+    ensures { result ≡ loss_rests_on node pos.now }
+{
+    let target = node.turn.target;
+    if node.turn.tree.is_wider() && !node.turn.attacker_to_play {
+        return wall_rests_on(pos, target, node.turn.defender.other());
+    }
+    one_point(target)
+}
