@@ -30,6 +30,8 @@ ATARI = (9, "b D4 w C4 w E4 w D5")
 CORNER = (5, "b A1 w B1 w B2")
 KO = (5, "b B3 b C4 b C2 b D3 w D4 w E3 w D2 w C3")
 BACKFILLED = (5, "b A2 b B2 b B3 b B4 b A4 w A5 w B5 w C5 w C4 w C3 w C2 w B1")
+SNAPBACK = (5, "b A3 b B3 b C2 b C1 w A2 w B2 b A1")
+TAKEN_TWICE = (3, "b C3 b B2 w A2 w C2 w C1 b A1")
 EXAMPLES = [
     (*ATARI, "attack D4", (3, 2), 3, "W D3 .", True),
     (*ATARI, "attack D4", (3, 2), 3, "W d03 .", True),
@@ -53,6 +55,17 @@ EXAMPLES = [
     (*KO, "attack C3", (3, 4), 1, "N * N * W D3 .", True),
     (*KO, "attack C3", (3, 4), 1, "N . N * W D3 .", False),
     (*KO, "attack C3", (3, 4), 2, "N * W D3 .", False),
+    (*SNAPBACK, "attack A1", (3, 0), 3, "W B1 .", True),
+    (*SNAPBACK, "attack A1", (3, 0, True), 3, "W B1 .", False),
+    (*SNAPBACK, "attack A1", (3, 0, True), 0, "N * A1 . N * A1 . N * A1 .", True),
+    (*SNAPBACK, "attack A1", (3, 0, True), 0, "N * * . N * * . N * * .", False),
+    (*SNAPBACK, "attack A1", (3, 0, True), 0, "N * . N * . N * .", False),
+    (*SNAPBACK, "attack A1", (1, 0, True), 0, "N * . N * . N * .", True),
+    (*SNAPBACK, "attack A1", (1, 0, True), 0, "N * A1 . N * A1 . N * A1 .", False),
+    (*TAKEN_TWICE, "attack A1", (3, 0, True), 3, "W B1 A1 B1 .", True),
+    (*TAKEN_TWICE, "attack A1", (3, 0, True), 3, "W B1 PASS B1 .", False),
+    (*TAKEN_TWICE, "attack A1", (3, 0, True), 3, "W B1 * B1 .", False),
+    (*TAKEN_TWICE, "attack A1", (3, 0, True), 3, "W B1 .", False),
 ]
 
 

@@ -279,11 +279,21 @@ static void pass(const Node *node, const Position *pos, Node *next, Position *ne
   new->ban = -1;
 }
 
+/* Take back, in the wider tree: the defender has just lost a lone stone, so that each neighbour of its point holds a
+ * stone of the attacker, and his play at that point can be made; where it leads */
+static int takes_back(const Node *node, const Position *pos, Node *next, Position *new) {
+  int side[4], sides = neighbours(node->target, side);
+  if (!wider || node->attacks) return 0;
+  for (int i = 0; i < sides; i++) if (pos->cell[side[i]] != 3 - node->defender) return 0;
+  return child(node, pos, node->target, next, new);
+}
+
 static int attacker_wins(int n, const Node *node, const Position *pos) {
   char is[POINTS];
   Node next;
   Position new;
-  if (pos->cell[node->target] == EMPTY) return 1;
+  if (pos->cell[node->target] == EMPTY)
+    return !takes_back(node, pos, &next, &new) || (n > 0 && attacker_wins(n - 1, &next, &new));
   if (n == 0) return 0;
   if (node->attacks) {
     int count = liberties(pos, node->target);

@@ -62,6 +62,8 @@ BUGS = [
     Bug("a proof is followed without the pass", "proof.js", "(node.isAttackers ? [] : [PASS])", "[]"),
     Bug("a proof is followed without backfilling plays", "proof.js",
         "found.push(...backfilling(board, other(defender), liberties));", ""),
+    Bug("a proof is followed without taking back", "proof.js", "return isAlone ? nodeAfter(node, target) : null;",
+        "return null;"),
     Bug("the words of a proof are not checked", "worker.js", "getUint16(at.reply + 2, true) === 1 }",
         "getUint16(at.reply + 2, true) === 2 }"),
     Bug("a play that is forbidden changes the board", "page.js",

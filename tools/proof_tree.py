@@ -48,6 +48,14 @@ class Node(NamedTuple):
     def is_captured(self) -> bool:
         return self.position.cells[self.target] == EMPTY
 
+    def has_lost_one_stone(self) -> bool:
+        """Whether the defender is to play in the wider tree and has just lost a lone stone: the target's point is
+        empty, and each neighbour of it holds a stone of the attacker."""
+        if not self.is_wider or self.is_attackers or not self.is_captured():
+            return False
+        size, cells, _ = self.position
+        return all(cells[near] == other(self.defender) for near in neighbours(size)[self.target])
+
 
 class String(NamedTuple):
     """The stones of a string, and its liberties."""
@@ -204,6 +212,11 @@ def played(node: Node, point: int) -> Node | None:
     return next_node(node, position, attacker_ko, defender_ko) if position else None
 
 
+def taking_back(node: Node) -> Node | None:
+    """The node after the defender takes back the lone stone that he has just lost; none where he cannot."""
+    return played(node, node.target) if node.has_lost_one_stone() else None
+
+
 def children(node: Node) -> Iterator[tuple[Move, Node]]:
     """Each move that a side has at a node, the pass first, with the node that it leads to."""
     if not node.is_attackers:
@@ -240,13 +253,18 @@ def is_out_of_reach(node: Node, liberties: int) -> bool:
 
 def is_settled(node: Node, claim: str) -> bool:
     """Whether `.` proves the claim."""
-    if claim == "W" or node.is_captured():
-        return claim == "W" and node.is_captured()
-    return node.plies == 0 or has_too_many(node)
+    if node.is_captured():
+        if taking_back(node) is None:
+            return claim == "W"
+        return claim == "N" and node.plies == 0
+    return claim == "N" and (node.plies == 0 or has_too_many(node))
 
 
 def child_by(node: Node, move: Move) -> Node | None:
-    """The node after a move that may prove what the side to play wants; none where it may not."""
+    """The node after a move that may prove what the side to play wants, or after the only one, by which the defender
+    takes back; none where it may not."""
+    if node.is_captured():
+        return taking_back(node) if move.point == node.target else None
     if move.point is None:
         return None if node.is_attackers else passed(node)
     if node.is_attackers and is_out_of_reach(node, node.liberties()):
@@ -267,9 +285,9 @@ def proved(node: Node, claim: str, words: list[str], at: int) -> tuple[Step, int
     word = words[at] if at < len(words) else ""
     if word == ".":
         return (Step(node, word), at + 1) if is_settled(node, claim) else None
-    if node.is_captured() or node.plies == 0:
+    if node.plies == 0:
         return None
-    is_wanted = (claim == "W") == node.is_attackers
+    is_wanted = node.is_captured() or (claim == "W") == node.is_attackers
     if word == "*":
         return None if is_wanted else each_proved(node, claim, words, at + 1)
     move = move_of(node.position.size, word)
@@ -352,6 +370,8 @@ def reason(node: Node) -> str:
     """Why `.` stands at a node: the first rule of docs/PROOFS_OF_READINGS.md that says so."""
     target = vertex_of(node.position.size, node.target)
     if node.is_captured():
+        if taking_back(node):
+            return f"{target} is empty, but the defender can take back, and no ply is left."
         return f"{target} is empty: the string is captured."
     if node.plies == 0:
         return f"{target} still stands, and no ply is left."
@@ -374,9 +394,12 @@ def claim_in_words(kind: str, part: Part) -> str:
 
 
 def behind_in_words(step: Step) -> str:
-    """What stands behind a step: why it is settled, or that each move is tried; nothing at a move of the proof."""
+    """What stands behind a step: why it is settled, that each move is tried, or that the defender takes back; nothing
+    at any other move of the proof."""
     if step.word == ".":
         return reason(step.node)
+    if step.node.is_captured():
+        return f"{vertex_of(step.node.position.size, step.node.target)} is empty, and the defender takes back:"
     if step.word != "*":
         return ""
     side = side_of(step.node)

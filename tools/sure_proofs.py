@@ -1,15 +1,16 @@
 """Proofs of sure captures, apart from the proved checker: a writer, a checker, and a drawing of what a proof rests on.
 
-    python3 tools/sure_proofs.py SIZE BLACK WHITE attack|defend TARGET PLIES WIDE [ATTACKER_KO DEFENDER_KO]
+    python3 tools/sure_proofs.py SIZE BLACK WHITE attack|defend TARGET PLIES WIDE [ATTACKER_KO DEFENDER_KO [wider]]
 
 BLACK and WHITE are vertices parted by commas; white's stones are played after black's, so that the last may leave a ban.
 It prints the proof, whether its checker accepts it, how many words it has, and the points on which it rests, in brackets.
-It reads the stated tree alone, and is slow.
+It reads the stated tree, or the wider one if the last word says so, and is slow.
 """
 
 import sys
 
 import go_rules
+import proof_tree
 from go_rules import EMPTY, Position, neighbours, other
 
 
@@ -52,6 +53,12 @@ def play_rests_on(b: Position, p: int) -> set[int]:
     return {p}.union(*(shows_atari(b, q) for q in beside(b, p)))
 
 
+def open_neighbour(b: Position, p: int, colour: int) -> int | None:
+    """The first neighbour of p, above, below, left and right of it, that holds no stone of the colour."""
+    sides = [p - b.size, p + b.size, p - 1, p + 1]
+    return next((q for q in sides if q in beside(b, p) and b.cells[q] != colour), None)
+
+
 def child(b: Position, colour: int, p: int, allowance: int) -> tuple[Position, int] | None:
     """The position after the play, and what is left of the allowance; none if it cannot be made."""
     new = go_rules.play(b, colour, p)
@@ -64,8 +71,9 @@ def child(b: Position, colour: int, p: int, allowance: int) -> tuple[Position, i
 class Reading:
     """The reading of one string."""
 
-    def __init__(self, b: Position, target: int) -> None:
+    def __init__(self, b: Position, target: int, is_wider: bool = False) -> None:
         self.target = target
+        self.is_wider = is_wider
         self.defender = b.cells[target]
         self.attacker = other(self.defender)
 
@@ -75,7 +83,7 @@ class Reading:
         return wide > 0 and len(liberties) <= 2 and b.cells[p] == EMPTY and any(q in liberties for q in beside(b, p))
 
     def candidates(self, b: Position, wide: int) -> list[int]:
-        """The attacker's candidates in the stated tree, in reading order."""
+        """The attacker's candidates, in reading order."""
         stones, liberties = string(b, self.target)
         found = set(liberties)
         for q in {x for s in stones for x in beside(b, s) if b.cells[x] == self.attacker}:
@@ -87,6 +95,8 @@ class Reading:
                 new = go_rules.play_free(b, self.attacker, q)
                 last = string(new, q)[1] if new else set()
                 found |= {p for p in last if len(last) == 1 and b.cells[p] == EMPTY}
+        if self.is_wider:
+            found |= proof_tree.further(b, self.target, True, wide > 0)
         return sorted(found)
 
     def candidate_rests_on(self, b: Position, p: int, wide: int) -> set[int]:
@@ -100,7 +110,22 @@ class Reading:
     def has_too_many(self, b: Position, wide: int) -> bool:
         """Whether the target has more liberties than the attacker may play at."""
         liberties = len(string(b, self.target)[1])
-        return liberties > 4 or (wide == 0 and liberties > 2)
+        return liberties > 4 or (wide == 0 and liberties > (4 if self.is_wider else 2))
+
+    def taking_back(self, b: Position, attacks: bool, allowance: int) -> tuple[Position, int] | None:
+        """The position after the defender takes back the lone stone that was just taken, and what is left of his
+        allowance; none if he cannot."""
+        if not self.is_wider or attacks or b.cells[self.target] != EMPTY:
+            return None
+        is_lone = open_neighbour(b, self.target, self.attacker) is None
+        return child(b, self.defender, self.target, allowance) if is_lone else None
+
+    def loss_rests_on(self, b: Position, attacks: bool) -> set[int]:
+        """What shows whether the defender takes back the target that is taken, and where that leads."""
+        if not self.is_wider or attacks:
+            return {self.target}
+        beyond = open_neighbour(b, self.target, self.attacker)
+        return play_rests_on(b, self.target) if beyond is None else {self.target, beyond}
 
     def asked(self, b: Position, zone: set[int]) -> list[int]:
         """The replies that the zone of the pass asks for, in reading order."""
@@ -116,11 +141,16 @@ class Reading:
 
     def write(self, b: Position, attacks: bool, plies: int, wide: int, ako: int, dko: int):
         """The first proof and the points on which it rests; none if the string is not surely captured."""
+        less = max(0, wide - 1)
         if b.cells[self.target] == EMPTY:
-            return ["."], {self.target}
+            points = self.loss_rests_on(b, attacks)
+            back = self.taking_back(b, attacks, dko)
+            if not back:
+                return ["."], points
+            found = plies and self.write(back[0], True, plies - 1, less, ako, back[1])
+            return ([go_rules.vertex_of(b.size, self.target)] + found[0], points | found[1]) if found else None
         if not plies:
             return None
-        less = max(0, wide - 1)
         if attacks:
             if self.has_too_many(b, wide):
                 return None
@@ -151,13 +181,14 @@ class Reading:
         if not words:
             raise Refused("no word")
         word, rest = words[0], words[1:]
+        less = max(0, wide - 1)
+        back = self.taking_back(b, attacks, dko)
         if word == ".":
-            if b.cells[self.target] != EMPTY:
-                raise Refused("the target stands")
-            return rest, {self.target}
+            if b.cells[self.target] != EMPTY or back:
+                raise Refused("the target stands, or is taken back")
+            return rest, self.loss_rests_on(b, attacks)
         if not plies:
             raise Refused("no ply is left")
-        less = max(0, wide - 1)
         if attacks:
             move = go_rules.move_of(b.size, word)
             if b.cells[self.target] == EMPTY or self.has_too_many(b, wide) or not move or move.point is None:
@@ -170,7 +201,10 @@ class Reading:
             left, zone = self.check(new[0], False, plies - 1, less, new[1], dko, rest)
             return left, self.candidate_rests_on(b, move.point, wide) | play_rests_on(b, move.point) | zone
         if word != "*":
-            raise Refused("no *")
+            if not back or go_rules.move_of(b.size, word) != go_rules.Move(self.target):
+                raise Refused("no *, and the target is not taken back")
+            left, zone = self.check(back[0], True, plies - 1, less, ako, back[1], rest)
+            return left, self.loss_rests_on(b, attacks) | zone
         left, passed = self.check(go_rules.play(b, self.defender, None), True, plies - 1, less, ako, dko, rest)
         zone = passed | self.guard(b, passed)
         for p in self.asked(b, passed):
@@ -202,8 +236,8 @@ def main(size: str, black: str, white: str, kind: str, target: str, plies: str, 
     for colour, stones in ((go_rules.BLACK, black), (go_rules.WHITE, white)):
         for word in filter(None, stones.split(",")):
             b = go_rules.play(b, colour, go_rules.move_of(b.size, word).point)
-    reading = Reading(b, go_rules.move_of(b.size, target).point)
-    ako, dko = map(int, kos) if kos else (0, 0)
+    reading = Reading(b, go_rules.move_of(b.size, target).point, kos[2:] == ("wider",))
+    ako, dko = map(int, kos[:2]) if kos else (0, 0)
     question = (b, kind == "attack", int(plies), int(wide), ako, dko)
     found = reading.write(*question)
     if not found:

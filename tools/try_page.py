@@ -322,16 +322,22 @@ def tried_rules(trial: Trial) -> None:
 
 
 def tried_proofs(trial: Trial) -> None:
-    """Proofs in which backfilling moves are tried."""
-    person, board = trial.person, trial.gopat.Board.of_rows([".X.X", "....", "....", "X.OO"])
-    person.open()
-    person.paste(rows(Setting(board, [])))
-    person.read()
-    person.depths(6, 2, 0)
-    person.mode("ask")
-    person.click_on(4, "B4")
-    person.read()
-    trial.proofs(board, "backfilling moves", ("B4", 6, 2, False), 0)
+    """Proofs in which backfilling moves are tried, and one in which a lone stone is taken back."""
+    person = trial.person
+    for what, drawn, vertex, plies, wide, tree in (
+        ("backfilling moves", [".X.X", "....", "....", "X.OO"], "B4", 6, 2, 0),
+        ("taking back", ["XX...", "OOX..", "X.X.."], "A1", 3, 0, 1),
+    ):
+        drawn = ["." * len(drawn[0])] * (len(drawn[0]) - len(drawn)) + drawn
+        board = trial.gopat.Board.of_rows(drawn)
+        person.open()
+        person.paste(rows(Setting(board, [])))
+        person.read()
+        person.depths(plies, wide, tree)
+        person.mode("ask")
+        person.click_on(board.size, vertex)
+        person.read()
+        trial.proofs(board, what, (vertex, plies, wide, tree == 1), tree)
 
 
 def tried_faults(trial: Trial) -> None:

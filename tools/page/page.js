@@ -480,7 +480,8 @@ function stepParts({ word, isAttackers, reason, behind }, board, defender) {
   const each = `Each move that the ${side} tries${isAttackers ? "" : ", and the pass"}:`;
   const told = behind.length === 0 ? `The ${side} has no move to try.` : each;
   const moves = behind.map(({ point, step }) => moveDetails(colour, point, step, board, defender));
-  return [...(word === "*" ? [element("div", { className: "leaf" }, told)] : []), ...moves];
+  const said = word === "*" ? told : reason;
+  return [...(said ? [element("div", { className: "leaf" }, said)] : []), ...moves];
 }
 
 /** A move of a proof; its board and what follows are made when it is unfolded. */

@@ -3,7 +3,8 @@
 // this finds out which moves they stand for.
 //
 // A node is { board, target, defender, isAttackers, plies, wide, isWider, attackerKo, defenderKo }. A step is the word
-// at a node and the steps behind it: { word, isAttackers, reason, behind: [{ point, step }] }.
+// at a node and the steps behind it: { word, isAttackers, reason, behind: [{ point, step }] }. The reason says why `.`
+// stands, or that the defender takes back; else it is empty.
 
 /** The points of these strings' liberties, of each string that has at most and at least so many. */
 function libertiesOf(strings, most, least = 0) {
@@ -117,6 +118,15 @@ function isCaptured(node) {
   return node.board.cells[node.target] === EMPTY;
 }
 
+/** The node after the defender takes back the lone stone that he has just lost in the wider tree: each neighbour of its
+    empty point holds a stone of the attacker. Null where he cannot. */
+function takingBack(node) {
+  const { board, target, defender, isAttackers, isWider } = node;
+  if (!isWider || isAttackers || !isCaptured(node)) return null;
+  const isAlone = neighbours(board.size, target).every((near) => board.cells[near] === other(defender));
+  return isAlone ? nodeAfter(node, target) : null;
+}
+
 function libertyCount(node) {
   return stringAt(node.board.size, node.board.cells, node.target).liberties.size;
 }
@@ -124,6 +134,7 @@ function libertyCount(node) {
 /** Why `.` stands at a node. */
 function reasonAt(node) {
   const target = vertexOf(node.board.size, node.target);
+  if (takingBack(node)) return `${target} is empty, but the defender can take back, and no ply is left.`;
   if (isCaptured(node)) return `${target} is empty: the string is captured.`;
   if (node.plies === 0) return `${target} still stands, and no ply is left.`;
   const liberties = libertyCount(node);
@@ -156,7 +167,8 @@ function stepAt(node, words) {
   const word = words.next();
   const { isAttackers } = node;
   if (word === ".") return { word, isAttackers, reason: reasonAt(node), behind: [] };
-  if (isCaptured(node) || node.plies === 0) throw new NotFollowed(word);
+  if (node.plies === 0) throw new NotFollowed(word);
+  if (isCaptured(node)) return stepBack(node, word, words);
   if (word === "*") {
     const behind = children(node).map(([point, child]) => ({ point, step: stepAt(child, words) }));
     return { word, isAttackers, reason: "", behind };
@@ -165,6 +177,14 @@ function stepAt(node, words) {
   const child = point === undefined ? null : nodeAfter(node, point);
   if (!child) throw new NotFollowed(word);
   return { word, isAttackers, reason: "", behind: [{ point, step: stepAt(child, words) }] };
+}
+
+/** The step at a node whose target is taken, and whose word is the play by which the defender takes back. */
+function stepBack(node, word, words) {
+  const child = takingBack(node);
+  if (!child || moveNamed(node.board.size, word) !== node.target) throw new NotFollowed(word);
+  const reason = `${vertexOf(node.board.size, node.target)} is empty, and the defender takes back:`;
+  return { word, isAttackers: false, reason, behind: [{ point: node.target, step: stepAt(child, words) }] };
 }
 
 /** The node at which a question begins under the ko allowances of a code. */

@@ -35,6 +35,12 @@ const IN_ATARI: Stones = (9, "D4", "C4 E4 D5");
 /// White C3 stands in a ko: it has taken D3, where black may not play at once.
 const KO: Stones = (5, "B3 C4 C2 D3", "D4 E3 D2 C3");
 
+/// White C3 is in atari in a ko, which black takes with D3.
+const OPEN_KO: Stones = (5, "B2 B3 B4 C4 C2", "D4 E3 D2 C3");
+
+/// Black A1 is in atari, and after its capture by white B1 black takes B1 and C1 by a play at A1.
+const SNAPBACK: Stones = (5, "A1 B2 C2 D1", "A2 A3 B3 C1");
+
 /// The point of a vertex.
 fn vertex(size: Size, name: &str) -> Option<Point>
     ensures { IfSome result (λ p. p < size * size) }

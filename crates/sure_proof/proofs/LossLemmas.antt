@@ -20,7 +20,7 @@ use Rattle.read_rules.specs.declared.node.Node.{Node}
 use Rattle.read_rules.specs.declared.tree.Tree.TheVariants.{Wider}
 use Rattle.read_rules.specs.Trees.{is_wider}
 use Rattle.read_rules.specs.GameTree.{taking_back}
-use Rattle.read_rules.specs.Rules.{IsChild, TakesBack}
+use Rattle.read_rules.specs.Rules.{TakesBack}
 use Rattle.read_rules.proofs.RuleLemmas.{takes_back_from}
 use Rattle.sure_rules.specs.Nodes.{is_attackers, is_gone, is_taken_for_good, target_of}
 use Rattle.sure_rules.specs.Zones.{points_of, IsZone}

@@ -1,25 +1,23 @@
 -- A play on two boards that show the same of the neighbours of its point: it can be made on both or on neither, captures
 -- the same, and leaves the same ban.
-use Rattle.std.proofs.Common.{◌≡◌, ◌≢◌, ◌∙◌, ◌⊎◌, ℕ, ◌-◌, ◌*◌, ◌<◌, Bool, true, false, cond, List, length, set, Option}
-use Rattle.std.proofs.Common.{Some, None, Result, Ok, Err, refl, sym, ap, subst, inl, inr, arith}
+use Rattle.std.proofs.Common.{◌≡◌, ◌≢◌, ◌∙◌, ◌⊎◌, ℕ, ◌-◌, ◌*◌, ◌<◌, true, false, cond, List, length, set, Option}
+use Rattle.std.proofs.Common.{Some, None, Ok, refl, sym, ap, subst, inl, inr}
 use Rattle.std.proofs.lemmas.Bool.{cases_eq, cases_Bool, both_ways}
 use Rattle.go_rules.specs.declared.Cell.{Cell}
 use Rattle.go_rules.specs.declared.Cell.TheVariants.{Empty}
 use Rattle.go_rules.specs.declared.Colour.{Colour}
-use Rattle.go_rules.specs.declared.Illegal.{Illegal}
-use Rattle.go_rules.specs.declared.Illegal.TheVariants.{Ko}
 use Rattle.go_rules.specs.Board.{are_neighbours}
 use Rattle.go_rules.specs.Strings.{cell_at, is_stone, Path, start, step, IsInString, IsLiberty}
-use Rattle.go_rules.specs.Position.{BoardState, IsPosition, board_of, other, stone_of, is_banned}
+use Rattle.go_rules.specs.Position.{BoardState, IsPosition, board_of, other, stone_of}
 use Rattle.go_rules.specs.Play.{play, play_free, is_taken, cells_after}
-use Rattle.go_rules.specs.Rules.{IsCaptured, IsOnlyLiberty, LeavesBan, Follows}
+use Rattle.go_rules.specs.Rules.{IsOnlyLiberty, LeavesBan}
 use Rattle.go_rules.proofs.BanLaws.{ban_parts, ban_means, ban_from}
 use Rattle.go_rules.proofs.InWords.{string_itself}
 use Rattle.go_rules.proofs.Links.{path_keeps, path_same, liberty_moves, liberties_some, not_its_own}
 use Rattle.go_rules.proofs.OnlyLiberties.{stone_not_empty, only_liberty_captures}
 use Rattle.go_rules.proofs.Plays.{stone_is, enemy_differs, at_put_same, at_put_other, at_after, taken_parts, own_not_taken}
 use Rattle.go_rules.proofs.Plays.{taken_whole, taken_beside}
-use Rattle.go_rules.proofs.PlayLaws.{captured_from, removes, free_follows, free_never_ko, taken_by_words, done_state}
+use Rattle.go_rules.proofs.PlayLaws.{captured_from, removes, free_follows, taken_by_words, done_state}
 use Rattle.go_rules.proofs.PlayLaws.{answered}
 use Rattle.read_rules.proofs.AfterPlays.{put_liberty, after_liberty}
 use Rattle.sure_proof.proofs.ShownLemmas.{IsShown, IsShown-sym, has_two, all_same}

@@ -1,6 +1,6 @@
 -- A proof shows a zone: by its first word, and by the proofs that follow it.
-use Rattle.std.proofs.Common.{◌≡◌, ◌≢◌, ◌∙◌, ◌⊎◌, ℕ, zero, suc, ◌+◌, ◌-◌, ◌*◌, ◌<◌, ◌≤◌, ◌&&◌, ◌||◌, Bool, true, false, cond}
-use Rattle.std.proofs.Common.{List, [], ◌∷◌, length, Option, Some, None, refl, sym, ap, subst, inl, inr, arith, eqb, ltb}
+use Rattle.std.proofs.Common.{◌≡◌, ◌∙◌, ℕ, zero, suc, ◌+◌, ◌-◌, ◌*◌, ◌<◌, ◌≤◌, ◌&&◌, ◌||◌, Bool, true, false, cond}
+use Rattle.std.proofs.Common.{List, [], ◌∷◌, Option, Some, None, refl, sym, ap, subst, inl, inr, arith, ltb}
 use Rattle.std.specs.List.{filter, range_with_len}
 use Rattle.std.specs.Option.{option_map, option_and_then}
 use Rattle.std.specs.Prelude.{codes}
@@ -9,7 +9,7 @@ use Rattle.std.specs.FinSet as sets
 use Rattle.std.proofs.lemmas.List.{ext_get_or}
 use Rattle.std.proofs.lemmas.Bool.{cases_Bool, cases_eq, both_ways, and_parts, and_from, or_parts, lt-ltb, ltb-true}
 use Rattle.go_rules.specs.declared.Cell.{Cell}
-use Rattle.go_rules.specs.declared.Cell.TheVariants.{Empty, Black, White}
+use Rattle.go_rules.specs.declared.Cell.TheVariants.{Empty}
 use Rattle.go_rules.specs.declared.Colour.{Colour}
 use Rattle.go_rules.specs.Board.{are_neighbours}
 use Rattle.go_rules.specs.Strings.{cell_at, is_stone, same_cell, is_liberty, liberties, liberty_points, IsLiberty}
@@ -22,10 +22,9 @@ use Rattle.go_rules.proofs.Plays.{stone_is}
 use Rattle.go_rules.proofs.OnlyLiberties.{stone_not_empty}
 use Rattle.go_rules.proofs.PlayLaws.{free_keeps, pass_keeps}
 use Rattle.read_rules.specs.ActiveArea.{AgreeOn}
-use Rattle.read_rules.specs.Candidates.{is_candidate, is_empty_beside, IsCandidate, fills, looks_wide, IsEmptyNeighbour}
+use Rattle.read_rules.specs.Candidates.{is_candidate, is_empty_beside, fills, looks_wide}
 use Rattle.read_rules.specs.declared.node.Node.{Node}
 use Rattle.read_rules.specs.declared.turn.Turn.{Turn}
-use Rattle.read_rules.specs.declared.question.Spot.TheVariants.{At}
 use Rattle.read_rules.specs.GameTree.{has_many_liberties, child_of, next_node, allowance_of, taking_back}
 use Rattle.read_rules.specs.Turns.{mover_of}
 use Rattle.read_rules.specs.Rules.{IsChild}
@@ -40,7 +39,7 @@ use Rattle.sure_rules.specs.Nodes.{is_attackers, is_gone, is_taken_for_good, has
 use Rattle.sure_rules.specs.SureTree.{surely_wins}
 use Rattle.sure_rules.specs.Zones.{points_of, IsZone}
 use Rattle.sure_rules.proofs.ZoneLemmas.{zone_taken_back, zone_attacker, zone_defender}
-use Rattle.sure_proof.specs.Rests.{Points, union_below, first_two, close_to, shows_atari, play_rests_on, loss_rests_on}
+use Rattle.sure_proof.specs.Rests.{Points, first_two, close_to, shows_atari, play_rests_on, loss_rests_on}
 use Rattle.sure_proof.specs.Rests.{candidate_rests_on, all_points, guard_at, guard_of, asked_at, asked_of, last_of}
 use Rattle.sure_proof.specs.SureProofs.{Proved, Prover, proved_by, with_points, behind_word, behind_vertex, is_to, by_capture, by_back}
 use Rattle.sure_proof.specs.SureProofs.{by_child}

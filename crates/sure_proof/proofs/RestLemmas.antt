@@ -1,5 +1,5 @@
 -- The sets of points as loops and looks find them.
-use Rattle.std.proofs.Common.{◌≡◌, ◌∙◌, ℕ, suc, ◌+◌, ◌*◌, ◌<◌, ◌≤◌, ◌&&◌, Bool, true, false, cond, List, Option, Some, None}
+use Rattle.std.proofs.Common.{◌≡◌, ◌∙◌, ℕ, ◌+◌, ◌*◌, ◌<◌, ◌≤◌, ◌&&◌, Bool, true, false, cond, List, Some, None}
 use Rattle.std.proofs.Common.{refl, sym, ap, inl, inr, arith, ltb, add-one}
 use Rattle.std.specs.Option.{option_map, option_and_then}
 use Rattle.std.specs.FinSet as sets
@@ -13,10 +13,12 @@ use Rattle.go_rules.specs.declared.Colour.{Colour}
 use Rattle.go_rules.specs.Position.{stone_of}
 use Rattle.go_rules.specs.Strings.{cell_at, same_cell, is_liberty, string_at, liberty_points, liberties}
 use Rattle.go_base.specs.Floods.{enemy_points}
+use Rattle.go_base.specs.Sides.{neighbour_at}
 use Rattle.read_rules.specs.Candidates.{is_empty_beside}
 use Rattle.go_rules.proofs.Counts.{first_below_is, first_below_none, any_below_same}
 use Rattle.go_rules.proofs.Sets.{contains-set_below, len-set_below}
 use Rattle.sure_proof.specs.Rests.{Points, union_below, first_two, shown_by, shows_atari, last_of, asked_at}
+use Rattle.sure_proof.specs.Rests.{is_open, open_neighbour}
 
 -- A set, and its first point.
 module _ (S : Points) where
@@ -118,3 +120,19 @@ pub shows_is : (s : ℕ) (cells : List Cell) (q : ℕ) → shows_atari s cells q
     (first_two (liberty_points s cells q))) q
 unfolding shows_atari
 shows_is s cells q = refl
+
+-- The neighbours of p, side by side.
+module _ (s : ℕ) (cells : List Cell) (c : Colour) (p : ℕ) where
+  -- the first side with an open neighbour has the first one
+  pub open_is : (side : ℕ) → side < 4 → ((k : ℕ) → k < side → is_open cells c (neighbour_at s p k) ≡ false)
+      → is_open cells c (neighbour_at s p side) ≡ true → open_neighbour s cells c p ≡ neighbour_at s p side
+  unfolding open_neighbour
+  open_is side less none here = ap (option_and_then (neighbour_at s p))
+      (first_below_is 4 (λ k. is_open cells c (neighbour_at s p k)) side less here none)
+
+  -- without such a side there is none
+  pub open_none : (n : ℕ) → 4 ≤ n → ((k : ℕ) → k < n → is_open cells c (neighbour_at s p k) ≡ false)
+      → open_neighbour s cells c p ≡ None
+  unfolding open_neighbour
+  open_none n four none = ap (option_and_then (neighbour_at s p))
+      (first_below_none 4 (λ k. is_open cells c (neighbour_at s p k)) (λ k less. none k (omega (arith, less, four))))

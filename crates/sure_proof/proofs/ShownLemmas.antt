@@ -1,8 +1,7 @@
 -- Two boards on which a string looks the same, as far as it matters whether it is in atari.
-use Rattle.std.proofs.Common.{◌≡◌, ◌≢◌, ◌∙◌, ◌⊎◌, ℕ, zero, suc, ◌*◌, ◌<◌, ◌&&◌, ◌||◌, Bool, true, false, List, Option}
+use Rattle.std.proofs.Common.{◌≡◌, ◌≢◌, ◌∙◌, ◌⊎◌, ℕ, zero, suc, ◌*◌, ◌<◌, ◌&&◌, Bool, true, List, Option}
 use Rattle.std.proofs.Common.{Some, None, refl, sym, ap, subst, inl, inr, arith, eqb, ltb}
 use Rattle.std.specs.Option.{option_map, option_and_then}
-use Rattle.std.specs.Ordering.{nat_cmp}
 use Rattle.std.specs.Cmp.{nat_cmp_total}
 use Rattle.std.specs.FinSet as sets
 use Rattle.std.proofs.lemmas.Bool.{or_left, or_right, and_from, and_parts, eq-eqb, lt-ltb, ltb-true, cases_eq}
@@ -15,7 +14,7 @@ use Rattle.go_rules.specs.Strings.{cell_at, is_stone, is_in_string, is_liberty, 
 use Rattle.go_rules.specs.Strings.{IsInString, IsLiberty}
 use Rattle.go_rules.proofs.Counts.{first_below_gives, any_below_from}
 use Rattle.go_rules.proofs.InWords.{string_itself}
-use Rattle.go_rules.proofs.Links.{path_keeps, path_same}
+use Rattle.go_rules.proofs.Links.{path_keeps}
 use Rattle.go_rules.proofs.Paths.{path_on_board, is_is_in_string-from_fact, is_liberty-from_fact, IsLiberty-from_test}
 use Rattle.go_rules.proofs.Sets.{contains-set_below, contains-insert_nat}
 use Rattle.go_base.specs.Floods.{enemy_points}

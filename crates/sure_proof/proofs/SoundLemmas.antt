@@ -1,50 +1,37 @@
 -- What a proof shows: the points on which it rests are a zone.
-use Rattle.std.proofs.Common.{◌≡◌, ◌≢◌, ◌∙◌, ◌⊎◌, ℕ, zero, suc, ◌+◌, ◌-◌, ◌*◌, ◌<◌, ◌≤◌, ◌&&◌, ◌||◌, Bool, true, false, cond}
-use Rattle.std.proofs.Common.{List, [], ◌∷◌, length, Option, Some, None, Ok, Err, refl, sym, ap, subst, inl, inr, arith, eqb, ltb}
-use Rattle.std.specs.List.{filter, range_with_len}
-use Rattle.std.specs.Option.{option_map, option_and_then}
-use Rattle.std.specs.Prelude.{codes}
-use Rattle.std.specs.Str.{bytes_eq}
+use Rattle.std.proofs.Common.{◌≡◌, ◌∙◌, ℕ, ◌-◌, ◌*◌, ◌<◌, ◌≤◌, ◌&&◌, ◌||◌, Bool, true, false, cond}
+use Rattle.std.proofs.Common.{List, Option, Some, None, Err, refl, sym, ap, subst, inl, inr, arith, eqb, ltb}
 use Rattle.std.specs.FinSet as sets
-use Rattle.std.proofs.lemmas.List.{ext_get_or, get_or_past}
-use Rattle.std.proofs.lemmas.Bool.{cases_Bool, cases_eq, cases_lt, both_ways, and_parts, and_from, or_parts, eqb-true, lt-ltb}
+use Rattle.std.proofs.lemmas.List.{get_or_past}
+use Rattle.std.proofs.lemmas.Bool.{cases_Bool, cases_lt, both_ways, and_parts, and_from, eqb-true, lt-ltb}
 use Rattle.std.proofs.lemmas.Bool.{ltb-true}
 use Rattle.go_rules.specs.declared.Cell.{Cell}
 use Rattle.go_rules.specs.declared.Cell.TheVariants.{Empty, Black, White}
 use Rattle.go_rules.specs.declared.Colour.{Colour}
 use Rattle.go_rules.specs.declared.Illegal.TheVariants.{Ko}
-use Rattle.go_rules.specs.Below.{set_below}
 use Rattle.go_rules.specs.Board.{are_neighbours}
-use Rattle.go_rules.specs.Strings.{cell_at, is_stone, same_cell, is_liberty, liberties, liberty_points, IsInString, IsLiberty}
-use Rattle.go_rules.specs.Position.{BoardState, IsPosition, board_of, other, stone_of, is_banned, same_colour}
-use Rattle.go_rules.specs.Play.{play, play_free, pass}
-use Rattle.go_rules.specs.Rules.{IsOnlyLiberty}
-use Rattle.go_rules.proofs.Counts.{count_below_same, any_below_gives}
-use Rattle.go_rules.proofs.Paths.{IsLiberty-from_test, is_liberty-from_fact, same_cell-true, same_cell-from}
-use Rattle.go_rules.proofs.Plays.{stone_is}
-use Rattle.go_rules.proofs.PlayLaws.{free_keeps, free_never_ko, pass_keeps, play_done, position_in_words, done_state}
+use Rattle.go_rules.specs.Strings.{cell_at, is_stone, same_cell, is_liberty, liberties}
+use Rattle.go_rules.specs.Position.{BoardState, IsPosition, board_of, is_banned, same_colour}
+use Rattle.go_rules.specs.Play.{play, play_free}
+use Rattle.go_rules.proofs.Counts.{count_below_same}
+use Rattle.go_rules.proofs.Paths.{IsLiberty-from_test, is_liberty-from_fact}
+use Rattle.go_rules.proofs.PlayLaws.{free_never_ko, play_done, position_in_words, done_state}
 use Rattle.go_base.specs.Sides.{neighbour_at}
 use Rattle.go_base.proofs.SidesOfPoints.{neighbour_at-all}
 use Rattle.read_rules.specs.ActiveArea.{AgreeOn}
-use Rattle.read_rules.specs.Candidates.{is_candidate, is_empty_beside, is_backfilling, leaves_only, IsCandidate, fills, looks_wide}
+use Rattle.read_rules.specs.Candidates.{is_candidate, is_backfilling}
 use Rattle.read_rules.specs.declared.node.Node.{Node}
 use Rattle.read_rules.specs.declared.turn.Turn.{Turn}
 use Rattle.read_rules.specs.Trees.{most_narrow}
-use Rattle.read_rules.specs.GameTree.{has_many_liberties, child_of, next_node, allowance_of}
+use Rattle.read_rules.specs.GameTree.{has_many_liberties}
 use Rattle.read_rules.specs.Turns.{mover_of}
 use Rattle.read_rules.specs.Rules.{IsChild}
-use Rattle.read_rules.proofs.CandidateLaws.{candidate_from, candidate_on}
-use Rattle.read_rules.proofs.LibertyLemmas.{child_free, play_size}
-use Rattle.read_rules.proofs.RuleLemmas.{child_gives, child_from}
-use Rattle.sure_rules.specs.Nodes.{is_attackers, is_gone, has_too_many, target_of}
-use Rattle.sure_rules.specs.SureTree.{surely_wins}
-use Rattle.sure_rules.specs.Zones.{points_of, WhereverAgrees, IsZone}
-use Rattle.sure_rules.proofs.ZoneLemmas.{zone_captured, zone_attacker, zone_defender}
-use Rattle.sure_proof.specs.Rests.{Points, union_below, first_two, close_to, shows_atari, shows_neighbour, play_rests_on}
-use Rattle.sure_proof.specs.Rests.{candidate_rests_on, all_points, guard_at, guard_of, asked_at, asked_of, last_of}
-use Rattle.sure_proof.proofs.ShownLemmas.{insert_self, insert_more, union_first, union_second, union_all, below_in}
-use Rattle.sure_proof.proofs.ShownLemmas.{IsShown, has_two, all_same, SameOn, shown, shown_close, close_liberty}
-use Rattle.sure_proof.proofs.ShownLemmas.{close_shows, first_two_give}
+use Rattle.read_rules.proofs.LibertyLemmas.{child_free}
+use Rattle.sure_rules.specs.Zones.{points_of, IsZone}
+use Rattle.sure_proof.specs.Rests.{Points, union_below, close_to, shows_atari, shows_neighbour, play_rests_on}
+use Rattle.sure_proof.proofs.ShownLemmas.{insert_self, insert_more, union_all}
+use Rattle.sure_proof.proofs.ShownLemmas.{SameOn, shown}
+use Rattle.sure_proof.proofs.ShownLemmas.{close_shows}
 use Rattle.sure_proof.proofs.PlayLemmas.{LooksSame, LooksSame-sym, IsSamePlay, state, done_on}
 
 -- the members of a set

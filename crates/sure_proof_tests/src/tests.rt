@@ -5,8 +5,8 @@ ghost use Rattle.std.specs.Prelude.{◌≡◌, ◌≢◌, ◌*◌, ◌<◌, IfSo
 ghost use Rattle.go_rules.specs.Strings.{cell_at};
 
 use go_base::{Cell, Colour, Point, Position, Size};
-use read_rules::Depths;
 use read_rules::Kind::{self, Attack, Defend};
+use read_rules::{Depths, Tree};
 use sure_proof::checks_surely;
 use vertices::vertex_named;
 
@@ -35,7 +35,7 @@ struct Row {
 }
 
 /// Rows by what they show.
-static ROWS: [Row; 21] = [
+static ROWS: [Row; 22] = [
     Row {
         name: "a stone in the corner is taken",
         size: 5,
@@ -288,6 +288,154 @@ static ROWS: [Row; 21] = [
         text: "* A2 * B1 . A3 B1 . B3 B1 . B1 C1 . C1 B1 . ; ;",
         proves: false,
     },
+    Row {
+        name: "a snapback captures in the stated tree",
+        size: 5,
+        black: "D4 E4 D2 C1",
+        white: "B3 D3 C2 E1",
+        of: Attack,
+        target: "D2",
+        depths: (5, 2),
+        code: 2,
+        text: "E2 * D1 . E3 D1 . B1 D1 . D1 B1 . ;",
+        proves: true,
+    },
+];
+
+/// Rows in the wider tree, where a lone stone that is taken may be taken back.
+static WIDER_ROWS: [Row; 11] = [
+    Row {
+        name: "a lone stone is taken back and captured again",
+        size: 3,
+        black: "B3 A2 B2 C1",
+        white: "C2 A1",
+        of: Attack,
+        target: "C1",
+        depths: (3, 2),
+        code: 3,
+        text: "B1 C1 B1 .",
+        proves: true,
+    },
+    Row {
+        name: "no ply is left to capture it again",
+        size: 3,
+        black: "B3 A2 B2 C1",
+        white: "C2 A1",
+        of: Attack,
+        target: "C1",
+        depths: (2, 2),
+        code: 3,
+        text: "B1 C1 B1 .",
+        proves: false,
+    },
+    Row {
+        name: "the stone can be taken back",
+        size: 3,
+        black: "B3 A2 B2 C1",
+        white: "C2 A1",
+        of: Attack,
+        target: "C1",
+        depths: (3, 2),
+        code: 3,
+        text: "B1 .",
+        proves: false,
+    },
+    Row {
+        name: "another play does not take back",
+        size: 3,
+        black: "B3 A2 B2 C1",
+        white: "C2 A1",
+        of: Attack,
+        target: "C1",
+        depths: (3, 2),
+        code: 3,
+        text: "B1 C3 B1 .",
+        proves: false,
+    },
+    Row {
+        name: "the ko ban forbids to take back",
+        size: 5,
+        black: "B5 A4",
+        white: "C5 B4 E1",
+        of: Attack,
+        target: "B5",
+        depths: (4, 1),
+        code: 2,
+        text: "A5 .",
+        proves: true,
+    },
+    Row {
+        name: "he takes back though the ko ban forbids it",
+        size: 5,
+        black: "B5 A4",
+        white: "C5 B4 E1",
+        of: Attack,
+        target: "B5",
+        depths: (4, 1),
+        code: 3,
+        text: "A5 .",
+        proves: false,
+    },
+    Row {
+        name: "the ko ban forbids to capture it again",
+        size: 5,
+        black: "B5 A4",
+        white: "C5 B4 E1",
+        of: Attack,
+        target: "B5",
+        depths: (4, 1),
+        code: 3,
+        text: "A5 B5 A5 .",
+        proves: false,
+    },
+    Row {
+        name: "he does not take back where the ko ban forbids it",
+        size: 5,
+        black: "B5 A4",
+        white: "C5 B4 E1",
+        of: Attack,
+        target: "B5",
+        depths: (4, 1),
+        code: 2,
+        text: "A5 B5 A5 .",
+        proves: false,
+    },
+    Row {
+        name: "a snapback does not capture",
+        size: 5,
+        black: "D4 E4 D2 C1",
+        white: "B3 D3 C2 E1",
+        of: Attack,
+        target: "D2",
+        depths: (5, 2),
+        code: 2,
+        text: "E2 * D1 . E3 D1 . B1 D1 . D1 B1 . ;",
+        proves: false,
+    },
+    Row {
+        name: "a string without a ko allowance is surely not to be saved",
+        size: 5,
+        black: "B5 E2",
+        white: "B4 C4",
+        of: Defend,
+        target: "B5",
+        depths: (4, 1),
+        code: 2,
+        text: "* C5 * A5 . A5 A4 . D5 A5 . A4 A5 . ; A5 C5 * A4 . D5 A4 . A4 A3 . A3 A4 . ; C5 D5 * A5 . A5 A4 . A4 A5 . ; D5 C5 * A5 . A5 A4 . A4 A5 . ; E5 C5 * A5 . A5 A4 . D5 A5 . A4 A5 . ; A4 C5 * A5 . A5 A3 . D5 A5 . A3 A5 . ; D4 C5 * A5 . A5 A4 . D5 A5 . A4 A5 . ; A3 C5 * A5 . A5 A4 . D5 A5 . A4 A5 . ; ;",
+        proves: true,
+    },
+    Row {
+        name: "with one it may be saved by a ko",
+        size: 5,
+        black: "B5 E2",
+        white: "B4 C4",
+        of: Defend,
+        target: "B5",
+        depths: (4, 1),
+        code: 1,
+        text: "* C5 * A5 . A5 A4 . D5 A5 . A4 A5 . ; A5 C5 * A4 . D5 A4 . A4 A3 . A3 A4 . ; C5 D5 * A5 . A5 A4 . A4 A5 . ; D5 C5 * A5 . A5 A4 . A4 A5 . ; E5 C5 * A5 . A5 A4 . D5 A5 . A4 A5 . ; A4 C5 * A5 . A5 A3 . D5 A5 . A3 A5 . ; D4 C5 * A5 . A5 A4 . D5 A5 . A4 A5 . ; A3 C5 * A5 . A5 A4 . D5 A5 . A4 A5 . ; ;",
+        proves: false,
+    },
 ];
 
 /// The point of a vertex.
@@ -330,12 +478,12 @@ fn position(row: &Row) -> Option<Position> {
     )
 }
 
-/// Whether the checker says of the row's text what the row says.
-fn is_right(row: &Row) -> Option<bool> {
+/// Whether the checker says of the row's text in the tree what the row says.
+fn is_right(row: &Row, tree: Tree) -> Option<bool> {
     let position = position(row)?;
     let target = stone(&position, row.target)?;
     let (plies, wide) = row.depths;
-    let depths = Depths::new(plies, wide)?;
+    let depths = Depths::new(plies, wide)?.in_tree(tree);
     let told = checks_surely(
         &position,
         row.of,
@@ -350,7 +498,15 @@ fn is_right(row: &Row) -> Option<bool> {
 #[test]
 fn texts_are_told_from_proofs(rt: HostRuntime) {
     for row in &ROWS {
-        let right = is_right(row);
+        let right = is_right(row, Tree::Stated);
+        assert!(rt; right == Some(true), "{}", row.name);
+    }
+}
+
+#[test]
+fn texts_are_told_from_proofs_in_the_wider_tree(rt: HostRuntime) {
+    for row in &WIDER_ROWS {
+        let right = is_right(row, Tree::Wider);
         assert!(rt; right == Some(true), "{}", row.name);
     }
 }

@@ -1,7 +1,7 @@
 //! First proofs of small positions. They are the worked rows, or were found by hand.
 
 use super::wider_proofs::{FOUR_LIBERTIES, THREE_LIBERTIES};
-use super::{IN_ATARI, KO, Question, Stones, position, stone};
+use super::{IN_ATARI, KO, OPEN_KO, Question, SNAPBACK, Stones, position, stone};
 use read_rules::Depths;
 use read_rules::Kind::{Attack, Defend};
 use read_rules::Tree::{self, Stated, Wider};
@@ -19,7 +19,7 @@ struct Row {
 }
 
 /// First proofs, and one that is not told.
-static FIRST_PROOFS: [Row; 10] = [
+static FIRST_PROOFS: [Row; 13] = [
     Row {
         name: "a capture is printed",
         stones: IN_ATARI,
@@ -82,6 +82,27 @@ static FIRST_PROOFS: [Row; 10] = [
         question: (Attack, "E4", 7, 0),
         tree: Wider,
         proof: Some((3, FOUR_LIBERTIES)),
+    },
+    Row {
+        name: "a stone that takes back is taken in its turn",
+        stones: SNAPBACK,
+        question: (Attack, "A1", 3, 0),
+        tree: Wider,
+        proof: Some((3, b"W B1 A1 B1 .")),
+    },
+    Row {
+        name: "no ply is left for taking back",
+        stones: SNAPBACK,
+        question: (Attack, "A1", 1, 0),
+        tree: Wider,
+        proof: Some((0, b"N * . N * . N * .")),
+    },
+    Row {
+        name: "the ban forbids to take back under code 2",
+        stones: OPEN_KO,
+        question: (Attack, "C3", 1, 0),
+        tree: Wider,
+        proof: Some((2, b"N * . W D3 .")),
     },
     Row {
         // Black D2 has room on all sides, and a reading of it that is deep and wide has many moves.

@@ -185,7 +185,8 @@ static READINGS: [Readings; 30] = [
         name: "in the wider tree the attacker strengthens a string of his that the target might take",
         stones: (5, "A4 A3 B1", "D1"),
         rows: &[
-            ((Attack, "B1", 9, 3), Wider, 3, "B2"),
+            ((Attack, "B1", 11, 3), Wider, 3, "B2"),
+            ((Attack, "B1", 9, 3), Wider, 2, "B2"),
             ((Attack, "B1", 9, 3), Stated, 0, ""),
         ],
     },
@@ -225,7 +226,7 @@ static READINGS: [Readings; 30] = [
 
 /// Questions that each rule of the wider tree decides: without the rule the answer is another, no capture for the
 /// attacker's rules and for the bound, and one for the defender's.
-static DECIDED: [Readings; 8] = [
+static DECIDED: [Readings; 10] = [
     Readings {
         name: "in every ply the attacker strengthens a string with two liberties",
         stones: (5, "D3", "A5 B5 E5"),
@@ -268,6 +269,19 @@ static DECIDED: [Readings; 8] = [
             ((Defend, "D1", 4, 1), Wider, 3, "B3"),
             ((Defend, "D1", 4, 1), Stated, 0, ""),
         ],
+    },
+    Readings {
+        name: "the defender takes back in a ko by his own allowance",
+        stones: (5, "B5 E2", "B4 C4"),
+        rows: &[
+            ((Defend, "B5", 4, 1), Wider, 1, "A4"),
+            ((Defend, "B5", 4, 1), Stated, 0, ""),
+        ],
+    },
+    Readings {
+        name: "the defender takes back in a snapback",
+        stones: (5, "D4 E4 D2 C1", "B3 D3 C2 E1"),
+        rows: &[((Attack, "D2", 5, 2), Wider, 0, "")],
     },
 ];
 

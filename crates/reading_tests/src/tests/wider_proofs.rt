@@ -1,6 +1,7 @@
 //! Proofs of small positions in the stated tree and in the wider one, found by hand.
 
 use super::proofs::{In, Texts, check_table};
+use super::{OPEN_KO, SNAPBACK};
 use read_rules::Kind::{Attack, Defend};
 use read_rules::Tree;
 
@@ -36,7 +37,7 @@ pub(super) const FOUR_LIBERTIES: &[u8] = b"\
 
 /// Texts in both trees. Where one ply is left and one wide ply, any candidate of the defender's proves that the
 /// attacker does not win, and `*` is followed by a dot for each candidate of the attacker's.
-static IN_BOTH_TREES: [Texts; 24] = [
+static IN_BOTH_TREES: [Texts; 27] = [
     Texts {
         name: "the defender has the liberties of stones beside the target",
         stones: (5, "B2 B3", "C2"),
@@ -287,6 +288,44 @@ static IN_BOTH_TREES: [Texts; 24] = [
         question: (Attack, "D4", 11, 0),
         code: 0,
         rows: &[("five liberties without a wide ply", b"N . N . N .", BOTH)],
+    },
+    Texts {
+        // White B1 takes black A1, black A1 takes B1 and C1, and white B1 takes A1 again.
+        name: "a stone that takes back is taken in its turn",
+        stones: SNAPBACK,
+        question: (Attack, "A1", 3, 0),
+        code: 3,
+        rows: &[
+            ("the capture alone", b"W B1 .", STATED),
+            (
+                "the play that takes back, and the second capture",
+                b"W B1 A1 B1 .",
+                WIDER,
+            ),
+            ("the pass in place of it", b"W B1 PASS B1 .", NEITHER),
+            ("a star in place of it", b"W B1 * B1 .", NEITHER),
+            (
+                "a dot behind it, where the target stands",
+                b"W B1 A1 .",
+                NEITHER,
+            ),
+            ("no child behind it", b"W B1 A1", NEITHER),
+        ],
+    },
+    Texts {
+        name: "a stone is not captured where no ply is left for taking it back",
+        stones: SNAPBACK,
+        question: (Attack, "A1", 1, 0),
+        code: 0,
+        rows: &[("a dot after the capture", b"N * . N * . N * .", WIDER)],
+    },
+    Texts {
+        // Black D3 takes C3, and the ban forbids white to take back.
+        name: "a stone is taken back against the ban by the defender's allowance alone",
+        stones: OPEN_KO,
+        question: (Attack, "C3", 1, 0),
+        code: 2,
+        rows: &[("the capture stands under code 2", b"N * . W D3 .", WIDER)],
     },
 ];
 

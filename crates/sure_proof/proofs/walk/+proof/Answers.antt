@@ -1,5 +1,5 @@
 -- The checker answers what the words prove: a word at a node, a node at a time.
-use Rattle.std.proofs.Common.{◌≡◌, ◌∙◌, ◌-◌, ◌*◌, ◌<◌, ◌≤◌, ℕ, true, false, ap, sym, subst, refl, arith, Some}
+use Rattle.std.proofs.Common.{◌∙◌, ◌-◌, ◌*◌, ◌≤◌, true, false, ap, sym, refl, arith, Some}
 use Rattle.std.specs.FinSet as set
 use Rattle.vertices.specs.Words.{kept}
 use Rattle.read_rules.specs.declared.question.Spot.TheVariants.{At}
