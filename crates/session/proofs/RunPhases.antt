@@ -154,14 +154,14 @@ both_of source sink = record sink {
 }
 
 -- Lines that were generated were served in place of a source, which stays as it was.
-module _ (n : ℕ) (source before after : Streams) (text rest : List ℕ) (few : n ≤ 100000)
-    (is : text ≡ generated_text n) (holds : before.left ≡ Some text) (leaves : after.left ≡ Some rest) where
+module _ (n : ℕ) (source before after : Streams) where
   -- what was served of the text was served of the generated lines
   serves-these : {M : Type 0} (step : M → RawLine → Step M → Type 0) (first : M) (end : End) (tally : Tally M)
+      (text rest : List ℕ) → n ≤ 100000 → text ≡ generated_text n → before.left ≡ Some text → after.left ≡ Some rest
       → Serves step first before after end tally
       → ServesGenerated n step first (both_of source before) (both_of source after) end tally
-  serves-these step first end tally serves =
-      let reads : Consumes (Some text) (Some rest) serves.taken =
+  serves-these step first end tally text rest few is holds leaves serves =
+      let reads : text ≡ serves.taken ++ rest =
       subst (λ l. Consumes l (Some rest) serves.taken) holds
       (subst (λ l. Consumes before.left l serves.taken) leaves serves.reads) in
       let right : IsRight step first (Some rest) serves.taken tally.out after.piece end =
@@ -187,10 +187,11 @@ module _ (n : ℕ) (source before after : Streams) (text rest : List ℕ) (few :
 
   -- with the counts that are noted
   pub ends-generated : (generate : Option ℕ) (contents : Contents) (old : Kept) (was : Sent) (ended : Ended)
-      (missed : List (List ℕ)) (now : Sent) → generate ≡ Some n
-      → EndsCounting None contents old was before after ended missed now
+      (missed : List (List ℕ)) (now : Sent) → generate ≡ Some n → n ≤ 100000
+      → EndsCounting None contents old was before after ended missed now → (text rest : List ℕ)
+      → text ≡ generated_text n → before.left ≡ Some text → after.left ≡ Some rest
       → EndsCounting generate contents old was (both_of source before) (both_of source after) ended missed now
-  ends-generated generate contents old was ended missed now some ends = record {
+  ends-generated generate contents old was ended missed now some few ends text rest is holds leaves = record {
     kept = ends.kept;
     same = ends.same;
     names = ends.names;
@@ -198,7 +199,8 @@ module _ (n : ℕ) (source before after : Streams) (text rest : List ℕ) (few :
         (both_of source after) ended.end (progress_of before.written old was)
         (progress_of after.written ends.kept now)) (sym some) (record {
           tally = ends.serves.tally;
-          serves = serves-these (step_at contents old) (machine_of old) ended.end ends.serves.tally ends.serves.serves;
+          serves = serves-these (step_at contents old) (machine_of old) ended.end ends.serves.tally text rest few is
+              holds leaves ends.serves.serves;
           advances = ends.serves.advances;
         });
   }

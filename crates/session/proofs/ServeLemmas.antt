@@ -26,7 +26,7 @@ use Rattle.session.specs.Serving.{Replies, RepliesPart, RunsTo, RunsPart, progre
 use Rattle.session.specs.Waiting.{WaitingState, OutputState, none_wait, holds_with, Stop, IsStop, Stays}
 use Rattle.session.specs.Answered.{Standing, standing_at, progress_at, progress_with, step_at, CutsShort, MayCut}
 use Rattle.session.specs.Answered.{Answered, AnsweredOut, BreaksIn, BreaksOut}
-use Rattle.session.proofs.WaitingReplies.{drained, none-stops, kept-none, none-appends}
+use Rattle.session.proofs.WaitingReplies.{stays-none, none-stops, kept-none, none-appends}
 use Rattle.session.proofs.TallyLemmas.{Advances-none, Advances-trans, IsTallied-nil, IsTallied-one, IsTallied-append}
 use Rattle.session.proofs.TallyLemmas.{IsTallied-ended, BreaksOff-one, BreaksOff-after, BreaksOff-more}
 
@@ -312,19 +312,21 @@ module _ (M : Type 0) (step : M → RawLine → Step M → Type 0) (goes : Kept 
       (CutsShort-more from (line ∷ []) more (progress_with a) stop missed cuts))) may
 
   -- all that waits is put, and what was answered is out
-  flushed : (from to : M) (lines : List RawLine) (ended : Bool) (a : Progress) (b : Standing) (w : Option (List ℕ))
-      (s : Sent) → RunsTo step goes from lines to ended a (progress_with b) → Stays b.output (drained w s)
-      → RunsTo step goes from lines to ended a (progress_of w b.kept s)
-  flushed from to lines ended a b w s runs stays = record {
-    tally = runs.tally;
-    run = runs.run;
-    advances = record {
-      writes = kept-none a.written (holds_with b.output) w runs.tally.out runs.advances.writes stays.holds;
-      along = runs.advances.along;
-      replies = ap (λ (s : Sent). s.lines) stays.sends ∙ runs.advances.replies;
-      bytes = ap (λ (s : Sent). s.bytes) stays.sends ∙ runs.advances.bytes;
-    };
-  }
+  flushed : (from to : M) (lines : List RawLine) (ended : Bool) (a : Progress) (b : Standing) (c : OutputState)
+      → RunsTo step goes from lines to ended a (progress_with b) → Stays b.output c → c.waiting ≡ none_wait
+      → RunsTo step goes from lines to ended a (progress_at (standing_at b.kept c))
+  flushed from to lines ended a b c runs stays none =
+      let out = stays-none b.output c none stays in
+      record {
+        tally = runs.tally;
+        run = runs.run;
+        advances = record {
+          writes = kept-none a.written (holds_with b.output) c.written runs.tally.out runs.advances.writes out.holds;
+          along = runs.advances.along;
+          replies = ap (λ (s : Sent). s.lines) out.sends ∙ runs.advances.replies;
+          bytes = ap (λ (s : Sent). s.bytes) out.sends ∙ runs.advances.bytes;
+        };
+      }
 
   -- nothing was answered, and no reply waits
   start_runs : (from : M) (a : Standing) → a.output.waiting ≡ none_wait
@@ -458,14 +460,14 @@ module _ (contents : Contents) (all left : List RawLine) (first now : Standing)
   }
 
   -- the lines were answered, and what waited was put
-  pub piece_done : (w : Option (List ℕ)) (s : Sent) → left ≡ [] → Stays now.output (drained w s)
-      → AnsweredOut contents all false first (standing_at now.kept (drained w s))
-  piece_done w s none stays = record {
+  pub piece_done : (out : OutputState) → left ≡ [] → Stays now.output out → out.waiting ≡ none_wait
+      → AnsweredOut contents all false first (standing_at now.kept out)
+  piece_done out none stays drained = record {
     runs = RunsTo-is Machine first-step IsAfterLine first-machine (machine_of now.kept) all so_far.lines false
-        (progress_at first) (progress_of w now.kept s)
+        (progress_at first) (progress_at (standing_at now.kept out))
         (so_far.whole ∙ ap (λ l. so_far.lines ++ l) none ∙ append-nil so_far.lines)
         (flushed Machine first-step IsAfterLine first-machine (machine_of now.kept) so_far.lines false
-        (progress_at first) now w s so_far.runs stays);
+        (progress_at first) now out so_far.runs stays drained);
   }
 
   -- More lines were answered.
@@ -500,16 +502,16 @@ module _ (contents : Contents) (all left : List RawLine) (first now : Standing)
         (machine_of now.kept) next now stop later.kept.missed (answered.stops stop at))
 
     -- one of them ended the session, and what waited was put
-    pub piece_ended : ended ≡ true → (w : Option (List ℕ)) (s : Sent) → Stays later.output (drained w s)
-        → AnsweredOut contents all true first (standing_at later.kept (drained w s))
-    piece_ended is w s stays = record {
+    pub piece_ended : (out : OutputState) → ended ≡ true → Stays later.output out → out.waiting ≡ none_wait
+        → AnsweredOut contents all true first (standing_at later.kept out)
+    piece_ended out is stays none = record {
       runs = flushed Machine first-step IsAfterLine first-machine (machine_of later.kept) all true (progress_at first)
-          later w s
+          later out
           (RunsTo-is Machine first-step IsAfterLine first-machine (machine_of later.kept) all
           ((so_far.lines ++ next) ++ more) true (progress_at first) (progress_with later) joined
           (RunsTo-ended Machine first-step IsAfterLine first-machine (machine_of later.kept) (so_far.lines ++ next) more
           (progress_at first) (progress_with later) (runs_all true is)))
-          stays;
+          stays none;
     }
 
     -- what waited was put in part
@@ -531,37 +533,37 @@ module _ (contents : Contents) (all left : List RawLine) (first now : Standing)
     }
 
 -- No reply waited, and one line was answered.
-module _ (contents : Contents) (all lines : List RawLine) (same : all ≡ lines) (first : Standing)
-    (none : first.output.waiting ≡ none_wait) where
+module _ (contents : Contents) (all lines : List RawLine) (same : all ≡ lines) (first : Standing) where
   -- where the output failed
   pub rest_cut : (stop : Stop) (missed : List (List ℕ)) → BreaksIn contents lines first stop missed
-      → BreaksOut contents all first stop missed
-  rest_cut stop missed breaks =
+      → first.output.waiting ≡ none_wait → BreaksOut contents all first stop missed
+  rest_cut stop missed breaks none =
       piece_cut contents all all first first (piece_start contents all first none) contents refl refl stop missed
       (subst (λ l. BreaksIn contents l first stop missed) (sym same) breaks)
 
   -- it may fail within what waits
   pub rest_stop : (ended : Bool) (later : Standing) → Answered contents lines ended first later → (stop : Stop)
-      → IsStop later.output stop → BreaksOut contents all first stop later.kept.missed
-  rest_stop ended later answered stop at =
-      rest_cut stop later.kept.missed (record { cut = answered.stops stop at })
+      → IsStop later.output stop → first.output.waiting ≡ none_wait
+      → BreaksOut contents all first stop later.kept.missed
+  rest_stop ended later answered stop at none =
+      rest_cut stop later.kept.missed (record { cut = answered.stops stop at }) none
 
   -- what waited is out
-  pub rest_done : (ended : Bool) (later : Standing) (w : Option (List ℕ)) (s : Sent)
-      → Answered contents lines ended first later → Stays later.output (drained w s)
-      → AnsweredOut contents all ended first (standing_at later.kept (drained w s))
-  rest_done ended later w s answered stays =
+  pub rest_done : (ended : Bool) (later : Standing) (out : OutputState) → Answered contents lines ended first later
+      → Stays later.output out → out.waiting ≡ none_wait → first.output.waiting ≡ none_wait
+      → AnsweredOut contents all ended first (standing_at later.kept out)
+  rest_done ended later out answered stays drained none =
       let step = step_at contents first.kept in
       let from = machine_of first.kept in
       let to = machine_of later.kept in
       let a = progress_at first in
       let c = progress_with later in
       record {
-        runs = flushed Machine step IsAfterLine from to all ended a later w s
+        runs = flushed Machine step IsAfterLine from to all ended a later out
             (RunsTo-is Machine step IsAfterLine from to all lines ended a c same
             (RunsTo-append Machine step IsAfterLine from from to [] lines ended a (progress_with first) c
             (start_runs Machine step IsAfterLine from first none) answered.runs))
-            stays;
+            stays drained;
       }
 
 -- no line was answered, and no reply waits
