@@ -114,13 +114,14 @@ module _ (tree : Tree) (helpers : List SlotState) (contents : Contents) (options
       }
 
   -- by the run's phase, where opening the files left what files hold and which names were missed
-  pub came-served : (ran : Ran) (was : Sent) (here : Contents) (missed : List (List ℕ)) → here ≡ contents
-      → first.missed ≡ missed → was ≡ none_sent → Opens tree helpers contents options first.engine first.helpers lines
+  pub came-served : (ran : Ran) (was : Sent) (here : Contents) (missed : List (List ℕ))
       → EndsCounting options.generate here first was before after ended now sent
+      → Opens tree helpers contents options first.engine first.helpers lines → here ≡ contents
+      → first.missed ≡ missed → was ≡ none_sent
       → ran.counts ≡ cond options.stats (Some ended.counts) None
       → ran.sent ≡ option_map (λ _. sent) options.generate → phase_of ran.outcome ≡ Served ended.end
       → CameBy tree helpers options contents missed now before after ran.counts ran.sent (phase_of ran.outcome)
-  came-served ran was here missed holds kept unsent opens ends tells notes is =
+  came-served ran was here missed ends opens holds kept unsent tells notes is =
       let begun = subst (λ s. EndsCounting options.generate contents first s before after ended now sent) unsent
       (subst (λ c. EndsCounting options.generate c first was before after ended now sent) holds ends) in
       subst (CameBy tree helpers options contents missed now before after ran.counts ran.sent) (sym is)

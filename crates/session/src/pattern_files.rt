@@ -7,7 +7,7 @@ ghost use Rattle.db_read.specs.Reading.{BlamesAt};
 ghost use Rattle.go_options.specs.Found.{AreInRange};
 ghost use Rattle.session.specs.PatternFiles.{most_patterns, needs_feed, added_feed, Adds, IsJoined, MissedBy, MissedIn};
 ghost use Rattle.session.specs.PatternFiles.{HasFewStates, RefusesStates, IsRefused};
-ghost use Rattle.helpers.specs.Slots.{states_of};
+ghost use Rattle.helpers.specs.Slots.{listed, states_of};
 ghost use Rattle.session_core.specs.EngineView.{depths_in};
 ghost use Rattle.session_core.specs.Handed.{handed, helper_names};
 ghost use Rattle.session.specs.FirstSession.{IsPlainWith, Opens};
@@ -161,7 +161,7 @@ pub(crate) fn open_with<L: Loader>(
 ) -> Result<Opened, OpenError>
     requires { AreInRange options.now }
     ensures ok { IfOk result (λ opened. Opens setting.tree (handed state setting.helpers.items) (L.contents files.old)
-        options.now opened.server.session.engine (states_of state opened.server.session.helpers) opened.lines) }
+        options.now opened.server.session.engine (listed state opened.server.session.helpers) opened.lines) }
     ensures none { IfOk result (λ opened. opened.server.outbox.waiting ≡ none_wait) }
     ensures unsent { IfOk result (λ opened. opened.server.outbox.sent ≡ none_sent) }
     ensures kept { OnOk result (L.missed files.new ≡ L.missed files.old) }

@@ -1,14 +1,10 @@
 -- The files were opened, and the session served the lines.
-use Rattle.session_core.specs.SessionView.{kept_of}
 use Rattle.session.proofs.RunPhases.{came-served}
 use Rattle.session.proofs.top_call.run_options.Goals as goal
 
 -- a run whose files could be opened ends as the serving of its lines ended
 pub returns-clause-came : goal.returns-clause-came
 returns-clause-came g c =
-    let first = kept_of (λ z. (goal.Helper-dyn g z).state z.1) c.in-Ok.opened.server.session
-    (g.L.Loader.missed c.open_with.new.files) in
-    came-served _ _ _ c.args.options.now c.in-Ok.opened.lines _ _ first c.serve_lines-ended.result _ _ c.served.result _
-    (g.L.Loader.contents c.open_with.new.files) _ c.open_with.ensures.same c.in-Ok.ensures.kept c.in-Ok.ensures.unsent
-    c.in-Ok.ensures.ok c.serve_lines-ended.ensures.serves c.served.ensures.counts c.served.ensures.sent
-    c.served.ensures.phase
+    came-served _ _ _ c.args.options.now c.in-Ok.opened.lines _ _ _ c.serve_lines-ended.result _ _ c.served.result _ _ _
+    c.serve_lines-ended.ensures.serves c.in-Ok.ensures.ok c.open_with.ensures.same c.in-Ok.ensures.kept
+    c.in-Ok.ensures.unsent c.served.ensures.counts c.served.ensures.sent c.served.ensures.phase
