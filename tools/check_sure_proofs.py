@@ -2,11 +2,11 @@
 
 usage: python3 tools/check_sure_proofs.py GOPAT_SURE REGRESSION [CHANGES [SEED [PLIES:WIDE]]]
 
-REGRESSION is the folder regression/ of GNU Go's source. In the stated and in the wider tree, at these depths (15:4 if none
-are named), gopat_sure is asked for the proofs of all sure captures of the suites' `attack` and `defend` questions;
+REGRESSION is the folder regression/ of GNU Go's source. In the stated and in the wider tree, at these depths (15:4 if
+none are named), gopat_sure is asked for the proofs of all sure captures of the suites' `attack` and `defend` questions;
 `check_proof` and the second checker should accept each. Then so many proofs (1,000 if no number stands) are changed at
-random, each in a word, the code, the depths or a stone, and both are asked about each. Prints what differs, counts and the
-longest proof. The exit status is 1 if anything differs, else 0.
+random, each in a word, the code, the depths or a stone, and both are asked about each. Prints what differs, counts and
+the longest proof. The exit status is 1 if anything differs, else 0.
 """
 
 import random
@@ -120,7 +120,8 @@ def in_tree(program: str, asked: list[Question], depths: Depths, changes: int, c
     for _ in range(changes if short else 0):
         differ += not asked_again(gopat, check_proofs.changed(choose, choose.choice(short)))
     for sort in sorted({sort for sort, _ in COUNTS} - {"proof"}):
-        print(f"another {sort}: " + ", ".join(f"{n} {text}" for (one, text), n in sorted(COUNTS.items()) if one == sort))
+        told_of = [f"{count} {text}" for (one, text), count in sorted(COUNTS.items()) if one == sort]
+        print(f"another {sort}: " + ", ".join(told_of))
     print(f"{time.perf_counter() - start:.0f} seconds; gopat_sure ended with status {gopat.end()}; {differ} differ")
     wrong = [text for text in told.lacking if text != "? proof too long"]
     return differ + refused + len(wrong)

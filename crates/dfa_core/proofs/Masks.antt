@@ -1,8 +1,8 @@
 -- What the masks of a pattern say of its cells and of its length.
 use Rattle.std.proofs.Common.{◌≡◌, ℕ, ◌+◌, ◌-◌, ◌<◌, ◌≤◌, Bool, true, false, not, ◌&&◌, List, [], ◌∷◌, ◌++◌, length}
-use Rattle.std.proofs.Common.{take, get_or, refl, sym, ap, ◌∙◌, subst, arith, inl, inr}
+use Rattle.std.proofs.Common.{get_or, refl, sym, ap, ◌∙◌, subst, arith, inl, inr}
 use Rattle.std.proofs.lemmas.Bool.{cases_lt, not-true, not-false}
-use Rattle.std.proofs.lemmas.List.{length-take-le, get_or-take, length_push, get_or_push, get_or_append_left}
+use Rattle.std.proofs.lemmas.List.{length_push, get_or_push, get_or_append_left}
 use Rattle.pat_types.specs.declared.letter.Letter.TheVariants.{Friend as LetterFriend, Enemy as LetterEnemy}
 use Rattle.pat_types.specs.declared.letter.Letter.TheVariants.{Empty as LetterEmpty, FriendOrEmpty, EnemyOrEmpty, Any}
 use Rattle.pat_types.specs.declared.letter.Letter.TheVariants.{Star}
@@ -79,14 +79,6 @@ pub AreMasks-slice : (p : Pattern) (count : ℕ) (masks slice : List LetterMask)
     → slice ≡ masks → AreMasks p (length slice) slice
 AreMasks-slice p count masks slice are same =
     subst (λ ms. AreMasks p (length ms) ms) (sym same) (subst (λ n. AreMasks p n masks) (sym are.size) are)
-
--- the first masks of those of some indices are those of the first indices
-pub AreMasks-take : (p : Pattern) (count n : ℕ) (masks : List LetterMask) → AreMasks p count masks → n ≤ count
-    → AreMasks p n (take n masks)
-AreMasks-take p count n masks are less = record {
-  size = length-take-le n masks (omega (arith, are.size));
-  each = λ k x low. ap (λ m. has_letter m x) (get_or-take n masks k no_mask low) ∙ are.each k x (omega arith);
-}
 
 -- the length below an index past which nothing is drawn is the length of the pattern
 pub length-by_masks : (p : Pattern) (count n : ℕ) (masks slice : List LetterMask) → AreMasks p count masks

@@ -13,7 +13,7 @@ use Rattle.dfa_core.specs.Automata.{Row, no_row, row_at, step_at, reach, accepte
 use Rattle.dfa_core.specs.States.{state_of}
 use Rattle.dfa_core.proofs.CountLemmas.{Takes-one}
 use Rattle.dfa_core.proofs.Walks.{reach_from-push}
-use Rattle.dfa_join.specs.Orders.{IsInOrder, fresh_after, targets_of, IsCanonical}
+use Rattle.dfa_join.specs.Pairs.{IsInOrder, fresh_after, targets_of, IsCanonical}
 use Rattle.dfa_join.specs.Compiled.{IsTableOf}
 use Rattle.dfa_join.proofs.Orders.{fresh_after-append, IsInOrder-back, first_in_order, targets_of-push}
 

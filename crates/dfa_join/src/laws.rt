@@ -3,7 +3,7 @@
 ghost use Rattle.std.specs.Prelude.{◌≡◌, List};
 ghost use Rattle.pat_types.specs.declared.pattern.Pattern.{Pattern};
 ghost use Rattle.dfa_core.specs.Automata.{Row};
-ghost use Rattle.dfa_join.specs.Orders.{IsCanonical, AreNumberedAsMet};
+ghost use Rattle.dfa_join.specs.Pairs.{IsCanonical, AreNumberedAsMet};
 ghost use Rattle.dfa_join.specs.Compiled.{IsTableOf};
 
 /// Rows in the canonical order are numbered in the order in which they are first led to, each by a row before it.

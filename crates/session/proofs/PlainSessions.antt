@@ -1,5 +1,5 @@
 -- Sessions that find matches by an automaton, and the plain machine.
-use Rattle.std.proofs.Common.{◌≡◌, ℕ, ◌≤◌, List, Option, refl, subst}
+use Rattle.std.proofs.Common.{◌≡◌, ℕ, ◌≤◌, List, Option, Result, IfOk, IfErr, refl, subst}
 use Rattle.pat_types.specs.declared.pattern.Pattern.{Pattern}
 use Rattle.dfa_core.specs.Automata.{Row}
 use Rattle.dfa_core.specs.States.{IsAutomatonOf}
@@ -12,7 +12,13 @@ use Rattle.machine_rules.specs.Matcher.{plain_matcher, codes_of}
 use Rattle.machine_rules.specs.Step.{step}
 use Rattle.session.specs.Tallies.{Tally}
 use Rattle.session_core.specs.EngineView.{EngineView, machine_with, matcher_of, first_kept}
-use Rattle.session.specs.FirstSession.{IsPlainWith}
+use Rattle.session_core.specs.Handed.{helper_names}
+use Rattle.gtp_lex.specs.Lines.{LinesState}
+use Rattle.go_options.specs.declared.options.Options.{Options}
+use Rattle.read_rules.specs.declared.tree.Tree.{Tree}
+use Rattle.session.specs.FirstSession.{IsPlainWith, Opens}
+use Rattle.session.specs.PatternFiles.{IsRefused}
+use Rattle.session.specs.declared.outcome.OpenError.{OpenError}
 use Rattle.session.specs.Ends.{Streams}
 use Rattle.session.specs.Headline.{ServesLines}
 use Rattle.session.specs.declared.outcome.End.{End}
@@ -50,3 +56,18 @@ ServesLines-plain patterns depths capacity session slots helpers contents genera
     (plain.machine helpers)
     (subst (λ h. ServesLines generate (step (plain_matcher patterns) contents) (machine_with h session) before after end
     tally) same by_plain)
+
+-- what was opened with some helpers was opened with those that equal them
+pub opens-handed : {V E : Type 0} (tree : Tree) (a b : List SlotState) (contents : Contents) (options : Options)
+    (engine : V → EngineView) (slots : V → List SlotState) (lines : V → LinesState) (result : Result V E) → a ≡ b
+    → IfOk result (λ v. Opens tree a contents options (engine v) (slots v) (lines v))
+    → IfOk result (λ v. Opens tree b contents options (engine v) (slots v) (lines v))
+opens-handed tree a b contents options engine slots lines result same opens =
+    subst (λ h. IfOk result (λ v. Opens tree h contents options (engine v) (slots v) (lines v))) same opens
+
+-- what was refused with some helpers was refused with those that equal them
+pub refused-handed : {T : Type 0} (a b : List SlotState) (contents : Contents) (names : List (List ℕ)) (most : ℕ)
+    (result : Result T OpenError) → a ≡ b → IfErr result (IsRefused (helper_names a) contents names most)
+    → IfErr result (IsRefused (helper_names b) contents names most)
+refused-handed a b contents names most result same refused =
+    subst (λ h. IfErr result (IsRefused (helper_names h) contents names most)) same refused

@@ -20,8 +20,9 @@ use Rattle.session_core.specs.declared.reply.Reply.{Reply}
 use Rattle.session_core.specs.declared.reply.Reply.TheVariants.{Nothing, Short, Text, NoMemory}
 use Rattle.session.specs.Tallies.{kept_sum, one_turn}
 use Rattle.session.specs.Serving.{PutsPart, PutsReply, Replies, RepliesPart, RunsTo, progress_of}
-use Rattle.session.specs.Waiting.{WaitingState, holds_with, sent_with, progress_with, Stop, IsStop, CutsReply, MayStop}
-use Rattle.session.specs.Waiting.{MayCut, Sends, SendsReply}
+use Rattle.session.specs.Waiting.{OutputState, holds_with, sent_with, Stop, IsStop, CutsReply, MayStop, Sends}
+use Rattle.session.specs.Waiting.{SendsReply}
+use Rattle.session.specs.Answered.{Answered, BreaksIn, MayCut, progress_with, standing_at, step_at}
 use Rattle.session.proofs.ServeLemmas.{RunsTo-one, RunsPart-one}
 
 -- The session answered a line with a reply, where files have these contents.
@@ -93,89 +94,95 @@ module _ (contents : Contents) (old new : Kept) (line : RawLine) (reply : Reply)
   }
 
   -- Its reply came behind those that wait.
-  module _ (w0 : Option (List ℕ)) (s0 : Sent) (b0 : WaitingState) where
+  module _ (a : OutputState) where
     -- nothing came
-    turn-nothing : reply ≡ Nothing → RunsTo by_step IsAfterLine (machine_of old) (line ∷ []) (machine_of new)
-        false (progress_with w0 old s0 b0) (progress_with w0 new s0 b0)
+    turn-nothing : reply ≡ Nothing → RunsTo by_step IsAfterLine (machine_of old) (line ∷ []) (machine_of new) false
+        (progress_with (standing_at old a)) (progress_with (standing_at new a))
     turn-nothing none =
         RunsTo-one Machine by_step IsAfterLine (machine_of old) line (machine_of new) false
-        (progress_with w0 old s0 b0) (progress_with w0 new s0 b0) (line ∷ []) refl
-        (Replies-nothing (holds_with w0 b0) (sent_with s0 b0) none)
+        (progress_with (standing_at old a)) (progress_with (standing_at new a)) (line ∷ []) refl
+        (Replies-nothing (holds_with a) (sent_with a) none)
 
     -- its bytes were sent
-    turn-whole : (w1 : Option (List ℕ)) (s1 : Sent) (b1 : WaitingState) (counts : Counts)
-        → reply_count (reply_bytes reply) ≡ 1 → Sends w0 w1 s0 s1 b0 b1 (reply_bytes reply) counts
+    turn-whole : (b : OutputState) (counts : Counts) → reply_count (reply_bytes reply) ≡ 1
+        → Sends a b (reply_bytes reply) counts
         → RunsTo by_step IsAfterLine (machine_of old) (line ∷ []) (machine_of new) (reply_ends reply)
-        (progress_with w0 old s0 b0) (progress_with w1 new s1 b1)
-    turn-whole w1 s1 b1 counts some sends =
+        (progress_with (standing_at old a)) (progress_with (standing_at new b))
+    turn-whole b counts some sends =
         RunsTo-one Machine by_step IsAfterLine (machine_of old) line (machine_of new) (reply_ends reply)
-        (progress_with w0 old s0 b0) (progress_with w1 new s1 b1) (line ∷ []) refl
-        (Replies-whole (holds_with w0 b0) (holds_with w1 b1) (sent_with s0 b0) (sent_with s1 b1) some sends.whole)
+        (progress_with (standing_at old a)) (progress_with (standing_at new b)) (line ∷ []) refl
+        (Replies-whole (holds_with a) (holds_with b) (sent_with a) (sent_with b) some sends.whole)
 
     -- the output may fail within it; where it fails within what waits, the names missed are those before the line
     pub turn-stop : (counts : Counts) (stop : Stop) → counts ≡ new.engine.counts
-        → (IsStop w0 s0 b0 stop → new.missed ≡ old.missed)
-        → MayStop w0 s0 b0 (reply_bytes reply) counts stop
-        → MayCut by_step IsAfterLine (machine_of old) (line ∷ []) w0 old s0 b0 stop new.missed
+        → (IsStop a stop → new.missed ≡ old.missed) → MayStop a (reply_bytes reply) counts stop
+        → MayCut by_step IsAfterLine (machine_of old) (line ∷ []) (standing_at old a) stop new.missed
     turn-stop counts stop noted waits may =
-        ⊎_elim (λ (at : IsStop w0 s0 b0 stop). inl (at, waits at))
-        (λ (cuts : CutsReply (holds_with w0 b0) (sent_with s0 b0) (reply_bytes reply) counts stop).
+        ⊎_elim (λ (at : IsStop a stop). inl (at, waits at))
+        (λ (cuts : CutsReply (holds_with a) (sent_with a) (reply_bytes reply) counts stop).
         inr (record {
           kept = new;
           same = cuts.same ∙ noted;
           names = refl;
-          runs = RunsPart-one Machine by_step IsAfterLine (machine_of old) line (progress_with w0 old s0 b0)
+          runs = RunsPart-one Machine by_step IsAfterLine (machine_of old) line (progress_with (standing_at old a))
               (progress_of stop.written new stop.sent) (line ∷ []) [] refl
-              (Replies-part (holds_with w0 b0) stop.written (sent_with s0 b0) stop.sent cuts.puts);
+              (Replies-part (holds_with a) stop.written (sent_with a) stop.sent cuts.puts);
         }))
         may
 
 -- bytes that were sent are those of a reply that is not nothing
-pub sends-reply : (w0 w1 : Option (List ℕ)) (s0 s1 : Sent) (b0 b1 : WaitingState) (reply : Reply) (counts : Counts)
-    (sent : List ℕ) → (reply ≡ Nothing → ⊥) → sent ≡ reply_bytes reply → Sends w0 w1 s0 s1 b0 b1 sent counts
-    → SendsReply w0 w1 s0 s1 b0 b1 reply counts
-sends-reply w0 w1 s0 s1 b0 b1 Nothing counts sent some same sends = absurd (some refl)
-sends-reply w0 w1 s0 s1 b0 b1 (Short text quit) counts sent some same sends =
-    subst (λ l. Sends w0 w1 s0 s1 b0 b1 l counts) same sends
-sends-reply w0 w1 s0 s1 b0 b1 (Text bytes) counts sent some same sends =
-    subst (λ l. Sends w0 w1 s0 s1 b0 b1 l counts) same sends
-sends-reply w0 w1 s0 s1 b0 b1 (NoMemory id) counts sent some same sends =
-    subst (λ l. Sends w0 w1 s0 s1 b0 b1 l counts) same sends
+pub sends-reply : (a b : OutputState) (reply : Reply) (counts : Counts) (sent : List ℕ) → (reply ≡ Nothing → ⊥)
+    → sent ≡ reply_bytes reply → Sends a b sent counts → SendsReply a b reply counts
+sends-reply a b Nothing counts sent some same sends = absurd (some refl)
+sends-reply a b (Short text quit) counts sent some same sends = subst (λ l. Sends a b l counts) same sends
+sends-reply a b (Text bytes) counts sent some same sends = subst (λ l. Sends a b l counts) same sends
+sends-reply a b (NoMemory id) counts sent some same sends = subst (λ l. Sends a b l counts) same sends
 
 -- The reply to a line was sent.
-module _ (contents : Contents) (old new : Kept) (line : RawLine) (w0 w1 : Option (List ℕ)) (s0 s1 : Sent)
-    (b0 b1 : WaitingState) (counts : Counts) where
+module _ (contents : Contents) (old new : Kept) (line : RawLine) (a b : OutputState) (counts : Counts) where
   -- its line was answered, with what was sent
-  pub turn-sent : (reply : Reply) → AnswersLine contents old line reply new
-      → SendsReply w0 w1 s0 s1 b0 b1 reply counts
-      → RunsTo (step (matcher_of old.engine) contents) IsAfterLine (machine_of old) (line ∷ []) (machine_of new)
-      (reply_ends reply) (progress_with w0 old s0 b0) (progress_with w1 new s1 b1)
-  turn-sent Nothing is (holds, sends, waits) =
-      let family : Option (List ℕ) → Sent → WaitingState → Type 0 =
-      λ w s b. RunsTo (step (matcher_of old.engine) contents) IsAfterLine (machine_of old) (line ∷ []) (machine_of new)
-      false (progress_with w0 old s0 b0) (progress_with w new s b) in
-      subst (λ w. family w s1 b1) (sym holds) (subst (λ s. family w0 s b1) (sym sends)
-      (subst (λ b. family w0 s0 b) (sym waits) (turn-nothing contents old new line Nothing is w0 s0 b0 refl)))
+  turn-sent : (reply : Reply) → AnswersLine contents old line reply new → SendsReply a b reply counts
+      → RunsTo (step_at contents old) IsAfterLine (machine_of old) (line ∷ []) (machine_of new) (reply_ends reply)
+      (progress_with (standing_at old a)) (progress_with (standing_at new b))
+  turn-sent Nothing is same =
+      subst (λ (o : OutputState). RunsTo (step_at contents old) IsAfterLine (machine_of old) (line ∷ [])
+      (machine_of new) false (progress_with (standing_at old a)) (progress_with (standing_at new o))) (sym same)
+      (turn-nothing contents old new line Nothing is a refl)
   turn-sent (Short text quit) is sends =
-      turn-whole contents old new line (Short text quit) is w0 s0 b0 w1 s1 b1 counts (is.bytes (λ e. cc)) sends
+      turn-whole contents old new line (Short text quit) is a b counts (is.bytes (λ e. cc)) sends
   turn-sent (Text bytes) is sends =
-      turn-whole contents old new line (Text bytes) is w0 s0 b0 w1 s1 b1 counts (is.bytes (λ e. cc)) sends
+      turn-whole contents old new line (Text bytes) is a b counts (is.bytes (λ e. cc)) sends
   turn-sent (NoMemory id) is sends =
-      turn-whole contents old new line (NoMemory id) is w0 s0 b0 w1 s1 b1 counts (is.bytes (λ e. cc)) sends
+      turn-whole contents old new line (NoMemory id) is a b counts (is.bytes (λ e. cc)) sends
 
   -- where the output may fail after it
-  pub turn-stops : (reply : Reply) → AnswersLine contents old line reply new → counts ≡ new.engine.counts
-      → ((stop : Stop) → IsStop w0 s0 b0 stop → new.missed ≡ old.missed)
-      → SendsReply w0 w1 s0 s1 b0 b1 reply counts → (stop : Stop) → IsStop w1 s1 b1 stop
-      → MayCut (step (matcher_of old.engine) contents) IsAfterLine (machine_of old) (line ∷ []) w0 old s0 b0 stop
-      new.missed
-  turn-stops Nothing is noted same (holds, sends, waits) stop at =
-      let before = subst (λ w. IsStop w s0 b0 stop) holds (subst (λ s. IsStop w1 s b0 stop) sends
-      (subst (λ b. IsStop w1 s1 b stop) waits at)) in
-      inl (before, same stop before)
+  turn-stops : (reply : Reply) → AnswersLine contents old line reply new → counts ≡ new.engine.counts
+      → ((stop : Stop) → IsStop a stop → new.missed ≡ old.missed) → SendsReply a b reply counts → (stop : Stop)
+      → IsStop b stop
+      → MayCut (step_at contents old) IsAfterLine (machine_of old) (line ∷ []) (standing_at old a) stop new.missed
+  turn-stops Nothing is noted same holds stop at =
+      let before = subst (λ (o : OutputState). IsStop o stop) holds at in inl (before, same stop before)
   turn-stops (Short text quit) is noted same sends stop at =
-      turn-stop contents old new line (Short text quit) is w0 s0 b0 counts stop noted (same stop) (sends.stops stop at)
+      turn-stop contents old new line (Short text quit) is a counts stop noted (same stop) (sends.stops stop at)
   turn-stops (Text bytes) is noted same sends stop at =
-      turn-stop contents old new line (Text bytes) is w0 s0 b0 counts stop noted (same stop) (sends.stops stop at)
+      turn-stop contents old new line (Text bytes) is a counts stop noted (same stop) (sends.stops stop at)
   turn-stops (NoMemory id) is noted same sends stop at =
-      turn-stop contents old new line (NoMemory id) is w0 s0 b0 counts stop noted (same stop) (sends.stops stop at)
+      turn-stop contents old new line (NoMemory id) is a counts stop noted (same stop) (sends.stops stop at)
+
+  -- so it was answered whole
+  pub turn-answered : (reply : Reply) → AnswersLine contents old line reply new → counts ≡ new.engine.counts
+      → ((stop : Stop) → IsStop a stop → new.missed ≡ old.missed) → SendsReply a b reply counts
+      → Answered contents (line ∷ []) (reply_ends reply) (standing_at old a) (standing_at new b)
+  turn-answered reply is noted same sends = record {
+    runs = turn-sent reply is sends;
+    stops = turn-stops reply is noted same sends;
+  }
+
+  -- the output failed within its reply, or before it
+  pub turn-breaks : (reply : Reply) → AnswersLine contents old line reply new → (stop : Stop)
+      → counts ≡ new.engine.counts → (IsStop a stop → new.missed ≡ old.missed)
+      → MayStop a (reply_bytes reply) counts stop
+      → BreaksIn contents (line ∷ []) (standing_at old a) stop new.missed
+  turn-breaks reply is stop noted waits may = record {
+    cut = turn-stop contents old new line reply is a counts stop noted waits may;
+  }

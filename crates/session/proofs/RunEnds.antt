@@ -55,28 +55,6 @@ earlier-append taken part piece len =
     ap (λ n. take n (taken ++ part)) (let whole = length-append taken part in omega (arith, whole))
     ∙ take_at taken part (length taken) refl
 
--- The source gave a piece, its lines were answered, and none ended the session.
-pub served_more : (M : Type 0) (step : M → RawLine → Step M → Type 0) (goes : Kept → Turn M → Kept → Type 0)
-    (first now : M)
-    (l0 l1 : Option (List ℕ)) (p0 p1 : Progress) (held : RawLine) (room : ℕ)
-    → Served step goes first now l0 l1 p0 p1 held room → (l2 : Option (List ℕ)) (p2 : Progress) (part : List ℕ)
-    → Consumes l1 l2 part → (n : ℕ) (new : M) (held' : RawLine) → length part ≡ n → n ≤ room
-    → RunsTo step goes now (lines_from held part) new false p1 p2
-    → held' ≡ held_from held part → Served step goes first new l0 l2 p0 p2 held' (room - n)
-served_more M step goes first now l0 l1 p0 p1 held room s l2 p2 part reads n new held' len within runs is = record {
-  taken = s.taken ++ part;
-  tally = together s.tally runs.tally;
-  reads = Consumes-trans l0 l1 l2 s.taken part s.reads reads;
-  advances = Advances-trans goes p0 p1 p2 s.tally runs.tally s.advances runs.advances;
-  run =
-      subst (λ l. IsTallied step first l (together s.tally runs.tally) new false)
-      (sym (lines_from-append (Line []) s.taken part ∙ ap (λ h. lines_from (Line []) s.taken ++ lines_from h part)
-      (sym s.held_is)))
-      (IsTallied-append M step first _ _ s.tally runs.tally now new false s.run runs.run);
-  held_is = is ∙ ap (λ h. held_from h part) s.held_is ∙ sym (held_from-append (Line []) s.taken part);
-  few = let few = s.few in let both = length-append s.taken part in omega (arith, few, both);
-}
-
 module _ (M : Type 0) (step : M → RawLine → Step M → Type 0) (goes : Kept → Turn M → Kept → Type 0)
     (first now : M)
     (before : Streams)
@@ -122,6 +100,24 @@ module _ (M : Type 0) (step : M → RawLine → Step M → Type 0) (goes : Kept 
       (let before_it = length-append (lines_from (Line []) s.taken) more in
       let lines = ap length (lines_of-lines_from s.taken) in
       omega (arith, before_it, lines))
+
+  -- the source gave a piece, its lines were answered, and none ended the session
+  pub served_more : (l2 : Option (List ℕ)) (p2 : Progress) (part : List ℕ) (n : ℕ) (new : M) (held' : RawLine)
+      → Consumes l1 l2 part → length part ≡ n → n ≤ room → RunsTo step goes now (lines_from held part) new false p1 p2
+      → held' ≡ held_from held part → Served step goes first new before.left l2 p0 p2 held' (room - n)
+  served_more l2 p2 part n new held' reads len within runs is = record {
+    taken = s.taken ++ part;
+    tally = together s.tally runs.tally;
+    reads = Consumes-trans before.left l1 l2 s.taken part s.reads reads;
+    advances = Advances-trans goes p0 p1 p2 s.tally runs.tally s.advances runs.advances;
+    run =
+        subst (λ l. IsTallied step first l (together s.tally runs.tally) new false)
+        (sym (lines_from-append (Line []) s.taken part ∙ ap (λ h. lines_from (Line []) s.taken ++ lines_from h part)
+        (sym s.held_is)))
+        (IsTallied-append M step first _ _ s.tally runs.tally now new false s.run runs.run);
+    held_is = is ∙ ap (λ h. held_from h part) s.held_is ∙ sym (held_from-append (Line []) s.taken part);
+    few = let few = s.few in let both = length-append s.taken part in omega (arith, few, both);
+  }
 
   -- the source failed
   pub served_fault : (after : Streams) → Keeps l1 after.left → p1.written ≡ after.written → 0 < room

@@ -4,6 +4,7 @@ use Rattle.std.proofs.Common.{[], ◌∷◌, sym, ap, subst, ◌∙◌, ◌≤�
 use Rattle.std.proofs.lemmas.List.{length-append}
 use Rattle.std.specs.Prelude.{option_map}
 use Rattle.std.specs.List.{flat_map}
+use Rattle.std.specs.Io.KnownBytes.{Consumes}
 use Rattle.gtp_lex.specs.Lines.{LinesState}
 use Rattle.go_options.specs.declared.options.Options.{Options}
 use Rattle.run_notes.specs.Notes.{counts_line}
@@ -14,24 +15,27 @@ use Rattle.machine_rules.specs.Files.{Contents}
 use Rattle.machine_rules.specs.Loads.{missed_in}
 use Rattle.machine_rules.specs.Turns.{Turn, IsAlong}
 use Rattle.session_core.specs.AfterLine.{IsAfterLine}
-use Rattle.session.specs.Tallies.{Tally, Progress, kept_sum}
+use Rattle.session.specs.Tallies.{Tally, kept_sum}
 use Rattle.gtp_rules.specs.Lines.{RawLine}
 use Rattle.gtp_rules.specs.Steps.{Step}
 use Rattle.workload.specs.GeneratedLines.{generated_text}
 use Rattle.workload.proofs.LengthLemmas.{generated_length}
 use Rattle.helpers.specs.HelperStates.{SlotState}
-use Rattle.machine_rules.specs.Step.{step}
-use Rattle.session_core.specs.Kept.{Kept, kept_with}
-use Rattle.session_core.specs.EngineView.{EngineView, machine_with, matcher_of, depths_in}
+use Rattle.session_core.specs.Kept.{Kept, machine_of}
+use Rattle.session_core.specs.EngineView.{depths_in}
 use Rattle.read_rules.specs.declared.tree.Tree.{Tree}
+use Rattle.session.specs.Answered.{step_at}
+use Rattle.session.specs.Waiting.{none_sent}
 use Rattle.session.specs.FirstSession.{Opens, CameBy, ServesCounting, EndsCounting}
-use Rattle.session.specs.Outcomes.{Phase, Served}
-use Rattle.session.specs.Ends.{Streams, streams, IsRight, Serves, most_taken}
-use Rattle.session.specs.CountedRuns.{AreCounts, AreCountsOf}
+use Rattle.session.specs.Outcomes.{Served, phase_of}
+use Rattle.session.specs.Ends.{Streams, IsRight, Serves, most_taken}
+use Rattle.session.specs.CountedRuns.{AreCounts, AreCountsOf, IsServedCounted}
 use Rattle.session.specs.Headline.{IsSent, IsCauseOf, ServesGenerated}
 use Rattle.session.specs.Serving.{progress_of}
 use Rattle.session.specs.declared.outcome.End.{End}
 use Rattle.session.specs.declared.outcome.End.TheVariants.{InputTooLong}
+use Rattle.session.specs.declared.serve.Ended.{Ended}
+use Rattle.session.specs.declared.top_call.Ran.{Ran}
 use Rattle.session.proofs.RunCounts.{counts_of, served-few}
 use Rattle.session.proofs.PlainSessions.{ServesLines-plain}
 
@@ -77,63 +81,52 @@ missed_along (turn ∷ turns) old new (mid, first, rest) =
     ∙ append_assoc old.missed (missed_in turn) (flat_map missed_in turns)
 
 -- the files were opened, and the session served the lines
-pub came-served : (tree : Tree) (helpers slots : List SlotState) (contents : Contents) (options : Options)
-    (session : EngineView) (lines : LinesState) (missed now : List (List ℕ))
-    (before after : Streams) (end : End) (counts : Counts) (w0 w1 : Option (List ℕ)) (sent : Sent)
-    (told : Option Counts) (noted : Option Sent)
-    (phase : Phase) → Opens tree helpers contents options session slots lines
-    → EndsCounting options.generate (step (matcher_of session) contents) IsAfterLine (machine_with slots session) before
-    after end counts now
-    (progress_of w0 (kept_with slots missed session) (record { lines = 0; bytes = 0 })) w1 sent
-    → told ≡ cond options.stats (Some counts) None → noted ≡ option_map (λ _. sent) options.generate
-    → phase ≡ Served end → CameBy tree helpers options contents missed now before after told noted phase
-came-served tree helpers slots contents options session lines missed now before after end counts w0 w1 sent told noted
-    phase opens ends tells notes is =
-    let counting = ends.serves in
-    let kept = ends.kept in
-    let lines = served-few (step (matcher_of session) contents) options.generate
-    (machine_with slots session) before after end counting.tally counting.serves in
-    let are = counts_of (kept_with slots missed session) kept counting.tally.turns counting.advances.along
-    opens.plain.counts lines options.cache opens.plain.readings opens.plain.links opens.plain.room in
-    subst (CameBy tree helpers options contents missed now before after told noted) (sym is) (record {
-      served = record {
-        patterns = opens.patterns;
-        opened = opens.opened;
-        tally = counting.tally;
-        serves = ServesLines-plain opens.patterns (depths_in tree options) options.cache session slots helpers
-            contents options.generate before after end counting.tally opens.plain opens.same counting.serves;
-        names = ends.names
-            ∙ missed_along counting.tally.turns (kept_with slots missed session) kept counting.advances.along;
-        uncounted = uncounted-told options.stats counts told tells;
-        told = sent-noted options.generate sent counting.tally noted notes counting.advances.replies
-            counting.advances.bytes;
-      };
-      counted = counts-noted options.stats options.cache counts kept.engine.counts told counting.tally tells ends.same
-          are;
-    })
+module _ (tree : Tree) (helpers : List SlotState) (contents : Contents) (options : Options) (lines : LinesState)
+    (before after : Streams) (first : Kept) (ended : Ended) (now : List (List ℕ)) (sent : Sent) where
+  -- as the session began that was opened, with nothing sent
+  came-first : (ran : Ran) → Opens tree helpers contents options first.engine first.helpers lines
+      → EndsCounting options.generate contents first none_sent before after ended now sent
+      → ran.counts ≡ cond options.stats (Some ended.counts) None
+      → ran.sent ≡ option_map (λ _. sent) options.generate
+      → IsServedCounted tree helpers options contents first.missed now before after ended.end ran.counts ran.sent
+  came-first ran opens ends tells notes =
+      let counting = ends.serves in
+      let kept = ends.kept in
+      let few = served-few (step_at contents first) options.generate (machine_of first) before after ended.end
+      counting.tally counting.serves in
+      let are = counts_of first kept counting.tally.turns counting.advances.along opens.plain.counts few options.cache
+      opens.plain.readings opens.plain.links opens.plain.room in
+      record {
+        served = record {
+          patterns = opens.patterns;
+          opened = opens.opened;
+          tally = counting.tally;
+          serves = ServesLines-plain opens.patterns (depths_in tree options) options.cache first.engine first.helpers
+              helpers contents options.generate before after ended.end counting.tally opens.plain opens.same
+              counting.serves;
+          names = ends.names ∙ missed_along counting.tally.turns first kept counting.advances.along;
+          uncounted = uncounted-told options.stats ended.counts ran.counts tells;
+          told = sent-noted options.generate sent counting.tally ran.sent notes counting.advances.replies
+              counting.advances.bytes;
+        };
+        counted = counts-noted options.stats options.cache ended.counts kept.engine.counts ran.counts counting.tally
+            tells ends.same are;
+      }
 
--- the lines were served after the files were opened, which leaves what files hold and which names were missed
-pub came-served-after : (tree : Tree) (helpers slots : List SlotState) (contents contents' : Contents)
-    (options : Options) (session : EngineView) (lines : LinesState) (missed missed' now : List (List ℕ))
-    (before after : Streams) (end : End) (counts : Counts) (w0 w1 : Option (List ℕ)) (sent : Sent)
-    (told : Option Counts) (noted : Option Sent)
-    (phase : Phase) → contents' ≡ contents → missed' ≡ missed → Opens tree helpers contents options session slots lines
-    → EndsCounting options.generate (step (matcher_of session) contents') IsAfterLine (machine_with slots session)
-    before after end counts now
-    (progress_of w0 (kept_with slots missed' session) (record { lines = 0; bytes = 0 })) w1 sent
-    → told ≡ cond options.stats (Some counts) None → noted ≡ option_map (λ _. sent) options.generate
-    → phase ≡ Served end → CameBy tree helpers options contents missed now before after told noted phase
-came-served-after tree helpers slots contents contents' options session lines missed missed' now before after end counts
-    w0 w1 sent told noted phase same kept opens ends tells notes is =
-    came-served tree helpers slots contents options session lines missed now before after end counts w0 w1 sent told
-    noted phase opens
-    (subst (λ l. EndsCounting options.generate (step (matcher_of session) contents) IsAfterLine
-    (machine_with slots session) before after end counts now
-    (progress_of w0 (kept_with slots l session) (record { lines = 0; bytes = 0 })) w1 sent) kept
-    (subst (λ k. EndsCounting options.generate (step (matcher_of session) k) IsAfterLine
-    (machine_with slots session) before after end counts now
-    (progress_of w0 (kept_with slots missed' session) (record { lines = 0; bytes = 0 })) w1 sent) same ends))
-    tells notes is
+  -- by the run's phase, where opening the files left what files hold and which names were missed
+  pub came-served : (ran : Ran) (was : Sent) (here : Contents) (missed : List (List ℕ))
+      → EndsCounting options.generate here first was before after ended now sent
+      → Opens tree helpers contents options first.engine first.helpers lines → here ≡ contents
+      → first.missed ≡ missed → was ≡ none_sent
+      → ran.counts ≡ cond options.stats (Some ended.counts) None
+      → ran.sent ≡ option_map (λ _. sent) options.generate → phase_of ran.outcome ≡ Served ended.end
+      → CameBy tree helpers options contents missed now before after ran.counts ran.sent (phase_of ran.outcome)
+  came-served ran was here missed ends opens holds kept unsent tells notes is =
+      let begun = subst (λ s. EndsCounting options.generate contents first s before after ended now sent) unsent
+      (subst (λ c. EndsCounting options.generate c first was before after ended now sent) holds ends) in
+      subst (CameBy tree helpers options contents missed now before after ran.counts ran.sent) (sym is)
+      (subst (λ l. IsServedCounted tree helpers options contents l now before after ended.end ran.counts ran.sent) kept
+      (came-first ran opens begun tells notes))
 
 -- a source that never fails causes no fault
 pub uncaused : (fault : Type 0) (count : ℕ) → IsCauseOf fault 0 0 → IsCauseOf fault count count
@@ -153,79 +146,62 @@ not_too_long step first left text rest taken put piece n end few is reads right 
     let parts : length text ≡ length taken + length rest = ap length reads ∙ length-append taken rest in
     omega (arith, taken_all, short, parts)
 
--- what was served of a source that has the text of generated lines was served of these
-serves-text : {M : Type 0} (n : ℕ) (step : M → RawLine → Step M → Type 0) (first : M) (faults : ℕ)
-    (w0 w1 : Option (List ℕ)) (c0 c1 f0 f1 p last : ℕ) (text rest : List ℕ) (end : End) (tally : Tally M)
-    → text ≡ generated_text n
-    → Serves step first (streams (Some text) p f0 w0 c0) (streams (Some rest) last f1 w1 c1) end tally
-    → Serves step first (streams (Some (generated_text n)) 0 faults w0 c0) (streams (Some rest) last faults w1 c1) end
-    tally
-serves-text n step first faults w0 w1 c0 c1 f0 f1 p last text rest end tally is serves = record {
-  taken = serves.taken;
-  reads = sym is ∙ serves.reads;
-  writes = serves.writes;
-  right = serves.right;
-  tallied = serves.tallied;
+-- the streams of a source and of an output
+abbrev pub both_of : Streams → Streams → Streams
+both_of source sink = record sink {
+  left = source.left;
+  piece = source.piece;
+  input_faults = source.input_faults;
 }
 
--- so these were served in place of the source, which stays as it was
-serves-these : {M : Type 0} (n : ℕ) (step : M → RawLine → Step M → Type 0) (first : M) (left : Option (List ℕ))
-    (piece faults : ℕ) (w0 w1 : Option (List ℕ)) (c0 c1 f0 f1 p last : ℕ) (text rest : List ℕ) (end : End)
-    (tally : Tally M) → n ≤ 100000 → text ≡ generated_text n
-    → Serves step first (streams (Some text) p f0 w0 c0) (streams (Some rest) last f1 w1 c1) end tally
-    → ServesGenerated n step first (streams left piece faults w0 c0) (streams left piece faults w1 c1) end tally
-serves-these n step first left piece faults w0 w1 c0 c1 f0 f1 p last text rest end tally few is serves = record {
-  left = refl;
-  piece = refl;
-  input_faults = refl;
-  generated = (rest, last, serves-text n step first faults w0 w1 c0 c1 f0 f1 p last text rest end tally is serves);
-  not_too_long = not_too_long step first (Some rest) text rest serves.taken tally.out last n end few is serves.reads
-      serves.right;
-}
+-- Lines that were generated were served in place of a source, which stays as it was.
+module _ (n : ℕ) (source before after : Streams) where
+  -- what was served of the text was served of the generated lines
+  serves-these : {M : Type 0} (step : M → RawLine → Step M → Type 0) (first : M) (end : End) (tally : Tally M)
+      (text rest : List ℕ) → n ≤ 100000 → text ≡ generated_text n → before.left ≡ Some text → after.left ≡ Some rest
+      → Serves step first before after end tally
+      → ServesGenerated n step first (both_of source before) (both_of source after) end tally
+  serves-these step first end tally text rest few is holds leaves serves =
+      let reads : text ≡ serves.taken ++ rest =
+      subst (λ l. Consumes l (Some rest) serves.taken) holds
+      (subst (λ l. Consumes before.left l serves.taken) leaves serves.reads) in
+      let right : IsRight step first (Some rest) serves.taken tally.out after.piece end =
+      subst (λ l. IsRight step first l serves.taken tally.out after.piece end) leaves serves.right in
+      record {
+        left = refl;
+        piece = refl;
+        input_faults = refl;
+        generated = (
+          rest,
+          after.piece,
+          record {
+            taken = serves.taken;
+            reads = sym is ∙ reads;
+            writes = serves.writes;
+            right = right;
+            tallied = serves.tallied;
+          },
+        );
+        not_too_long = not_too_long step first (Some rest) text rest serves.taken tally.out after.piece n end few is
+            reads right;
+      }
 
--- generated lines were served in place of the source
-serves-generated : {M : Type 0} (n : ℕ) (step : M → RawLine → Step M → Type 0)
-    (goes : Kept → Turn M → Kept → Type 0)
-    (first : M)
-    (left : Option (List ℕ)) (piece faults : ℕ) (w0 w1 : Option (List ℕ)) (c0 c1 f0 f1 p : ℕ) (text rest : List ℕ)
-    (last : ℕ)
-    (end : End) (old new : Progress) (generate : Option ℕ) → generate ≡ Some n → n ≤ 100000
-    → text ≡ generated_text n → ServesCounting None step goes first
-    (streams (Some text) p f0 w0 c0)
-    (streams (Some rest) last f1 w1 c1) end old new
-    → ServesCounting generate step goes first
-    (streams left piece faults w0 c0)
-    (streams left piece faults w1 c1) end old new
-serves-generated n step goes first left piece faults w0 w1 c0 c1 f0 f1 p text rest last end old new generate some few
-    is counting =
-    subst (λ o. ServesCounting o step goes first (streams left piece faults w0 c0) (streams left piece faults w1 c1) end
-    old new) (sym some) (record {
-      tally = counting.tally;
-      serves = serves-these n step first left piece faults w0 w1 c0 c1 f0 f1 p last text rest end counting.tally few is
-          counting.serves;
-      advances = counting.advances;
-    })
-
--- generated lines were served in place of the source, with the counts that are noted
-pub ends-generated : {M : Type 0} (n : ℕ) (step : M → RawLine → Step M → Type 0)
-    (goes : Kept → Turn M → Kept → Type 0)
-    (first : M)
-    (left : Option (List ℕ)) (piece faults : ℕ) (w0 w1 : Option (List ℕ)) (c0 c1 f0 f1 p : ℕ) (text rest : List ℕ)
-    (last : ℕ)
-    (end : End) (counts : Counts) (missed : List (List ℕ)) (old : Progress) (written : Option (List ℕ)) (sent : Sent)
-    (generate : Option ℕ) → generate ≡ Some n → n ≤ 100000 → text ≡ generated_text n → EndsCounting None step goes first
-    (record { left = Some text; piece = p; input_faults = f0; written = w0; output_faults = c0 })
-    (record { left = Some rest; piece = last; input_faults = f1; written = w1; output_faults = c1 }) end counts missed
-    old written sent
-    → EndsCounting generate step goes first
-    (record { left = left; piece = piece; input_faults = faults; written = w0; output_faults = c0 })
-    (record { left = left; piece = piece; input_faults = faults; written = w1; output_faults = c1 }) end counts missed
-    old written sent
-ends-generated n step goes first left piece faults w0 w1 c0 c1 f0 f1 p text rest last end counts missed old written sent
-    generate some few is ends = record {
-      kept = ends.kept;
-      same = ends.same;
-      names = ends.names;
-      serves = serves-generated n step goes first left piece faults w0 w1 c0 c1 f0 f1 p text rest last end old
-          (progress_of written ends.kept sent) generate some few is ends.serves;
-    }
+  -- with the counts that are noted
+  pub ends-generated : (generate : Option ℕ) (contents : Contents) (old : Kept) (was : Sent) (ended : Ended)
+      (missed : List (List ℕ)) (now : Sent) → generate ≡ Some n → n ≤ 100000
+      → EndsCounting None contents old was before after ended missed now → (text rest : List ℕ)
+      → text ≡ generated_text n → before.left ≡ Some text → after.left ≡ Some rest
+      → EndsCounting generate contents old was (both_of source before) (both_of source after) ended missed now
+  ends-generated generate contents old was ended missed now some few ends text rest is holds leaves = record {
+    kept = ends.kept;
+    same = ends.same;
+    names = ends.names;
+    serves = subst (λ o. ServesCounting o (step_at contents old) IsAfterLine (machine_of old) (both_of source before)
+        (both_of source after) ended.end (progress_of before.written old was)
+        (progress_of after.written ends.kept now)) (sym some) (record {
+          tally = ends.serves.tally;
+          serves = serves-these (step_at contents old) (machine_of old) ended.end ends.serves.tally text rest few is
+              holds leaves ends.serves.serves;
+          advances = ends.serves.advances;
+        });
+  }

@@ -1,6 +1,6 @@
 -- The steps of the loops of a run, over plain values.
 use Rattle.std.proofs.Common.{◌≡◌, ◌≢◌, ⊎_elim, inl, inr, ℕ, ◌-◌, Bool, true, false, List, [], ◌∷◌, ◌++◌, length, take}
-use Rattle.std.proofs.Common.{drop, Option, Some, None, Result, OnOk, IfErr, refl, sym, ap, subst, ◌∙◌, append_assoc}
+use Rattle.std.proofs.Common.{drop, Option, Some, None, Result, IfOk, IfErr, refl, sym, ap, subst, ◌∙◌, append_assoc}
 use Rattle.std.proofs.Common.{append-nil, take-append-drop, arith}
 use Rattle.std.proofs.lemmas.List.{take_rest, take_all}
 use Rattle.std.specs.Io.KnownBytes.{Appends, Keeps}
@@ -16,15 +16,17 @@ use Rattle.run_notes.specs.declared.notes.Counts.{Counts}
 use Rattle.run_notes.specs.declared.notes.Sent.{Sent}
 use Rattle.machine_rules.specs.Machine.{Machine}
 use Rattle.machine_rules.specs.Files.{Contents}
-use Rattle.machine_rules.specs.Matcher.{Matcher}
 use Rattle.machine_rules.specs.Step as answering
-use Rattle.session_core.specs.Kept.{Kept}
 use Rattle.machine_rules.specs.Turns.{Turn}
+use Rattle.session_core.specs.AfterLine.{IsAfterLine}
+use Rattle.session_core.specs.EngineView.{matcher_of}
+use Rattle.session_core.specs.Kept.{Kept, machine_of}
 use Rattle.session.specs.Tallies.{Progress, IsTallied, tally_of, cut_tally, no_tally, together}
 use Rattle.session.specs.Serving.{Replies, RepliesPart, RunsTo, RunsPart, progress_of}
-use Rattle.session.specs.Waiting.{WaitingState, none_wait, holds_with, Stop, IsStop, MayCut, CutsShort, Stays}
-use Rattle.session.specs.Waiting.{progress_with}
-use Rattle.session.proofs.WaitingReplies.{kept-none, none-appends}
+use Rattle.session.specs.Waiting.{WaitingState, OutputState, none_wait, holds_with, Stop, IsStop, Stays}
+use Rattle.session.specs.Answered.{Standing, standing_at, progress_at, progress_with, step_at, CutsShort, MayCut}
+use Rattle.session.specs.Answered.{Answered, AnsweredOut, BreaksIn, BreaksOut}
+use Rattle.session.proofs.WaitingReplies.{stays-none, none-stops, kept-none, none-appends}
 use Rattle.session.proofs.TallyLemmas.{Advances-none, Advances-trans, IsTallied-nil, IsTallied-one, IsTallied-append}
 use Rattle.session.proofs.TallyLemmas.{IsTallied-ended, BreaksOff-one, BreaksOff-after, BreaksOff-more}
 
@@ -127,32 +129,31 @@ held_from-take held held' rest n after =
     ∙ ap (λ k. held_from k (drop n rest)) (sym after) ∙ ap (held_from held') (sym (take_rest rest n))
 
 -- Two sessions that find matches in one way answer by one step, where files have the same contents.
-module _ (goes : Kept → Turn Machine → Kept → Type 0) (now first : Matcher) (same : now ≡ first) (here there : Contents)
+module _ (now first : Kept) (same : matcher_of now.engine ≡ matcher_of first.engine) (here there : Contents)
     (holds : here ≡ there) where
   -- lines that were answered whole
   pub RunsTo-by : (from : Machine) (lines : List RawLine) (to : Machine) (ended : Bool) (a b : Progress)
-      → RunsTo (answering.step now here) goes from lines to ended a b
-      → RunsTo (answering.step first there) goes from lines to ended a b
+      → RunsTo (step_at here now) IsAfterLine from lines to ended a b
+      → RunsTo (step_at there first) IsAfterLine from lines to ended a b
   RunsTo-by from lines to ended a b runs =
-      subst (λ c. RunsTo (answering.step first c) goes from lines to ended a b) holds
-      (subst (λ m. RunsTo (answering.step m here) goes from lines to ended a b) same runs)
+      subst (λ c. RunsTo (answering.step (matcher_of first.engine) c) IsAfterLine from lines to ended a b) holds
+      (subst (λ m. RunsTo (answering.step m here) IsAfterLine from lines to ended a b) same runs)
 
-  -- lines where the output failed
-  pub MayCut-by : (from : Machine) (lines : List RawLine) (w : Option (List ℕ)) (kept : Kept) (s : Sent)
-      (b : WaitingState) (stop : Stop) (missed : List (List ℕ))
-      → MayCut (answering.step now here) goes from lines w kept s b stop missed
-      → MayCut (answering.step first there) goes from lines w kept s b stop missed
-  MayCut-by from lines w kept s b stop missed may =
-      subst (λ c. MayCut (answering.step first c) goes from lines w kept s b stop missed) holds
-      (subst (λ m. MayCut (answering.step m here) goes from lines w kept s b stop missed) same may)
+  -- lines where the output may fail
+  pub MayCut-by : (from : Machine) (lines : List RawLine) (a : Standing) (stop : Stop) (missed : List (List ℕ))
+      → MayCut (step_at here now) IsAfterLine from lines a stop missed
+      → MayCut (step_at there first) IsAfterLine from lines a stop missed
+  MayCut-by from lines a stop missed may =
+      subst (λ c. MayCut (answering.step (matcher_of first.engine) c) IsAfterLine from lines a stop missed) holds
+      (subst (λ m. MayCut (answering.step m here) IsAfterLine from lines a stop missed) same may)
 
   -- lines where it did
   pub CutsShort-by : (from : Machine) (lines : List RawLine) (a : Progress) (stop : Stop) (missed : List (List ℕ))
-      → CutsShort (answering.step now here) goes from lines a stop missed
-      → CutsShort (answering.step first there) goes from lines a stop missed
+      → CutsShort (step_at here now) IsAfterLine from lines a stop missed
+      → CutsShort (step_at there first) IsAfterLine from lines a stop missed
   CutsShort-by from lines a stop missed cuts =
-      subst (λ c. CutsShort (answering.step first c) goes from lines a stop missed) holds
-      (subst (λ m. CutsShort (answering.step m here) goes from lines a stop missed) same cuts)
+      subst (λ c. CutsShort (answering.step (matcher_of first.engine) c) IsAfterLine from lines a stop missed) holds
+      (subst (λ m. CutsShort (answering.step m here) IsAfterLine from lines a stop missed) same cuts)
 
 -- bytes that are kept are followed by none
 kept-appends : (old new : Option (List ℕ)) → Keeps old new → Appends old new []
@@ -266,14 +267,13 @@ module _ (M : Type 0) (step : M → RawLine → Step M → Type 0) (goes : Kept 
       subst (λ l. CutsShort step goes from l a stop missed) (sym same) cuts
 
   -- all that waited was put, or some of it, and no line was answered
-  pub RunsTo-stays : (from : M) (w0 w1 : Option (List ℕ)) (kept : Kept) (s0 s1 : Sent) (b0 b1 : WaitingState)
-      → Stays w0 w1 s0 s1 b0 b1
-      → RunsTo step goes from [] from false (progress_with w0 kept s0 b0) (progress_with w1 kept s1 b1)
-  RunsTo-stays from w0 w1 kept s0 s1 b0 b1 stays = record {
+  RunsTo-stays : (from : M) (kept : Kept) (a b : OutputState) → Stays a b
+      → RunsTo step goes from [] from false (progress_with (standing_at kept a)) (progress_with (standing_at kept b))
+  RunsTo-stays from kept a b stays = record {
     tally = no_tally;
     run = IsTallied-nil M step from;
     advances = record {
-      writes = kept-appends (holds_with w0 b0) (holds_with w1 b1) stays.holds;
+      writes = kept-appends (holds_with a) (holds_with b) stays.holds;
       along = refl;
       replies = ap (λ (s : Sent). s.lines) stays.sends;
       bytes = ap (λ (s : Sent). s.bytes) stays.sends;
@@ -281,269 +281,296 @@ module _ (M : Type 0) (step : M → RawLine → Step M → Type 0) (goes : Kept 
   }
 
   -- lines were answered after what stays
-  pub RunsTo-after : (from to : M) (lines : List RawLine) (ended : Bool) (w0 w1 : Option (List ℕ))
-      (kept : Kept) (s0 s1 : Sent) (b0 b1 : WaitingState) (c : Progress) → Stays w0 w1 s0 s1 b0 b1
-      → RunsTo step goes from lines to ended (progress_with w1 kept s1 b1) c
-      → RunsTo step goes from lines to ended (progress_with w0 kept s0 b0) c
-  RunsTo-after from to lines ended w0 w1 kept s0 s1 b0 b1 c stays runs =
-      RunsTo-append from from to [] lines ended (progress_with w0 kept s0 b0) (progress_with w1 kept s1 b1) c
-      (RunsTo-stays from w0 w1 kept s0 s1 b0 b1 stays) runs
+  RunsTo-after : (from to : M) (lines : List RawLine) (ended : Bool) (kept : Kept) (a b : OutputState) (c : Progress)
+      → Stays a b → RunsTo step goes from lines to ended (progress_with (standing_at kept b)) c
+      → RunsTo step goes from lines to ended (progress_with (standing_at kept a)) c
+  RunsTo-after from to lines ended kept a b c stays runs =
+      RunsTo-append from from to [] lines ended (progress_with (standing_at kept a))
+      (progress_with (standing_at kept b)) c (RunsTo-stays from kept a b stays) runs
 
   -- lines were answered after what stays, where the output may fail
-  pub MayCut-after : (from : M) (lines : List RawLine) (w0 w1 : Option (List ℕ)) (kept : Kept) (s0 s1 : Sent)
-      (b0 b1 : WaitingState) (stop : Stop) (missed : List (List ℕ)) → Stays w0 w1 s0 s1 b0 b1
-      → MayCut step goes from lines w1 kept s1 b1 stop missed → MayCut step goes from lines w0 kept s0 b0 stop missed
-  MayCut-after from lines w0 w1 kept s0 s1 b0 b1 stop missed stays may =
-      ⊎_elim (λ (at : IsStop w1 s1 b1 stop × (missed ≡ kept.missed)). inl (stays.stops stop at.0, at.1))
-      (λ (cuts : CutsShort step goes from lines (progress_with w1 kept s1 b1) stop missed).
-      inr (CutsShort-after from from [] lines (progress_with w0 kept s0 b0) (progress_with w1 kept s1 b1) stop missed
-      (RunsTo-stays from w0 w1 kept s0 s1 b0 b1 stays) cuts))
+  MayCut-after : (from : M) (lines : List RawLine) (kept : Kept) (a b : OutputState) (stop : Stop)
+      (missed : List (List ℕ)) → Stays a b → MayCut step goes from lines (standing_at kept b) stop missed
+      → MayCut step goes from lines (standing_at kept a) stop missed
+  MayCut-after from lines kept a b stop missed stays may =
+      ⊎_elim (λ (at : IsStop b stop × (missed ≡ kept.missed)). inl (stays.stops stop at.0, at.1))
+      (λ (cuts : CutsShort step goes from lines (progress_with (standing_at kept b)) stop missed).
+      inr (CutsShort-after from from [] lines (progress_with (standing_at kept a)) (progress_with (standing_at kept b))
+      stop missed (RunsTo-stays from kept a b stays) cuts))
       may
 
-  -- a run that may be cut on some lines may be cut on the lines that equal them
-  pub MayCut-is : (from : M) (xs ys : List RawLine) (w : Option (List ℕ)) (kept : Kept) (s : Sent)
-      (b : WaitingState)
-      (stop : Stop) (missed : List (List ℕ)) → xs ≡ ys → MayCut step goes from ys w kept s b stop missed
-      → MayCut step goes from xs w kept s b stop missed
-  MayCut-is from xs ys w kept s b stop missed same may =
-      subst (λ l. MayCut step goes from l w kept s b stop missed) (sym same) may
-
   -- the line that was taken may break off, so the lines of the rest may
-  pub taken_part : (from : M) (held line : RawLine) (rest : List ℕ) (n : ℕ) (w : Option (List ℕ)) (kept : Kept)
-      (s : Sent) (b : WaitingState) (stop : Stop) (missed : List (List ℕ))
-      → lines_from held (take n rest) ≡ line ∷ [] → held_from held (take n rest) ≡ Line []
-      → MayCut step goes from (line ∷ []) w kept s b stop missed
-      → MayCut step goes from (lines_from held rest) w kept s b stop missed
-  taken_part from held line rest n w kept s b stop missed one none may =
+  taken_part : (from : M) (held line : RawLine) (rest : List ℕ) (n : ℕ) (a : Standing) (stop : Stop)
+      (missed : List (List ℕ)) → lines_from held (take n rest) ≡ line ∷ [] → held_from held (take n rest) ≡ Line []
+      → MayCut step goes from (line ∷ []) a stop missed → MayCut step goes from (lines_from held rest) a stop missed
+  taken_part from held line rest n a stop missed one none may =
       let more = lines_from (Line []) (take (length rest - n) (drop n rest)) in
-      let a = progress_with w kept s b in
-      ⊎_elim (λ (at : IsStop w s b stop × (missed ≡ kept.missed)). inl at)
-      (λ (cuts : CutsShort step goes from (line ∷ []) a stop missed).
-      inr (CutsShort-is from (lines_from held rest) ((line ∷ []) ++ more) a stop missed
+      ⊎_elim (λ (at : IsStop a.output stop × (missed ≡ a.kept.missed)). inl at)
+      (λ (cuts : CutsShort step goes from (line ∷ []) (progress_with a) stop missed).
+      inr (CutsShort-is from (lines_from held rest) ((line ∷ []) ++ more) (progress_with a) stop missed
       (lines_from-take held (Line []) rest n (sym none) ∙ ap (λ l. l ++ more) one)
-      (CutsShort-more from (line ∷ []) more a stop missed cuts))) may
+      (CutsShort-more from (line ∷ []) more (progress_with a) stop missed cuts))) may
 
   -- all that waits is put, and what was answered is out
-  flushed : (from to : M) (lines : List RawLine) (ended : Bool) (a : Progress) (w0 w1 : Option (List ℕ))
-      (kept : Kept)
-      (s0 s1 : Sent) (b : WaitingState) → RunsTo step goes from lines to ended a (progress_with w0 kept s0 b)
-      → Stays w0 w1 s0 s1 b none_wait → RunsTo step goes from lines to ended a (progress_of w1 kept s1)
-  flushed from to lines ended a w0 w1 kept s0 s1 b runs stays = record {
-    tally = runs.tally;
-    run = runs.run;
-    advances = record {
-      writes = kept-none a.written (holds_with w0 b) w1 runs.tally.out runs.advances.writes stays.holds;
-      along = runs.advances.along;
-      replies = ap (λ (s : Sent). s.lines) stays.sends ∙ runs.advances.replies;
-      bytes = ap (λ (s : Sent). s.bytes) stays.sends ∙ runs.advances.bytes;
-    };
-  }
+  flushed : (from to : M) (lines : List RawLine) (ended : Bool) (a : Progress) (b : Standing) (c : OutputState)
+      → RunsTo step goes from lines to ended a (progress_with b) → Stays b.output c → c.waiting ≡ none_wait
+      → RunsTo step goes from lines to ended a (progress_at (standing_at b.kept c))
+  flushed from to lines ended a b c runs stays none =
+      let out = stays-none b.output c none stays in
+      record {
+        tally = runs.tally;
+        run = runs.run;
+        advances = record {
+          writes = kept-none a.written (holds_with b.output) c.written runs.tally.out runs.advances.writes out.holds;
+          along = runs.advances.along;
+          replies = ap (λ (s : Sent). s.lines) out.sends ∙ runs.advances.replies;
+          bytes = ap (λ (s : Sent). s.bytes) out.sends ∙ runs.advances.bytes;
+        };
+      }
 
--- Some lines were answered, their replies are out or wait, and the output may fail within those that wait.
-pub record PieceSoFar {M : Type 0} (step : M → RawLine → Step M → Type 0)
-    (goes : Kept → Turn M → Kept → Type 0) (from to : M)
-    (all left : List RawLine) (old : Progress) (w : Option (List ℕ)) (kept : Kept) (s : Sent)
-    (b : WaitingState) : Type 0 where
-  pub lines : List RawLine
-  pub whole : all ≡ lines ++ left
-  pub runs : RunsTo step goes from lines to false old (progress_with w kept s b)
-  pub stops : (stop : Stop) → IsStop w s b stop → CutsShort step goes from lines old stop kept.missed
-
-module _ (M : Type 0) (step : M → RawLine → Step M → Type 0) (goes : Kept → Turn M → Kept → Type 0) where
   -- nothing was answered, and no reply waits
-  start_runs : (from : M) (w : Option (List ℕ)) (kept : Kept) (s : Sent) (b : WaitingState) → b ≡ none_wait
-      → RunsTo step goes from [] from false (progress_of w kept s) (progress_with w kept s b)
-  start_runs from w kept s b none =
-      subst (λ (b : WaitingState). RunsTo step goes from [] from false (progress_of w kept s)
-      (progress_with w kept s b)) (sym none) (record {
+  start_runs : (from : M) (a : Standing) → a.output.waiting ≡ none_wait
+      → RunsTo step goes from [] from false (progress_at a) (progress_with a)
+  start_runs from a none =
+      subst (λ (b : WaitingState). RunsTo step goes from [] from false (progress_at a)
+      (progress_with (standing_at a.kept (record {
+        written = a.output.written;
+        sent = a.output.sent;
+        waiting = b;
+      })))) (sym none) (record {
         tally = no_tally;
         run = IsTallied-nil M step from;
-        advances = record { writes = none-appends w; along = refl; replies = refl; bytes = refl };
+        advances = record { writes = none-appends a.output.written; along = refl; replies = refl; bytes = refl };
       })
 
-  -- none was answered, and no reply waits
-  pub piece_start : (from : M) (all : List RawLine) (w : Option (List ℕ)) (kept : Kept) (s : Sent)
-      (b : WaitingState)
-      → b ≡ none_wait → PieceSoFar step goes from from all all (progress_of w kept s) w kept s b
-  piece_start from all w kept s b none =
-      subst (λ (b : WaitingState). PieceSoFar step goes from from all all (progress_of w kept s) w kept s b) (sym none)
-      (record {
-        lines = [];
-        whole = refl;
-        runs = record {
-          tally = no_tally;
-          run = IsTallied-nil M step from;
-          advances = record { writes = none-appends w; along = refl; replies = refl; bytes = refl };
-        };
-        stops = λ stop at. absurd (let within = at.within in omega (arith, within));
-      })
+-- no line was answered
+pub Answered-nil : (contents : Contents) (lines : List RawLine) (a : Standing) → lines ≡ []
+    → Answered contents lines false a a
+Answered-nil contents lines a none = record {
+  runs = RunsTo-is Machine (step_at contents a.kept) IsAfterLine (machine_of a.kept) (machine_of a.kept) lines [] false
+      (progress_with a) (progress_with a) none
+      (RunsTo-nil Machine (step_at contents a.kept) IsAfterLine (machine_of a.kept) (progress_with a));
+  stops = λ stop at. inl (at, refl);
+}
 
-  module _ (from mid : M) (all left : List RawLine) (old : Progress) (w : Option (List ℕ)) (kept : Kept)
-      (s : Sent)
-      (b : WaitingState) (so_far : PieceSoFar step goes from mid all left old w kept s b) where
-    -- a reply broke off
-    pub piece_cut : (stop : Stop) (missed : List (List ℕ)) → MayCut step goes mid left w kept s b stop missed
-        → CutsShort step goes from all old stop missed
-    piece_cut stop missed may =
-        CutsShort-is M step goes from all (so_far.lines ++ left) old stop missed so_far.whole
-        (⊎_elim (λ (at : IsStop w s b stop × (missed ≡ kept.missed)).
-        CutsShort-more M step goes from so_far.lines left old stop missed
-        (subst (CutsShort step goes from so_far.lines old stop) (sym at.1) (so_far.stops stop at.0)))
-        (λ (cuts : CutsShort step goes mid left (progress_with w kept s b) stop missed).
-        CutsShort-after M step goes from mid so_far.lines left old (progress_with w kept s b) stop missed so_far.runs
-        cuts)
-        may)
+-- lines were answered as those that equal them were
+pub Answered-is : (contents : Contents) (xs ys : List RawLine) (ended : Bool) (a b : Standing) → xs ≡ ys
+    → Answered contents ys ended a b → Answered contents xs ended a b
+Answered-is contents xs ys ended a b same answered =
+    subst (λ l. Answered contents l ended a b) (sym same) answered
 
-    -- the lines were answered, and what waited was put
-    pub piece_done : (w' : Option (List ℕ)) (s' : Sent) → left ≡ [] → Stays w w' s s' b none_wait
-        → RunsTo step goes from all mid false old (progress_of w' kept s')
-    piece_done w' s' none stays =
-        RunsTo-is M step goes from mid all so_far.lines false old (progress_of w' kept s')
+-- lines were answered after what stays
+pub Answered-after : (contents : Contents) (lines : List RawLine) (ended : Bool) (kept : Kept) (a b : OutputState)
+    (c : Standing) → Stays a b → Answered contents lines ended (standing_at kept b) c
+    → Answered contents lines ended (standing_at kept a) c
+Answered-after contents lines ended kept a b c stays answered = record {
+  runs = RunsTo-after Machine (step_at contents kept) IsAfterLine (machine_of kept) (machine_of c.kept) lines ended kept
+      a b (progress_with c) stays answered.runs;
+  stops = λ stop at. MayCut-after Machine (step_at contents kept) IsAfterLine (machine_of kept) lines kept a b stop
+      c.kept.missed stays (answered.stops stop at);
+}
+
+-- the output failed after what stays
+pub BreaksIn-after : (contents : Contents) (lines : List RawLine) (kept : Kept) (a b : OutputState) (stop : Stop)
+    (missed : List (List ℕ)) → Stays a b → BreaksIn contents lines (standing_at kept b) stop missed
+    → BreaksIn contents lines (standing_at kept a) stop missed
+BreaksIn-after contents lines kept a b stop missed stays breaks = record {
+  cut = MayCut-after Machine (step_at contents kept) IsAfterLine (machine_of kept) lines kept a b stop missed stays
+      breaks.cut;
+}
+
+-- the output failed within the line that was taken, so it did within the lines of the rest
+pub BreaksIn-taken : (contents : Contents) (held line : RawLine) (rest : List ℕ) (n : ℕ) (a : Standing) (stop : Stop)
+    (missed : List (List ℕ)) → lines_from held (take n rest) ≡ line ∷ [] → held_from held (take n rest) ≡ Line []
+    → BreaksIn contents (line ∷ []) a stop missed → BreaksIn contents (lines_from held rest) a stop missed
+BreaksIn-taken contents held line rest n a stop missed one none breaks = record {
+  cut = taken_part Machine (step_at contents a.kept) IsAfterLine (machine_of a.kept) held line rest n a stop missed one
+      none breaks.cut;
+}
+
+-- a line was answered as the one that equals it was
+pub answered-line : {E : Type 0} (contents : Contents) (held line : RawLine) (a b : Standing) (result : Result Bool E)
+    → held ≡ line → IfOk result (λ ends. Answered contents (line ∷ []) ends a b)
+    → IfOk result (λ ends. Answered contents (held ∷ []) ends a b)
+answered-line contents held line a b result same answered =
+    subst (λ (l : RawLine). IfOk result (λ ends. Answered contents (l ∷ []) ends a b)) (sym same) answered
+
+-- the output failed within a line as within the one that equals it
+pub broken-line : {T : Type 0} (contents : Contents) (held line : RawLine) (a : Standing) (stop : Counts → Stop)
+    (missed : List (List ℕ)) (result : Result T Counts) → held ≡ line
+    → IfErr result (λ noted. BreaksIn contents (line ∷ []) a (stop noted) missed)
+    → IfErr result (λ noted. BreaksIn contents (held ∷ []) a (stop noted) missed)
+broken-line contents held line a stop missed result same breaks =
+    subst (λ (l : RawLine). IfErr result (λ noted. BreaksIn contents (l ∷ []) a (stop noted) missed)) (sym same) breaks
+
+-- Some lines of a piece were answered, their replies are out or wait, and the output may fail within those that wait;
+-- the lines that are left are still to be answered.
+pub record PieceSoFar (contents : Contents) (all left : List RawLine) (first now : Standing) : Type 0 where
+  pub lines : List RawLine
+  pub whole : all ≡ lines ++ left
+  pub runs : RunsTo (step_at contents first.kept) IsAfterLine (machine_of first.kept) lines (machine_of now.kept) false
+      (progress_at first) (progress_with now)
+  pub stops : (stop : Stop) → IsStop now.output stop
+      → CutsShort (step_at contents first.kept) IsAfterLine (machine_of first.kept) lines (progress_at first) stop
+      now.kept.missed
+
+-- none was answered, and no reply waits
+pub piece_start : (contents : Contents) (all : List RawLine) (first : Standing) → first.output.waiting ≡ none_wait
+    → PieceSoFar contents all all first first
+piece_start contents all first none = record {
+  lines = [];
+  whole = refl;
+  runs = start_runs Machine (step_at contents first.kept) IsAfterLine (machine_of first.kept) first none;
+  stops = λ stop at. absurd (none-stops first.output stop none at);
+}
+
+-- A session that finds matches as the first did, where files have the same contents, answered more of the lines.
+module _ (contents : Contents) (all left : List RawLine) (first now : Standing)
+    (so_far : PieceSoFar contents all left first now) (here : Contents) (holds : here ≡ contents)
+    (same : matcher_of now.kept.engine ≡ matcher_of first.kept.engine) where
+  -- the step of the first
+  abbrev first-step : Machine → RawLine → Step Machine → Type 0
+  first-step = step_at contents first.kept
+
+  -- the machine that the first is
+  abbrev first-machine : Machine
+  first-machine = machine_of first.kept
+
+  -- what may be cut within what waits or these lines cuts the lines so far and these
+  within_lines : (lines : List RawLine) (stop : Stop) (missed : List (List ℕ))
+      → MayCut first-step IsAfterLine (machine_of now.kept) lines now stop missed
+      → CutsShort first-step IsAfterLine first-machine (so_far.lines ++ lines) (progress_at first) stop missed
+  within_lines lines stop missed may =
+      ⊎_elim (λ (at : IsStop now.output stop × (missed ≡ now.kept.missed)).
+      CutsShort-more Machine first-step IsAfterLine first-machine so_far.lines lines (progress_at first) stop missed
+      (subst (CutsShort first-step IsAfterLine first-machine so_far.lines (progress_at first) stop) (sym at.1)
+      (so_far.stops stop at.0)))
+      (λ (cuts : CutsShort first-step IsAfterLine (machine_of now.kept) lines (progress_with now) stop missed).
+      CutsShort-after Machine first-step IsAfterLine first-machine (machine_of now.kept) so_far.lines lines
+      (progress_at first) (progress_with now) stop missed so_far.runs cuts)
+      may
+
+  -- a reply broke off
+  pub piece_cut : (stop : Stop) (missed : List (List ℕ)) → BreaksIn here left now stop missed
+      → BreaksOut contents all first stop missed
+  piece_cut stop missed breaks = record {
+    cut = CutsShort-is Machine first-step IsAfterLine first-machine all (so_far.lines ++ left) (progress_at first) stop
+        missed so_far.whole (within_lines left stop missed
+        (MayCut-by now.kept first.kept same here contents holds (machine_of now.kept) left now stop missed breaks.cut));
+  }
+
+  -- the lines were answered, and what waited was put
+  pub piece_done : (out : OutputState) → left ≡ [] → Stays now.output out → out.waiting ≡ none_wait
+      → AnsweredOut contents all false first (standing_at now.kept out)
+  piece_done out none stays drained = record {
+    runs = RunsTo-is Machine first-step IsAfterLine first-machine (machine_of now.kept) all so_far.lines false
+        (progress_at first) (progress_at (standing_at now.kept out))
         (so_far.whole ∙ ap (λ l. so_far.lines ++ l) none ∙ append-nil so_far.lines)
-        (flushed M step goes from mid so_far.lines false old w w' kept s s' b so_far.runs stays)
+        (flushed Machine first-step IsAfterLine first-machine (machine_of now.kept) so_far.lines false
+        (progress_at first) now out so_far.runs stays drained);
+  }
 
-    -- More lines were answered.
-    module _ (next more : List RawLine) (parts : left ≡ next ++ more) (to : M) (ended : Bool) (w' : Option (List ℕ))
-        (kept' : Kept) (s' : Sent) (b' : WaitingState)
-        (later : RunsTo step goes mid next to ended (progress_with w kept s b) (progress_with w' kept' s' b'))
-        (stops : (stop : Stop) → IsStop w' s' b' stop → MayCut step goes mid next w kept s b stop kept'.missed) where
-      -- the lines so far, and what is left
-      joined : all ≡ (so_far.lines ++ next) ++ more
-      joined = so_far.whole ∙ ap (λ l. so_far.lines ++ l) parts ∙ sym (append_assoc so_far.lines next more)
+  -- More lines were answered.
+  module _ (next more : List RawLine) (parts : left ≡ next ++ more) (ended : Bool) (later : Standing)
+      (answered : Answered here next ended now later) where
+    -- the lines so far, and what is left
+    joined : all ≡ (so_far.lines ++ next) ++ more
+    joined = so_far.whole ∙ ap (λ l. so_far.lines ++ l) parts ∙ sym (append_assoc so_far.lines next more)
 
-      -- where the output may fail
-      stops-so-far : (stop : Stop) → IsStop w' s' b' stop
-          → CutsShort step goes from (so_far.lines ++ next) old stop kept'.missed
-      stops-so-far stop at =
-          ⊎_elim (λ (before : IsStop w s b stop × (kept'.missed ≡ kept.missed)).
-          CutsShort-more M step goes from so_far.lines next old stop kept'.missed
-          (subst (CutsShort step goes from so_far.lines old stop) (sym before.1) (so_far.stops stop before.0)))
-          (λ (cuts : CutsShort step goes mid next (progress_with w kept s b) stop kept'.missed).
-          CutsShort-after M step goes from mid so_far.lines next old (progress_with w kept s b) stop kept'.missed
-          so_far.runs cuts)
-          (stops stop at)
+    -- the first would have answered them so
+    runs_so : RunsTo first-step IsAfterLine (machine_of now.kept) next (machine_of later.kept) ended
+        (progress_with now) (progress_with later)
+    runs_so = RunsTo-by now.kept first.kept same here contents holds (machine_of now.kept) next
+        (machine_of later.kept) ended (progress_with now) (progress_with later) answered.runs
 
-      -- one of them ended the session, and what waited was put
-      piece_ended : ended ≡ true → (w'' : Option (List ℕ)) (s'' : Sent) → Stays w' w'' s' s'' b' none_wait
-          → RunsTo step goes from all to true old (progress_of w'' kept' s'')
-      piece_ended is w'' s'' stays =
-          let a = progress_with w kept s b in
-          let c = progress_with w' kept' s' b' in
-          flushed M step goes from to all true old w' w'' kept' s' s'' b'
-          (RunsTo-is M step goes from to all ((so_far.lines ++ next) ++ more) true old c joined
-          (RunsTo-ended M step goes from to (so_far.lines ++ next) more old c
-          (RunsTo-append M step goes from mid to so_far.lines next true old a c so_far.runs
-          (RunsTo-flag M step goes mid to next ended true a c is later))))
-          stays
+    -- and with the lines before them
+    runs_all : (flag : Bool) → ended ≡ flag
+        → RunsTo first-step IsAfterLine first-machine (so_far.lines ++ next) (machine_of later.kept) flag
+        (progress_at first) (progress_with later)
+    runs_all flag is =
+        RunsTo-append Machine first-step IsAfterLine first-machine (machine_of now.kept) (machine_of later.kept)
+        so_far.lines next flag (progress_at first) (progress_with now) (progress_with later) so_far.runs
+        (RunsTo-flag Machine first-step IsAfterLine (machine_of now.kept) (machine_of later.kept) next ended flag
+        (progress_with now) (progress_with later) is runs_so)
 
-      -- what waited was put in part
-      piece_stop : (stop : Stop) → IsStop w' s' b' stop → CutsShort step goes from all old stop kept'.missed
-      piece_stop stop at =
-          CutsShort-is M step goes from all ((so_far.lines ++ next) ++ more) old stop kept'.missed joined
-          (CutsShort-more M step goes from (so_far.lines ++ next) more old stop kept'.missed (stops-so-far stop at))
-
-      -- none of them ended the session
-      piece_more : ended ≡ false → PieceSoFar step goes from to all more old w' kept' s' b'
-      piece_more is =
-          let a = progress_with w kept s b in
-          let c = progress_with w' kept' s' b' in
-          record {
-            lines = so_far.lines ++ next;
-            whole = joined;
-            runs = RunsTo-append M step goes from mid to so_far.lines next false old a c so_far.runs
-                (RunsTo-flag M step goes mid to next ended false a c is later);
-            stops = stops-so-far;
-          }
-
-  -- No reply waited, and one line was answered.
-  module _ (from : M) (all lines : List RawLine) (same : all ≡ lines) (w0 : Option (List ℕ)) (kept0 : Kept)
-      (s0 : Sent) (b0 : WaitingState) (none : b0 ≡ none_wait) where
     -- where the output may fail
-    pub rest_cut : (stop : Stop) (missed : List (List ℕ)) → MayCut step goes from lines w0 kept0 s0 b0 stop missed
-        → CutsShort step goes from all (progress_of w0 kept0 s0) stop missed
-    rest_cut stop missed may =
-        piece_cut from from all all (progress_of w0 kept0 s0) w0 kept0 s0 b0 (piece_start from all w0 kept0 s0 b0 none)
-        stop missed (MayCut-is M step goes from all lines w0 kept0 s0 b0 stop missed same may)
+    stops_all : (stop : Stop) → IsStop later.output stop
+        → CutsShort first-step IsAfterLine first-machine (so_far.lines ++ next) (progress_at first) stop
+        later.kept.missed
+    stops_all stop at =
+        within_lines next stop later.kept.missed (MayCut-by now.kept first.kept same here contents holds
+        (machine_of now.kept) next now stop later.kept.missed (answered.stops stop at))
 
-    -- what waited is out
-    pub rest_done : (to : M) (ended : Bool) (w1 w2 : Option (List ℕ)) (kept1 : Kept) (s1 s2 : Sent)
-        (b1 : WaitingState)
-        → RunsTo step goes from lines to ended (progress_with w0 kept0 s0 b0) (progress_with w1 kept1 s1 b1)
-        → Stays w1 w2 s1 s2 b1 none_wait
-        → RunsTo step goes from all to ended (progress_of w0 kept0 s0) (progress_of w2 kept1 s2)
-    rest_done to ended w1 w2 kept1 s1 s2 b1 runs stays =
-        let a = progress_of w0 kept0 s0 in
-        let c = progress_with w1 kept1 s1 b1 in
-        flushed M step goes from to all ended a w1 w2 kept1 s1 s2 b1
-        (RunsTo-is M step goes from to all lines ended a c same
-        (RunsTo-append M step goes from from to [] lines ended a (progress_with w0 kept0 s0 b0) c
-        (start_runs from w0 kept0 s0 b0 none) runs))
-        stays
+    -- one of them ended the session, and what waited was put
+    pub piece_ended : (out : OutputState) → ended ≡ true → Stays later.output out → out.waiting ≡ none_wait
+        → AnsweredOut contents all true first (standing_at later.kept out)
+    piece_ended out is stays none = record {
+      runs = flushed Machine first-step IsAfterLine first-machine (machine_of later.kept) all true (progress_at first)
+          later out
+          (RunsTo-is Machine first-step IsAfterLine first-machine (machine_of later.kept) all
+          ((so_far.lines ++ next) ++ more) true (progress_at first) (progress_with later) joined
+          (RunsTo-ended Machine first-step IsAfterLine first-machine (machine_of later.kept) (so_far.lines ++ next) more
+          (progress_at first) (progress_with later) (runs_all true is)))
+          stays none;
+    }
 
-  -- One line was answered.
-  module _ {T E : Type 0} (from : M) (held line : RawLine) (same : held ≡ line) (w0 w1 : Option (List ℕ))
-      (kept0 : Kept) (s0 s1 : Sent) (b0 b1 : WaitingState) (missed : List (List ℕ)) (result : Result T E) where
-    -- where the output may fail after it
-    pub stops-line : OnOk result ((stop : Stop) → IsStop w1 s1 b1 stop
-        → MayCut step goes from (line ∷ []) w0 kept0 s0 b0 stop missed)
-        → OnOk result ((stop : Stop) → IsStop w1 s1 b1 stop
-        → MayCut step goes from (held ∷ []) w0 kept0 s0 b0 stop missed)
-    stops-line stops = subst (λ (l : RawLine). OnOk result ((stop : Stop) → IsStop w1 s1 b1 stop
-        → MayCut step goes from (l ∷ []) w0 kept0 s0 b0 stop missed)) (sym same) stops
+    -- what waited was put in part
+    pub piece_stop : (stop : Stop) → IsStop later.output stop → BreaksOut contents all first stop later.kept.missed
+    piece_stop stop at = record {
+      cut = CutsShort-is Machine first-step IsAfterLine first-machine all ((so_far.lines ++ next) ++ more)
+          (progress_at first) stop later.kept.missed joined
+          (CutsShort-more Machine first-step IsAfterLine first-machine (so_far.lines ++ next) more (progress_at first)
+          stop later.kept.missed (stops_all stop at));
+    }
 
-  -- where the output failed within it
-  pub part-line : {T : Type 0} (from : M) (held line : RawLine) → held ≡ line
-      → (w0 w1 : Option (List ℕ)) (kept0 : Kept)
-      (s0 s1 : Sent) (b0 : WaitingState) (missed : List (List ℕ)) (result : Result T Counts) → IfErr result
-      (λ noted. MayCut step goes from (line ∷ []) w0 kept0 s0 b0
-      (record { written = w1; sent = s1; counts = noted }) missed)
-      → IfErr result (λ noted. MayCut step goes from (held ∷ []) w0 kept0 s0 b0
-      (record { written = w1; sent = s1; counts = noted }) missed)
-  part-line from held line same w0 w1 kept0 s0 s1 b0 missed result part =
-      subst (λ (l : RawLine). IfErr result (λ noted. MayCut step goes from (l ∷ []) w0 kept0 s0 b0
-      (record { written = w1; sent = s1; counts = noted }) missed)) (sym same) part
+    -- none of them ended the session
+    pub piece_more : ended ≡ false → PieceSoFar contents all more first later
+    piece_more is = record {
+      lines = so_far.lines ++ next;
+      whole = joined;
+      runs = runs_all false is;
+      stops = stops_all;
+    }
 
--- Some lines of a piece were answered, and a session that finds matches as the first did, where files have the same
--- contents, answered more of them.
-module _ (goes : Kept → Turn Machine → Kept → Type 0) (now first : Matcher) (same : now ≡ first) (here there : Contents)
-    (holds : here ≡ there) (from mid : Machine) (all left : List RawLine) (old : Progress) (w : Option (List ℕ))
-    (kept : Kept) (s : Sent) (b : WaitingState)
-    (so_far : PieceSoFar (answering.step first there) goes from mid all left old w kept s b)
-    (next more : List RawLine) (parts : left ≡ next ++ more) (to : Machine) (ended : Bool) (w' : Option (List ℕ))
-    (kept' : Kept) (s' : Sent) (b' : WaitingState)
-    (later : RunsTo (answering.step now here) goes mid next to ended (progress_with w kept s b)
-    (progress_with w' kept' s' b'))
-    (stops : (stop : Stop) → IsStop w' s' b' stop
-    → MayCut (answering.step now here) goes mid next w kept s b stop kept'.missed) where
-  -- the first would have answered them so
-  runs-first : RunsTo (answering.step first there) goes mid next to ended (progress_with w kept s b)
-      (progress_with w' kept' s' b')
-  runs-first = RunsTo-by goes now first same here there holds mid next to ended (progress_with w kept s b)
-      (progress_with w' kept' s' b') later
+-- No reply waited, and one line was answered.
+module _ (contents : Contents) (all lines : List RawLine) (same : all ≡ lines) (first : Standing) where
+  -- where the output failed
+  pub rest_cut : (stop : Stop) (missed : List (List ℕ)) → BreaksIn contents lines first stop missed
+      → first.output.waiting ≡ none_wait → BreaksOut contents all first stop missed
+  rest_cut stop missed breaks none =
+      piece_cut contents all all first first (piece_start contents all first none) contents refl refl stop missed
+      (subst (λ l. BreaksIn contents l first stop missed) (sym same) breaks)
 
-  -- and the output may fail there as it would
-  stops-first : (stop : Stop) → IsStop w' s' b' stop
-      → MayCut (answering.step first there) goes mid next w kept s b stop kept'.missed
-  stops-first stop at =
-      MayCut-by goes now first same here there holds mid next w kept s b stop kept'.missed (stops stop at)
+  -- it may fail within what waits
+  pub rest_stop : (ended : Bool) (later : Standing) → Answered contents lines ended first later → (stop : Stop)
+      → IsStop later.output stop → first.output.waiting ≡ none_wait
+      → BreaksOut contents all first stop later.kept.missed
+  rest_stop ended later answered stop at none =
+      rest_cut stop later.kept.missed (record { cut = answered.stops stop at }) none
 
-  -- one of them ended the session, and what waited was put
-  pub turn_ended : ended ≡ true → (w'' : Option (List ℕ)) (s'' : Sent) → Stays w' w'' s' s'' b' none_wait
-      → RunsTo (answering.step first there) goes from all to true old (progress_of w'' kept' s'')
-  turn_ended is w'' s'' stays =
-      piece_ended Machine (answering.step first there) goes from mid all left old w kept s b so_far next more parts to
-      ended w' kept' s' b' runs-first stops-first is w'' s'' stays
+  -- what waited is out
+  pub rest_done : (ended : Bool) (later : Standing) (out : OutputState) → Answered contents lines ended first later
+      → Stays later.output out → out.waiting ≡ none_wait → first.output.waiting ≡ none_wait
+      → AnsweredOut contents all ended first (standing_at later.kept out)
+  rest_done ended later out answered stays drained none =
+      let step = step_at contents first.kept in
+      let from = machine_of first.kept in
+      let to = machine_of later.kept in
+      let a = progress_at first in
+      let c = progress_with later in
+      record {
+        runs = flushed Machine step IsAfterLine from to all ended a later out
+            (RunsTo-is Machine step IsAfterLine from to all lines ended a c same
+            (RunsTo-append Machine step IsAfterLine from from to [] lines ended a (progress_with first) c
+            (start_runs Machine step IsAfterLine from first none) answered.runs))
+            stays drained;
+      }
 
-  -- what waited was put in part
-  pub turn_stop : (stop : Stop) → IsStop w' s' b' stop
-      → CutsShort (answering.step first there) goes from all old stop kept'.missed
-  turn_stop stop at =
-      piece_stop Machine (answering.step first there) goes from mid all left old w kept s b so_far next more parts to
-      ended w' kept' s' b' runs-first stops-first stop at
-
-  -- none of them ended the session
-  pub turn_more : ended ≡ false
-      → PieceSoFar (answering.step first there) goes from to all more old w' kept' s' b'
-  turn_more is =
-      piece_more Machine (answering.step first there) goes from mid all left old w kept s b so_far next more parts to
-      ended w' kept' s' b' runs-first stops-first is
+-- no line was answered, and no reply waits
+pub out_nil : (contents : Contents) (all : List RawLine) (a : Standing) → all ≡ []
+    → AnsweredOut contents all false a a
+out_nil contents all a none = record {
+  runs = RunsTo-is Machine (step_at contents a.kept) IsAfterLine (machine_of a.kept) (machine_of a.kept) all [] false
+      (progress_at a) (progress_at a) none
+      (RunsTo-nil Machine (step_at contents a.kept) IsAfterLine (machine_of a.kept) (progress_at a));
+}

@@ -13,8 +13,8 @@ use Rattle.run_notes.specs.declared.notes.Sent.{Sent}
 use Rattle.session_core.specs.EngineView.{no_counts}
 use Rattle.session.specs.Tallies.{kept_sum}
 use Rattle.session.specs.Serving.{Puts, PutsFront, PutsPart, PutsReply}
-use Rattle.session.specs.Waiting.{WaitingState, none_wait, gone, counts_at, AreMarked, holds_with, sent_with, Stop}
-use Rattle.session.specs.Waiting.{IsStop, CutsReply, MayStop, Stays, Sends}
+use Rattle.session.specs.Waiting.{WaitingState, OutboxState, OutputState, none_wait, gone, counts_at, AreMarked}
+use Rattle.session.specs.Waiting.{output_of, holds_with, sent_with, Stop, IsStop, CutsReply, MayStop, Stays, Sends}
 use Rattle.session.specs.declared.outbox.ReplyMark.{ReplyMark}
 use Rattle.session.proofs.TallyLemmas.{kept_sum-twice}
 
@@ -30,9 +30,9 @@ if_ok_is P (Ok y) x same s words = subst P (sym same) (words s)
 if_ok_is P (Err e) x same s words = tt
 
 -- the output may fail so within these bytes, or within equal ones
-pub may-stop-is : (w : Option (List ℕ)) (s : Sent) (b : WaitingState) (sent sent' : List ℕ) (counts : Counts)
-    (stop : Stop) → sent ≡ sent' → MayStop w s b sent counts stop → MayStop w s b sent' counts stop
-may-stop-is w s b sent sent' counts stop same may = subst (λ l. MayStop w s b l counts stop) same may
+pub may-stop-is : (output : OutputState) (sent sent' : List ℕ) (counts : Counts) (stop : Stop) → sent ≡ sent'
+    → MayStop output sent counts stop → MayStop output sent' counts stop
+may-stop-is output sent sent' counts stop same may = subst (λ l. MayStop output l counts stop) same may
 
 -- what holds of an error holds where it is passed up
 pub passed_up : {T E : Type 0} (result : Result T E) (error : E) (P : E → Type 0) → IsErrAnd result (λ e. e ≡ error)
@@ -195,17 +195,20 @@ kept-none (Some xs) (Some ys) (Some zs) bytes puts same = sym (append-nil zs) �
 -- A reply more waits, and nothing is put.
 module _ (written : Option (List ℕ)) (sent : Sent) (bytes reply : List ℕ) (marks : List ReplyMark) (m : ReplyMark)
     (are : AreMarked bytes marks) (ends : m.end ≡ length bytes + length reply) where
-  -- what waits before and after
-  abbrev before : WaitingState
-  before = record { bytes = bytes; marks = marks }
+  -- the output before it
+  abbrev before : OutputState
+  before = record { written = written; sent = sent; waiting = record { bytes = bytes; marks = marks } }
 
-  -- what waits once the reply stands behind the others, with its mark last
-  abbrev after : WaitingState
-  after = record { bytes = bytes ++ reply; marks = marks ++ m ∷ [] }
+  -- the output once the reply stands behind the others, with its mark last
+  abbrev after : OutputState
+  after = record {
+    written = written;
+    sent = sent;
+    waiting = record { bytes = bytes ++ reply; marks = marks ++ m ∷ [] };
+  }
 
   -- the reply is out with what waits
-  added-whole : PutsReply (holds_with written before) (holds_with written after) (sent_with sent before)
-      (sent_with sent after) reply
+  added-whole : PutsReply (holds_with before) (holds_with after) (sent_with before) (sent_with after) reply
   added-whole = record {
     writes = known-append written bytes reply;
     lines = ap (kept_sum sent.lines) (length-append marks (m ∷ [])) ∙ sym (kept_sum-twice sent.lines (length marks) 1);
@@ -214,8 +217,8 @@ module _ (written : Option (List ℕ)) (sent : Sent) (bytes reply : List ℕ) (m
   }
 
   -- the output may fail within a reply before
-  added-front : (stop : Stop) (at : IsStop written sent after stop) → at.place < length bytes
-      → IsStop written sent before stop
+  added-front : (stop : Stop) (at : IsStop after stop) → at.place < length bytes
+      → IsStop before stop
   added-front stop at front =
       let same = gone-front marks (m ∷ []) at.place (are.some at.place front) in
       record {
@@ -229,7 +232,7 @@ module _ (written : Option (List ℕ)) (sent : Sent) (bytes reply : List ℕ) (m
       }
 
   -- within the reply, all before it have ended, and the counts are its own
-  gone-added : (stop : Stop) (at : IsStop written sent after stop) → length bytes ≤ at.place
+  gone-added : (stop : Stop) (at : IsStop after stop) → length bytes ≤ at.place
       → (gone (marks ++ m ∷ []) at.place ≡ length marks) × (counts_at (marks ++ m ∷ []) at.place ≡ m.counts)
   gone-added stop at back =
       let within = at.within in
@@ -241,8 +244,8 @@ module _ (written : Option (List ℕ)) (sent : Sent) (bytes reply : List ℕ) (m
       (omega (arith, all, none), same.1 ∙ past.1)
 
   -- and what was put behind them is a front of it
-  part-added : (stop : Stop) (at : IsStop written sent after stop) → length bytes ≤ at.place
-      → Puts (holds_with written before) stop.written (sent_with sent before) stop.sent
+  part-added : (stop : Stop) (at : IsStop after stop) → length bytes ≤ at.place
+      → Puts (holds_with before) stop.written (sent_with before) stop.sent
       (take (at.place - length bytes) reply)
   part-added stop at back =
       let n = at.place - length bytes in
@@ -259,39 +262,49 @@ module _ (written : Option (List ℕ)) (sent : Sent) (bytes reply : List ℕ) (m
       }
 
   -- so the output may fail within it
-  added-back : (stop : Stop) (at : IsStop written sent after stop) → length bytes ≤ at.place
-      → CutsReply (holds_with written before) (sent_with sent before) reply m.counts stop
+  added-back : (stop : Stop) (at : IsStop after stop) → length bytes ≤ at.place
+      → CutsReply (holds_with before) (sent_with before) reply m.counts stop
   added-back stop at back =
       let within = at.within in
       let both = length-append bytes reply in
       record {
-        puts = part-front (holds_with written before) stop.written (sent_with sent before) stop.sent reply
+        puts = part-front (holds_with before) stop.written (sent_with before) stop.sent reply
             (at.place - length bytes)
             (record { within = omega (arith, within, both, back); puts = part-added stop at back });
         same = at.counts ∙ (gone-added stop at back).1;
       }
 
   -- the reply is sent behind those that wait
-  pub sends-added : Sends written written sent sent before after reply m.counts
+  pub sends-added : Sends before after reply m.counts
   sends-added = record {
     whole = added-whole;
     stops = λ stop at. ⊎_elim (λ (front : at.place < length bytes). inl (added-front stop at front))
         (λ (back : length bytes ≤ at.place). inr (added-back stop at back)) (cases_lt at.place (length bytes));
   }
 
+-- an output of which nothing waits
+abbrev pub drained : Option (List ℕ) → Sent → OutputState
+drained written sent = record { written = written; sent = sent; waiting = none_wait }
+
 -- all stayed, and nothing waits after it
-pub stays-none : (w0 w1 : Option (List ℕ)) (s0 s1 : Sent) (b0 b1 : WaitingState) → b1 ≡ none_wait
-    → Stays w0 w1 s0 s1 b0 b1 → Stays w0 w1 s0 s1 b0 none_wait
-stays-none w0 w1 s0 s1 b0 b1 none stays = subst (λ (b : WaitingState). Stays w0 w1 s0 s1 b0 b) none stays
+pub stays-none : (old new : OutputState) → new.waiting ≡ none_wait → Stays old new
+    → Stays old (drained new.written new.sent)
+stays-none old new none stays =
+    subst (λ (b : WaitingState). Stays old (record { written = new.written; sent = new.sent; waiting = b })) none stays
+
+-- if nothing waits the output fails within no reply before
+pub none-stops : (output : OutputState) (stop : Stop) → output.waiting ≡ none_wait → IsStop output stop → ⊥
+none-stops output stop none at =
+    let within : at.place < length none_wait.bytes =
+    subst (λ (b : WaitingState). at.place < length b.bytes) none at.within in
+    omega (arith, within)
 
 -- a reply came, and then all stayed with what waits
-pub sends-stays : (w0 w1 w2 : Option (List ℕ)) (s0 s1 s2 : Sent) (b0 b1 b2 : WaitingState) (reply : List ℕ)
-    (counts : Counts) → Sends w0 w1 s0 s1 b0 b1 reply counts → Stays w1 w2 s1 s2 b1 b2
-    → Sends w0 w2 s0 s2 b0 b2 reply counts
-sends-stays w0 w1 w2 s0 s1 s2 b0 b1 b2 reply counts sends stays = record {
+pub sends-stays : (a b c : OutputState) (reply : List ℕ) (counts : Counts) → Sends a b reply counts → Stays b c
+    → Sends a c reply counts
+sends-stays a b c reply counts sends stays = record {
   whole = record {
-    writes = Appends-kept (holds_with w0 b0) (holds_with w1 b1) (holds_with w2 b2) reply sends.whole.writes
-        stays.holds;
+    writes = Appends-kept (holds_with a) (holds_with b) (holds_with c) reply sends.whole.writes stays.holds;
     lines = ap (λ (s : Sent). s.lines) stays.sends ∙ sends.whole.lines;
     bytes_sent = ap (λ (s : Sent). s.bytes) stays.sends ∙ sends.whole.bytes_sent;
   };
@@ -324,11 +337,13 @@ module _ (len count : ℕ) (old new reply : List ℕ) (marks : List ReplyMark) (
       (marked-more (take len old) reply (take count marks) m are ends-behind)
 
   -- the reply is sent
-  pub sends-more : (waits : WaitingState) → record { bytes = take len old; marks = take count marks } ≡ waits
-      → AreMarked (take len old) (take count marks) → (written : Option (List ℕ)) (sent : Sent)
-      → Sends written written sent sent waits waits-more reply m.counts
-  sends-more waits is are written sent =
-      subst (λ (b : WaitingState). Sends written written sent sent b waits-more reply m.counts) is
-      (subst (λ (w : WaitingState). Sends written written sent sent
-      (record { bytes = take len old; marks = take count marks }) w reply m.counts) (sym waits-is)
-      (sends-added written sent (take len old) reply (take count marks) m are ends-behind))
+  pub sends-more : (sent : Sent) (box : OutboxState)
+      → record { waiting = record { bytes = take len old; marks = take count marks }; sent = sent } ≡ box
+      → AreMarked (take len old) (take count marks) → (written : Option (List ℕ))
+      → Sends (output_of written box) (output_of written (record { waiting = waits-more; sent = sent })) reply m.counts
+  sends-more sent box is are written =
+      let sends_to : OutboxState → WaitingState → Type 0 =
+      λ b w. Sends (output_of written b) (output_of written (record { waiting = w; sent = sent })) reply m.counts in
+      subst (λ b. sends_to b waits-more) is
+      (subst (sends_to (record { waiting = record { bytes = take len old; marks = take count marks }; sent = sent }))
+      (sym waits-is) (sends-added written sent (take len old) reply (take count marks) m are ends-behind))

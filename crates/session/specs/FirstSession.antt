@@ -10,7 +10,8 @@ use Rattle.helpers.specs.HelperStates.{SlotState}
 use Rattle.machine_rules.specs.Files.{Contents}
 use Rattle.session_core.specs.Handed.{helper_names}
 use Rattle.machine_rules.specs.Matcher.{plain_matcher}
-use Rattle.session_core.specs.Kept.{Kept}
+use Rattle.session_core.specs.AfterLine.{IsAfterLine}
+use Rattle.session_core.specs.Kept.{Kept, machine_of}
 use Rattle.session_core.specs.EngineView.{EngineView, machine_with, matcher_of, no_counts, depths_in}
 use Rattle.session.specs.PatternFiles.{IsOpened, IsRefused}
 use Rattle.session.specs.Outcomes.{Phase, NotTaken, NotOpened, Served}
@@ -21,9 +22,11 @@ use Rattle.machine_rules.specs.Turns.{Turn}
 use Rattle.read_cache.specs.Keeping.{first_keeping}
 use Rattle.session.specs.Tallies.{Tally, Progress, Advances}
 use Rattle.session.specs.Serving.{progress_of}
+use Rattle.session.specs.Answered.{step_at}
 use Rattle.gtp_rules.specs.Lines.{RawLine}
 use Rattle.gtp_rules.specs.Steps.{Step}
 use Rattle.session.specs.declared.outcome.End.{End}
+use Rattle.session.specs.declared.serve.Ended.{Ended}
 use Rattle.run_notes.specs.declared.notes.Counts.{Counts}
 use Rattle.run_notes.specs.declared.notes.Sent.{Sent}
 
@@ -66,12 +69,12 @@ pub record ServesCounting {M : Type 0} (generate : Option ℕ) (step : M → Raw
   pub serves : ServesLines generate step first before after end tally
   pub advances : Advances goes old new tally
 
--- the lines were served so, and these counts and names missed are those of what is kept then
-pub record EndsCounting {M : Type 0} (generate : Option ℕ) (step : M → RawLine → Step M → Type 0)
-    (goes : Kept → Turn M → Kept → Type 0) (first : M) (before after : Streams) (end : End)
-    (counts : Counts) (missed : List (List ℕ)) (old : Progress) (written : Option (List ℕ))
-    (sent : Sent) : Type 0 where
+-- The lines were served so by a session that kept this, and whose outbox had sent this, and these counts and names
+-- missed are those of what is kept then.
+pub record EndsCounting (generate : Option ℕ) (contents : Contents) (old : Kept) (was : Sent) (before after : Streams)
+    (ended : Ended) (missed : List (List ℕ)) (now : Sent) : Type 0 where
   pub kept : Kept
-  pub same : counts ≡ kept.engine.counts
+  pub same : ended.counts ≡ kept.engine.counts
   pub names : missed ≡ kept.missed
-  pub serves : ServesCounting generate step goes first before after end old (progress_of written kept sent)
+  pub serves : ServesCounting generate (step_at contents old) IsAfterLine (machine_of old) before after ended.end
+      (progress_of before.written old was) (progress_of after.written kept now)

@@ -1,3 +1,4 @@
+pub mod Answered
 pub mod CountedRuns
 pub mod Ends
 pub mod FirstSession

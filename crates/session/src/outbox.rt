@@ -4,8 +4,8 @@ ghost use Rattle.gtp_io.specs.Outside.{IsCounted};
 ghost use Rattle.run_notes.specs.declared.notes.Sent.{Sent};
 ghost use Rattle.session.specs.Tallies.{kept_sum};
 ghost use Rattle.session.specs.Serving.{Puts, PutsFront, PutsReply};
-ghost use Rattle.session.specs.Waiting.{none_wait, outbox_room, most_marks, gone, counts_at, CutsReply, IsStop};
-ghost use Rattle.session.specs.Waiting.{MayStop, Sends, Stays};
+ghost use Rattle.session.specs.Waiting.{none_wait, none_sent, outbox_room, most_marks, gone, counts_at, output_of};
+ghost use Rattle.session.specs.Waiting.{stop_of, CutsReply, IsStop, MayStop, Sends, Stays};
 
 use gtp_io::Sink;
 use run_notes::{Counts, Links, Sent};
@@ -42,22 +42,27 @@ const NO_MARK: ReplyMark = ReplyMark {
     },
 };
 
-/// Replies that wait to be put on an output, in their order, seen as their bytes and their marks.
+/// Replies that wait to be put on an output, in their order, and what was sent before them. They are seen as their
+/// bytes and their marks.
 #[derive(Drop)]
 pub(crate) struct Outbox {
     bytes: [u8; ROOM],
     len: usize,
     marks: [ReplyMark; MOST_MARKS],
     count: usize,
+    sent: Sent,
 }
 
 impl Model for Outbox {
     ghost use Rattle.std.specs.Prelude.{◌≤◌, take};
-    ghost use Rattle.session.specs.Waiting.{WaitingState, AreMarked, outbox_room, most_marks};
+    ghost use Rattle.session.specs.Waiting.{OutboxState, AreMarked, outbox_room, most_marks};
 
-    ghost Value = { WaitingState };
+    ghost Value = { OutboxState };
 
-    ghost view = { λ b. record { bytes = take b.len b.bytes; marks = take b.count b.marks } };
+    ghost view = { λ b. record {
+      waiting = record { bytes = take b.len b.bytes; marks = take b.count b.marks };
+      sent = b.sent;
+    } };
 
     ghost invariant = { λ b. (b.len ≤ outbox_room) × (b.count ≤ most_marks)
         × AreMarked (take b.len b.bytes) (take b.count b.marks) };
@@ -127,32 +132,41 @@ fn put_directly<K: Sink>(
 }
 
 impl Outbox {
-    /// No reply waits.
+    /// No reply waits, and nothing was sent.
     pub(crate) fn new() -> Outbox
-        ensures { result ≡ none_wait }
+        ensures none { result.waiting ≡ none_wait }
+        ensures unsent { result.sent ≡ none_sent }
     {
         Outbox {
             bytes: [0; ROOM],
             len: 0,
             marks: [NO_MARK; MOST_MARKS],
             count: 0,
+            sent: Sent { lines: 0, bytes: 0 },
         }
+    }
+
+    /// What was sent.
+    pub(crate) fn sent(&self) -> Sent
+        ensures { result ≡ self.now.sent }
+    {
+        self.sent
     }
 
     /// Whether there is room for a reply of so many bytes behind those that wait.
     fn has_room(&self, n: usize) -> bool
-        ensures { result ≡ true → (length self.now.bytes + n ≤ outbox_room)
-            × (length self.now.marks < most_marks) }
+        ensures { result ≡ true → (length self.now.waiting.bytes + n ≤ outbox_room)
+            × (length self.now.waiting.marks < most_marks) }
     {
         self.count < MOST_MARKS && n <= ROOM - self.len
     }
 
     /// A reply more waits, with the counts after its line.
     fn add(&mut self, reply: &[u8], counts: Counts)
-        requires bytes { length self.old.bytes + length reply.now ≤ outbox_room }
-        requires marks { length self.old.marks < most_marks }
-        ensures { (written : Option (List ℕ)) (sent : Sent)
-            → Sends written written sent sent self.old self.new reply.now counts }
+        requires bytes { length self.old.waiting.bytes + length reply.now ≤ outbox_room }
+        requires marks { length self.old.waiting.marks < most_marks }
+        ensures { (written : Option (List ℕ))
+            → Sends (output_of written self.old) (output_of written self.new) reply.now counts }
     {
         write_at(&mut self.bytes, self.len, reply);
         self.len += reply.len();
@@ -164,18 +178,20 @@ impl Outbox {
     }
 
     /// Puts what waits, or says what was counted up to and with the line whose reply broke off.
-    pub(crate) fn flush<K: Sink>(&mut self, output: &mut K, sent: &mut Sent) -> Result<(), Counts>
-        ensures ok { OnOk result (Stays (K.written output.old) (K.written output.new) sent.old sent.new self.old
-            self.new) }
-        ensures none { OnOk result (self.new ≡ none_wait) }
-        ensures part { IfErr result (λ noted. IsStop (K.written output.old) sent.old self.old
-            (record { written = K.written output.new; sent = sent.new; counts = noted })) }
+    pub(crate) fn flush<K: Sink>(&mut self, output: &mut K) -> Result<(), Counts>
+        ensures ok { OnOk result (Stays (output_of (K.written output.old) self.old)
+            (output_of (K.written output.new) self.new)) }
+        ensures none { OnOk result (self.new.waiting ≡ none_wait) }
+        ensures part { IfErr result (λ noted. IsStop (output_of (K.written output.old) self.old)
+            (stop_of (K.written output.new) self.new noted)) }
         ensures cause { IsCounted (K.faults output.old) (K.faults output.new) result }
         ensures last { OnErr result (K.failed output.new ≡ true) }
     {
-        match put_all(output, &self.bytes[..self.len], sent) {
+        let mut sent = self.sent;
+        match put_all(output, &self.bytes[..self.len], &mut sent) {
             Ok(()) => {
                 sent.lines = added(sent.lines, self.count as u64);
+                self.sent = sent;
                 self.len = 0;
                 self.count = 0;
                 Ok(())
@@ -183,32 +199,28 @@ impl Outbox {
             Err(place) => {
                 let (gone, counts) = cut_at(&self.marks[..self.count], place);
                 sent.lines = added(sent.lines, gone as u64);
+                self.sent = sent;
                 Err(counts)
             }
         }
     }
 
     /// Puts what waits, if no reply of so many bytes may wait behind it.
-    fn make_room<K: Sink>(
-        &mut self,
-        n: usize,
-        output: &mut K,
-        sent: &mut Sent,
-    ) -> Result<(), Counts>
-        ensures ok { OnOk result (Stays (K.written output.old) (K.written output.new) sent.old sent.new self.old
-            self.new) }
-        ensures room { OnOk result (n ≤ outbox_room → (length self.new.bytes + n ≤ outbox_room)
-            × (length self.new.marks < most_marks)) }
-        ensures none { OnOk result (outbox_room < n → self.new ≡ none_wait) }
-        ensures part { IfErr result (λ noted. IsStop (K.written output.old) sent.old self.old
-            (record { written = K.written output.new; sent = sent.new; counts = noted })) }
+    fn make_room<K: Sink>(&mut self, n: usize, output: &mut K) -> Result<(), Counts>
+        ensures ok { OnOk result (Stays (output_of (K.written output.old) self.old)
+            (output_of (K.written output.new) self.new)) }
+        ensures room { OnOk result (n ≤ outbox_room → (length self.new.waiting.bytes + n ≤ outbox_room)
+            × (length self.new.waiting.marks < most_marks)) }
+        ensures none { OnOk result (outbox_room < n → self.new.waiting ≡ none_wait) }
+        ensures part { IfErr result (λ noted. IsStop (output_of (K.written output.old) self.old)
+            (stop_of (K.written output.new) self.new noted)) }
         ensures cause { IsCounted (K.faults output.old) (K.faults output.new) result }
         ensures last { OnErr result (K.failed output.new ≡ true) }
     {
         if self.has_room(n) {
             return Ok(());
         }
-        self.flush(output, sent)
+        self.flush(output)
     }
 
     /// A reply that may wait waits, and is put at once with what waits if `now` says so.
@@ -218,20 +230,19 @@ impl Outbox {
         counts: Counts,
         now: bool,
         output: &mut K,
-        sent: &mut Sent,
     ) -> Result<(), Counts>
-        requires bytes { length self.old.bytes + length reply.now ≤ outbox_room }
-        requires marks { length self.old.marks < most_marks }
-        ensures ok { OnOk result (Sends (K.written output.old) (K.written output.new) sent.old sent.new self.old
-            self.new reply.now counts) }
-        ensures part { IfErr result (λ noted. MayStop (K.written output.old) sent.old self.old reply.now counts
-            (record { written = K.written output.new; sent = sent.new; counts = noted })) }
+        requires bytes { length self.old.waiting.bytes + length reply.now ≤ outbox_room }
+        requires marks { length self.old.waiting.marks < most_marks }
+        ensures ok { OnOk result (Sends (output_of (K.written output.old) self.old)
+            (output_of (K.written output.new) self.new) reply.now counts) }
+        ensures part { IfErr result (λ noted. MayStop (output_of (K.written output.old) self.old) reply.now counts
+            (stop_of (K.written output.new) self.new noted)) }
         ensures cause { IsCounted (K.faults output.old) (K.faults output.new) result }
         ensures last { OnErr result (K.failed output.new ≡ true) }
     {
         self.add(reply, counts);
         if now {
-            return self.flush(output, sent);
+            return self.flush(output);
         }
         Ok(())
     }
@@ -244,20 +255,19 @@ impl Outbox {
         counts: Counts,
         now: bool,
         output: &mut K,
-        sent: &mut Sent,
     ) -> Result<(), Counts>
-        ensures ok { OnOk result (Sends (K.written output.old) (K.written output.new) sent.old sent.new self.old
-            self.new reply.now counts) }
-        ensures part { IfErr result (λ noted. MayStop (K.written output.old) sent.old self.old reply.now counts
-            (record { written = K.written output.new; sent = sent.new; counts = noted })) }
+        ensures ok { OnOk result (Sends (output_of (K.written output.old) self.old)
+            (output_of (K.written output.new) self.new) reply.now counts) }
+        ensures part { IfErr result (λ noted. MayStop (output_of (K.written output.old) self.old) reply.now counts
+            (stop_of (K.written output.new) self.new noted)) }
         ensures cause { IsCounted (K.faults output.old) (K.faults output.new) result }
         ensures last { OnErr result (K.failed output.new ≡ true) }
     {
-        self.make_room(reply.len(), output, sent)?;
+        self.make_room(reply.len(), output)?;
         if reply.len() <= ROOM {
-            self.keep(reply, counts, now, output, sent)
+            self.keep(reply, counts, now, output)
         } else {
-            put_directly(reply, counts, output, sent)
+            put_directly(reply, counts, output, &mut self.sent)
         }
     }
 }

@@ -7,19 +7,22 @@ ghost use Rattle.db_read.specs.Reading.{BlamesAt};
 ghost use Rattle.go_options.specs.Found.{AreInRange};
 ghost use Rattle.session.specs.PatternFiles.{most_patterns, needs_feed, added_feed, Adds, IsJoined, MissedBy, MissedIn};
 ghost use Rattle.session.specs.PatternFiles.{HasFewStates, RefusesStates, IsRefused};
-ghost use Rattle.helpers.specs.Slots.{states_of};
+ghost use Rattle.helpers.specs.Slots.{listed, states_of};
 ghost use Rattle.session_core.specs.EngineView.{depths_in};
-ghost use Rattle.session_core.specs.Handed.{helper_names};
+ghost use Rattle.session_core.specs.Handed.{handed, helper_names};
 ghost use Rattle.session.specs.FirstSession.{IsPlainWith, Opens};
+ghost use Rattle.session.specs.Waiting.{none_wait, none_sent};
 
+use crate::outbox::Outbox;
 use crate::outcome::OpenError;
+use crate::serve::Server;
 use db_read::{DbError, read};
 use dfa_join::compile;
 use go_base::Bytes;
 use go_options::Options;
 use gtp_io::{LoadError, Loader};
 use gtp_lex::Lines;
-use helpers::Helpers;
+use helpers::{Helper, Helpers};
 use pat_types::Pattern;
 use read_rules::Tree;
 use session_core::Session;
@@ -78,10 +81,10 @@ fn patterns_in(alloc: Global, known: &[Bytes], text: &[u8]) -> Result<Vec<Patter
     read(alloc, text, known, Vec::new(alloc))
 }
 
-/// The session before its first line, and the lines of which none has come.
+/// A server before its first line, and the lines of which none has come.
 #[derive(Drop)]
 pub(crate) struct Opened {
-    pub(crate) session: Session,
+    pub(crate) server: Server,
     pub(crate) lines: Lines,
 }
 
@@ -118,7 +121,9 @@ pub(crate) fn open<L: Loader>(
 ) -> Result<Opened, OpenError>
     requires { AreInRange options.now }
     ensures ok { IfOk result (λ opened. Opens tree (states_of state helpers) (L.contents files.old) options.now
-        opened.session.engine (states_of state opened.session.helpers) opened.lines) }
+        opened.server.session.engine (states_of state opened.server.session.helpers) opened.lines) }
+    ensures none { IfOk result (λ opened. opened.server.outbox.waiting ≡ none_wait) }
+    ensures unsent { IfOk result (λ opened. opened.server.outbox.sent ≡ none_sent) }
     ensures kept { OnOk result (L.missed files.new ≡ L.missed files.old) }
     ensures err { IfErr result (IsRefused (helper_names (states_of state helpers)) (L.contents files.old)
         options.now.files options.now.states) }
@@ -130,5 +135,43 @@ pub(crate) fn open<L: Loader>(
     let patterns = patterns_in(alloc, known.as_slice(), text.as_slice())?;
     let session = session_with(alloc, patterns, helpers, tree, options)?;
     let lines = Lines::new(alloc)?;
-    Ok(Opened { session, lines })
+    let outbox = Outbox::new();
+    Ok(Opened {
+        server: Server { session, outbox },
+        lines,
+    })
+}
+
+/// What a run is given beside its words and its streams.
+#[derive(Drop)]
+pub(crate) struct Setting {
+    /// Where memory comes from.
+    pub(crate) alloc: Global,
+    /// The tree in which readings are made.
+    pub(crate) tree: Tree,
+    /// The helpers that patterns may name.
+    pub(crate) helpers: Vec<Box<dyn Helper>>,
+}
+
+/// Hands the helpers in, and opens the files of the options as `open` does.
+pub(crate) fn open_with<L: Loader>(
+    setting: Setting,
+    options: &Options,
+    files: &mut L,
+) -> Result<Opened, OpenError>
+    requires { AreInRange options.now }
+    ensures ok { IfOk result (λ opened. Opens setting.tree (handed state setting.helpers.items) (L.contents files.old)
+        options.now opened.server.session.engine (listed state opened.server.session.helpers) opened.lines) }
+    ensures none { IfOk result (λ opened. opened.server.outbox.waiting ≡ none_wait) }
+    ensures unsent { IfOk result (λ opened. opened.server.outbox.sent ≡ none_sent) }
+    ensures kept { OnOk result (L.missed files.new ≡ L.missed files.old) }
+    ensures err { IfErr result (IsRefused (helper_names (handed state setting.helpers.items)) (L.contents files.old)
+        options.now.files options.now.states) }
+    ensures missed { IfErr result (MissedIn options.now.files (L.missed files.old) (L.missed files.new)) }
+    ensures same { L.contents files.new ≡ L.contents files.old }
+{
+    match Helpers::new(setting.alloc, setting.helpers) {
+        Ok(helpers) => open(setting.alloc, setting.tree, options, files, helpers),
+        Err(_) => Err(OpenError::NoMemory),
+    }
 }

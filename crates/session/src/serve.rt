@@ -11,23 +11,21 @@ ghost use Rattle.gtp_lex.specs.LinesTaken.{taken_of, given_state};
 ghost use Rattle.gtp_lex.specs.Raw.{raw_line};
 ghost use Rattle.gtp_cmd.specs.Rooms.{longest_line};
 ghost use Rattle.machine_rules.specs.Heard.{bytes_in};
-ghost use Rattle.session_core.specs.AfterLine.{IsAfterLine};
 ghost use Rattle.session.specs.Headline.{IsCauseOf};
 ghost use Rattle.session.specs.FirstSession.{EndsCounting};
 ghost use Rattle.session_core.specs.EngineView.{matcher_of};
-ghost use Rattle.session_core.specs.SessionView.{machine_now, kept_of, step_of};
+ghost use Rattle.session_core.specs.SessionView.{kept_of};
 ghost use Rattle.session.specs.Ends.{streams};
-ghost use Rattle.session.specs.Serving.{progress_of, RunsTo};
 ghost use Rattle.session_core.specs.Replies.{reply_bytes, reply_ends};
-ghost use Rattle.session.specs.Waiting.{none_wait, progress_with, Stop, IsStop, MayStop, MayCut, CutsShort};
-ghost use Rattle.session.specs.Waiting.{SendsReply};
+ghost use Rattle.session.specs.Waiting.{none_wait, output_of, stop_of, MayStop, SendsReply};
+ghost use Rattle.session.specs.Answered.{standing, Answered, AnsweredOut, BreaksIn, BreaksOut};
 
 use crate::outbox::Outbox;
 use crate::outcome::End;
 use gtp_cmd::{RefuseText, refusal};
 use gtp_io::{Failed, Loader, Sink, Source};
 use gtp_lex::{Lines, Raw, Taken};
-use run_notes::{Counts, Sent};
+use run_notes::Counts;
 use session_core::{Reply, Session};
 
 /// The most bytes that are asked of a source at once.
@@ -35,6 +33,15 @@ const PIECE: usize = 4096;
 
 /// How many bytes are too many to take.
 const MOST_TAKEN: usize = 1 << 32;
+
+/// A session that answers lines, and the replies that wait.
+#[derive(Drop)]
+pub(crate) struct Server {
+    /// The session.
+    pub(crate) session: Session,
+    /// The replies that wait, and what was sent.
+    pub(crate) outbox: Outbox,
+}
 
 // Sends the reply to a line behind those that wait, and says whether it ends the session. It is put at once with what
 // waits if `now` says so.
@@ -44,30 +51,28 @@ fn send<K: Sink>(
     now: bool,
     outbox: &mut Outbox,
     output: &mut K,
-    sent: &mut Sent,
 ) -> Result<bool, Counts>
     ensures ends { IfOk result (λ ends. ends ≡ reply_ends reply) }
-    ensures ok { OnOk result (SendsReply (K.written output.old) (K.written output.new) sent.old sent.new outbox.old
-        outbox.new reply counts) }
-    ensures part { IfErr result (λ noted. MayStop (K.written output.old) sent.old outbox.old
-        (reply_bytes reply) counts
-        (record { written = K.written output.new; sent = sent.new; counts = noted })) }
+    ensures ok { OnOk result (SendsReply (output_of (K.written output.old) outbox.old)
+        (output_of (K.written output.new) outbox.new) reply counts) }
+    ensures part { IfErr result (λ noted. MayStop (output_of (K.written output.old) outbox.old)
+        (reply_bytes reply) counts (stop_of (K.written output.new) outbox.new noted)) }
     ensures cause { IsCounted (K.faults output.old) (K.faults output.new) result }
     ensures last { OnErr result (K.failed output.new ≡ true) }
 {
     match reply {
         Reply::Nothing => Ok(false),
         Reply::Short { text, quit } => {
-            outbox.put(text.as_slice(), counts, now, output, sent)?;
+            outbox.put(text.as_slice(), counts, now, output)?;
             Ok(quit)
         }
         Reply::Text { bytes } => {
-            outbox.put(bytes.as_slice(), counts, now, output, sent)?;
+            outbox.put(bytes.as_slice(), counts, now, output)?;
             Ok(false)
         }
         Reply::NoMemory { id } => {
             let text = refusal(id, RefuseText::OutOfMemory);
-            outbox.put(text.as_slice(), counts, now, output, sent)?;
+            outbox.put(text.as_slice(), counts, now, output)?;
             Ok(false)
         }
     }
@@ -75,118 +80,94 @@ fn send<K: Sink>(
 
 // Answers one line, and says whether it ends the session. What waits is put before a line that may take long.
 fn answer<L: Loader, K: Sink>(
-    session: &mut Session,
+    server: &mut Server,
     raw: Raw<'_>,
     files: &mut L,
-    outbox: &mut Outbox,
     output: &mut K,
-    sent: &mut Sent,
 ) -> Result<bool, Counts>
     requires { length (bytes_in (raw_line raw)) ≤ longest_line }
-    ensures ok { IfOk result (λ ends. RunsTo (step_of session.old (L.contents files.old)) IsAfterLine
-        (machine_now state session.old)
-        (raw_line raw.entry ∷ []) (machine_now state session.new) ends
-        (progress_with (K.written output.old) (kept_of state session.old (L.missed files.old)) sent.old outbox.old)
-        (progress_with (K.written output.new) (kept_of state session.new (L.missed files.new)) sent.new outbox.new)) }
-    ensures stops { OnOk result ((stop : Stop) → IsStop (K.written output.new) sent.new outbox.new stop
-        → MayCut (step_of session.old (L.contents files.old)) IsAfterLine (machine_now state session.old)
-        (raw_line raw.entry ∷ [])
-        (K.written output.old) (kept_of state session.old (L.missed files.old)) sent.old outbox.old stop
-        (L.missed files.new)) }
-    ensures part { IfErr result (λ noted. MayCut (step_of session.old (L.contents files.old)) IsAfterLine
-        (machine_now state session.old) (raw_line raw.entry ∷ [])
-        (K.written output.old) (kept_of state session.old (L.missed files.old)) sent.old outbox.old
-        (record { written = K.written output.new; sent = sent.new; counts = noted }) (L.missed files.new)) }
-    ensures same { matcher_of session.new.engine ≡ matcher_of session.old.engine }
+    ensures ok { IfOk result (λ ends. Answered (L.contents files.old) (raw_line raw.entry ∷ []) ends
+        (standing (kept_of state server.old.session (L.missed files.old)) (K.written output.old) server.old.outbox)
+        (standing (kept_of state server.new.session (L.missed files.new)) (K.written output.new) server.new.outbox)) }
+    ensures part { IfErr result (λ noted. BreaksIn (L.contents files.old) (raw_line raw.entry ∷ [])
+        (standing (kept_of state server.old.session (L.missed files.old)) (K.written output.old) server.old.outbox)
+        (stop_of (K.written output.new) server.new.outbox noted) (L.missed files.new)) }
+    ensures same { matcher_of server.new.session.engine ≡ matcher_of server.old.session.engine }
     ensures contents { L.contents files.new ≡ L.contents files.old }
     ensures cause { IsCounted (K.faults output.old) (K.faults output.new) result }
     ensures last { OnErr result (K.failed output.new ≡ true) }
 {
-    match session.try_line(raw) {
-        Ok(reply) => send(reply, session.stats(), false, outbox, output, sent),
+    match server.session.try_line(raw) {
+        Ok(reply) => send(
+            reply,
+            server.session.stats(),
+            false,
+            &mut server.outbox,
+            output,
+        ),
         Err(slow) => {
-            outbox.flush(output, sent)?;
-            let reply = session.finish(slow, raw, files);
-            send(reply, session.stats(), true, outbox, output, sent)
+            server.outbox.flush(output)?;
+            let reply = server.session.finish(slow, raw, files);
+            send(
+                reply,
+                server.session.stats(),
+                true,
+                &mut server.outbox,
+                output,
+            )
         }
     }
 }
 
 // Answers the line that was taken.
 fn answer_taken<L: Loader, K: Sink>(
-    session: &mut Session,
+    server: &mut Server,
     lines: &Lines,
     taken: Taken,
     files: &mut L,
-    outbox: &mut Outbox,
     output: &mut K,
-    sent: &mut Sent,
 ) -> Result<bool, Counts>
     requires { (held : RawLine) × (lines.now ≡ given_state held) × (taken ≡ taken_of held) }
     ensures ok { (held : RawLine) → lines.now ≡ given_state held → taken ≡ taken_of held → IfOk result
-        (λ ends. RunsTo (step_of session.old (L.contents files.old)) IsAfterLine (machine_now state session.old)
-        (held ∷ [])
-        (machine_now state session.new) ends
-        (progress_with (K.written output.old) (kept_of state session.old (L.missed files.old)) sent.old outbox.old)
-        (progress_with (K.written output.new) (kept_of state session.new (L.missed files.new)) sent.new outbox.new)) }
-    ensures stops { (held : RawLine) → lines.now ≡ given_state held → taken ≡ taken_of held → OnOk result
-        ((stop : Stop) → IsStop (K.written output.new) sent.new outbox.new stop
-        → MayCut (step_of session.old (L.contents files.old)) IsAfterLine (machine_now state session.old) (held ∷ [])
-        (K.written output.old) (kept_of state session.old (L.missed files.old)) sent.old outbox.old stop
-        (L.missed files.new)) }
+        (λ ends. Answered (L.contents files.old) (held ∷ []) ends
+        (standing (kept_of state server.old.session (L.missed files.old)) (K.written output.old) server.old.outbox)
+        (standing (kept_of state server.new.session (L.missed files.new)) (K.written output.new) server.new.outbox)) }
     ensures part { (held : RawLine) → lines.now ≡ given_state held → taken ≡ taken_of held → IfErr result
-        (λ noted. MayCut (step_of session.old (L.contents files.old)) IsAfterLine (machine_now state session.old)
-        (held ∷ [])
-        (K.written output.old) (kept_of state session.old (L.missed files.old)) sent.old outbox.old
-        (record { written = K.written output.new; sent = sent.new; counts = noted }) (L.missed files.new)) }
-    ensures same { matcher_of session.new.engine ≡ matcher_of session.old.engine }
+        (λ noted. BreaksIn (L.contents files.old) (held ∷ [])
+        (standing (kept_of state server.old.session (L.missed files.old)) (K.written output.old) server.old.outbox)
+        (stop_of (K.written output.new) server.new.outbox noted) (L.missed files.new)) }
+    ensures same { matcher_of server.new.session.engine ≡ matcher_of server.old.session.engine }
     ensures contents { L.contents files.new ≡ L.contents files.old }
     ensures cause { IsCounted (K.faults output.old) (K.faults output.new) result }
     ensures last { OnErr result (K.failed output.new ≡ true) }
 {
     match taken {
-        Taken::Line => answer(
-            session,
-            Raw::Line(lines.bytes()),
-            files,
-            outbox,
-            output,
-            sent,
-        ),
-        Taken::TooLong => answer(session, Raw::TooLong, files, outbox, output, sent),
+        Taken::Line => answer(server, Raw::Line(lines.bytes()), files, output),
+        Taken::TooLong => answer(server, Raw::TooLong, files, output),
     }
 }
 
 // Takes bytes up to and with the first line feed, and answers the line that it ends, if it came.
 // Says how many bytes were taken, and whether the line ends the session.
 fn answer_next<L: Loader, K: Sink>(
-    session: &mut Session,
+    server: &mut Server,
     lines: &mut Lines,
     rest: &[u8],
     files: &mut L,
-    outbox: &mut Outbox,
     output: &mut K,
-    sent: &mut Sent,
 ) -> Result<(usize, bool), Counts>
     requires { lines.old.waits ≡ false }
     ensures bound { IfOk result (λ turn. (turn.0 ≤ length rest.now) × (0 < length rest.now → 0 < turn.0)) }
-    ensures ok { IfOk result (λ turn. RunsTo (step_of session.old (L.contents files.old)) IsAfterLine
-        (machine_now state session.old)
-        (lines_from lines.old.held (take turn.0 rest.now)) (machine_now state session.new) turn.1
-        (progress_with (K.written output.old) (kept_of state session.old (L.missed files.old)) sent.old outbox.old)
-        (progress_with (K.written output.new) (kept_of state session.new (L.missed files.new)) sent.new outbox.new)) }
+    ensures ok { IfOk result (λ turn. Answered (L.contents files.old)
+        (lines_from lines.old.held (take turn.0 rest.now)) turn.1
+        (standing (kept_of state server.old.session (L.missed files.old)) (K.written output.old) server.old.outbox)
+        (standing (kept_of state server.new.session (L.missed files.new)) (K.written output.new) server.new.outbox)) }
     ensures held { IfOk result (λ turn. (lines.new.held ≡ held_from lines.old.held (take turn.0 rest.now))
         × (lines.new.waits ≡ false)) }
-    ensures stops { IfOk result (λ turn. (stop : Stop) → IsStop (K.written output.new) sent.new outbox.new stop
-        → MayCut (step_of session.old (L.contents files.old)) IsAfterLine (machine_now state session.old)
-        (lines_from lines.old.held (take turn.0 rest.now))
-        (K.written output.old) (kept_of state session.old (L.missed files.old)) sent.old outbox.old stop
-        (L.missed files.new)) }
-    ensures part { IfErr result (λ noted. MayCut (step_of session.old (L.contents files.old)) IsAfterLine
-        (machine_now state session.old) (lines_from lines.old.held rest.now)
-        (K.written output.old) (kept_of state session.old (L.missed files.old)) sent.old outbox.old
-        (record { written = K.written output.new; sent = sent.new; counts = noted }) (L.missed files.new)) }
-    ensures same { matcher_of session.new.engine ≡ matcher_of session.old.engine }
+    ensures part { IfErr result (λ noted. BreaksIn (L.contents files.old) (lines_from lines.old.held rest.now)
+        (standing (kept_of state server.old.session (L.missed files.old)) (K.written output.old) server.old.outbox)
+        (stop_of (K.written output.new) server.new.outbox noted) (L.missed files.new)) }
+    ensures same { matcher_of server.new.session.engine ≡ matcher_of server.old.session.engine }
     ensures contents { L.contents files.new ≡ L.contents files.old }
     ensures cause { IsCounted (K.faults output.old) (K.faults output.new) result }
     ensures last { OnErr result (K.failed output.new ≡ true) }
@@ -194,7 +175,7 @@ fn answer_next<L: Loader, K: Sink>(
     let count = lines.feed(rest);
     match lines.take() {
         Some(taken) => {
-            let ended = answer_taken(session, lines, taken, files, outbox, output, sent)?;
+            let ended = answer_taken(server, lines, taken, files, output)?;
             Ok((count, ended))
         }
         None => Ok((count, false)),
@@ -203,76 +184,64 @@ fn answer_next<L: Loader, K: Sink>(
 
 // Answers the lines that end in a piece, and says whether one of them ends the session. No reply waits after it.
 fn answer_piece<L: Loader, K: Sink>(
-    session: &mut Session,
+    server: &mut Server,
     lines: &mut Lines,
     piece: &[u8],
     files: &mut L,
-    outbox: &mut Outbox,
     output: &mut K,
-    sent: &mut Sent,
 ) -> Result<bool, Counts>
     requires open_ended { lines.old.waits ≡ false }
-    requires none { outbox.old ≡ none_wait }
-    ensures ok { IfOk result (λ ended. RunsTo (step_of session.old (L.contents files.old)) IsAfterLine
-        (machine_now state session.old)
-        (lines_from lines.old.held piece.now)
-        (machine_now state session.new) ended (progress_of (K.written output.old) (kept_of state session.old
-        (L.missed files.old)) sent.old)
-        (progress_of (K.written output.new) (kept_of state session.new (L.missed files.new)) sent.new)) }
+    requires none { server.old.outbox.waiting ≡ none_wait }
+    ensures ok { IfOk result (λ ended. AnsweredOut (L.contents files.old) (lines_from lines.old.held piece.now) ended
+        (standing (kept_of state server.old.session (L.missed files.old)) (K.written output.old) server.old.outbox)
+        (standing (kept_of state server.new.session (L.missed files.new)) (K.written output.new) server.new.outbox)) }
     ensures held { IfOk result (λ ended. ended ≡ false →
         (lines.new.held ≡ held_from lines.old.held piece.now) × (lines.new.waits ≡ false)) }
-    ensures none { OnOk result (outbox.new ≡ none_wait) }
-    ensures part { IfErr result (λ noted. CutsShort (step_of session.old (L.contents files.old)) IsAfterLine
-        (machine_now state session.old) (lines_from lines.old.held piece.now)
-        (progress_of (K.written output.old) (kept_of state session.old (L.missed files.old)) sent.old)
-        (record { written = K.written output.new; sent = sent.new; counts = noted }) (L.missed files.new)) }
-    ensures same { matcher_of session.new.engine ≡ matcher_of session.old.engine }
+    ensures none { OnOk result (server.new.outbox.waiting ≡ none_wait) }
+    ensures part { IfErr result (λ noted. BreaksOut (L.contents files.old) (lines_from lines.old.held piece.now)
+        (standing (kept_of state server.old.session (L.missed files.old)) (K.written output.old) server.old.outbox)
+        (stop_of (K.written output.new) server.new.outbox noted) (L.missed files.new)) }
+    ensures same { matcher_of server.new.session.engine ≡ matcher_of server.old.session.engine }
     ensures contents { L.contents files.new ≡ L.contents files.old }
     ensures cause { IsCounted (K.faults output.old) (K.faults output.new) result }
     ensures last { OnErr result (K.failed output.new ≡ true) }
 {
     let mut rest = piece;
     while !rest.is_empty() {
-        let (count, ended) = answer_next(session, lines, rest, files, outbox, output, sent)?;
+        let (count, ended) = answer_next(server, lines, rest, files, output)?;
         if ended {
-            outbox.flush(output, sent)?;
+            server.outbox.flush(output)?;
             return Ok(true);
         }
         rest = &rest[count..];
     }
-    outbox.flush(output, sent)?;
+    server.outbox.flush(output)?;
     Ok(false)
 }
 
 // Answers the rest as a last line, if there is one. No reply waits after it.
 fn answer_rest<L: Loader, K: Sink>(
-    session: &mut Session,
+    server: &mut Server,
     lines: &mut Lines,
     files: &mut L,
-    outbox: &mut Outbox,
     output: &mut K,
-    sent: &mut Sent,
 ) -> Result<bool, Counts>
     requires open_ended { lines.old.waits ≡ false }
-    requires none { outbox.old ≡ none_wait }
-    ensures ok { IfOk result (λ ended. RunsTo (step_of session.old (L.contents files.old)) IsAfterLine
-        (machine_now state session.old)
-        (held_line lines.old.held)
-        (machine_now state session.new) ended (progress_of (K.written output.old) (kept_of state session.old
-        (L.missed files.old)) sent.old)
-        (progress_of (K.written output.new) (kept_of state session.new (L.missed files.new)) sent.new)) }
-    ensures part { IfErr result (λ noted. CutsShort (step_of session.old (L.contents files.old)) IsAfterLine
-        (machine_now state session.old) (held_line lines.old.held)
-        (progress_of (K.written output.old) (kept_of state session.old (L.missed files.old)) sent.old)
-        (record { written = K.written output.new; sent = sent.new; counts = noted }) (L.missed files.new)) }
+    requires none { server.old.outbox.waiting ≡ none_wait }
+    ensures ok { IfOk result (λ ended. AnsweredOut (L.contents files.old) (held_line lines.old.held) ended
+        (standing (kept_of state server.old.session (L.missed files.old)) (K.written output.old) server.old.outbox)
+        (standing (kept_of state server.new.session (L.missed files.new)) (K.written output.new) server.new.outbox)) }
+    ensures part { IfErr result (λ noted. BreaksOut (L.contents files.old) (held_line lines.old.held)
+        (standing (kept_of state server.old.session (L.missed files.old)) (K.written output.old) server.old.outbox)
+        (stop_of (K.written output.new) server.new.outbox noted) (L.missed files.new)) }
     ensures contents { L.contents files.new ≡ L.contents files.old }
     ensures cause { IsCounted (K.faults output.old) (K.faults output.new) result }
     ensures last { OnErr result (K.failed output.new ≡ true) }
 {
     match lines.finish() {
         Some(taken) => {
-            let ended = answer_taken(session, lines, taken, files, outbox, output, sent)?;
-            outbox.flush(output, sent)?;
+            let ended = answer_taken(server, lines, taken, files, output)?;
+            server.outbox.flush(output)?;
             Ok(ended)
         }
         None => Ok(false),
@@ -308,29 +277,26 @@ pub(crate) struct Ended {
 ///
 /// The replies of a piece wait and go out together, before the next piece is asked for.
 pub(crate) fn serve<L: Loader, S: Source, K: Sink>(
-    session: &mut Session,
+    server: &mut Server,
     lines: &mut Lines,
     files: &mut L,
     input: &mut S,
     output: &mut K,
-    sent: &mut Sent,
 ) -> Ended
-    requires { lines.old ≡ no_line }
-    ensures serves { EndsCounting None (step_of session.old (L.contents files.old)) IsAfterLine
-        (machine_now state session.old)
+    requires no_line { lines.old ≡ no_line }
+    requires none { server.old.outbox.waiting ≡ none_wait }
+    ensures serves { EndsCounting None (L.contents files.old) (kept_of state server.old.session (L.missed files.old))
+        server.old.outbox.sent
         (streams (S.left input.old) (S.piece input.old) (S.faults input.old) (K.written output.old)
         (K.faults output.old))
         (streams (S.left input.new) (S.piece input.new) (S.faults input.new) (K.written output.new)
-        (K.faults output.new)) result.end result.counts (L.missed files.new)
-        (progress_of (K.written output.old) (kept_of state session.old (L.missed files.old)) sent.old)
-        (K.written output.new) sent.new }
+        (K.faults output.new)) result (L.missed files.new) server.new.outbox.sent }
     ensures contents { L.contents files.new ≡ L.contents files.old }
     ensures input { IsCauseOf (result.end ≡ End.InputFault) (S.faults input.old) (S.faults input.new) }
     ensures output { IsCauseOf (result.end ≡ End.OutputFault) (K.faults output.old) (K.faults output.new) }
     ensures last_read { result.end ≡ End.InputFault → S.failed input.new ≡ true }
     ensures last { result.end ≡ End.OutputFault → K.failed output.new ≡ true }
 {
-    let mut outbox = Outbox::new();
     let mut buf = [0u8; PIECE];
     let mut room = MOST_TAKEN;
     while room > 0 {
@@ -338,14 +304,14 @@ pub(crate) fn serve<L: Loader, S: Source, K: Sink>(
             Err(_) => {
                 return Ended {
                     end: End::InputFault,
-                    counts: session.stats(),
+                    counts: server.session.stats(),
                 };
             }
             Ok(0) => {
-                return match answer_rest(session, lines, files, &mut outbox, output, sent) {
+                return match answer_rest(server, lines, files, output) {
                     Ok(_) => Ended {
                         end: End::Done,
-                        counts: session.stats(),
+                        counts: server.session.stats(),
                     },
                     Err(counts) => Ended {
                         end: End::OutputFault,
@@ -355,20 +321,12 @@ pub(crate) fn serve<L: Loader, S: Source, K: Sink>(
             }
             Ok(count) => {
                 room -= count;
-                match answer_piece(
-                    session,
-                    lines,
-                    &buf[..count],
-                    files,
-                    &mut outbox,
-                    output,
-                    sent,
-                ) {
+                match answer_piece(server, lines, &buf[..count], files, output) {
                     Ok(false) => {}
                     Ok(true) => {
                         return Ended {
                             end: End::Done,
-                            counts: session.stats(),
+                            counts: server.session.stats(),
                         };
                     }
                     Err(counts) => {
@@ -383,6 +341,6 @@ pub(crate) fn serve<L: Loader, S: Source, K: Sink>(
     }
     Ended {
         end: End::InputTooLong,
-        counts: session.stats(),
+        counts: server.session.stats(),
     }
 }

@@ -7,12 +7,10 @@ ghost use Rattle.session.specs.Headline.{files_in, outside};
 ghost use Rattle.session.specs.Ends.{streams};
 ghost use Rattle.read_rules.specs.declared.tree.Tree.TheVariants.{Stated};
 ghost use Rattle.session.specs.FirstSession.{CameBy, EndsCounting};
-ghost use Rattle.session.specs.Serving.{progress_of};
+ghost use Rattle.session.specs.Waiting.{none_wait};
 ghost use Rattle.go_options.specs.Found.{AreInRange, IsIn};
 ghost use Rattle.go_options.specs.NumberOptions.{generate_option};
-ghost use Rattle.session_core.specs.AfterLine.{IsAfterLine};
-ghost use Rattle.session_core.specs.SessionView.{machine_now, kept_of, step_of};
-ghost use Rattle.helpers.specs.Slots.{states_of};
+ghost use Rattle.session_core.specs.SessionView.{kept_of};
 ghost use Rattle.session_core.specs.Handed.{handed};
 ghost use Rattle.session.specs.Notes.{note_of};
 ghost use Rattle.session.specs.Outcomes.{Served, phase_of};
@@ -21,11 +19,11 @@ ghost use Rattle.run_notes.specs.Notes.{notes_text};
 ghost use Rattle.run_notes.specs.Putting.{IsNoted};
 
 use crate::outcome::{End, Outcome, WordsError, note};
-use crate::pattern_files::{Opened, open};
+use crate::pattern_files::{Opened, Setting, open_with};
 use crate::serve::{Ended, serve};
 use go_options::{Options, OptionsError, read_options};
 use gtp_io::{Loader, Sink, Source};
-use helpers::{Helper, Helpers};
+use helpers::Helper;
 use read_rules::Tree;
 use run_notes::{Counts, Sent, put_notes};
 use std::alloc::Global;
@@ -51,16 +49,20 @@ fn unserved(outcome: Outcome) -> Ran
 }
 
 // A run that served the lines until this end, with its counts and what it sent if the options ask for them.
-fn served(end: End, options: &Options, counts: Counts, sent: Sent) -> Ran
-    ensures phase { phase_of result.outcome ≡ Served end }
-    ensures input { (result.outcome ≡ Outcome.InputFault) ↔ (end ≡ End.InputFault) }
-    ensures output { (result.outcome ≡ Outcome.OutputFault) ↔ (end ≡ End.OutputFault) }
-    ensures counts { result.counts ≡ (if options.now.stats then Some counts else None) }
+fn served(ended: Ended, options: &Options, sent: Sent) -> Ran
+    ensures phase { phase_of result.outcome ≡ Served ended.end }
+    ensures input { (result.outcome ≡ Outcome.InputFault) ↔ (ended.end ≡ End.InputFault) }
+    ensures output { (result.outcome ≡ Outcome.OutputFault) ↔ (ended.end ≡ End.OutputFault) }
+    ensures counts { result.counts ≡ (if options.now.stats then Some ended.counts else None) }
     ensures sent { result.sent ≡ option_map (λ _. sent) options.now.generate }
 {
     Ran {
-        outcome: end.outcome(),
-        counts: if options.stats { Some(counts) } else { None },
+        outcome: ended.end.outcome(),
+        counts: if options.stats {
+            Some(ended.counts)
+        } else {
+            None
+        },
         sent: match options.generate {
             Some(_) => Some(sent),
             None => None,
@@ -75,43 +77,39 @@ fn serve_lines<L: Loader, S: Source, K: Sink>(
     files: &mut L,
     input: &mut S,
     output: &mut K,
-    sent: &mut Sent,
 ) -> Ended
     requires none { opened.old.lines ≡ no_line }
+    requires none_waits { opened.old.server.outbox.waiting ≡ none_wait }
     requires few { MatchOption generate (Unit {0}) (IsIn generate_option) }
-    ensures serves { EndsCounting generate (step_of opened.old.session (L.contents files.old)) IsAfterLine
-        (machine_now state opened.old.session)
+    ensures serves { EndsCounting generate (L.contents files.old)
+        (kept_of state opened.old.server.session (L.missed files.old)) opened.old.server.outbox.sent
         (streams (S.left input.old) (S.piece input.old) (S.faults input.old) (K.written output.old)
         (K.faults output.old))
         (streams (S.left input.new) (S.piece input.new) (S.faults input.new) (K.written output.new)
-        (K.faults output.new)) result.end result.counts (L.missed files.new)
-        (progress_of (K.written output.old) (kept_of state opened.old.session (L.missed files.old)) sent.old)
-        (K.written output.new) sent.new }
+        (K.faults output.new)) result (L.missed files.new) opened.new.server.outbox.sent }
     ensures contents { L.contents files.new ≡ L.contents files.old }
     ensures input { IsCauseOf (result.end ≡ End.InputFault) (S.faults input.old) (S.faults input.new) }
     ensures output { IsCauseOf (result.end ≡ End.OutputFault) (K.faults output.old) (K.faults output.new) }
     ensures last_read { result.end ≡ End.InputFault → S.failed input.new ≡ true }
     ensures last { result.end ≡ End.OutputFault → K.failed output.new ≡ true }
 {
-    let Opened { session, lines } = opened;
+    let Opened { server, lines } = opened;
     match generate {
-        Some(n) => serve(session, lines, files, &mut Workload::new(n), output, sent),
-        None => serve(session, lines, files, input, output, sent),
+        Some(n) => serve(server, lines, files, &mut Workload::new(n), output),
+        None => serve(server, lines, files, input, output),
     }
 }
 
 // Opens the files of the options and serves the lines.
 fn run_options<L: Loader, S: Source, K: Sink>(
-    alloc: Global,
-    tree: Tree,
+    setting: Setting,
     options: &Options,
     files: &mut L,
     input: &mut S,
     output: &mut K,
-    helpers: Helpers,
 ) -> Ran
     requires { AreInRange options.now }
-    ensures came { CameBy tree (states_of state helpers) options.now (L.contents files.old)
+    ensures came { CameBy setting.tree (handed state setting.helpers.items) options.now (L.contents files.old)
         (L.missed files.old) (L.missed files.new)
         (streams (S.left input.old) (S.piece input.old) (S.faults input.old) (K.written output.old)
         (K.faults output.old))
@@ -126,65 +124,23 @@ fn run_options<L: Loader, S: Source, K: Sink>(
     ensures last_read { result.outcome ≡ Outcome.InputFault → S.failed input.new ≡ true }
     ensures last { result.outcome ≡ Outcome.OutputFault → K.failed output.new ≡ true }
 {
-    let mut opened = match open(alloc, tree, options, files, helpers) {
+    let mut opened = match open_with(setting, options, files) {
         Ok(opened) => opened,
         Err(error) => return unserved(error.outcome()),
     };
-    let mut sent = Sent { lines: 0, bytes: 0 };
-    let ended = serve_lines(
-        options.generate,
-        &mut opened,
-        files,
-        input,
-        output,
-        &mut sent,
-    );
-    served(ended.end, options, ended.counts, sent)
-}
-
-// Hands the helpers in, opens the files of the options and serves the lines.
-fn run_helped<L: Loader, S: Source, K: Sink>(
-    alloc: Global,
-    tree: Tree,
-    options: &Options,
-    files: &mut L,
-    input: &mut S,
-    output: &mut K,
-    helpers: Vec<Box<dyn Helper>>,
-) -> Ran
-    requires { AreInRange options.now }
-    ensures came { CameBy tree (handed state helpers.items) options.now (L.contents files.old)
-        (L.missed files.old) (L.missed files.new)
-        (streams (S.left input.old) (S.piece input.old) (S.faults input.old) (K.written output.old)
-        (K.faults output.old))
-        (streams (S.left input.new) (S.piece input.new) (S.faults input.new) (K.written output.new)
-        (K.faults output.new))
-        result.counts result.sent (phase_of result.outcome) }
-    ensures missed { MissedAfter options.now.files (L.missed files.old) (L.missed files.new)
-        (phase_of result.outcome) }
-    ensures same { L.contents files.new ≡ L.contents files.old }
-    ensures input { IsCauseOf (result.outcome ≡ Outcome.InputFault) (S.faults input.old) (S.faults input.new) }
-    ensures output { IsCauseOf (result.outcome ≡ Outcome.OutputFault) (K.faults output.old) (K.faults output.new) }
-    ensures last_read { result.outcome ≡ Outcome.InputFault → S.failed input.new ≡ true }
-    ensures last { result.outcome ≡ Outcome.OutputFault → K.failed output.new ≡ true }
-{
-    match Helpers::new(alloc, helpers) {
-        Ok(helpers) => run_options(alloc, tree, options, files, input, output, helpers),
-        Err(_) => unserved(Outcome::NoMemory),
-    }
+    let ended = serve_lines(options.generate, &mut opened, files, input, output);
+    served(ended, options, opened.server.outbox.sent())
 }
 
 // The run but for its notes.
 fn run_unnoted<L: Loader, S: Source, K: Sink>(
-    alloc: Global,
-    tree: Tree,
+    setting: Setting,
     words: &[String],
     files: &mut L,
     input: &mut S,
     output: &mut K,
-    helpers: Vec<Box<dyn Helper>>,
 ) -> Ran
-    ensures came { CameCounted tree (handed state helpers.items) (map string_bytes words.now)
+    ensures came { CameCounted setting.tree (handed state setting.helpers.items) (map string_bytes words.now)
         (L.contents files.old) (L.missed files.old) (L.missed files.new)
         (streams (S.left input.old) (S.piece input.old) (S.faults input.old) (K.written output.old)
         (K.faults output.old))
@@ -199,8 +155,8 @@ fn run_unnoted<L: Loader, S: Source, K: Sink>(
     ensures last_read { result.outcome ≡ Outcome.InputFault → S.failed input.new ≡ true }
     ensures last { result.outcome ≡ Outcome.OutputFault → K.failed output.new ≡ true }
 {
-    match read_options(alloc, words) {
-        Ok(options) => run_helped(alloc, tree, &options, files, input, output, helpers),
+    match read_options(setting.alloc, words) {
+        Ok(options) => run_options(setting, &options, files, input, output),
         Err(OptionsError::Usage) => unserved(Outcome::Usage),
         Err(OptionsError::NoMemory) => unserved(Outcome::NoMemory),
     }
@@ -307,7 +263,12 @@ pub fn run_in<L: Loader, S: Source, K: Sink, D: Sink>(
     // A fault of the output was its last call.
     ensures last { result ≡ Outcome.OutputFault → K.failed output.new ≡ true }
 {
-    let ran = run_unnoted(alloc, tree, words, files, input, output, helpers);
+    let setting = Setting {
+        alloc,
+        tree,
+        helpers,
+    };
+    let ran = run_unnoted(setting, words, files, input, output);
     put_ran(notes, ran);
     ran.outcome
 }

@@ -33,7 +33,7 @@ struct Row {
 }
 
 /// Sessions by what they show.
-static ROWS: [Row; 8] = [
+static ROWS: [Row; 9] = [
     Row {
         name: "a last line without a line feed is answered",
         lines: b"boardsize 5\nplay b A1\nplay w B2\n\n# a comment\ndepths 3 0\n1 attack a1",
@@ -60,7 +60,7 @@ static ROWS: [Row; 8] = [
     },
     Row {
         name: "a command of gopat alone is unknown, whatever its arguments are",
-        lines: b"5 genmove b\n6 genmove\n7 attack_proof A1\n8 known_command genmove\n9 known_command\n10\n",
+        lines: b"5 genmove b\n6 genmove\n7 findlib A1\n8 known_command genmove\n9 known_command\n10\n",
         input_fails: &[],
         output_fails: &[],
         put: b"?5 unknown command\n\n?6 unknown command\n\n?7 unknown command\n\n=8 false\n\n\
@@ -73,6 +73,16 @@ static ROWS: [Row; 8] = [
         input_fails: &[],
         output_fails: &[],
         put: b"=\n\n=\n\n= 0\n\n? syntax error\n\n? syntax error\n\n? unacceptable size\n\n= 0\n\n",
+        end: End::Done,
+    },
+    Row {
+        name: "a proof is told of a sure capture alone, and is checked",
+        lines: b"loadsgf corner.sgf\ndepths 3 0\nattack_proof A1\ndefend_proof A1\ndepths 2 0\nattack_proof A1\n\
+            check_proof attack A1 3 A2 * B1 . ;\nattack_proof E5\n",
+        input_fails: &[],
+        output_fails: &[],
+        put: b"=\n\n=\n\n= 3 A2 * B1 . A3 B1 . B3 B1 . B1 C1 . C1 B1 . ;\n\n= 3\n\n=\n\n= 0\n\n= false\n\n\
+            ? vertex must not be empty\n\n",
         end: End::Done,
     },
     Row {

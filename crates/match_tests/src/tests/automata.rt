@@ -4,7 +4,7 @@ use super::{
     patterns_of,
 };
 use dfa_core::Automaton;
-use dfa_join::{JoinError, by_halves, by_sets, compile};
+use dfa_join::{JoinError, compile};
 use std::alloc::Global;
 
 /// A list of patterns and its automaton.
@@ -174,36 +174,5 @@ fn is_right(alloc: Global, list: &List) -> Option<bool> {
 fn automata_of_small_lists(rt: HostRuntime) {
     for list in &LISTS {
         assert!(rt; is_right(rt.alloc(), list) == Some(true), "{}", list.name);
-    }
-}
-
-/// How many rows an automaton may have that is compared.
-const COMPARED: u32 = 1000;
-
-/// Whether two automata have the same entries and numbers.
-fn are_same(one: &Automaton, other: &Automaton) -> bool {
-    one.entries() == other.entries() && one.numbers() == other.numbers()
-}
-
-/// Whether the sets of a list give the table that its halves give, and none if they may have no live pattern.
-fn has_one_table(alloc: Global, list: &List) -> Option<bool> {
-    let patterns = patterns_of(alloc, list.text)?;
-    if patterns.len() > 4096 {
-        return None;
-    }
-    let halves = by_halves(alloc, &patterns, COMPARED).ok()?;
-    let sets = by_sets(alloc, &patterns, COMPARED, usize::MAX).ok()??;
-    let too_large = by_sets(alloc, &patterns, COMPARED, 0).ok()?;
-    Some(are_same(&sets, &halves) && too_large.is_none() != patterns.is_empty())
-}
-
-#[test]
-fn sets_and_halves_give_one_table(rt: HostRuntime) {
-    for list in &LISTS {
-        assert!(rt;
-            has_one_table(rt.alloc(), list) == Some(true),
-            "{}",
-            list.name
-        );
     }
 }

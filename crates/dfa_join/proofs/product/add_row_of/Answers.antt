@@ -1,9 +1,8 @@
 use Rattle.std.proofs.Common.{◌++◌, max, ◌∙◌, ap, sym, subst, length}
 use Rattle.std.proofs.lemmas.List.{length_push}
 use Rattle.dfa_core.specs.Automata.{Row}
-use Rattle.dfa_join.specs.Worklists.{IsRowOf}
-use Rattle.dfa_join.specs.Pairs.{both, IsReached, AreRowsOf}
-use Rattle.dfa_join.proofs.Worklists.{AreRowsOf-push}
+use Rattle.dfa_join.specs.Pairs.{IsReached, AreRowsOf, IsRowOf}
+use Rattle.dfa_join.proofs.Products.{AreRowsOf-push}
 use Rattle.dfa_join.proofs.product.add_row_of.Goals.{In-Ok}
 use Rattle.dfa_join.proofs.product.add_row_of.Goals as goal
 
@@ -26,7 +25,7 @@ row_of c = record {
 }
 
 -- the row that is added is the row of the pair
-is_row : (c : In-Ok) → IsRowOf (both c.args.a.now c.args.b.now) c.expand.new.pairs c.args.pair (row_of c)
+is_row : (c : In-Ok) → IsRowOf c.args.a.now c.args.b.now c.expand.new.pairs c.args.pair (row_of c)
 is_row c = record {
   leads = c.in_ok-targets.ensures.leads;
   numbers = λ i. c.accepts.ensures i ++ c.accepts-2.ensures i;
@@ -39,9 +38,9 @@ returns-in-Ok-clause-made c =
     let a = c.args.a.now in
     let b = c.args.b.now in
     subst (AreRowsOf a b c.args.limit c.expand.new.pairs) (sym c.in-Ok.ensures.added)
-    (AreRowsOf-push (both a b) c.args.limit c.args.pairs.now c.expand.new.pairs c.args.rows.now (row_of c)
+    (AreRowsOf-push a b c.args.limit c.args.pairs.now c.expand.new.pairs c.args.rows.now (row_of c)
     c.requires.made c.requires.next c.in_ok-targets.ensures.keeps c.in_ok-targets.ensures.work
-    (subst (λ q. IsRowOf (both a b) c.expand.new.pairs q (row_of c)) (sym c.requires.pair) (is_row c))
+    (subst (λ q. IsRowOf a b c.expand.new.pairs q (row_of c)) (sym c.requires.pair) (is_row c))
     c.in_ok-targets.ensures.order)
 
 -- there is one row more

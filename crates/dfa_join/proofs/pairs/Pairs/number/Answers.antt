@@ -1,8 +1,7 @@
 use Rattle.std.proofs.Common.{◌≡◌, ◌++◌, ◌∷◌, [], length, Some, ap, sym, subst, arith, ◌∙◌}
 use Rattle.dfa_join.specs.Pairs.{Adds}
 use Rattle.dfa_join.specs.Index.{Tells, told_by}
-use Rattle.dfa_join.proofs.Worklists.{Adds-push}
-use Rattle.dfa_join.proofs.PairLists.{Tells-push}
+use Rattle.dfa_join.proofs.PairLists.{Adds-push, Tells-push}
 use Rattle.dfa_join.proofs.pairs.Pairs.number.Goals.{After-push_reserved}
 use Rattle.dfa_join.proofs.pairs.Pairs.number.Goals as goal
 
@@ -17,7 +16,7 @@ adds : (c : After-push_reserved) → Adds c.args.limit c.self.inside.list.items
 adds c =
     let list = c.self.inside.list.items in
     let told = subst (Tells list c.args.pair) (sym c.number.ensures ∙ c.in_default.is) (c.self.invariant c.args.pair) in
-    Adds-push (0, 0) c.args.limit list c.args.pair told.1 (omega (arith, c.len-number.ensures, c.if-number-limit.false))
+    Adds-push c.args.limit list c.args.pair told.1 (omega (arith, c.len-number.ensures, c.if-number-limit.false))
 
 -- what the index tells is so of the longer list
 pub invariant_of-self-2 : goal.invariant_of-self-2

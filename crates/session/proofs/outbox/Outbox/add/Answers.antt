@@ -21,4 +21,5 @@ returns c =
     let room : c.self.inside.count < length c.self.inside.marks = search rules in
     let fits : c.self.inside.len ≤ length c.self.inside.bytes = search rules in
     sends-more c.self.inside.len c.self.inside.count c.self.inside.bytes c.write_at.new.bytes c.args.reply.now
-    c.self.inside.marks _ c.write_at.ensures room fits refl c.args.self.now c.self.view_is c.self.invariant.2
+    c.self.inside.marks _ c.write_at.ensures room fits refl c.self.inside.sent c.args.self.now c.self.view_is
+    c.self.invariant.2

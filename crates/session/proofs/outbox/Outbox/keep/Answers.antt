@@ -6,13 +6,13 @@ use Rattle.session.proofs.outbox.Outbox.keep.Goals as goal
 -- it went out
 pub returns-then-now-clause-ok : goal.returns-then-now-clause-ok
 returns-then-now-clause-ok g c = on_ok_map c.flush.result
-    (sends-stays _ _ _ _ _ _ _ _ _ _ _ (c.add.ensures _ _)) c.flush.ensures.ok
+    (sends-stays _ _ _ _ _ (c.add.ensures _)) c.flush.ensures.ok
 
 -- a reply broke off
 pub returns-then-now-clause-part : goal.returns-then-now-clause-part
-returns-then-now-clause-part g c = if_err_map c.flush.result (λ noted at. (c.add.ensures _ _).stops _ at)
+returns-then-now-clause-part g c = if_err_map c.flush.result (λ noted at. (c.add.ensures _).stops _ at)
     c.flush.ensures.part
 
 -- it waits
 pub returns-clause-ok : goal.returns-clause-ok
-returns-clause-ok g c = c.add.ensures _ _
+returns-clause-ok g c = c.add.ensures _
