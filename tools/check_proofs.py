@@ -350,12 +350,16 @@ WORDS: dict[Callable[[random.Random, Proof], list[str]], int] = {
 }
 
 
+# The most wide plies that gopat takes.
+MOST_WIDE = 12
+
+
 def other_depths(choose: random.Random, depths: Depths) -> Depths:
     """Depths near these, or far from them, in the same tree."""
     if choose.random() < 0.2:
-        return depths._replace(plies=choose.randint(1, 30), wide=choose.randint(0, 12))
+        return depths._replace(plies=choose.randint(1, 30), wide=choose.randint(0, MOST_WIDE))
     plies, wide = depths.plies + choose.choice([-2, -1, 0, 1, 2]), depths.wide + choose.choice([-1, 0, 0, 1])
-    return depths._replace(plies=max(plies, 1), wide=max(wide, 0))
+    return depths._replace(plies=max(plies, 1), wide=min(max(wide, 0), MOST_WIDE))
 
 
 class Change(NamedTuple):
