@@ -105,7 +105,18 @@ class Reading:
             return close(b, self.target)
         if self.is_beside_liberty(b, p, wide):
             return close(b, self.target) | {p}
-        return set(range(len(b.cells)))
+        enemy = self.weak_enemy_at(b, p)
+        return set(range(len(b.cells))) if enemy is None else close(b, self.target) | close(b, enemy)
+
+    def weak_enemy_at(self, b: Position, p: int) -> int | None:
+        """The first attacker's stone next to the target's string whose string has few liberties, one of which is p."""
+        stones, most = string(b, self.target)[0], 2 if self.is_wider else 1
+        for q in range(len(b.cells)):
+            if b.cells[q] == self.attacker and any(x in stones for x in beside(b, q)):
+                liberties = string(b, q)[1]
+                if p in liberties and len(liberties) <= most:
+                    return q
+        return None
 
     def has_too_many(self, b: Position, wide: int) -> bool:
         """Whether the target has more liberties than the attacker may play at."""

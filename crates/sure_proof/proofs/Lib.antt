@@ -5,3 +5,4 @@ pub mod LossLemmas
 pub mod ProofLemmas
 pub mod StepLemmas
 pub mod RestLemmas
+pub mod FurtherKept

@@ -35,12 +35,15 @@ use Rattle.read_proof.specs.Tokens.{Word}
 use Rattle.read_proof.specs.Proves.{child_after}
 use Rattle.read_proof.proofs.SoundLemmas.{played_on_board}
 use Rattle.vertices.specs.Vertices.{target_of as target_named}
+use Rattle.wider_rules.specs.Further.{is_weak_enemy}
+use Rattle.wider_rules.proofs.FurtherLaws.{weak_gives}
 use Rattle.sure_rules.specs.Nodes.{is_attackers, is_gone, is_taken_for_good, has_too_many, target_of}
 use Rattle.sure_rules.specs.SureTree.{surely_wins}
 use Rattle.sure_rules.specs.Zones.{points_of, IsZone}
 use Rattle.sure_rules.proofs.ZoneLemmas.{zone_taken_back, zone_attacker, zone_defender}
 use Rattle.sure_proof.specs.Rests.{Points, first_two, close_to, shows_atari, play_rests_on, loss_rests_on}
-use Rattle.sure_proof.specs.Rests.{candidate_rests_on, all_points, guard_at, guard_of, asked_at, asked_of, last_of}
+use Rattle.sure_proof.specs.Rests.{most_of_enemy, weak_enemy_at, with_string, candidate_rests_on, all_points}
+use Rattle.sure_proof.specs.Rests.{guard_at, guard_of, asked_at, asked_of, last_of}
 use Rattle.sure_proof.specs.SureProofs.{Proved, Prover, proved_by, with_points, behind_word, behind_vertex, is_to, by_capture, by_back}
 use Rattle.sure_proof.specs.SureProofs.{by_child}
 use Rattle.sure_proof.specs.SureProofs.{by_move, at_reply, at_replies, replies_to, at_end, behind_pass, by_replies, by_turn}
@@ -49,6 +52,7 @@ use Rattle.sure_proof.proofs.ShownLemmas.{insert_self, insert_more, union_first,
 use Rattle.sure_proof.proofs.ShownLemmas.{IsShown, has_two, all_same, SameOn, shown, first_two_give, liberty_in}
 use Rattle.sure_proof.proofs.PlayLemmas.{state}
 use Rattle.sure_proof.proofs.SoundLemmas.{has, IsWithin, on_board, zone_on_board, child_there, child_here, stone_of_cell}
+use Rattle.sure_proof.proofs.FurtherKept.{weak_kept, weak_candidate, weak_given}
 use Rattle.sure_proof.proofs.LossLemmas.{loss_point, loss_zone, play_within}
 use Rattle.sure_proof.proofs.SoundLemmas.{liberties_same, count_same, many_same, candidate_without_ban}
 
@@ -79,11 +83,12 @@ module _ (turn : Turn) (pos : BoardState) (p : ℕ) where
   unfolding candidate_rests_on
   rests_wide f t = rw (f, t) refl
 
-  -- any other on all points
-  pub rests_all : is_liberty pos.size pos.cells turn.target p ≡ false → is_wide turn pos p ≡ false
-      → candidate_rests_on turn pos p ≡ all_points pos.size
+  -- any other by a weak enemy
+  pub rests_other : is_liberty pos.size pos.cells turn.target p ≡ false → is_wide turn pos p ≡ false
+      → candidate_rests_on turn pos p ≡ with_string pos.size pos.cells turn.target
+      (weak_enemy_at (most_of_enemy turn.tree) pos.size pos.cells turn.target p)
   unfolding candidate_rests_on
-  rests_all f g = rw (f, g) refl
+  rests_other f g = rw (f, g) refl
 
 -- Two boards of s rows that agree on what is close to a target that stands.
 module _ (turn : Turn) (s : ℕ) (a b : List Cell) (x y : Option (ℕ × Colour)) (p : ℕ) (on : turn.target < s * s)
@@ -121,13 +126,25 @@ module _ (turn : Turn) (s : ℕ) (a b : List Cell) (x y : Option (ℕ × Colour)
         beside = both.1;
       }))
 
+  -- and so is a liberty of a weak enemy of which the boards show the same
+  near_weak : turn.attacker_to_play ≡ true → (q : ℕ) → q < s * s
+      → (is_weak_enemy (most_of_enemy turn.tree) s a turn.target q && is_liberty s a q p) ≡ true
+      → SameOn (close_to s a q) a b → is_candidate turn (state s b y) p ≡ true
+  near_weak attacks q q_on t near =
+      let both = and_parts (is_weak_enemy (most_of_enemy turn.tree) s a turn.target q) (is_liberty s a q p) t in
+      let weak = weak_kept s a b turn.target q (most_of_enemy turn.tree) on agree near
+      (weak_gives s a turn.target (most_of_enemy turn.tree) q q_on both.0) in
+      weak_candidate turn (state s b y) p on attacks q weak.0
+      (IsLiberty-from_test s b q p (sym (weak.1 p) ∙ both.1))
+
 -- on a position that agrees on what a candidate rests on, the target has too many liberties as here, and the point is a
 -- candidate
 candidate_there : (turn : Turn) (pos here : BoardState) (p : ℕ) (Z : Points) → IsPosition pos → IsPosition here
     → turn.target < pos.size * pos.size → is_stone (cell_at pos.cells turn.target) ≡ true
-    → is_candidate turn pos p ≡ true → AgreeOn (points_of (has Z)) pos here → IsWithin (candidate_rests_on turn pos p) Z
+    → turn.attacker_to_play ≡ true → is_candidate turn pos p ≡ true → AgreeOn (points_of (has Z)) pos here
+    → IsWithin (candidate_rests_on turn pos p) Z
     → (has_many_liberties turn here ≡ has_many_liberties turn pos) × (is_candidate turn here p ≡ true)
-candidate_there turn pos here p Z good sound on stone candidate same within =
+candidate_there turn pos here p Z good sound on stone attacks candidate same within =
     subst (λ t. (has_many_liberties turn (state t here.cells here.ban) ≡ has_many_liberties turn pos)
     × (is_candidate turn (state t here.cells here.ban) p ≡ true)) same.sizes
     (elim (cases_Bool (is_liberty pos.size pos.cells turn.target p)) [
@@ -148,16 +165,32 @@ candidate_there turn pos here p Z good sound on stone candidate same within =
               near_wide turn pos.size pos.cells here.cells pos.ban here.ban p on stone close t
                   (its p (insert_self p (close_to pos.size pos.cells turn.target))),
             )
-        | inr g ↦
-            let cells = cells_same Z pos here good sound same
-            (λ q inside. within q (ap (λ (S : Points). has S q) (rests_all turn pos p f g) ∙ inside)) in (
-              many_same turn pos.size pos.cells here.cells pos.ban here.ban
-                  (ap (λ k. liberties pos.size k turn.target) cells),
-              subst (λ k. is_candidate turn (state pos.size k here.ban) p ≡ true) cells
-                  (candidate_without_ban turn pos.size pos.cells pos.ban here.ban p candidate),
-            )
+        | inr g ↦ by_weak (weak_enemy_at (most_of_enemy turn.tree) pos.size pos.cells turn.target p) refl
+            (λ q inside. within q (ap (λ (S : Points). has S q) (rests_other turn pos p f g) ∙ inside))
       ]
     ])
+  where
+    by_weak : (o : Option ℕ) → weak_enemy_at (most_of_enemy turn.tree) pos.size pos.cells turn.target p ≡ o
+        → IsWithin (with_string pos.size pos.cells turn.target o) Z
+        → (has_many_liberties turn (state pos.size here.cells here.ban) ≡ has_many_liberties turn pos)
+        × (is_candidate turn (state pos.size here.cells here.ban) p ≡ true)
+    by_weak None is all =
+        let cells = cells_same Z pos here good sound same all in (
+          many_same turn pos.size pos.cells here.cells pos.ban here.ban
+              (ap (λ k. liberties pos.size k turn.target) cells),
+          subst (λ k. is_candidate turn (state pos.size k here.ban) p ≡ true) cells
+              (candidate_without_ban turn pos.size pos.cells pos.ban here.ban p candidate),
+        )
+    by_weak (Some q) is both =
+        let its = close_to pos.size pos.cells turn.target in
+        let close : SameOn its pos.cells here.cells = λ x inside.
+        same.cells x (both x (union_first x its (close_to pos.size pos.cells q) inside)) in
+        let near : SameOn (close_to pos.size pos.cells q) pos.cells here.cells = λ x inside.
+        same.cells x (both x (union_second x its (close_to pos.size pos.cells q) inside)) in
+        let found = weak_given (most_of_enemy turn.tree) pos.size pos.cells turn.target p q is in (
+          near_many turn pos.size pos.cells here.cells pos.ban here.ban p on stone close,
+          near_weak turn pos.size pos.cells here.cells pos.ban here.ban p on stone close attacks q found.0 found.1 near,
+        )
 
 -- The attacker's turn, by a candidate that leads to a child with a zone.
 module _ (n : ℕ) (node : Node) (pos : BoardState) (p : ℕ) (next : Node) (first : BoardState) (W : Points)
@@ -180,7 +213,7 @@ module _ (n : ℕ) (node : Node) (pos : BoardState) (p : ℕ) (next : Node) (fir
       let there : (here : BoardState) → IsPosition here → AgreeOn (points_of (has all_of_it)) pos here
       → (has_too_many node here ≡ has_too_many node pos) × (is_candidate node.turn here p ≡ true)
       = λ here sound same. candidate_there node.turn pos here p all_of_it good sound on
-      (stone_of_cell (cell_at pos.cells node.turn.target) stands) candidate same
+      (stone_of_cell (cell_at pos.cells node.turn.target) stands) turn candidate same
       (λ q inside. union_first q both W (union_first q (candidate_rests_on node.turn pos p)
       (play_rests_on pos.size pos.cells p) inside)) in
       zone_attacker n node pos (has all_of_it) turn (record {

@@ -1,10 +1,11 @@
 -- The sets of points as loops and looks find them.
 use Rattle.std.proofs.Common.{◌≡◌, ◌∙◌, ℕ, ◌+◌, ◌*◌, ◌<◌, ◌≤◌, ◌&&◌, Bool, true, false, cond, List, Some, None}
-use Rattle.std.proofs.Common.{refl, sym, ap, inl, inr, arith, ltb, add-one}
+use Rattle.std.proofs.Common.{refl, sym, ap, inl, inr, arith, ltb, leb, add-one}
 use Rattle.std.specs.Option.{option_map, option_and_then}
 use Rattle.std.specs.FinSet as sets
 use Rattle.std.proofs.lemmas.Bool.{cases_Bool, and_from, lt-ltb, ltb-true}
 use Rattle.go_rules.specs.declared.Cell.{Cell}
+use Rattle.go_rules.specs.BesideStrings.{is_enemy, is_beside_string}
 use Rattle.go_rules.specs.Below.{any_below, first_below}
 use Rattle.go_rules.specs.Board.{largest_points, are_neighbours}
 use Rattle.go_rules.specs.declared.Cell.TheVariants.{Empty, Black, White}
@@ -18,7 +19,9 @@ use Rattle.read_rules.specs.Candidates.{is_empty_beside}
 use Rattle.go_rules.proofs.Counts.{first_below_is, first_below_none, any_below_same}
 use Rattle.go_rules.proofs.Sets.{contains-set_below, len-set_below}
 use Rattle.sure_proof.specs.Rests.{Points, union_below, first_two, shown_by, shows_atari, last_of, asked_at}
-use Rattle.sure_proof.specs.Rests.{is_open, open_neighbour}
+use Rattle.sure_proof.specs.Rests.{is_open, open_neighbour, weak_enemy_at}
+use Rattle.wider_rules.specs.Further.{is_weak_enemy}
+use Rattle.wider_rules.proofs.StringLemmas.{has_enemy}
 
 -- A set, and its first point.
 module _ (S : Points) where
@@ -136,3 +139,48 @@ module _ (s : ℕ) (cells : List Cell) (c : Colour) (p : ℕ) where
   unfolding open_neighbour
   open_none n four none = ap (option_and_then (neighbour_at s p))
       (first_below_none 4 (λ k. is_open cells c (neighbour_at s p k)) (λ k less. none k (omega (arith, less, four))))
+
+-- what both of a pair say is what both say of them in the other order
+both_swapped : (a b : Bool) → (a && b) ≡ (b && a)
+both_swapped true true = refl
+both_swapped true false = refl
+both_swapped false true = refl
+both_swapped false false = refl
+
+-- what three say together does not depend on which two are read first
+three_grouped : (a b c : Bool) → (a && (b && c)) ≡ ((a && b) && c)
+three_grouped true b c = refl
+three_grouped false b c = refl
+
+-- a weak enemy with p for a liberty is in the set of the enemies, and its string has few liberties, one of which is p
+pub weak_by_set : (most s : ℕ) (cells : List Cell) (target q p : ℕ) (foes : Points) → q < s * s
+    → foes ≡ enemy_points s cells target
+    → (is_weak_enemy most s cells target q && is_liberty s cells q p)
+    ≡ (sets.contains foes q && (leb (liberties s cells q) most && is_liberty s cells q p))
+unfolding is_weak_enemy
+weak_by_set most s cells target q p foes on e =
+    let enemy = is_enemy (cell_at cells target) (cell_at cells q) in
+    let beside = is_beside_string s cells target q in
+    let few = leb (liberties s cells q) most in
+    sym (three_grouped (enemy && beside) few (is_liberty s cells q p))
+    ∙ ap (λ b. b && (few && is_liberty s cells q p)) (both_swapped enemy beside
+    ∙ sym (has_enemy s cells target q foes e ∙ ap (λ b. b && (beside && enemy)) (lt-ltb q (s * s) on)))
+
+-- The points of the board, one by one.
+module _ (most s : ℕ) (cells : List Cell) (target p : ℕ) where
+  -- the first weak enemy that has p for a liberty is the first that passes
+  pub weak_is : (q : ℕ) → q < s * s
+      → ((k : ℕ) → k < q → (is_weak_enemy most s cells target k && is_liberty s cells k p) ≡ false)
+      → (is_weak_enemy most s cells target q && is_liberty s cells q p) ≡ true
+      → weak_enemy_at most s cells target p ≡ Some q
+  unfolding weak_enemy_at
+  weak_is q less none here =
+      first_below_is (s * s) (λ k. is_weak_enemy most s cells target k && is_liberty s cells k p) q less here none
+
+  -- there is none if none passes
+  pub weak_none : (n : ℕ) → s * s ≤ n
+      → ((k : ℕ) → k < n → (is_weak_enemy most s cells target k && is_liberty s cells k p) ≡ false)
+      → weak_enemy_at most s cells target p ≡ None
+  unfolding weak_enemy_at
+  weak_none n all none = first_below_none (s * s) (λ k. is_weak_enemy most s cells target k && is_liberty s cells k p)
+      (λ k less. none k (omega (arith, less, all)))

@@ -15,8 +15,11 @@ use Rattle.go_base.specs.Floods.{enemy_points}
 use Rattle.go_base.specs.Sides.{neighbour_at}
 use Rattle.read_rules.specs.Candidates.{is_empty_beside}
 use Rattle.read_rules.specs.declared.node.Node.{Node}
+use Rattle.read_rules.specs.declared.tree.Tree.{Tree}
+use Rattle.read_rules.specs.declared.tree.Tree.TheVariants.{Stated, Wider}
 use Rattle.read_rules.specs.declared.turn.Turn.{Turn}
 use Rattle.read_rules.specs.Trees.{is_wider}
+use Rattle.wider_rules.specs.Further.{is_weak_enemy, few_of_attacker}
 
 -- a set of points
 abbrev pub Points : Type 0
@@ -87,16 +90,35 @@ loss_rests_on node pos =
 abbrev pub all_points : ℕ → Points
 all_points s = set_below (s * s) (λ q. true)
 
--- what shows that p is a candidate at the turn and that the target has not too many liberties. A liberty of the target
--- rests on the target's string and its neighbours, and a point beside a liberty on p too; every other candidate rests on
--- all points of the board
+-- how many liberties an enemy string next to the target's may have whose liberties are candidates of the attacker in
+-- each ply: one, and in the wider tree two
+abbrev pub most_of_enemy : Tree → ℕ
+most_of_enemy Stated = 1
+most_of_enemy Wider = few_of_attacker
+
+-- the first enemy stone next to the target's string, in reading order, whose string has at most so many liberties, one
+-- of which is p
+unfoldable pub weak_enemy_at : ℕ → ℕ → List Cell → ℕ → ℕ → Option ℕ
+weak_enemy_at most s cells target p =
+    first_below (s * s) (λ q. is_weak_enemy most s cells target q && is_liberty s cells q p)
+
+-- the string of the target and that of q, each with all its neighbours; all points of the board if there is no q
+abbrev pub with_string : ℕ → List Cell → ℕ → Option ℕ → Points
+with_string s cells target None = all_points s
+with_string s cells target (Some q) = set.union (close_to s cells target) (close_to s cells q)
+
+-- what shows that p is a candidate of the attacker at the turn and that the target has not too many liberties. A liberty
+-- of the target rests on the target's string and its neighbours, a point beside a liberty on p too, and a liberty of a
+-- weak enemy string next to the target on that string and its neighbours too; every other candidate rests on all points
+-- of the board
 unfoldable pub candidate_rests_on : Turn → BoardState → ℕ → Points
 candidate_rests_on turn pos p =
     if is_liberty pos.size pos.cells turn.target p then close_to pos.size pos.cells turn.target
     else if (nat_lt 0 turn.wide && nat_lt (liberties pos.size pos.cells turn.target) 3)
     && is_empty_beside pos.size pos.cells (is_liberty pos.size pos.cells turn.target) p
     then set.insert (close_to pos.size pos.cells turn.target) p
-    else all_points pos.size
+    else with_string pos.size pos.cells turn.target
+    (weak_enemy_at (most_of_enemy turn.tree) pos.size pos.cells turn.target p)
 
 -- what guards q of the zone Z: if q holds a stone of c, what shows whether its string is in atari
 abbrev pub guard_at : ℕ → List Cell → Colour → Points → ℕ → Points

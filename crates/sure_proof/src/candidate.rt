@@ -1,18 +1,20 @@
 //! What shows that a point is a candidate of the attacker, and that the target has not too many liberties.
 
-ghost use Rattle.std.specs.Prelude.{◌≡◌, ◌*◌, ◌<◌, ◌&&◌, ◌||◌, ◌==◌, nat_lt, IsTrue, ℕ, false, Some};
+ghost use Rattle.std.specs.Prelude.{◌≡◌, ◌*◌, ◌<◌, ◌&&◌, ◌||◌, ◌==◌, nat_lt, nat_le, IsTrue, IfSome, ℕ, false, Some};
 ghost use Rattle.std.specs.FinSet as set;
 ghost use Rattle.go_rules.specs.Below.{any_below};
 ghost use Rattle.go_rules.specs.Board.{largest_points, are_neighbours};
 ghost use Rattle.go_rules.specs.Strings.{liberties as liberties_at, liberty_points, is_liberty};
+ghost use Rattle.go_base.specs.Floods.{enemy_points};
 ghost use Rattle.go_base.specs.Sides.{neighbour_at};
 ghost use Rattle.read_rules.specs.Candidates.{is_empty_beside};
-ghost use Rattle.sure_proof.specs.Rests.{all_points, candidate_rests_on};
+ghost use Rattle.wider_rules.specs.Further.{is_weak_enemy};
+ghost use Rattle.sure_proof.specs.Rests.{all_points, most_of_enemy, weak_enemy_at, with_string, candidate_rests_on};
 
-use crate::shown::close_to;
+use crate::shown::{close_to, string_of};
 use go_base::sides::neighbour;
 use go_base::{Cell, Point, PointSet, Position, Size};
-use read_rules::Turn;
+use read_rules::{Tree, Turn};
 
 /// With so many liberties or more the empty points next to a target's liberties are not tried.
 const MANY: u16 = 3;
@@ -85,7 +87,90 @@ fn is_wide(pos: &Position, turn: Turn, liberties: &PointSet, p: Point) -> bool
     are_all(turn.wide > 0, liberties.count() < MANY, beside)
 }
 
-/// What shows that p is a candidate at the turn, and that the target has not too many liberties.
+/// How many liberties an enemy string next to the target's may have whose liberties are candidates in each ply.
+fn most_of_enemy(tree: Tree) -> u16
+    ensures { result ≡ most_of_enemy tree }
+{
+    match tree {
+        Tree::Stated => 1,
+        Tree::Wider => 2,
+    }
+}
+
+/// Whether both are so.
+fn are_both(first: bool, second: bool) -> bool
+    ensures { result ≡ (first && second) }
+{
+    first && second
+}
+
+/// Whether the string of q has at most so many liberties, one of which is p.
+fn has_few(pos: &Position, most: u16, q: Point, p: Point) -> bool
+    requires on_board { q < pos.now.size * pos.now.size }
+    requires point { p < pos.now.size * pos.now.size }
+    requires small { p < largest_points }
+    ensures { result ≡ (nat_le (liberties_at pos.now.size pos.now.cells q) most
+        && is_liberty pos.now.size pos.now.cells q p) }
+{
+    let liberties = pos.liberty_points(q);
+    are_both(liberties.count() <= most, liberties.has(p))
+}
+
+/// Whether q is one of these enemies next to the target's string, and its string has at most so many liberties, one of
+/// which is p.
+fn is_weak_at(
+    pos: &Position,
+    target: Point,
+    enemies: &PointSet,
+    most: u16,
+    q: Point,
+    p: Point,
+) -> bool
+    requires on_board { q < pos.now.size * pos.now.size }
+    requires point { p < pos.now.size * pos.now.size }
+    requires small { (q < largest_points) × (p < largest_points) }
+    requires enemies { enemies.now ≡ enemy_points pos.now.size pos.now.cells target }
+    ensures { result ≡ (is_weak_enemy most pos.now.size pos.now.cells target q
+        && is_liberty pos.now.size pos.now.cells q p) }
+{
+    enemies.has(q) && has_few(pos, most, q, p)
+}
+
+/// The first enemy stone next to the target's string whose string has at most so many liberties, one of which is p.
+fn weak_enemy_at(pos: &Position, target: Point, most: u16, p: Point) -> Option<Point>
+    requires target { target < pos.now.size * pos.now.size }
+    requires point { p < pos.now.size * pos.now.size }
+    requires small { p < largest_points }
+    ensures value { result ≡ weak_enemy_at most pos.now.size pos.now.cells target p }
+    ensures on_board { IfSome result (λ q. q < pos.now.size * pos.now.size) }
+{
+    let enemies = string_of(pos, target).enemies;
+    for q in 0..pos.size().points() {
+        if is_weak_at(pos, target, &enemies, most, q, p) {
+            return Some(q);
+        }
+    }
+    None
+}
+
+/// The string of the target and that of `other`, each with all its neighbours; all points of the board if there is no
+/// `other`.
+fn with_string(pos: &Position, target: Point, other: Option<Point>) -> PointSet
+    requires target { target < pos.now.size * pos.now.size }
+    requires other { IfSome other (λ q. q < pos.now.size * pos.now.size) }
+    ensures { result ≡ with_string pos.now.size pos.now.cells target other }
+{
+    match other {
+        Some(q) => {
+            let mut points = close_to(pos, target);
+            points.join(&close_to(pos, q));
+            points
+        }
+        None => all_points(pos.size()),
+    }
+}
+
+/// What shows that p is a candidate of the attacker at the turn, and that the target has not too many liberties.
 pub(crate) fn candidate_rests_on(pos: &Position, turn: Turn, p: Point) -> PointSet
     requires target { turn.target < pos.now.size * pos.now.size }
     requires on_board { p < pos.now.size * pos.now.size }
@@ -101,5 +186,6 @@ pub(crate) fn candidate_rests_on(pos: &Position, turn: Turn, p: Point) -> PointS
         points.add(p);
         return points;
     }
-    all_points(pos.size())
+    let enemy = weak_enemy_at(pos, turn.target, most_of_enemy(turn.tree), p);
+    with_string(pos, turn.target, enemy)
 }

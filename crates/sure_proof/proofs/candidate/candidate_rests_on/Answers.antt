@@ -1,8 +1,8 @@
 -- What a candidate rests on, by what kind it is.
 use Rattle.std.proofs.Common.{◌≡◌, ◌∙◌, ap, sym}
 use Rattle.std.specs.FinSet as set
-use Rattle.sure_proof.specs.Rests.{all_points}
-use Rattle.sure_proof.proofs.ProofLemmas.{rests_liberty, rests_wide, rests_all}
+use Rattle.sure_proof.specs.Rests.{weak_enemy_at, with_string}
+use Rattle.sure_proof.proofs.ProofLemmas.{rests_liberty, rests_wide, rests_other}
 use Rattle.sure_proof.proofs.RestLemmas.{in_liberties}
 use Rattle.sure_proof.proofs.candidate.candidate_rests_on.Goals as goal
 
@@ -28,8 +28,10 @@ returns-then-is_wide c =
 pub returns : goal.returns
 returns c =
     let pos = c.args.pos.now in
-    c.all_points.ensures ∙ ap all_points c.size.ensures.value
-    ∙ sym (rests_all c.args.turn pos c.args.p
-    (sym (in_liberties pos.size pos.cells c.args.turn.target c.args.p c.requires.on_board)
+    let target = c.args.turn.target in
+    c.with_string.ensures ∙ ap (with_string pos.size pos.cells target) (c.weak_enemy_at-enemy.ensures.value
+    ∙ ap (λ most. weak_enemy_at most pos.size pos.cells target c.args.p) c.most_of_enemy.ensures)
+    ∙ sym (rests_other c.args.turn pos c.args.p
+    (sym (in_liberties pos.size pos.cells target c.args.p c.requires.on_board)
     ∙ ap (λ S. set.contains S c.args.p) (sym c.liberty_points-liberties.ensures) ∙ sym c.has.ensures ∙ c.if-has.false)
     (sym c.is_wide.ensures ∙ c.if-is_wide.false))

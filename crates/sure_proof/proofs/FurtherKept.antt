@@ -1,0 +1,93 @@
+-- Candidates that a string next to the target shows, on boards that agree on both strings and their neighbours.
+use Rattle.std.proofs.Common.{◌≡◌, ◌∙◌, ℕ, ◌*◌, ◌<◌, ◌≤◌, ◌&&◌, Bool, true, List, Option, Some, refl, sym, ap}
+use Rattle.std.proofs.Common.{subst, arith}
+use Rattle.go_rules.specs.declared.Cell.{Cell}
+use Rattle.go_rules.specs.declared.Cell.TheVariants.{Empty, Black, White}
+use Rattle.go_rules.specs.Board.{are_neighbours}
+use Rattle.go_rules.specs.BesideStrings.{is_enemy}
+use Rattle.go_rules.specs.Strings.{cell_at, is_stone, is_liberty, liberties, IsInString, IsLiberty}
+use Rattle.go_rules.specs.Position.{BoardState}
+use Rattle.go_rules.proofs.Counts.{first_below_gives}
+use Rattle.go_rules.proofs.InWords.{string_itself}
+use Rattle.go_rules.proofs.Links.{liberties_from}
+use Rattle.wider_rules.specs.Further.{is_weak_enemy}
+use Rattle.wider_rules.specs.FurtherInWords.{IsEnemyBeside, IsWeakEnemy, strengthens}
+use Rattle.read_rules.specs.Candidates.{is_candidate, takes, goes_further}
+use Rattle.read_rules.specs.declared.tree.Tree.{Tree}
+use Rattle.read_rules.specs.declared.tree.Tree.TheVariants.{Stated, Wider}
+use Rattle.read_rules.specs.declared.turn.Turn.{Turn}
+use Rattle.read_rules.proofs.CandidateLaws.{candidate_from}
+use Rattle.sure_proof.specs.Rests.{close_to, most_of_enemy, weak_enemy_at}
+use Rattle.sure_proof.proofs.ShownLemmas.{SameOn, close_string, string_kept}
+use Rattle.sure_proof.proofs.SoundLemmas.{liberties_same, count_same}
+
+-- an enemy of a stone is a stone
+pub enemy_stands : (own there : Cell) → is_enemy own there ≡ true → is_stone there ≡ true
+enemy_stands Black White h = refl
+enemy_stands White Black h = refl
+enemy_stands Black Black h = absurd (let wrong = h in cc)
+enemy_stands Black Empty h = absurd (let wrong = h in cc)
+enemy_stands White White h = absurd (let wrong = h in cc)
+enemy_stands White Empty h = absurd (let wrong = h in cc)
+enemy_stands Empty there h = absurd (let wrong = h in cc)
+
+-- the stone that is found is a weak enemy, and p is a liberty of its string
+pub weak_given : (most s : ℕ) (cells : List Cell) (target p q : ℕ) → weak_enemy_at most s cells target p ≡ Some q
+    → (q < s * s) × ((is_weak_enemy most s cells target q && is_liberty s cells q p) ≡ true)
+unfolding weak_enemy_at
+weak_given most s cells target p q is =
+    first_below_gives (s * s) (λ r. is_weak_enemy most s cells target r && is_liberty s cells r p) q is
+
+-- Two boards that agree on the string of the target and on that of q, each with all its neighbours.
+module _ (s : ℕ) (a b : List Cell) (target q : ℕ) where
+  -- an enemy next to the target's string is one on the other board
+  pub enemy_kept : target < s * s → SameOn (close_to s a target) a b → cell_at a q ≡ cell_at b q
+      → IsEnemyBeside s a target q → IsEnemyBeside s b target q
+  enemy_kept on agree here w =
+      let stones : (x : ℕ) → IsInString s a target x → cell_at a x ≡ cell_at b x = λ x inside.
+      agree x (close_string s a target on x inside) in
+      let itself = stones target (string_itself s a target w.beside.1.stone) in
+      record {
+        on_board = w.on_board;
+        enemy = subst (λ k. is_enemy k (cell_at b q) ≡ true) itself
+            (subst (λ k. is_enemy (cell_at a target) k ≡ true) here w.enemy);
+        beside = (w.beside.0, string_kept s a b target stones w.beside.0 w.beside.1, w.beside.2);
+      }
+
+  -- a weak enemy is one on the other board, and its string has the same liberties there
+  pub weak_kept : (most : ℕ) → target < s * s → SameOn (close_to s a target) a b → SameOn (close_to s a q) a b
+      → IsWeakEnemy most s a target q
+      → IsWeakEnemy most s b target q × ((l : ℕ) → is_liberty s a q l ≡ is_liberty s b q l)
+  weak_kept most on agree near w =
+      let stone = enemy_stands (cell_at a target) (cell_at a q) w.enemy.enemy in
+      let same = liberties_same s a b q w.enemy.on_board stone near in
+      let here = near q (close_string s a q w.enemy.on_board q (string_itself s a q stone)) in (
+        record {
+          enemy = enemy_kept on agree here w.enemy;
+          few = subst (λ n. n ≤ most) (count_same s a b q same) w.few;
+        },
+        same,
+      )
+
+-- a string that has a liberty and at most one has one
+one_liberty : (s : ℕ) (cells : List Cell) (q p : ℕ) → q < s * s → IsLiberty s cells q p → liberties s cells q ≤ 1
+    → liberties s cells q ≡ 1
+one_liberty s cells q p on lib few = let some = liberties_from s cells q p on lib in omega (arith, some, few)
+
+-- a liberty of a weak enemy is a candidate of the attacker
+pub weak_candidate : (turn : Turn) (pos : BoardState) (p : ℕ) → turn.target < pos.size * pos.size
+    → turn.attacker_to_play ≡ true → (q : ℕ) → IsWeakEnemy (most_of_enemy turn.tree) pos.size pos.cells turn.target q
+    → IsLiberty pos.size pos.cells q p → is_candidate turn pos p ≡ true
+weak_candidate turn pos p on attacks q weak lib = by turn.tree refl
+  where
+    by : (tree : Tree) → turn.tree ≡ tree → is_candidate turn pos p ≡ true
+    by Stated is = candidate_from turn pos p on (takes q (record {
+      on_board = weak.enemy.on_board;
+      enemy = weak.enemy.enemy;
+      beside = weak.enemy.beside;
+      in_atari = one_liberty pos.size pos.cells q p weak.enemy.on_board lib
+          (subst (λ t. liberties pos.size pos.cells q ≤ most_of_enemy t) is weak.few);
+      last = lib;
+    }))
+    by Wider is = candidate_from turn pos p on (goes_further is (strengthens attacks q
+        (subst (λ t. IsWeakEnemy (most_of_enemy t) pos.size pos.cells turn.target q) is weak) lib))
