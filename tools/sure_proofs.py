@@ -80,7 +80,8 @@ class Reading:
     def is_beside_liberty(self, b: Position, p: int, wide: int) -> bool:
         """Whether p is a wide candidate next to a liberty."""
         liberties = string(b, self.target)[1]
-        return wide > 0 and len(liberties) <= 2 and b.cells[p] == EMPTY and any(q in liberties for q in beside(b, p))
+        is_few = len(liberties) <= (3 if self.is_wider else 2)
+        return wide > 0 and is_few and b.cells[p] == EMPTY and any(q in liberties for q in beside(b, p))
 
     def candidates(self, b: Position, wide: int) -> list[int]:
         """The attacker's candidates, in reading order."""

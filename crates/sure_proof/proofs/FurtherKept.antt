@@ -1,6 +1,7 @@
--- Candidates that a string next to the target shows, on boards that agree on both strings and their neighbours.
+-- Candidates of the attacker on boards that agree on the target, on a string next to it, and on their neighbours.
 use Rattle.std.proofs.Common.{◌≡◌, ◌∙◌, ℕ, ◌*◌, ◌<◌, ◌≤◌, ◌&&◌, Bool, true, List, Option, Some, refl, sym, ap}
-use Rattle.std.proofs.Common.{subst, arith}
+use Rattle.std.proofs.Common.{subst, arith, inl, inr, ltb}
+use Rattle.std.proofs.lemmas.Bool.{cases_eq, ltb-true}
 use Rattle.go_rules.specs.declared.Cell.{Cell}
 use Rattle.go_rules.specs.declared.Cell.TheVariants.{Empty, Black, White}
 use Rattle.go_rules.specs.Board.{are_neighbours}
@@ -11,13 +12,13 @@ use Rattle.go_rules.proofs.Counts.{first_below_gives}
 use Rattle.go_rules.proofs.InWords.{string_itself}
 use Rattle.go_rules.proofs.Links.{liberties_from}
 use Rattle.wider_rules.specs.Further.{is_weak_enemy}
-use Rattle.wider_rules.specs.FurtherInWords.{IsEnemyBeside, IsWeakEnemy, strengthens}
-use Rattle.read_rules.specs.Candidates.{is_candidate, takes, goes_further}
+use Rattle.wider_rules.specs.FurtherInWords.{IsEnemyBeside, IsWeakEnemy, strengthens, nets}
+use Rattle.read_rules.specs.Candidates.{is_candidate, IsEmptyNeighbour, looks_wide, takes, goes_further}
 use Rattle.read_rules.specs.declared.tree.Tree.{Tree}
 use Rattle.read_rules.specs.declared.tree.Tree.TheVariants.{Stated, Wider}
 use Rattle.read_rules.specs.declared.turn.Turn.{Turn}
 use Rattle.read_rules.proofs.CandidateLaws.{candidate_from}
-use Rattle.sure_proof.specs.Rests.{close_to, most_of_enemy, weak_enemy_at}
+use Rattle.sure_proof.specs.Rests.{close_to, most_wide, most_of_enemy, weak_enemy_at}
 use Rattle.sure_proof.proofs.ShownLemmas.{SameOn, close_string, string_kept}
 use Rattle.sure_proof.proofs.SoundLemmas.{liberties_same, count_same}
 
@@ -91,3 +92,29 @@ weak_candidate turn pos p on attacks q weak lib = by turn.tree refl
     }))
     by Wider is = candidate_from turn pos p on (goes_further is (strengthens attacks q
         (subst (λ t. IsWeakEnemy (most_of_enemy t) pos.size pos.cells turn.target q) is weak) lib))
+
+-- an empty neighbour of a liberty of a target with few is a candidate of the attacker if a wide ply is left
+pub wide_candidate : (turn : Turn) (pos : BoardState) (p : ℕ) → turn.target < pos.size * pos.size
+    → turn.attacker_to_play ≡ true → ltb 0 turn.wide ≡ true
+    → liberties pos.size pos.cells turn.target ≤ most_wide turn.tree → (l : ℕ)
+    → IsLiberty pos.size pos.cells turn.target l → IsEmptyNeighbour pos.size pos.cells l p
+    → is_candidate turn pos p ≡ true
+wide_candidate turn pos p on attacks wide few l lib near = by turn.tree refl
+  where
+    wide_few : liberties pos.size pos.cells turn.target ≤ 2 → is_candidate turn pos p ≡ true
+    wide_few less = candidate_from turn pos p on (looks_wide (ltb-true 0 turn.wide wide) less l lib near)
+
+    by : (tree : Tree) → turn.tree ≡ tree → is_candidate turn pos p ≡ true
+    by Stated is = wide_few (subst (λ t. liberties pos.size pos.cells turn.target ≤ most_wide t) is few)
+    by Wider is = elim (cases_eq (liberties pos.size pos.cells turn.target) 3) [
+      | inl three ↦ candidate_from turn pos p on (goes_further is (nets wide attacks l (record {
+        three = three;
+        liberty = lib;
+        on_board = near.on_board;
+        is_empty = near.is_empty;
+        beside = near.beside;
+      })))
+      | inr other ↦ wide_few
+          (let most = subst (λ t. liberties pos.size pos.cells turn.target ≤ most_wide t) is few in
+          omega (arith, other, most))
+    ]

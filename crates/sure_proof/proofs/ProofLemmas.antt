@@ -1,6 +1,6 @@
 -- A proof shows a zone: by its first word, and by the proofs that follow it.
 use Rattle.std.proofs.Common.{◌≡◌, ◌∙◌, ℕ, zero, suc, ◌+◌, ◌-◌, ◌*◌, ◌<◌, ◌≤◌, ◌&&◌, ◌||◌, Bool, true, false, cond}
-use Rattle.std.proofs.Common.{List, [], ◌∷◌, Option, Some, None, refl, sym, ap, subst, inl, inr, arith, ltb}
+use Rattle.std.proofs.Common.{List, [], ◌∷◌, Option, Some, None, refl, sym, ap, subst, inl, inr, arith, ltb, leb}
 use Rattle.std.specs.List.{filter, range_with_len}
 use Rattle.std.specs.Option.{option_map, option_and_then}
 use Rattle.std.specs.Prelude.{codes}
@@ -8,6 +8,7 @@ use Rattle.std.specs.Str.{bytes_eq}
 use Rattle.std.specs.FinSet as sets
 use Rattle.std.proofs.lemmas.List.{ext_get_or}
 use Rattle.std.proofs.lemmas.Bool.{cases_Bool, cases_eq, both_ways, and_parts, and_from, or_parts, lt-ltb, ltb-true}
+use Rattle.std.proofs.lemmas.Bool.{leb-true}
 use Rattle.go_rules.specs.declared.Cell.{Cell}
 use Rattle.go_rules.specs.declared.Cell.TheVariants.{Empty}
 use Rattle.go_rules.specs.declared.Colour.{Colour}
@@ -22,7 +23,7 @@ use Rattle.go_rules.proofs.Plays.{stone_is}
 use Rattle.go_rules.proofs.OnlyLiberties.{stone_not_empty}
 use Rattle.go_rules.proofs.PlayLaws.{free_keeps, pass_keeps}
 use Rattle.read_rules.specs.ActiveArea.{AgreeOn}
-use Rattle.read_rules.specs.Candidates.{is_candidate, is_empty_beside, fills, looks_wide}
+use Rattle.read_rules.specs.Candidates.{is_candidate, is_empty_beside, fills}
 use Rattle.read_rules.specs.declared.node.Node.{Node}
 use Rattle.read_rules.specs.declared.turn.Turn.{Turn}
 use Rattle.read_rules.specs.GameTree.{has_many_liberties, child_of, next_node, allowance_of, taking_back}
@@ -42,7 +43,8 @@ use Rattle.sure_rules.specs.SureTree.{surely_wins}
 use Rattle.sure_rules.specs.Zones.{points_of, IsZone}
 use Rattle.sure_rules.proofs.ZoneLemmas.{zone_taken_back, zone_attacker, zone_defender}
 use Rattle.sure_proof.specs.Rests.{Points, first_two, close_to, shows_atari, play_rests_on, loss_rests_on}
-use Rattle.sure_proof.specs.Rests.{most_of_enemy, weak_enemy_at, with_string, candidate_rests_on, all_points}
+use Rattle.sure_proof.specs.Rests.{most_wide, most_of_enemy, weak_enemy_at, with_string, candidate_rests_on}
+use Rattle.sure_proof.specs.Rests.{all_points}
 use Rattle.sure_proof.specs.Rests.{guard_at, guard_of, asked_at, asked_of, last_of}
 use Rattle.sure_proof.specs.SureProofs.{Proved, Prover, proved_by, with_points, behind_word, behind_vertex, is_to, by_capture, by_back}
 use Rattle.sure_proof.specs.SureProofs.{by_child}
@@ -52,7 +54,7 @@ use Rattle.sure_proof.proofs.ShownLemmas.{insert_self, insert_more, union_first,
 use Rattle.sure_proof.proofs.ShownLemmas.{IsShown, has_two, all_same, SameOn, shown, first_two_give, liberty_in}
 use Rattle.sure_proof.proofs.PlayLemmas.{state}
 use Rattle.sure_proof.proofs.SoundLemmas.{has, IsWithin, on_board, zone_on_board, child_there, child_here, stone_of_cell}
-use Rattle.sure_proof.proofs.FurtherKept.{weak_kept, weak_candidate, weak_given}
+use Rattle.sure_proof.proofs.FurtherKept.{wide_candidate, weak_kept, weak_candidate, weak_given}
 use Rattle.sure_proof.proofs.LossLemmas.{loss_point, loss_zone, play_within}
 use Rattle.sure_proof.proofs.SoundLemmas.{liberties_same, count_same, many_same, candidate_without_ban}
 
@@ -63,10 +65,9 @@ cells_same Z pos here good sound same within =
     ext_get_or Empty pos.cells here.cells (good.cells ∙ ap (λ t. t * t) same.sizes ∙ sym sound.cells)
     (λ i less. same.cells i (within i (below_in (pos.size * pos.size) (λ q. true) i (omega (arith, less, good.cells)) refl)))
 
--- p is a wide candidate by the target's liberties: a wide ply is left, the target has at most two, and p is empty and
--- next to one
+-- p is a wide candidate by the target's liberties: a wide ply is left, the target has few, and p is empty and next to one
 abbrev pub is_wide : Turn → BoardState → ℕ → Bool
-is_wide turn pos p = (ltb 0 turn.wide && ltb (liberties pos.size pos.cells turn.target) 3)
+is_wide turn pos p = (ltb 0 turn.wide && leb (liberties pos.size pos.cells turn.target) (most_wide turn.tree))
     && is_empty_beside pos.size pos.cells (is_liberty pos.size pos.cells turn.target) p
 
 -- What a candidate rests on.
@@ -104,27 +105,27 @@ module _ (turn : Turn) (s : ℕ) (a b : List Cell) (x y : Option (ℕ × Colour)
       (sym (liberties_same s a b turn.target on stone agree p) ∙ t)))
 
   -- and so is a point beside a liberty
-  near_wide : is_wide turn (state s a x) p ≡ true → cell_at a p ≡ cell_at b p
+  near_wide : turn.attacker_to_play ≡ true → is_wide turn (state s a x) p ≡ true → cell_at a p ≡ cell_at b p
       → is_candidate turn (state s b y) p ≡ true
   unfolding is_empty_beside
-  near_wide t here =
+  near_wide attacks t here =
       let same = liberties_same s a b turn.target on stone agree in
-      let parts = and_parts (ltb 0 turn.wide && ltb (liberties s a turn.target) 3)
+      let parts = and_parts (ltb 0 turn.wide && leb (liberties s a turn.target) (most_wide turn.tree))
       (is_empty_beside s a (is_liberty s a turn.target) p) t in
-      let first = and_parts (ltb 0 turn.wide) (ltb (liberties s a turn.target) 3) parts.0 in
+      let first = and_parts (ltb 0 turn.wide) (leb (liberties s a turn.target) (most_wide turn.tree)) parts.0 in
       let second = and_parts _ _ parts.1 in
       let third = and_parts (ltb p (s * s)) (same_cell (cell_at a p) Empty) second.0 in
       let found = any_below_gives (s * s) (λ l. is_liberty s a turn.target l && are_neighbours s l p) second.1 in
       let both = and_parts (is_liberty s a turn.target found.0) (are_neighbours s found.0 p) found.2 in
-      let few = ltb-true (liberties s a turn.target) 3 first.1 in
       let count = count_same s a b turn.target same in
-      candidate_from turn (state s b y) p on (looks_wide (ltb-true 0 turn.wide first.0) (omega (arith, few, count)) found.0
-      (IsLiberty-from_test s b turn.target found.0 (sym (same found.0) ∙ both.0))
+      wide_candidate turn (state s b y) p on attacks first.0
+      (subst (λ n. n ≤ most_wide turn.tree) count (leb-true (liberties s a turn.target) (most_wide turn.tree) first.1))
+      found.0 (IsLiberty-from_test s b turn.target found.0 (sym (same found.0) ∙ both.0))
       (record {
         on_board = ltb-true p (s * s) third.0;
         is_empty = sym here ∙ same_cell-true (cell_at a p) Empty third.1;
         beside = both.1;
-      }))
+      })
 
   -- and so is a liberty of a weak enemy of which the boards show the same
   near_weak : turn.attacker_to_play ≡ true → (q : ℕ) → q < s * s
@@ -162,7 +163,7 @@ candidate_there turn pos here p Z good sound on stone attacks candidate same wit
             let close : SameOn (close_to pos.size pos.cells turn.target) pos.cells here.cells = λ q inside.
             its q (insert_more q (close_to pos.size pos.cells turn.target) p inside) in (
               near_many turn pos.size pos.cells here.cells pos.ban here.ban p on stone close,
-              near_wide turn pos.size pos.cells here.cells pos.ban here.ban p on stone close t
+              near_wide turn pos.size pos.cells here.cells pos.ban here.ban p on stone close attacks t
                   (its p (insert_self p (close_to pos.size pos.cells turn.target))),
             )
         | inr g ↦ by_weak (weak_enemy_at (most_of_enemy turn.tree) pos.size pos.cells turn.target p) refl

@@ -1,5 +1,5 @@
 -- The points on which the parts of a sure capture rest, each found on the position before the play.
-use Rattle.std.specs.Prelude.{ℕ, zero, suc, ◌*◌, ◌&&◌, Bool, true, false, not, nat_lt, List, Option, None, Some}
+use Rattle.std.specs.Prelude.{ℕ, zero, suc, ◌*◌, ◌&&◌, Bool, true, false, not, nat_lt, nat_le, List, Option, None, Some}
 use Rattle.std.specs.Prelude.{if◌then◌else◌}
 use Rattle.std.specs.Option.{option_map, option_and_then}
 use Rattle.std.specs.Ordering.{nat_cmp}
@@ -19,7 +19,7 @@ use Rattle.read_rules.specs.declared.tree.Tree.{Tree}
 use Rattle.read_rules.specs.declared.tree.Tree.TheVariants.{Stated, Wider}
 use Rattle.read_rules.specs.declared.turn.Turn.{Turn}
 use Rattle.read_rules.specs.Trees.{is_wider}
-use Rattle.wider_rules.specs.Further.{is_weak_enemy, few_of_attacker}
+use Rattle.wider_rules.specs.Further.{is_weak_enemy, few_of_attacker, netted}
 
 -- a set of points
 abbrev pub Points : Type 0
@@ -90,6 +90,12 @@ loss_rests_on node pos =
 abbrev pub all_points : ℕ → Points
 all_points s = set_below (s * s) (λ q. true)
 
+-- how many liberties a target may have next to whose liberties the attacker tries the empty points if a wide ply is left:
+-- two, and in the wider tree three
+abbrev pub most_wide : Tree → ℕ
+most_wide Stated = 2
+most_wide Wider = netted
+
 -- how many liberties an enemy string next to the target's may have whose liberties are candidates of the attacker in
 -- each ply: one, and in the wider tree two
 abbrev pub most_of_enemy : Tree → ℕ
@@ -114,7 +120,7 @@ with_string s cells target (Some q) = set.union (close_to s cells target) (close
 unfoldable pub candidate_rests_on : Turn → BoardState → ℕ → Points
 candidate_rests_on turn pos p =
     if is_liberty pos.size pos.cells turn.target p then close_to pos.size pos.cells turn.target
-    else if (nat_lt 0 turn.wide && nat_lt (liberties pos.size pos.cells turn.target) 3)
+    else if (nat_lt 0 turn.wide && nat_le (liberties pos.size pos.cells turn.target) (most_wide turn.tree))
     && is_empty_beside pos.size pos.cells (is_liberty pos.size pos.cells turn.target) p
     then set.insert (close_to pos.size pos.cells turn.target) p
     else with_string pos.size pos.cells turn.target

@@ -9,15 +9,13 @@ ghost use Rattle.go_base.specs.Floods.{enemy_points};
 ghost use Rattle.go_base.specs.Sides.{neighbour_at};
 ghost use Rattle.read_rules.specs.Candidates.{is_empty_beside};
 ghost use Rattle.wider_rules.specs.Further.{is_weak_enemy};
-ghost use Rattle.sure_proof.specs.Rests.{all_points, most_of_enemy, weak_enemy_at, with_string, candidate_rests_on};
+ghost use Rattle.sure_proof.specs.Rests.{all_points, most_wide, most_of_enemy, weak_enemy_at, with_string};
+ghost use Rattle.sure_proof.specs.Rests.{candidate_rests_on};
 
 use crate::shown::{close_to, string_of};
 use go_base::sides::neighbour;
 use go_base::{Cell, Point, PointSet, Position, Size};
 use read_rules::{Tree, Turn};
-
-/// With so many liberties or more the empty points next to a target's liberties are not tried.
-const MANY: u16 = 3;
 
 /// All points of a board.
 fn all_points(size: Size) -> PointSet
@@ -75,16 +73,31 @@ fn are_all(first: bool, second: bool, third: bool) -> bool
     first && second && third
 }
 
-/// Whether p is a wide candidate by these liberties of the target: a wide ply is left, they are at most two, and p is
-/// empty and next to one of them.
+/// How many liberties a target may have next to whose liberties the empty points are tried if a wide ply is left.
+fn most_wide(tree: Tree) -> u16
+    ensures { result ≡ most_wide tree }
+{
+    match tree {
+        Tree::Stated => 2,
+        Tree::Wider => 3,
+    }
+}
+
+/// Whether p is a wide candidate by these liberties of the target: a wide ply is left, they are few, and p is empty and
+/// next to one of them.
 fn is_wide(pos: &Position, turn: Turn, liberties: &PointSet, p: Point) -> bool
     requires on_board { p < pos.now.size * pos.now.size }
     requires liberties { liberties.now ≡ liberty_points pos.now.size pos.now.cells turn.target }
-    ensures { result ≡ ((nat_lt 0 turn.wide && nat_lt (liberties_at pos.now.size pos.now.cells turn.target) 3)
+    ensures { result ≡ ((nat_lt 0 turn.wide
+        && nat_le (liberties_at pos.now.size pos.now.cells turn.target) (most_wide turn.tree))
         && is_empty_beside pos.now.size pos.now.cells (is_liberty pos.now.size pos.now.cells turn.target) p) }
 {
     let beside = is_empty_beside(pos, turn.target, liberties, p);
-    are_all(turn.wide > 0, liberties.count() < MANY, beside)
+    are_all(
+        turn.wide > 0,
+        liberties.count() <= most_wide(turn.tree),
+        beside,
+    )
 }
 
 /// How many liberties an enemy string next to the target's may have whose liberties are candidates in each ply.
