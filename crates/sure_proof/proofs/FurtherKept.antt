@@ -1,10 +1,9 @@
 -- Candidates of the attacker on boards that agree on the target, on a string next to it, and on their neighbours.
-use Rattle.std.proofs.Common.{◌≡◌, ◌∙◌, ℕ, ◌*◌, ◌<◌, ◌≤◌, ◌&&◌, Bool, true, List, Option, Some, refl, sym, ap}
+use Rattle.std.proofs.Common.{◌≡◌, ℕ, ◌*◌, ◌<◌, ◌≤◌, ◌&&◌, true, List, Some, refl}
 use Rattle.std.proofs.Common.{subst, arith, inl, inr, ltb}
 use Rattle.std.proofs.lemmas.Bool.{cases_eq, ltb-true}
 use Rattle.go_rules.specs.declared.Cell.{Cell}
 use Rattle.go_rules.specs.declared.Cell.TheVariants.{Empty, Black, White}
-use Rattle.go_rules.specs.Board.{are_neighbours}
 use Rattle.go_rules.specs.BesideStrings.{is_enemy}
 use Rattle.go_rules.specs.Strings.{cell_at, is_stone, is_liberty, liberties, IsInString, IsLiberty}
 use Rattle.go_rules.specs.Position.{BoardState}

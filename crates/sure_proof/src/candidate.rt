@@ -1,6 +1,6 @@
 //! What shows that a point is a candidate of the attacker, and that the target has not too many liberties.
 
-ghost use Rattle.std.specs.Prelude.{◌≡◌, ◌*◌, ◌<◌, ◌&&◌, ◌||◌, ◌==◌, nat_lt, nat_le, IsTrue, IfSome, ℕ, false, Some};
+ghost use Rattle.std.specs.Prelude.{◌≡◌, ◌*◌, ◌<◌, ◌&&◌, ◌==◌, nat_lt, nat_le, IsTrue, IfSome, ℕ, false, Some};
 ghost use Rattle.std.specs.FinSet as set;
 ghost use Rattle.go_rules.specs.Below.{any_below};
 ghost use Rattle.go_rules.specs.Board.{largest_points, are_neighbours};

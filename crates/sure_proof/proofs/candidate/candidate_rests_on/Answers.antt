@@ -1,5 +1,5 @@
 -- What a candidate rests on, by what kind it is.
-use Rattle.std.proofs.Common.{◌≡◌, ◌∙◌, ap, sym}
+use Rattle.std.proofs.Common.{◌∙◌, ap, sym}
 use Rattle.std.specs.FinSet as set
 use Rattle.sure_proof.specs.Rests.{weak_enemy_at, with_string}
 use Rattle.sure_proof.proofs.ProofLemmas.{rests_liberty, rests_wide, rests_other}

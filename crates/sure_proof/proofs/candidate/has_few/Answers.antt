@@ -1,5 +1,5 @@
 -- The set has as many points as the string has liberties, and these.
-use Rattle.std.proofs.Common.{◌≡◌, ◌∙◌, ◌&&◌, ap, leb}
+use Rattle.std.proofs.Common.{◌∙◌, ◌&&◌, ap, leb}
 use Rattle.go_rules.specs.Strings.{liberties}
 use Rattle.wider_rules.proofs.StringLemmas.{has_liberty, how_many}
 use Rattle.sure_proof.proofs.candidate.has_few.Goals as goal

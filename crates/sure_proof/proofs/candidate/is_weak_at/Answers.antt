@@ -1,5 +1,5 @@
 -- Enemies next to a string, by their set.
-use Rattle.std.proofs.Common.{◌≡◌, ◌∙◌, ◌&&◌, ap, sym, leb}
+use Rattle.std.proofs.Common.{◌∙◌, ◌&&◌, ap, sym, leb}
 use Rattle.go_rules.specs.Strings.{liberties, is_liberty}
 use Rattle.sure_proof.proofs.RestLemmas.{weak_by_set}
 use Rattle.sure_proof.proofs.candidate.is_weak_at.Goals as goal

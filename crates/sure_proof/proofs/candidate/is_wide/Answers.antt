@@ -1,5 +1,5 @@
 -- The set has as many points as the target has liberties.
-use Rattle.std.proofs.Common.{◌≡◌, ◌∙◌, ◌&&◌, ap, sym, leb, ltb}
+use Rattle.std.proofs.Common.{◌∙◌, ◌&&◌, ap, leb, ltb}
 use Rattle.std.specs.FinSet as set
 use Rattle.go_rules.specs.Strings.{liberties}
 use Rattle.sure_proof.specs.Rests.{most_wide}

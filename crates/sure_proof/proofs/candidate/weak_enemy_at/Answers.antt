@@ -1,5 +1,5 @@
 -- The walk over the points of the board.
-use Rattle.std.proofs.Common.{◌≡◌, ◌∙◌, ◌*◌, ◌<◌, ◌≤◌, ap, sym, subst}
+use Rattle.std.proofs.Common.{◌∙◌, ◌*◌, ◌<◌, ◌≤◌, ap, sym, subst}
 use Rattle.sure_proof.proofs.RestLemmas.{weak_is, weak_none}
 use Rattle.sure_proof.proofs.candidate.weak_enemy_at.Goals as goal
 
