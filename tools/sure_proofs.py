@@ -106,8 +106,10 @@ class Reading:
             return close(b, self.target)
         if self.is_beside_liberty(b, p, wide):
             return close(b, self.target) | {p}
-        enemy = self.weak_enemy_at(b, p)
-        return set(range(len(b.cells))) if enemy is None else close(b, self.target) | close(b, enemy)
+        q = self.weak_enemy_at(b, p)
+        if q is None and wide > 0 and self.is_wider:
+            q = self.linked_at(b, p)
+        return set(range(len(b.cells))) if q is None else close(b, self.target) | close(b, q)
 
     def weak_enemy_at(self, b: Position, p: int) -> int | None:
         """The first attacker's stone next to the target's string whose string has few liberties, one of which is p."""
@@ -116,6 +118,16 @@ class Reading:
             if b.cells[q] == self.attacker and any(x in stones for x in beside(b, q)):
                 liberties = string(b, q)[1]
                 if p in liberties and len(liberties) <= most:
+                    return q
+        return None
+
+    def linked_at(self, b: Position, p: int) -> int | None:
+        """The first stone of a string linked to the target that has at most two liberties, one of which is p."""
+        stones, liberties = string(b, self.target)
+        for q in range(len(b.cells)):
+            if b.cells[q] == self.defender and q not in stones and any(x in liberties for x in beside(b, q)):
+                its = string(b, q)[1]
+                if p in its and len(its) <= 2:
                     return q
         return None
 

@@ -23,7 +23,7 @@ use Rattle.go_rules.proofs.Plays.{stone_is}
 use Rattle.go_rules.proofs.OnlyLiberties.{stone_not_empty}
 use Rattle.go_rules.proofs.PlayLaws.{free_keeps, pass_keeps}
 use Rattle.read_rules.specs.ActiveArea.{AgreeOn}
-use Rattle.read_rules.specs.Candidates.{is_candidate, is_empty_beside, fills}
+use Rattle.read_rules.specs.Candidates.{is_candidate, is_empty_beside, fills, goes_further}
 use Rattle.read_rules.specs.declared.node.Node.{Node}
 use Rattle.read_rules.specs.declared.turn.Turn.{Turn}
 use Rattle.read_rules.specs.GameTree.{has_many_liberties, child_of, next_node, allowance_of, taking_back}
@@ -36,14 +36,13 @@ use Rattle.read_proof.specs.Tokens.{Word}
 use Rattle.read_proof.specs.Proves.{child_after}
 use Rattle.read_proof.proofs.SoundLemmas.{played_on_board}
 use Rattle.vertices.specs.Vertices.{target_of as target_named}
-use Rattle.wider_rules.specs.Further.{is_weak_enemy}
-use Rattle.wider_rules.proofs.FurtherLaws.{weak_gives}
+use Rattle.wider_rules.specs.FurtherInWords.{links}
 use Rattle.sure_rules.specs.Nodes.{is_attackers, is_gone, is_taken_for_good, has_too_many, target_of}
 use Rattle.sure_rules.specs.SureTree.{surely_wins}
 use Rattle.sure_rules.specs.Zones.{points_of, IsZone}
 use Rattle.sure_rules.proofs.ZoneLemmas.{zone_taken_back, zone_attacker, zone_defender}
 use Rattle.sure_proof.specs.Rests.{Points, first_two, close_to, shows_atari, play_rests_on, loss_rests_on}
-use Rattle.sure_proof.specs.Rests.{most_wide, most_of_enemy, weak_enemy_at, with_string, candidate_rests_on}
+use Rattle.sure_proof.specs.Rests.{most_wide, most_of_enemy, shown_at, with_string, candidate_rests_on}
 use Rattle.sure_proof.specs.Rests.{all_points}
 use Rattle.sure_proof.specs.Rests.{guard_at, guard_of, asked_at, asked_of, last_of}
 use Rattle.sure_proof.specs.SureProofs.{Proved, Prover, proved_by, with_points, behind_word, behind_vertex, is_to, by_capture, by_back}
@@ -54,7 +53,8 @@ use Rattle.sure_proof.proofs.ShownLemmas.{insert_self, insert_more, union_first,
 use Rattle.sure_proof.proofs.ShownLemmas.{IsShown, has_two, all_same, SameOn, shown, first_two_give, liberty_in}
 use Rattle.sure_proof.proofs.PlayLemmas.{state}
 use Rattle.sure_proof.proofs.SoundLemmas.{has, IsWithin, on_board, zone_on_board, child_there, child_here, stone_of_cell}
-use Rattle.sure_proof.proofs.FurtherKept.{wide_candidate, weak_kept, weak_candidate, weak_given}
+use Rattle.sure_proof.proofs.FurtherKept.{wide_candidate, weak_kept, weak_candidate, link_kept}
+use Rattle.sure_proof.proofs.FurtherKept.{ShowsCandidate, is_weak, is_link, other_given}
 use Rattle.sure_proof.proofs.LossLemmas.{loss_point, loss_zone, play_within}
 use Rattle.sure_proof.proofs.SoundLemmas.{liberties_same, count_same, many_same, candidate_without_ban}
 
@@ -84,10 +84,10 @@ module _ (turn : Turn) (pos : BoardState) (p : ℕ) where
   unfolding candidate_rests_on
   rests_wide f t = rw (f, t) refl
 
-  -- any other by a weak enemy
+  -- any other by another string
   pub rests_other : is_liberty pos.size pos.cells turn.target p ≡ false → is_wide turn pos p ≡ false
-      → candidate_rests_on turn pos p ≡ with_string pos.size pos.cells turn.target
-      (weak_enemy_at (most_of_enemy turn.tree) pos.size pos.cells turn.target p)
+      → candidate_rests_on turn pos p
+      ≡ with_string pos.size pos.cells turn.target (shown_at turn pos.size pos.cells p)
   unfolding candidate_rests_on
   rests_other f g = rw (f, g) refl
 
@@ -127,16 +127,17 @@ module _ (turn : Turn) (s : ℕ) (a b : List Cell) (x y : Option (ℕ × Colour)
         beside = both.1;
       })
 
-  -- and so is a liberty of a weak enemy of which the boards show the same
-  near_weak : turn.attacker_to_play ≡ true → (q : ℕ) → q < s * s
-      → (is_weak_enemy (most_of_enemy turn.tree) s a turn.target q && is_liberty s a q p) ≡ true
-      → SameOn (close_to s a q) a b → is_candidate turn (state s b y) p ≡ true
-  near_weak attacks q q_on t near =
-      let both = and_parts (is_weak_enemy (most_of_enemy turn.tree) s a turn.target q) (is_liberty s a q p) t in
-      let weak = weak_kept s a b turn.target q (most_of_enemy turn.tree) on agree near
-      (weak_gives s a turn.target (most_of_enemy turn.tree) q q_on both.0) in
-      weak_candidate turn (state s b y) p on attacks q weak.0
-      (IsLiberty-from_test s b q p (sym (weak.1 p) ∙ both.1))
+  -- and so is a liberty of a string of which the boards show the same, if it shows a candidate
+  near_other : turn.attacker_to_play ≡ true → (q : ℕ) → ShowsCandidate turn s a p q → SameOn (close_to s a q) a b
+      → is_candidate turn (state s b y) p ≡ true
+  near_other attacks q (is_weak weak lib) near =
+      let kept = weak_kept s a b turn.target q (most_of_enemy turn.tree) on agree near weak in
+      weak_candidate turn (state s b y) p on attacks q kept.0
+      (IsLiberty-from_test s b q p (sym (kept.1 p) ∙ is_liberty-from_fact s a q p weak.enemy.on_board lib))
+  near_other attacks q (is_link wide wider l link lib) near =
+      let kept = link_kept s a b turn.target q 2 l on agree stone near link in
+      candidate_from turn (state s b y) p on (goes_further wider (links wide attacks l q kept.0
+      (IsLiberty-from_test s b q p (sym (kept.1 p) ∙ is_liberty-from_fact s a q p link.on_board lib))))
 
 -- on a position that agrees on what a candidate rests on, the target has too many liberties as here, and the point is a
 -- candidate
@@ -166,31 +167,31 @@ candidate_there turn pos here p Z good sound on stone attacks candidate same wit
               near_wide turn pos.size pos.cells here.cells pos.ban here.ban p on stone close attacks t
                   (its p (insert_self p (close_to pos.size pos.cells turn.target))),
             )
-        | inr g ↦ by_weak (weak_enemy_at (most_of_enemy turn.tree) pos.size pos.cells turn.target p) refl
+        | inr g ↦ by_other (shown_at turn pos.size pos.cells p) refl
             (λ q inside. within q (ap (λ (S : Points). has S q) (rests_other turn pos p f g) ∙ inside))
       ]
     ])
   where
-    by_weak : (o : Option ℕ) → weak_enemy_at (most_of_enemy turn.tree) pos.size pos.cells turn.target p ≡ o
+    by_other : (o : Option ℕ) → shown_at turn pos.size pos.cells p ≡ o
         → IsWithin (with_string pos.size pos.cells turn.target o) Z
         → (has_many_liberties turn (state pos.size here.cells here.ban) ≡ has_many_liberties turn pos)
         × (is_candidate turn (state pos.size here.cells here.ban) p ≡ true)
-    by_weak None is all =
+    by_other None is all =
         let cells = cells_same Z pos here good sound same all in (
           many_same turn pos.size pos.cells here.cells pos.ban here.ban
               (ap (λ k. liberties pos.size k turn.target) cells),
           subst (λ k. is_candidate turn (state pos.size k here.ban) p ≡ true) cells
               (candidate_without_ban turn pos.size pos.cells pos.ban here.ban p candidate),
         )
-    by_weak (Some q) is both =
+    by_other (Some q) is both =
         let its = close_to pos.size pos.cells turn.target in
         let close : SameOn its pos.cells here.cells = λ x inside.
         same.cells x (both x (union_first x its (close_to pos.size pos.cells q) inside)) in
         let near : SameOn (close_to pos.size pos.cells q) pos.cells here.cells = λ x inside.
         same.cells x (both x (union_second x its (close_to pos.size pos.cells q) inside)) in
-        let found = weak_given (most_of_enemy turn.tree) pos.size pos.cells turn.target p q is in (
+        let found = other_given turn pos.size pos.cells p q on is in (
           near_many turn pos.size pos.cells here.cells pos.ban here.ban p on stone close,
-          near_weak turn pos.size pos.cells here.cells pos.ban here.ban p on stone close attacks q found.0 found.1 near,
+          near_other turn pos.size pos.cells here.cells pos.ban here.ban p on stone close attacks q found near,
         )
 
 -- The attacker's turn, by a candidate that leads to a child with a zone.

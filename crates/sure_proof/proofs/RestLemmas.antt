@@ -1,5 +1,5 @@
 -- The sets of points as loops and looks find them.
-use Rattle.std.proofs.Common.{◌≡◌, ◌∙◌, ℕ, ◌+◌, ◌*◌, ◌<◌, ◌≤◌, ◌&&◌, Bool, true, false, cond, List, Some, None}
+use Rattle.std.proofs.Common.{◌≡◌, ◌∙◌, ℕ, ◌+◌, ◌*◌, ◌<◌, ◌≤◌, ◌&&◌, Bool, true, false, not, cond, List, Some, None}
 use Rattle.std.proofs.Common.{refl, sym, ap, inl, inr, arith, ltb, leb, add-one}
 use Rattle.std.specs.Option.{option_map, option_and_then}
 use Rattle.std.specs.FinSet as sets
@@ -12,15 +12,19 @@ use Rattle.go_rules.specs.declared.Cell.TheVariants.{Empty, Black, White}
 use Rattle.go_rules.specs.declared.Colour.TheVariants.{Black as black, White as white}
 use Rattle.go_rules.specs.declared.Colour.{Colour}
 use Rattle.go_rules.specs.Position.{stone_of}
-use Rattle.go_rules.specs.Strings.{cell_at, same_cell, is_liberty, string_at, liberty_points, liberties}
+use Rattle.go_rules.specs.Strings.{cell_at, same_cell, is_liberty, is_in_string, string_at, liberty_points}
+use Rattle.go_rules.specs.Strings.{liberties}
 use Rattle.go_base.specs.Floods.{enemy_points}
 use Rattle.go_base.specs.Sides.{neighbour_at}
 use Rattle.read_rules.specs.Candidates.{is_empty_beside}
+use Rattle.read_rules.specs.declared.turn.Turn.{Turn}
+use Rattle.read_rules.specs.Trees.{is_wider}
 use Rattle.go_rules.proofs.Counts.{first_below_is, first_below_none, any_below_same}
 use Rattle.go_rules.proofs.Sets.{contains-set_below, len-set_below}
 use Rattle.sure_proof.specs.Rests.{Points, union_below, first_two, shown_by, shows_atari, last_of, asked_at}
-use Rattle.sure_proof.specs.Rests.{is_open, open_neighbour, weak_enemy_at}
-use Rattle.wider_rules.specs.Further.{is_weak_enemy}
+use Rattle.sure_proof.specs.Rests.{is_open, open_neighbour, most_of_enemy, weak_enemy_at, linked_at}
+use Rattle.sure_proof.specs.Rests.{else_point, shown_at}
+use Rattle.wider_rules.specs.Further.{is_weak_enemy, is_linked, few_of_parted}
 use Rattle.wider_rules.proofs.StringLemmas.{has_enemy}
 
 -- A set, and its first point.
@@ -184,3 +188,53 @@ module _ (most s : ℕ) (cells : List Cell) (target p : ℕ) where
   unfolding weak_enemy_at
   weak_none n all none = first_below_none (s * s) (λ k. is_weak_enemy most s cells target k && is_liberty s cells k p)
       (λ k less. none k (omega (arith, less, all)))
+
+-- a linked string with p for a liberty is a friend's, and has few liberties, one of which is p
+pub linked_by_parts : (s : ℕ) (cells : List Cell) (target q p : ℕ)
+    → (is_linked few_of_parted s cells target q && is_liberty s cells q p)
+    ≡ (((same_cell (cell_at cells q) (cell_at cells target)
+    && any_below (s * s) (λ l. is_liberty s cells target l && are_neighbours s l q))
+    && not (is_in_string s cells target q))
+    && (leb (liberties s cells q) few_of_parted && is_liberty s cells q p))
+unfolding is_linked
+linked_by_parts s cells target q p = sym (three_grouped ((same_cell (cell_at cells q) (cell_at cells target)
+    && any_below (s * s) (λ l. is_liberty s cells target l && are_neighbours s l q))
+    && not (is_in_string s cells target q)) (leb (liberties s cells q) few_of_parted) (is_liberty s cells q p))
+
+-- The points of the board, one by one.
+module _ (s : ℕ) (cells : List Cell) (target p : ℕ) where
+  -- the first stone of a linked string that has p for a liberty is the first that passes
+  pub linked_is : (q : ℕ) → q < s * s
+      → ((k : ℕ) → k < q → (is_linked few_of_parted s cells target k && is_liberty s cells k p) ≡ false)
+      → (is_linked few_of_parted s cells target q && is_liberty s cells q p) ≡ true
+      → linked_at s cells target p ≡ Some q
+  unfolding linked_at
+  linked_is q less none here =
+      first_below_is (s * s) (λ k. is_linked few_of_parted s cells target k && is_liberty s cells k p) q less here none
+
+  -- there is none if none passes
+  pub linked_none : (n : ℕ) → s * s ≤ n
+      → ((k : ℕ) → k < n → (is_linked few_of_parted s cells target k && is_liberty s cells k p) ≡ false)
+      → linked_at s cells target p ≡ None
+  unfolding linked_at
+  linked_none n all none = first_below_none (s * s)
+      (λ k. is_linked few_of_parted s cells target k && is_liberty s cells k p)
+      (λ k less. none k (omega (arith, less, all)))
+
+-- What shows a candidate, beside the target's string.
+module _ (turn : Turn) (s : ℕ) (cells : List Cell) (p : ℕ) where
+  -- a weak enemy, if there is one
+  pub shown_weak : (q : ℕ) → weak_enemy_at (most_of_enemy turn.tree) s cells turn.target p ≡ Some q
+      → shown_at turn s cells p ≡ Some q
+  unfolding shown_at
+  shown_weak q is = ap (λ o. else_point o (cond (ltb 0 turn.wide && is_wider turn.tree)
+      (linked_at s cells turn.target p) None)) is
+
+  -- if there is none, a linked string in a wide ply of the wider tree
+  pub shown_linked : (b : Bool) → (ltb 0 turn.wide && is_wider turn.tree) ≡ b
+      → weak_enemy_at (most_of_enemy turn.tree) s cells turn.target p ≡ None
+      → shown_at turn s cells p ≡ cond b (linked_at s cells turn.target p) None
+  unfolding shown_at
+  shown_linked b wide is = ap (λ o. else_point o (cond (ltb 0 turn.wide && is_wider turn.tree)
+      (linked_at s cells turn.target p) None)) is
+      ∙ ap (λ v. cond v (linked_at s cells turn.target p) None) wide

@@ -19,7 +19,7 @@ use Rattle.read_rules.specs.declared.tree.Tree.{Tree}
 use Rattle.read_rules.specs.declared.tree.Tree.TheVariants.{Stated, Wider}
 use Rattle.read_rules.specs.declared.turn.Turn.{Turn}
 use Rattle.read_rules.specs.Trees.{is_wider}
-use Rattle.wider_rules.specs.Further.{is_weak_enemy, few_of_attacker, netted}
+use Rattle.wider_rules.specs.Further.{is_weak_enemy, is_linked, few_of_attacker, few_of_parted, netted}
 
 -- a set of points
 abbrev pub Points : Type 0
@@ -108,6 +108,22 @@ unfoldable pub weak_enemy_at : ℕ → ℕ → List Cell → ℕ → ℕ → Opt
 weak_enemy_at most s cells target p =
     first_below (s * s) (λ q. is_weak_enemy most s cells target q && is_liberty s cells q p)
 
+-- the first stone of a string linked to the target, in reading order, that has at most two liberties, one of which is p
+unfoldable pub linked_at : ℕ → List Cell → ℕ → ℕ → Option ℕ
+linked_at s cells target p =
+    first_below (s * s) (λ q. is_linked few_of_parted s cells target q && is_liberty s cells q p)
+
+-- the first point if there is one, and the second if there is not
+abbrev pub else_point : Option ℕ → Option ℕ → Option ℕ
+else_point None second = second
+else_point (Some q) second = Some q
+
+-- a stone of another string than the target's that shows that p is a candidate: of a weak enemy string; if there is none,
+-- a wide ply is left and the tree is the wider one, of a linked string
+unfoldable pub shown_at : Turn → ℕ → List Cell → ℕ → Option ℕ
+shown_at turn s cells p = else_point (weak_enemy_at (most_of_enemy turn.tree) s cells turn.target p)
+    (if nat_lt 0 turn.wide && is_wider turn.tree then linked_at s cells turn.target p else None)
+
 -- the string of the target and that of q, each with all its neighbours; all points of the board if there is no q
 abbrev pub with_string : ℕ → List Cell → ℕ → Option ℕ → Points
 with_string s cells target None = all_points s
@@ -115,7 +131,7 @@ with_string s cells target (Some q) = set.union (close_to s cells target) (close
 
 -- what shows that p is a candidate of the attacker at the turn and that the target has not too many liberties. A liberty
 -- of the target rests on the target's string and its neighbours, a point beside a liberty on p too, and a liberty of a
--- weak enemy string next to the target on that string and its neighbours too; every other candidate rests on all points
+-- weak enemy string or of a linked one on that string and its neighbours too; every other candidate rests on all points
 -- of the board
 unfoldable pub candidate_rests_on : Turn → BoardState → ℕ → Points
 candidate_rests_on turn pos p =
@@ -123,8 +139,7 @@ candidate_rests_on turn pos p =
     else if (nat_lt 0 turn.wide && nat_le (liberties pos.size pos.cells turn.target) (most_wide turn.tree))
     && is_empty_beside pos.size pos.cells (is_liberty pos.size pos.cells turn.target) p
     then set.insert (close_to pos.size pos.cells turn.target) p
-    else with_string pos.size pos.cells turn.target
-    (weak_enemy_at (most_of_enemy turn.tree) pos.size pos.cells turn.target p)
+    else with_string pos.size pos.cells turn.target (shown_at turn pos.size pos.cells p)
 
 -- what guards q of the zone Z: if q holds a stone of c, what shows whether its string is in atari
 abbrev pub guard_at : ℕ → List Cell → Colour → Points → ℕ → Points

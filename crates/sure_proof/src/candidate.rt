@@ -1,21 +1,26 @@
 //! What shows that a point is a candidate of the attacker, and that the target has not too many liberties.
 
-ghost use Rattle.std.specs.Prelude.{◌≡◌, ◌*◌, ◌<◌, ◌&&◌, ◌==◌, nat_lt, nat_le, IsTrue, IfSome, ℕ, false, Some};
+ghost use Rattle.std.specs.Prelude.{◌≡◌, ◌*◌, ◌<◌, ◌&&◌, ◌==◌, not, nat_lt, nat_le, IsTrue, IfSome, ℕ, false, Some};
 ghost use Rattle.std.specs.FinSet as set;
 ghost use Rattle.go_rules.specs.Below.{any_below};
 ghost use Rattle.go_rules.specs.Board.{largest_points, are_neighbours};
-ghost use Rattle.go_rules.specs.Strings.{liberties as liberties_at, liberty_points, is_liberty};
+ghost use Rattle.go_rules.specs.Strings.{liberties as liberties_at, liberty_points, is_liberty, is_in_string};
+ghost use Rattle.go_rules.specs.Strings.{cell_at, same_cell, string_at};
 ghost use Rattle.go_base.specs.Floods.{enemy_points};
 ghost use Rattle.go_base.specs.Sides.{neighbour_at};
 ghost use Rattle.read_rules.specs.Candidates.{is_empty_beside};
-ghost use Rattle.wider_rules.specs.Further.{is_weak_enemy};
+ghost use Rattle.wider_rules.specs.Further.{is_weak_enemy, is_linked, few_of_parted};
 ghost use Rattle.sure_proof.specs.Rests.{all_points, most_wide, most_of_enemy, weak_enemy_at, with_string};
-ghost use Rattle.sure_proof.specs.Rests.{candidate_rests_on};
+ghost use Rattle.sure_proof.specs.Rests.{linked_at, shown_at, candidate_rests_on};
 
 use crate::shown::{close_to, string_of};
+use go_base::flood::Found;
 use go_base::sides::neighbour;
 use go_base::{Cell, Point, PointSet, Position, Size};
 use read_rules::{Tree, Turn};
+
+/// So many liberties at most has a linked string whose liberties the attacker tries.
+const FEW_OF_PARTED: u16 = 2;
 
 /// All points of a board.
 fn all_points(size: Size) -> PointSet
@@ -166,6 +171,76 @@ fn weak_enemy_at(pos: &Position, target: Point, most: u16, p: Point) -> Option<P
     None
 }
 
+/// Whether q holds a stone of the target's colour next to a liberty of the target, of another string than the target's.
+fn is_friend(pos: &Position, target: Point, found: &Found, q: Point) -> bool
+    requires target { target < pos.now.size * pos.now.size }
+    requires on_board { q < pos.now.size * pos.now.size }
+    requires small { q < largest_points }
+    requires stones { found.now.stones ≡ string_at pos.now.size pos.now.cells target }
+    requires liberties { found.now.liberties ≡ liberty_points pos.now.size pos.now.cells target }
+    ensures { result ≡ ((same_cell (cell_at pos.now.cells q) (cell_at pos.now.cells target)
+        && any_below (pos.now.size * pos.now.size)
+        (λ l. is_liberty pos.now.size pos.now.cells target l && are_neighbours pos.now.size l q))
+        && not (is_in_string pos.now.size pos.now.cells target q)) }
+{
+    let own = pos.cell(q) == pos.cell(target);
+    let beside = is_beside(pos, &found.liberties, q);
+    are_all(own, beside, !found.stones.has(q))
+}
+
+/// Whether q is a stone of a string linked to the target that has at most two liberties, one of which is p.
+fn is_linked_at(pos: &Position, target: Point, found: &Found, q: Point, p: Point) -> bool
+    requires target { target < pos.now.size * pos.now.size }
+    requires on_board { q < pos.now.size * pos.now.size }
+    requires point { p < pos.now.size * pos.now.size }
+    requires small { (q < largest_points) × (p < largest_points) }
+    requires stones { found.now.stones ≡ string_at pos.now.size pos.now.cells target }
+    requires liberties { found.now.liberties ≡ liberty_points pos.now.size pos.now.cells target }
+    ensures { result ≡ (is_linked few_of_parted pos.now.size pos.now.cells target q
+        && is_liberty pos.now.size pos.now.cells q p) }
+{
+    is_friend(pos, target, found, q) && has_few(pos, FEW_OF_PARTED, q, p)
+}
+
+/// The first stone of a string linked to the target that has at most two liberties, one of which is p.
+fn linked_at(pos: &Position, target: Point, p: Point) -> Option<Point>
+    requires target { target < pos.now.size * pos.now.size }
+    requires point { p < pos.now.size * pos.now.size }
+    requires small { p < largest_points }
+    ensures value { result ≡ linked_at pos.now.size pos.now.cells target p }
+    ensures on_board { IfSome result (λ q. q < pos.now.size * pos.now.size) }
+{
+    let found = string_of(pos, target);
+    for q in 0..pos.size().points() {
+        if is_linked_at(pos, target, &found, q, p) {
+            return Some(q);
+        }
+    }
+    None
+}
+
+/// A stone of another string than the target's that shows that p is a candidate: of a weak enemy string, or if a wide
+/// ply is left in the wider tree of a linked one.
+#[tactic(auto, unfolding(crate::specs::Rests::shown_at))]
+fn shown_at(pos: &Position, turn: Turn, p: Point) -> Option<Point>
+    requires target { turn.target < pos.now.size * pos.now.size }
+    requires point { p < pos.now.size * pos.now.size }
+    requires small { p < largest_points }
+    ensures value { result ≡ shown_at turn pos.now.size pos.now.cells p }
+    ensures on_board { IfSome result (λ q. q < pos.now.size * pos.now.size) }
+{
+    match weak_enemy_at(pos, turn.target, most_of_enemy(turn.tree), p) {
+        Some(q) => Some(q),
+        None => {
+            if are_both(turn.wide > 0, turn.tree.is_wider()) {
+                linked_at(pos, turn.target, p)
+            } else {
+                None
+            }
+        }
+    }
+}
+
 /// The string of the target and that of `other`, each with all its neighbours; all points of the board if there is no
 /// `other`.
 fn with_string(pos: &Position, target: Point, other: Option<Point>) -> PointSet
@@ -199,6 +274,5 @@ pub(crate) fn candidate_rests_on(pos: &Position, turn: Turn, p: Point) -> PointS
         points.add(p);
         return points;
     }
-    let enemy = weak_enemy_at(pos, turn.target, most_of_enemy(turn.tree), p);
-    with_string(pos, turn.target, enemy)
+    with_string(pos, turn.target, shown_at(pos, turn, p))
 }

@@ -1,7 +1,7 @@
 -- What a candidate rests on, by what kind it is.
 use Rattle.std.proofs.Common.{◌∙◌, ap, sym}
 use Rattle.std.specs.FinSet as set
-use Rattle.sure_proof.specs.Rests.{weak_enemy_at, with_string}
+use Rattle.sure_proof.specs.Rests.{with_string}
 use Rattle.sure_proof.proofs.ProofLemmas.{rests_liberty, rests_wide, rests_other}
 use Rattle.sure_proof.proofs.RestLemmas.{in_liberties}
 use Rattle.sure_proof.proofs.candidate.candidate_rests_on.Goals as goal
@@ -29,8 +29,7 @@ pub returns : goal.returns
 returns c =
     let pos = c.args.pos.now in
     let target = c.args.turn.target in
-    c.with_string.ensures ∙ ap (with_string pos.size pos.cells target) (c.weak_enemy_at-enemy.ensures.value
-    ∙ ap (λ most. weak_enemy_at most pos.size pos.cells target c.args.p) c.most_of_enemy.ensures)
+    c.with_string.ensures ∙ ap (with_string pos.size pos.cells target) c.shown_at.ensures.value
     ∙ sym (rests_other c.args.turn pos c.args.p
     (sym (in_liberties pos.size pos.cells target c.args.p c.requires.on_board)
     ∙ ap (λ S. set.contains S c.args.p) (sym c.liberty_points-liberties.ensures) ∙ sym c.has.ensures ∙ c.if-has.false)

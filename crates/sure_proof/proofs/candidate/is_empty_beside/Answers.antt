@@ -1,5 +1,5 @@
 -- Nothing stands there, and a neighbour is a liberty.
-use Rattle.std.proofs.Common.{◌≡◌, ◌∙◌, ◌*◌, ◌&&◌, ap, sym}
+use Rattle.std.proofs.Common.{◌∙◌, ◌*◌, ◌&&◌, ap, sym}
 use Rattle.std.specs.FinSet as set
 use Rattle.go_rules.specs.declared.Cell.TheVariants.{Empty}
 use Rattle.go_rules.specs.Below.{any_below}
