@@ -22,7 +22,7 @@ use Rattle.sure_rules.specs.Zones.{points_of, WhereverAgrees, IsZone}
 use Rattle.sure_rules.proofs.SureLemmas.{sure-captured, sure_attacker_gives, sure_attacker_from, sure_defender_gives}
 use Rattle.sure_rules.proofs.SureLemmas.{none_at_attackers}
 use Rattle.sure_rules.proofs.ZoneLemmas.{zone_defender}
-use Rattle.read_zones.specs.Alike.{AreAlikeChildren, AreCandidates, IsGuarded}
+use Rattle.read_zones.specs.Alike.{AreAlikeChildren, IsGuarded}
 
 -- positions that agree on more points agree on fewer
 pub agree_less : {Y Z : ℕ → Bool} {a b : BoardState} → ((q : ℕ) → Y q ≡ true → Z q ≡ true)
@@ -100,12 +100,11 @@ some_there n None h = absurd (let wrong = h in cc)
 some_there n (Some child) h = (child.0, child.1, refl, h)
 
 -- the attacker's turn, by a candidate that captures on every position that agrees
-pub attacker_has : (n : ℕ) (node : Node) (pos : BoardState) (points Y W Z : ℕ → Bool) (p : ℕ)
-    → is_attackers node ≡ true → points p ≡ true
-    → AreCandidates node pos points Y
+pub attacker_has : (n : ℕ) (node : Node) (pos : BoardState) (Y W Z : ℕ → Bool) (p : ℕ) → is_attackers node ≡ true
+    → WhereverAgrees pos Y (λ here. (has_too_many node here ≡ false) × (is_candidate node.turn here p ≡ true))
     → WhereverAgrees pos W (λ here. some_child (surely_wins n) (child_of node here p) ≡ true)
     → ((q : ℕ) → Y q ≡ true → Z q ≡ true) → ((q : ℕ) → W q ≡ true → Z q ≡ true) → IsZone (n + 1) node pos Z
-attacker_has n node pos points Y W Z p turn inside shown captures y_in w_in = λ here sound same.
+attacker_has n node pos Y W Z p turn shown captures y_in w_in = λ here sound same.
     ap (λ m. surely_wins m node here) (add-one n) ∙ elim (cases_Bool (is_gone node here)) [
       | inl gone ↦ sure-captured (suc n) node here gone (none_at_attackers node here turn)
       | inr stands ↦
@@ -117,7 +116,7 @@ attacker_has n node pos points Y W Z p turn inside shown captures y_in w_in = λ
               point = p;
               next = w.0;
               new = w.1;
-              candidate = few.1 p inside;
+              candidate = few.1;
               child = child_gives node here p w.0 w.1 w.2;
               wins = w.3;
             },

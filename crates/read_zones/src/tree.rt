@@ -3,8 +3,9 @@
 ghost use Rattle.std.specs.Prelude.{◌≡◌, ℕ, ◌+◌, ◌*◌, ◌<◌, ◌&&◌, true, false, MatchOption, IsTrue, IfSome};
 ghost use Rattle.std.specs.FinSet as set;
 ghost use Rattle.go_rules.specs.Position.{BoardState};
+ghost use Rattle.read_rules.specs.Candidates.{is_candidate};
 ghost use Rattle.read_rules.specs.GameTree.{child_of, can_play, some_child, each_child, has_lost_one_stone};
-ghost use Rattle.sure_rules.specs.Nodes.{is_attackers, is_gone};
+ghost use Rattle.sure_rules.specs.Nodes.{is_attackers, is_gone, has_too_many};
 ghost use Rattle.sure_rules.specs.SureTree.{surely_wins};
 ghost use Rattle.sure_rules.specs.Zones.{IsZone, WhereverAgrees};
 ghost use Rattle.read_zones.specs.Alike.{AreCandidates};
@@ -16,6 +17,7 @@ use crate::seen::{
 use go_base::{Cell, Point, PointSet, Position};
 use read_proof::children::{child_of, passed};
 use read_rules::Node;
+use sure_proof::candidate_shown;
 
 /// The zone that shows that the attacker's play at p captures, with `plies` plies left after it; none if it does not.
 #[cycle(zones)]
@@ -55,12 +57,34 @@ fn reply_zone(position: &Position, node: Node, p: Point, plies: u8) -> Option<Po
     }
 }
 
+/// The points on which it rests that p is a candidate, as it is among these, and that the target has not too many
+/// liberties: the points that show it of p alone, or all at which the look for the candidates looked if those are no more.
+fn candidate_zone(position: &Position, node: Node, shown: &Shown, p: Point) -> PointSet
+    requires target { node.turn.target < position.now.size * position.now.size }
+    requires turn { is_attackers node ≡ true }
+    requires stands { is_gone node position.now ≡ false }
+    requires shown { AreCandidates node position.now (set.contains shown.now.points) (set.contains shown.now.zone) }
+    requires on_board { (q : ℕ) → set.contains shown.now.zone q ≡ true → q < position.now.size * position.now.size }
+    requires candidate { set.contains shown.now.points p ≡ true }
+    ensures shown { WhereverAgrees position.now (set.contains result) (λ here. (has_too_many node here ≡ false)
+        × (is_candidate node.turn here p ≡ true)) }
+    ensures on_board { (q : ℕ) → set.contains result q ≡ true → q < position.now.size * position.now.size }
+{
+    let _ = position.size();
+    let own = candidate_shown(position, node, p);
+    if own.count() < shown.zone.count() {
+        return own;
+    }
+    shown.zone.copied()
+}
+
 /// The zone that shows that the attacker's play at one of these candidates captures, with `plies` plies left after it;
 /// none if none of them does.
 #[cycle(zones)]
 fn some_zone(position: &Position, node: Node, shown: &Shown, plies: u8) -> Option<PointSet>
     requires target { node.turn.target < position.now.size * position.now.size }
     requires turn { is_attackers node ≡ true }
+    requires stands { is_gone node position.now ≡ false }
     requires shown { AreCandidates node position.now (set.contains shown.now.points) (set.contains shown.now.zone) }
     requires on_board { (q : ℕ) → set.contains shown.now.zone q ≡ true → q < position.now.size * position.now.size }
     ensures zone { MatchOption result
@@ -75,7 +99,7 @@ fn some_zone(position: &Position, node: Node, shown: &Shown, plies: u8) -> Optio
     'plays: while let Some(p) = shown.points.first_from(from) {
         if let Some(zone) = play_zone(position, node, p, plies) {
             let mut all = zone;
-            all.join(&shown.zone);
+            all.join(&candidate_zone(position, node, shown, p));
             return Some(all);
         }
         from = p + 1;

@@ -6,3 +6,4 @@ pub mod ProofLemmas
 pub mod StepLemmas
 pub mod RestLemmas
 pub mod FurtherKept
+pub mod CandidateLemmas

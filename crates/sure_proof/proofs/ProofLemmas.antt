@@ -141,7 +141,7 @@ module _ (turn : Turn) (s : ℕ) (a b : List Cell) (x y : Option (ℕ × Colour)
 
 -- on a position that agrees on what a candidate rests on, the target has too many liberties as here, and the point is a
 -- candidate
-candidate_there : (turn : Turn) (pos here : BoardState) (p : ℕ) (Z : Points) → IsPosition pos → IsPosition here
+pub candidate_there : (turn : Turn) (pos here : BoardState) (p : ℕ) (Z : Points) → IsPosition pos → IsPosition here
     → turn.target < pos.size * pos.size → is_stone (cell_at pos.cells turn.target) ≡ true
     → turn.attacker_to_play ≡ true → is_candidate turn pos p ≡ true → AgreeOn (points_of (has Z)) pos here
     → IsWithin (candidate_rests_on turn pos p) Z

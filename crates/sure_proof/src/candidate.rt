@@ -1,6 +1,6 @@
 //! What shows that a point is a candidate of the attacker, and that the target has not too many liberties.
 
-ghost use Rattle.std.specs.Prelude.{◌≡◌, ◌*◌, ◌<◌, ◌&&◌, ◌==◌, not, nat_lt, nat_le, IsTrue, IfSome, ℕ, false, Some};
+ghost use Rattle.std.specs.Prelude.{◌≡◌, ◌*◌, ◌<◌, ◌&&◌, ◌==◌, not, nat_lt, nat_le, IsTrue, IfSome, ℕ, true, false, Some};
 ghost use Rattle.std.specs.FinSet as set;
 ghost use Rattle.go_rules.specs.Below.{any_below};
 ghost use Rattle.go_rules.specs.Board.{largest_points, are_neighbours};
@@ -8,7 +8,9 @@ ghost use Rattle.go_rules.specs.Strings.{liberties as liberties_at, liberty_poin
 ghost use Rattle.go_rules.specs.Strings.{cell_at, same_cell, string_at};
 ghost use Rattle.go_base.specs.Floods.{enemy_points};
 ghost use Rattle.go_base.specs.Sides.{neighbour_at};
-ghost use Rattle.read_rules.specs.Candidates.{is_empty_beside};
+ghost use Rattle.read_rules.specs.Candidates.{is_empty_beside, is_candidate};
+ghost use Rattle.sure_rules.specs.Nodes.{is_attackers, is_gone, has_too_many};
+ghost use Rattle.sure_rules.specs.Zones.{WhereverAgrees};
 ghost use Rattle.wider_rules.specs.Further.{is_weak_enemy, is_linked, few_of_parted};
 ghost use Rattle.sure_proof.specs.Rests.{all_points, most_wide, most_of_enemy, weak_enemy_at, with_string};
 ghost use Rattle.sure_proof.specs.Rests.{linked_at, shown_at, candidate_rests_on};
@@ -17,7 +19,7 @@ use crate::shown::{close_to, string_of};
 use go_base::flood::Found;
 use go_base::sides::neighbour;
 use go_base::{Cell, Point, PointSet, Position, Size};
-use read_rules::{Tree, Turn};
+use read_rules::{Node, Tree, Turn};
 
 /// So many liberties at most has a linked string whose liberties the attacker tries.
 const FEW_OF_PARTED: u16 = 2;
@@ -275,4 +277,19 @@ pub(crate) fn candidate_rests_on(pos: &Position, turn: Turn, p: Point) -> PointS
         return points;
     }
     with_string(pos, turn.target, shown_at(pos, turn, p))
+}
+
+/// The points on which it rests that p is a candidate of the attacker, and that the target has not too many liberties.
+pub fn candidate_shown(pos: &Position, node: Node, p: Point) -> PointSet
+    requires target { node.turn.target < pos.now.size * pos.now.size }
+    requires turn { is_attackers node ≡ true }
+    requires stands { is_gone node pos.now ≡ false }
+    requires few { has_too_many node pos.now ≡ false }
+    requires candidate { is_candidate node.turn pos.now p ≡ true }
+    ensures shown { WhereverAgrees pos.now (set.contains result) (λ here. (has_too_many node here ≡ false)
+        × (is_candidate node.turn here p ≡ true)) }
+    ensures on_board { (q : ℕ) → set.contains result q ≡ true → q < pos.now.size * pos.now.size }
+{
+    let _ = pos.size().points();
+    candidate_rests_on(pos, node.turn, p)
 }

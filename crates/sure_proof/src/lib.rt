@@ -20,5 +20,6 @@ mod shown;
 mod walk;
 mod words;
 
+pub use candidate::candidate_shown;
 pub use checker::{check_node, checks_surely};
 pub use replies::replies_asked;

@@ -55,11 +55,11 @@ reply_zone-returns-in_ok-after-in-Some-clause-zone t c =
 -- a candidate that captures
 pub some_zone-returns-in-Some-play_zone-clause-zone : goal.some_zone-returns-in-Some-play_zone-clause-zone
 some_zone-returns-in-Some-play_zone-clause-zone t c =
-    attacker_has c.args.plies c.args.node c.args.position.now (set.contains c.args.shown.now.points)
-    (set.contains c.args.shown.now.zone) (set.contains c.in-Some-play_zone.zone) (set.contains c.join.new.self)
-    c.in-Some.p c.requires.turn c.in-Some.ensures.some.2 c.requires.shown c.in-Some-play_zone.ensures.zone
-    (λ q. in_second c.in-Some-play_zone.zone c.args.shown.now.zone c.join.new.self q c.join.ensures)
-    (λ q. in_first c.in-Some-play_zone.zone c.args.shown.now.zone c.join.new.self q c.join.ensures)
+    attacker_has c.args.plies c.args.node c.args.position.now (set.contains c.candidate_zone.result)
+    (set.contains c.in-Some-play_zone.zone) (set.contains c.join.new.self) c.in-Some.p c.requires.turn
+    c.candidate_zone.ensures.shown c.in-Some-play_zone.ensures.zone
+    (λ q. in_second c.in-Some-play_zone.zone c.candidate_zone.result c.join.new.self q c.join.ensures)
+    (λ q. in_first c.in-Some-play_zone.zone c.candidate_zone.result c.join.new.self q c.join.ensures)
 
 -- a target that is captured
 pub zone_of-returns-then-plies-eq0-clause-zone : goal.zone_of-returns-then-plies-eq0-clause-zone
@@ -126,9 +126,9 @@ some_zone-play_zone-requires t c =
 -- both zones are on the board
 pub some_zone-returns-in-Some-play_zone-clause-on_board : goal.some_zone-returns-in-Some-play_zone-clause-on_board
 some_zone-returns-in-Some-play_zone-clause-on_board t c = λ q inside.
-    elim (in_either c.in-Some-play_zone.zone c.args.shown.now.zone c.join.new.self q c.join.ensures inside) [
+    elim (in_either c.in-Some-play_zone.zone c.candidate_zone.result c.join.new.self q c.join.ensures inside) [
       | inl first ↦ c.in-Some-play_zone.ensures.on_board q first
-      | inr second ↦ c.requires.on_board q second
+      | inr second ↦ c.candidate_zone.ensures.on_board q second
     ]
 
 -- no candidate captures

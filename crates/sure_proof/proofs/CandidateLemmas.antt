@@ -1,0 +1,86 @@
+-- What shows a candidate lies on the board, and shows it on every position that agrees there.
+use Rattle.std.proofs.Common.{◌≡◌, ◌∙◌, ◌⊎◌, ℕ, ◌*◌, ◌<◌, ◌&&◌, Bool, true, false, List, Option, Some, None}
+use Rattle.std.proofs.Common.{sym, ap, subst, inl, inr, eqb, ltb}
+use Rattle.std.specs.Cmp.{nat_cmp_total}
+use Rattle.std.specs.FinSet as sets
+use Rattle.std.proofs.lemmas.Bool.{cases_Bool, or_cases, and_parts, ltb-true, eqb-true}
+use Rattle.go_rules.specs.declared.Cell.{Cell}
+use Rattle.go_rules.specs.Below.{set_below}
+use Rattle.go_rules.specs.BesideStrings.{is_enemy, is_beside_string}
+use Rattle.go_rules.specs.Position.{BoardState, IsPosition}
+use Rattle.go_rules.specs.Strings.{cell_at, is_in_string, is_liberty, string_at, liberty_points}
+use Rattle.go_rules.proofs.Sets.{contains-set_below, contains-insert_nat}
+use Rattle.go_base.specs.Floods.{enemy_points}
+use Rattle.read_rules.specs.ActiveArea.{AgreeOn}
+use Rattle.read_rules.specs.Candidates.{is_candidate}
+use Rattle.read_rules.specs.declared.node.Node.{Node}
+use Rattle.read_rules.specs.declared.turn.Turn.{Turn}
+use Rattle.sure_rules.specs.Nodes.{is_attackers, is_gone, has_too_many}
+use Rattle.sure_rules.specs.Zones.{points_of}
+use Rattle.sure_proof.specs.Rests.{Points, close_to, shown_at, with_string, candidate_rests_on}
+use Rattle.sure_proof.proofs.SoundLemmas.{has, stone_of_cell}
+use Rattle.sure_proof.proofs.ProofLemmas.{is_wide, rests_liberty, rests_wide, rests_other, candidate_there}
+
+-- A member of sets of points.
+module _ (q : ℕ) where
+  -- a member of two joined sets is a member of one of them
+  in_union : (S T : Points) → sets.contains (sets.union S T) q ≡ true
+      → (sets.contains S q ≡ true) ⊎ (sets.contains T q ≡ true)
+  in_union S T h =
+      or_cases (sets.contains S q) (sets.contains T q) (sym (sets.contains-union nat_cmp_total S T q) ∙ h)
+
+  -- a member of a set of numbers below n is below n
+  on_below : (n : ℕ) (test : ℕ → Bool) → sets.contains (set_below n test) q ≡ true → q < n
+  on_below n test h = ltb-true q n (and_parts (ltb q n) (test q) (sym (contains-set_below n test q) ∙ h)).0
+
+  -- the string of p and all its neighbours are on the board
+  close_on : (s : ℕ) (cells : List Cell) (p : ℕ) → sets.contains (close_to s cells p) q ≡ true → q < s * s
+  unfolding close_to string_at liberty_points
+  close_on s cells p h = elim (in_union (sets.union (string_at s cells p) (liberty_points s cells p))
+      (enemy_points s cells p) h) [
+        | inl own ↦ elim (in_union (string_at s cells p) (liberty_points s cells p) own) [
+          | inl stone ↦ on_below (s * s) (is_in_string s cells p) stone
+          | inr liberty ↦ on_below (s * s) (is_liberty s cells p) liberty
+        ]
+        | inr enemy ↦ on_below (s * s)
+            (λ r. is_beside_string s cells p r && is_enemy (cell_at cells p) (cell_at cells r)) enemy
+      ]
+
+  -- and so are the strings of the target and another, or all points
+  with_string_on : (s : ℕ) (cells : List Cell) (target : ℕ) (other : Option ℕ)
+      → sets.contains (with_string s cells target other) q ≡ true → q < s * s
+  with_string_on s cells target None h = on_below (s * s) (λ r. true) h
+  with_string_on s cells target (Some other) h =
+      elim (in_union (close_to s cells target) (close_to s cells other) h) [
+        | inl its ↦ close_on s cells target its
+        | inr near ↦ close_on s cells other near
+      ]
+
+-- what a candidate rests on is on the board
+pub rests_on_board : (turn : Turn) (pos : BoardState) (p q : ℕ) → p < pos.size * pos.size
+    → sets.contains (candidate_rests_on turn pos p) q ≡ true → q < pos.size * pos.size
+rests_on_board turn pos p q on h = elim (cases_Bool (is_liberty pos.size pos.cells turn.target p)) [
+  | inl t ↦ close_on q pos.size pos.cells turn.target
+      (sym (ap (λ (S : Points). sets.contains S q) (rests_liberty turn pos p t)) ∙ h)
+  | inr f ↦ elim (cases_Bool (is_wide turn pos p)) [
+    | inl t ↦ elim (or_cases (eqb q p) (sets.contains (close_to pos.size pos.cells turn.target) q)
+        (sym (contains-insert_nat (close_to pos.size pos.cells turn.target) p q)
+        ∙ sym (ap (λ (S : Points). sets.contains S q) (rests_wide turn pos p f t)) ∙ h)) [
+          | inl same ↦ subst (λ r. r < pos.size * pos.size) (sym (eqb-true q p same)) on
+          | inr close ↦ close_on q pos.size pos.cells turn.target close
+        ]
+    | inr g ↦ with_string_on q pos.size pos.cells turn.target (shown_at turn pos.size pos.cells p)
+        (sym (ap (λ (S : Points). sets.contains S q) (rests_other turn pos p f g)) ∙ h)
+  ]
+]
+
+-- on a position that agrees there the target has not too many liberties, and the point is a candidate
+pub shown_there : (node : Node) (pos here : BoardState) (p : ℕ) → IsPosition pos → IsPosition here
+    → node.turn.target < pos.size * pos.size → is_attackers node ≡ true → is_gone node pos ≡ false
+    → has_too_many node pos ≡ false → is_candidate node.turn pos p ≡ true
+    → AgreeOn (points_of (has (candidate_rests_on node.turn pos p))) pos here
+    → (has_too_many node here ≡ false) × (is_candidate node.turn here p ≡ true)
+shown_there node pos here p good sound on turn stands few candidate same =
+    let there = candidate_there node.turn pos here p (candidate_rests_on node.turn pos p) good sound on
+    (stone_of_cell (cell_at pos.cells node.turn.target) stands) turn candidate same (λ q inside. inside) in
+    (there.0 ∙ few, there.1)
