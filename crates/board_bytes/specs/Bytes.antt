@@ -1,4 +1,4 @@
--- What the bytes of a caller say of a board, and the bytes of a position: 0 an empty point, 1 black, 2 white.
+-- What the bytes of a caller say of a board, and the bytes of a position: 0 is an empty point, 1 black, 2 white.
 use Rattle.std.specs.Prelude.{ℕ, ◌-◌, ◌*◌, ◌==◌, ◌&&◌, ◌||◌, Bool, not, nat_lt, List, ◌++◌, map, take, replicate}
 use Rattle.std.specs.Prelude.{slice_index_or, Option, Some, None, Result, Err, if◌then◌else◌}
 use Rattle.std.specs.List.{list_all}
@@ -19,7 +19,7 @@ use Rattle.board_bytes.specs.declared.board.BoardFault.TheVariants.{Size, Cell a
 abbrev pub is_cell_byte : ℕ → Bool
 is_cell_byte b = not (nat_lt 2 b)
 
--- the cell that a byte names
+-- the cell that a byte names: black for 1, white for 2, and else empty
 abbrev pub cell_of : ℕ → Cell
 cell_of b = if b == 1 then Black else if b == 2 then White else Empty
 
@@ -51,7 +51,8 @@ has_byte bytes b n p = nat_lt p n && (byte_at bytes p == b)
 unfoldable pub stones_of : ℕ → List ℕ → Option BoardState
 stones_of s bytes = if has_dead_string s (map cell_of bytes) then None else Some (board_of s (map cell_of bytes))
 
--- the position with a ban on the play of a colour at a point; None if the point is not an empty point of the board
+-- the position with a ban on the play of the colour at the point; None if there is no colour or the point is not an
+-- empty point of the board
 abbrev pub banned : BoardState → ℕ → Option Colour → Option BoardState
 banned pos point None = None
 banned pos point (Some c) =
@@ -62,7 +63,7 @@ banned pos point (Some c) =
 unfoldable pub with_ban : BoardState → ℕ → ℕ → Option BoardState
 with_ban pos colour point = if colour == 0 then Some pos else banned pos point (colour_named colour)
 
--- the position with the stones and the ban, if the stones are those of a position
+-- the position with the ban that the bytes name; NoLiberty if there is no position, Ban if the ban is faulty
 abbrev pub with_stones : BoardBytes → Option BoardState → Result BoardState BoardFault
 with_stones board None = Err NoLiberty
 with_stones board (Some pos) = ok_or (with_ban pos board.ban_colour board.ban_point) Ban
@@ -71,8 +72,8 @@ with_stones board (Some pos) = ok_or (with_ban pos board.ban_colour board.ban_po
 abbrev pub point_bytes : BoardBytes → List ℕ
 point_bytes board = take (board.size * board.size) board.cells
 
--- the position that the bytes say, or the first reason why they say none: no board has the size, the byte of a point
--- names nothing, a string has no liberty, or the ban is none
+-- the position that the bytes describe, or the first reason why they describe none: no board has the size, the byte of
+-- a point names no cell, a string has no liberty, or the ban is faulty
 unfoldable pub position_of : BoardBytes → Result BoardState BoardFault
 position_of board =
     if nat_lt board.size smallest_size || nat_lt largest_size board.size then Err Size

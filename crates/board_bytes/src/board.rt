@@ -17,7 +17,7 @@ pub struct BoardBytes {
     pub cells: [u8; MAX_POINTS],
 }
 
-/// Why bytes are no position. If several reasons apply, the first of these is told.
+/// Why bytes are no position. If several reasons apply, the first of these is given.
 #[derive(Clone, Copy, Debug, PartialEq, Eq)]
 pub enum BoardFault {
     /// No board has this size.

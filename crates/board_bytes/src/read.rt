@@ -9,10 +9,10 @@ ghost use Rattle.board_bytes.specs.Bytes.{is_cell_byte, has_byte, colour_named, 
 use crate::board::{BoardBytes, BoardFault};
 use go_base::{Cell, Colour, PointSet, Position, Size};
 
-/// The byte of a black stone, and of the colour.
+/// The byte of a black stone, and of the colour Black.
 const BLACK: u8 = 1;
 
-/// The byte of a white stone, and of the colour.
+/// The byte of a white stone, and of the colour White.
 const WHITE: u8 = 2;
 
 /// The colour that a byte names: 1 is Black, 2 is White, and no other byte names one.
@@ -33,7 +33,7 @@ fn are_cell_bytes(bytes: &[u8]) -> bool
     bytes.iter().all(|b| *b <= WHITE)
 }
 
-/// The points among the first ones that have this byte.
+/// The points among the first `points` ones that have the byte `byte`.
 fn points_with(bytes: &[u8], byte: u8, points: u16) -> PointSet
     requires enough { points ≤ length bytes.now }
     requires few { points ≤ largest_points }
@@ -59,8 +59,8 @@ fn stones_of(size: Size, bytes: &[u8]) -> Option<Position>
     Position::setup(size, &black, &white)
 }
 
-/// The position with the ban that these numbers name; `None` if the colour is none of 0, 1 and 2, or the point is not
-/// an empty point of the board.
+/// The position with the ban that `colour` and `point` name; `None` if the colour is none of 0, 1 and 2, or the point
+/// of a ban is not an empty point of the board.
 #[tactic(auto, unfolding(crate::specs::Bytes::with_ban))]
 fn with_ban(position: &Position, colour: u8, point: u16) -> Option<Position>
     ensures { result ≡ with_ban position.now colour point }
@@ -75,7 +75,7 @@ fn with_ban(position: &Position, colour: u8, point: u16) -> Option<Position>
     Some(Position::of(&position.board(), Some((point, colour))))
 }
 
-/// The position that the bytes say, or the first reason why they say none. Takes no memory.
+/// The position that the bytes of `board` describe, or the first reason why they describe none. Takes no memory.
 pub fn position_of(board: &BoardBytes) -> Result<Position, BoardFault>
     ensures { result ≡ position_of board.now }
 {
@@ -98,7 +98,7 @@ mod tests {
     use go_base::{Cell, Colour};
     use std::test::Fail;
 
-    /// A board of this size with these bytes of points, and else 0; and a ban.
+    /// A board of this size with the bytes of `points`, 0 at every other point, and the ban `ban`.
     fn board(size: u8, points: &[(u16, u8)], ban: (u8, u16)) -> BoardBytes {
         let mut cells = [0; 625];
         for (p, byte) in points {
@@ -114,7 +114,7 @@ mod tests {
         }
     }
 
-    /// Boards of bytes, and why they are no position, if they are none.
+    /// Boards as bytes, and the fault of each that is no position.
     static BOARDS: [(&str, u8, &[(u16, u8)], (u8, u16), Option<BoardFault>); 13] = [
         ("an empty board", 19, &[], (0, 0), None),
         ("a board of one row", 1, &[], (0, 0), Some(BoardFault::Size)),

@@ -30,7 +30,7 @@ fn ban_byte(ban: Option<(Point, Colour)>) -> u8
     }
 }
 
-/// The point of the ban; 0 if there is none.
+/// The point of the ban; 0 if there is no ban.
 fn ban_point(ban: Option<(Point, Colour)>) -> u16
     ensures { result ≡ ban_point ban }
 {
@@ -40,14 +40,14 @@ fn ban_point(ban: Option<(Point, Colour)>) -> u16
     }
 }
 
-/// No bytes but 0.
+/// Bytes that are all 0.
 fn no_bytes() -> [u8; MAX_POINTS]
     ensures { result ≡ replicate largest_points 0 }
 {
     [0; MAX_POINTS]
 }
 
-/// The bytes of what stands on the points, with 0 behind the last one.
+/// The bytes of what stands on the points, with 0 behind the last point.
 fn cells_of(position: &Position) -> [u8; MAX_POINTS]
     ensures { result ≡ map byte_of position.now.cells
         ++ replicate (largest_points - position.now.size * position.now.size) 0 }

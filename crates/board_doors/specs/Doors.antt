@@ -33,13 +33,13 @@ use Rattle.board_doors.specs.declared.fault.DoorFault.TheVariants.{Kind as bad_k
 use Rattle.board_doors.specs.declared.fault.DoorFault.TheVariants.{Depths as bad_depths, Colour as bad_colour, Code}
 use Rattle.board_doors.specs.declared.fault.DoorFault.TheVariants.{Illegal as illegal}
 
--- what is answered on the position that the bytes say, or the fault of the bytes
+-- the answer on the position of the bytes, or the fault of the bytes
 abbrev pub on_position : {T : Type 0} → (BoardState → Result T DoorFault) → Result BoardState BoardFault
     → Result T DoorFault
 on_position answered (Ok pos) = answered pos
 on_position answered (Err fault) = Err (Board fault)
 
--- what is answered behind something that may have a fault
+-- the answer that follows from a first result, or the fault of the first result
 abbrev pub and_then : {T U : Type 0} → (T → Result U DoorFault) → Result T DoorFault → Result U DoorFault
 and_then answered (Ok x) = answered x
 and_then answered (Err fault) = Err fault
@@ -51,27 +51,27 @@ stone_at pos p =
     else if same_cell (cell_at pos.cells p) Empty then Err NoStone
     else Ok (cell_at pos.cells p)
 
--- the number of plies is one of a reading
+-- the number of plies is in its range
 abbrev pub are_plies : ℕ → Bool
 are_plies plies = not (nat_lt plies least_plies || nat_lt most_plies plies)
 
--- the numbers are depths of a reading, and a tree has the number
+-- the plies and the wide plies are in their ranges, and a tree has the number
 unfoldable pub are_depths : DepthBytes → Bool
 are_depths depths =
     not (nat_lt depths.plies least_plies || nat_lt most_plies depths.plies || nat_lt most_wide depths.wide
     || nat_lt 1 depths.tree)
 
--- the tree with this number
+-- the tree with this number; any number but 0 gives the wider tree
 abbrev pub tree_named : ℕ → Tree
 tree_named n = if n == 0 then Stated else Wider
 
--- found are the depths that the numbers name
+-- `found` are the depths that the numbers name
 pub record AreDepthsOf (found : Depths) (depths : DepthBytes) : Type 0 where
   pub plies : found.plies ≡ depths.plies
   pub wide : found.wide ≡ depths.wide
   pub tree : found.tree ≡ tree_named depths.tree
 
--- the answer to a question about the stone at the target, with depths that may be none
+-- the answer to a question about the stone at the target, or the fault of the depths
 abbrev pub answer_with : Kind → ℕ → DepthBytes → BoardState → Result Answer DoorFault
 answer_with kind target depths pos =
     if are_depths depths
@@ -93,7 +93,7 @@ linkage_with kind a b plies pos first second =
     else if not (are_plies plies) then Err bad_depths
     else Ok (linkage_of (asked_on pos kind a b plies) pos)
 
--- the answer to a connection on the position, or the first fault: of the first point, of the second one, of the
+-- the answer to a connection on the position, or the first fault: of the first point, of the second point, of the
 -- colours, of the plies
 unfoldable pub link_on : LinkKind → ℕ → ℕ → ℕ → BoardState → Result Linkage DoorFault
 link_on kind a b plies pos =
@@ -108,7 +108,7 @@ linking_of kind board a b plies = on_position (link_on kind a b plies) (position
 abbrev pub pass_number : ℕ
 pass_number = 65535
 
--- what the rules make of a play
+-- the position after a play, or why the rules forbid the play
 abbrev pub by_rules : Result BoardState Illegal → Result BoardState DoorFault
 by_rules (Ok next) = Ok next
 by_rules (Err why) = Err (illegal why)
@@ -130,15 +130,15 @@ play_on colour at pos = play_by at pos (colour_named colour)
 unfoldable pub play_of : BoardBytes → ℕ → ℕ → Result BoardState DoorFault
 play_of board colour at = on_position (play_on colour at) (position_of board)
 
--- the liberties of the string at p, or the fault of the point
+-- how many liberties the string at p has, or the fault of the point
 unfoldable pub liberties_on : ℕ → BoardState → Result ℕ DoorFault
 liberties_on p pos = and_then (λ stone. Ok (liberties pos.size pos.cells p)) (stone_at pos p)
 
--- the liberties of the string at p on the position of the bytes, or the first fault
+-- how many liberties the string at p has on the position of the bytes, or the first fault
 unfoldable pub liberties_of : BoardBytes → ℕ → Result ℕ DoorFault
 liberties_of board p = on_position (liberties_on p) (position_of board)
 
--- the question with this number
+-- the question with this number, if there is one
 abbrev pub kind_named : ℕ → Option Kind
 kind_named n = if n == 1 then Some Attack else if n == 2 then Some Defend else None
 
@@ -181,7 +181,7 @@ question_on kind target depths pos = question_by target depths pos (kind_named k
 unfoldable pub question_of : BoardBytes → ℕ → ℕ → DepthBytes → Result Asked DoorFault
 question_of board kind target depths = on_position (question_on kind target depths) (position_of board)
 
--- proofs stood in front of all words, and nothing follows
+-- the proofs were read, and no words are left after them
 abbrev pub is_whole : Option (List Word) → Bool
 is_whole (Some []) = true
 is_whole (Some (word ∷ more)) = false

@@ -61,7 +61,7 @@ fault_named n =
 abbrev pub no_move : ℕ
 no_move = 65534
 
--- the number of a move: its point, or that of the pass, or that of none
+-- the number of a move: the number of its point, of the pass, or of no move
 abbrev pub spot_number : Option Spot → ℕ
 spot_number None = no_move
 spot_number (Some (At p)) = p
@@ -81,17 +81,17 @@ abbrev pub linkage_reply : Result Linkage DoorFault → AnswerReply
 linkage_reply (Ok linkage) = record { status = 0; code = truth_number linkage.yes; at = spot_number linkage.at }
 linkage_reply (Err fault) = record { status = status_of fault; code = 0; at = no_move }
 
--- the reply that is a number
+-- a reply that is a number
 abbrev pub number_reply : Result ℕ DoorFault → NumberReply
 number_reply (Ok number) = record { status = 0; number = number }
 number_reply (Err fault) = record { status = status_of fault; number = 0 }
 
--- the reply that is yes or no
+-- a reply that is yes or no
 abbrev pub truth_reply : Result Bool DoorFault → NumberReply
 truth_reply (Ok told) = record { status = 0; number = truth_number told }
 truth_reply (Err fault) = record { status = status_of fault; number = 0 }
 
--- the reply to a play: the bytes of the position after it, or with a fault the board that was handed over
+-- the reply to a play: the bytes of the position after it, or with a fault the board that came in
 abbrev pub play_reply : BoardBytes → Result BoardState DoorFault → PlayReply
 play_reply board (Ok pos) = record { status = 0; board = bytes_of pos }
 play_reply board (Err fault) = record { status = status_of fault; board = board }

@@ -10,8 +10,8 @@ use connect_rules::{LinkKind, Linkage};
 use go_base::{Point, Position, Watch};
 use read_rules::{MAX_PLIES, MIN_PLIES};
 
-/// The answer to the question about the stones at `a` and `b`, or the first fault: of the first point, of the second
-/// one, of the colours, of the plies.
+/// The answer to the question about the stones at `a` and `b`, or the first fault: of `a`, of `b`, of the colours, of
+/// the plies.
 #[tactic(auto, unfolding(crate::specs::Doors::link_on))]
 fn link_on(
     kind: LinkKind,
@@ -37,7 +37,7 @@ fn link_on(
     }
 }
 
-/// The answer on the position of the bytes, or the first fault.
+/// The answer to the question on the position of `board`, or the first fault.
 #[tactic(auto, unfolding(crate::specs::Doors::linking_of))]
 fn link(
     kind: LinkKind,
@@ -64,7 +64,7 @@ pub fn connect(board: &BoardBytes, a: Point, b: Point, plies: u8) -> Result<Link
 }
 
 /// Whether the strings at `a` and `b`, of one colour, can be kept apart when the other colour plays first, and the
-/// first move that does it. The faults come as those of `connect`. Takes no memory.
+/// first move that does it. The faults come in the same order as for `connect`. Takes no memory.
 pub fn disconnect(board: &BoardBytes, a: Point, b: Point, plies: u8) -> Result<Linkage, DoorFault>
     ensures { result ≡ linking_of LinkKind.Disconnect board.now a b plies }
 {

@@ -1,23 +1,23 @@
-//! Depths of a reading as a caller's numbers.
+//! The depths of a reading as numbers of a caller.
 
 ghost use Rattle.std.specs.Prelude.{◌≡◌, IfSome, is_some};
 ghost use Rattle.board_doors.specs.Doors.{are_depths, tree_named, AreDepthsOf};
 
 use read_rules::{Depths, Tree};
 
-/// How deep a reading goes, as a caller hands it over. Its layout is that of C, and each field may hold any number.
+/// How deep a reading goes, as a caller says it. The layout is that of C, and each field may hold any number.
 #[repr(C)]
 #[derive(Clone, Copy)]
 pub struct DepthBytes {
-    /// How many moves, passes among them, may follow on one another: 1 to 200.
+    /// How many moves may follow one another, passes included: 1 to 200.
     pub plies: u8,
-    /// In how many of the first plies more is tried than the liberties of the strings: 0 to 12.
+    /// In how many of the first plies more moves are tried than the liberties of the strings: 0 to 12.
     pub wide: u8,
     /// Which tree is read: 0 is the stated one, 1 the wider one.
     pub tree: u8,
 }
 
-/// The number of the wider tree; that of the stated one is 0, and no tree has a greater one.
+/// The number of the wider tree, the greatest number of a tree; the stated tree has number 0.
 const WIDER: u8 = 1;
 
 /// The tree with this number.

@@ -3,13 +3,13 @@
 use board_bytes::BoardFault;
 use go_base::Illegal;
 
-/// Why a question has no answer. If several reasons apply, the first of these that the door looks for is told: first
-/// those of the board.
+/// Why a question has no answer. If several reasons apply, the door gives the first that it finds; it checks the board
+/// first.
 #[derive(Clone, Copy, Debug, PartialEq, Eq)]
 pub enum DoorFault {
-    /// The bytes are no position.
+    /// The bytes are not a position.
     Board(BoardFault),
-    /// The number of a point is none of the board.
+    /// The board has no point with this number.
     OffBoard,
     /// There is no stone at the point.
     NoStone,
@@ -25,7 +25,7 @@ pub enum DoorFault {
     Code,
     /// The rules forbid the play.
     Illegal(Illegal),
-    /// The proof has more bytes than the caller's buffer.
+    /// The answer does not fit into the caller's buffer.
     ShortBuffer,
     /// The proof has more than 60,000 bytes.
     TooLong,

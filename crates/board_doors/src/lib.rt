@@ -1,8 +1,8 @@
-//! The doors of gopat for a program in another language: questions about a board that is handed over as bytes.
+//! The doors of gopat for a program in another language: questions about a board given as bytes.
 //!
 //! Each door takes any numbers. Its result is the answer on the position of these numbers, or the first reason why
-//! there is none: `DoorFault`. The replies have the layout of C and one status each, 0 for an answer and a number of
-//! its own for each fault. `gopat_c` exports them. Nothing takes memory.
+//! there is no answer: a `DoorFault`. The replies have the layout of C and one status each, 0 for an answer and a
+//! number of its own for each fault. `gopat_c` exports the doors. Nothing takes memory.
 #![tactic(auto)]
 
 pub mod connections;

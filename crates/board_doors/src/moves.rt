@@ -11,14 +11,14 @@ use board_bytes::{BoardBytes, position_of};
 use go_base::{Point, PointSet, Position, Watch};
 use read_all::{AllMoves, all_moves};
 
-/// The code of a question, and all moves that attain it; there are none for code 0 alone.
+/// The code of a question, and all moves that attain it: none if the code is 0, else one or more.
 #[derive(Drop)]
 pub struct MoveSet {
     /// The code: 3, 2, 1 or 0.
     pub code: u8,
-    /// The defender's pass attains it.
+    /// Whether the defender's pass attains the code.
     pub pass: bool,
-    /// The points at which a play attains it.
+    /// The points at which a play attains the code.
     pub points: PointSet,
 }
 

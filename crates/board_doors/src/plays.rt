@@ -8,7 +8,7 @@ use crate::stones::stone_at;
 use board_bytes::{BoardBytes, colour_named, position_of};
 use go_base::{Point, Position};
 
-/// The point's number that stands for a pass.
+/// The number of a point that stands for a pass.
 pub const PASS: Point = 65535;
 
 /// The position after the colour with this number plays at the point or passes, or the first fault: of the colour, of
@@ -32,8 +32,8 @@ fn play_on(colour: u8, at: Point, position: &Position) -> Result<Position, DoorF
     }
 }
 
-/// The position after the colour 1, Black, or 2, White, plays at a point, or passes if it is 65535. The faults come
-/// in this order: of the board, of the colour, of the point, of the rules. Takes no memory.
+/// The position after the colour 1, Black, or 2, White, plays at `at`, or passes if `at` is 65535. The faults come in
+/// this order: of the board, of the colour, of the point, of the rules. Takes no memory.
 #[tactic(auto, unfolding(crate::specs::Doors::play_of))]
 pub fn play(board: &BoardBytes, colour: u8, at: Point) -> Result<Position, DoorFault>
     ensures { result ≡ play_of board.now colour at }
@@ -44,7 +44,7 @@ pub fn play(board: &BoardBytes, colour: u8, at: Point) -> Result<Position, DoorF
     }
 }
 
-/// How many liberties the string at the point has, or the fault of the point.
+/// How many liberties the string at `p` has, or the fault of the point.
 #[tactic(auto, unfolding(crate::specs::Doors::liberties_on))]
 fn liberties_on(p: Point, position: &Position) -> Result<u16, DoorFault>
     ensures { result ≡ liberties_on p position.now }
@@ -53,7 +53,7 @@ fn liberties_on(p: Point, position: &Position) -> Result<u16, DoorFault>
     Ok(position.liberties(p))
 }
 
-/// How many liberties the string at a point has. The faults come in this order: of the board, of the point. Takes no
+/// How many liberties the string at `p` has. The faults come in this order: of the board, of the point. Takes no
 /// memory.
 #[tactic(auto, unfolding(crate::specs::Doors::liberties_of))]
 pub fn liberties(board: &BoardBytes, p: Point) -> Result<u16, DoorFault>

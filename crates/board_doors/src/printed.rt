@@ -56,7 +56,8 @@ fn printed(code: u8, text: &[u8], out: &mut [u8]) -> ProofReply
     }
 }
 
-/// The code and its first proof, or the first fault: of the question, of the point, of the depths, of the proof.
+/// Writes the first proof of the code, or gives the first fault: of the question, of the point, of the depths, of the
+/// proof.
 fn proof_on(
     kind: u8,
     target: Point,
@@ -82,7 +83,7 @@ fn proof_on(
 }
 
 /// Writes the first proof of the code of an attack on the string at `target` (`kind` 1) or of its defence (`kind` 2)
-/// into the first bytes of a buffer: the words that `prove_attack` and `prove_defend` print behind the code. The faults
+/// into the first bytes of a buffer: the words that `prove_attack` and `prove_defend` print after the code. The faults
 /// come in this order: of the board, of the question, of the point, of the depths, a proof of more than 60,000 bytes, a
 /// buffer that is too short. With a fault the buffer stays as it is. Takes no memory.
 #[tactic(auto, unfolding(crate::specs::Doors::question_of, crate::specs::Doors::checking_of))]

@@ -10,7 +10,7 @@ use crate::stones::stone_at;
 use board_bytes::{BoardBytes, position_of};
 use go_base::{Point, Position};
 
-/// Whether the text proves the code, or the first fault: of the question, of the point, of the depths, of the code.
+/// Whether `text` proves `code`, or the first fault: of the question, of the point, of the depths, of the code.
 #[tactic(auto, unfolding(crate::specs::Doors::check_on))]
 fn check_on(
     kind: u8,
@@ -35,7 +35,7 @@ fn check_on(
     Ok(read_proof::check(position, kind, target, depths, code, text))
 }
 
-/// Whether the text proves that an attack on the string at `target` (`kind` 1) or its defence (`kind` 2) has this code.
+/// Whether `text` proves that an attack on the string at `target` (`kind` 1) or its defence (`kind` 2) has this `code`.
 /// The words are those that `prove_attack` and `prove_defend` print. The faults come in this order: of the board, of
 /// the question, of the point, of the depths, of the code. Takes no memory.
 #[tactic(auto, unfolding(crate::specs::Doors::checking_of))]

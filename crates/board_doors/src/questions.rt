@@ -1,4 +1,4 @@
-//! Questions of a reading as a caller's numbers.
+//! The questions of a reading as numbers of a caller.
 
 ghost use Rattle.std.specs.Prelude.{◌≡◌, ◌≢◌, ◌*◌, ◌<◌, IfOk};
 ghost use Rattle.go_rules.specs.Strings.{cell_at};
@@ -10,7 +10,7 @@ use crate::stones::stone_at;
 use go_base::{Cell, Point, Position};
 use read_rules::{Depths, Kind};
 
-/// The question with this number: 1 is attack, 2 is defend, and no other number is one.
+/// The question with this number: 1 is attack, 2 is defend, and other numbers give `None`.
 pub fn kind_named(kind: u8) -> Option<Kind>
     ensures { result ≡ kind_named kind }
 {

@@ -31,7 +31,7 @@ fn read_on(
     }
 }
 
-/// The answer on the position of the bytes, or the first fault.
+/// The answer on the position of `board`, or the first fault.
 #[tactic(auto, unfolding(crate::specs::Doors::reading_of))]
 fn read(
     kind: Kind,
@@ -56,7 +56,7 @@ pub fn attack(board: &BoardBytes, target: Point, depths: DepthBytes) -> Result<A
 }
 
 /// Whether the string at `target` can be saved when the defender plays first: the code and the first move that attains
-/// it, the pass before all points. The faults come as those of `attack`. Takes no memory.
+/// it, the pass before all points. The faults come in the same order as for `attack`. Takes no memory.
 pub fn defend(board: &BoardBytes, target: Point, depths: DepthBytes) -> Result<Answer, DoorFault>
     ensures { result ≡ reading_of Kind.Defend board.now target depths }
 {

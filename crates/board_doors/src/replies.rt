@@ -1,4 +1,4 @@
-//! Replies in the layout of C: a status, and what is answered if it is 0.
+//! Replies in the layout of C: a status, and the answer if the status is 0.
 
 ghost use Rattle.std.specs.Prelude.{◌≡◌, ℕ, ◌<◌, slice_index_or, replicate};
 ghost use Rattle.std.specs.FinSet as set;
@@ -16,7 +16,7 @@ use go_base::size::MAX_POINTS;
 use go_base::{Illegal, Point, PointSet, Position};
 use read_rules::{Answer, Spot};
 
-/// The point's number that says that there is no move.
+/// The number of a point that stands for no move.
 pub const NO_MOVE: u16 = 65534;
 
 /// The reply to a reading or a connection.
@@ -31,13 +31,13 @@ pub struct AnswerReply {
     pub at: u16,
 }
 
-/// The reply that is a number.
+/// A reply that is a number.
 #[repr(C)]
 #[derive(Clone, Copy, Debug, PartialEq, Eq)]
 pub struct NumberReply {
     /// 0 for an answer, else the number of the fault.
     pub status: u8,
-    /// The number; 0 with a fault. A truth is 1 for yes and 0 for no.
+    /// The number; 0 with a fault. A yes is 1 and a no is 0.
     pub number: u16,
 }
 
@@ -45,13 +45,13 @@ pub struct NumberReply {
 #[repr(C)]
 #[derive(Clone, Copy)]
 pub struct PlayReply {
-    /// 0 if it was played, else the number of the fault.
+    /// 0 if the play was made, else the number of the fault.
     pub status: u8,
-    /// The board after the play; with a fault the board that was handed over.
+    /// The board after the play; with a fault the board that came in.
     pub board: BoardBytes,
 }
 
-/// The reply to a question for all its moves.
+/// The reply to a question for all moves that attain the code.
 #[repr(C)]
 #[derive(Clone, Copy)]
 pub struct MovesReply {
@@ -65,7 +65,7 @@ pub struct MovesReply {
     pub points: [u8; MAX_POINTS],
 }
 
-/// The reply to a question for its first proof, whose bytes are in the caller's buffer.
+/// The reply to a question for the first proof, whose bytes are in the caller's buffer.
 #[repr(C)]
 #[derive(Clone, Copy, Debug, PartialEq, Eq)]
 pub struct ProofReply {
@@ -77,7 +77,7 @@ pub struct ProofReply {
     pub length: u16,
 }
 
-/// The number of the reason why bytes are no position.
+/// The number of the reason why bytes are not a position.
 fn board_status(fault: BoardFault) -> u8
     ensures { result ≡ status_of (DoorFault.Board fault) }
 {
@@ -100,7 +100,7 @@ fn illegal_status(why: Illegal) -> u8
     }
 }
 
-/// The number of a fault. Each has its own, from 1 to 16.
+/// The number of a fault. Each fault has its own, from 1 to 16.
 pub fn status_of(fault: DoorFault) -> u8
     ensures { result ≡ status_of fault }
 {
@@ -119,7 +119,7 @@ pub fn status_of(fault: DoorFault) -> u8
     }
 }
 
-/// The number of a move.
+/// The number of a move: its point, `PASS`, or `NO_MOVE`.
 fn spot_number(at: Option<Spot>) -> u16
     ensures { result ≡ spot_number at }
 {
@@ -173,7 +173,7 @@ pub fn linkage_reply(found: Result<Linkage, DoorFault>) -> AnswerReply
     }
 }
 
-/// The reply that is a number.
+/// A reply that is a number.
 pub fn number_reply(found: Result<u16, DoorFault>) -> NumberReply
     ensures { result ≡ number_reply found }
 {
@@ -186,7 +186,7 @@ pub fn number_reply(found: Result<u16, DoorFault>) -> NumberReply
     }
 }
 
-/// The reply that is yes or no.
+/// A reply that is yes or no.
 pub fn truth_reply(found: Result<bool, DoorFault>) -> NumberReply
     ensures { result ≡ truth_reply found }
 {
@@ -202,7 +202,7 @@ pub fn truth_reply(found: Result<bool, DoorFault>) -> NumberReply
     }
 }
 
-/// The reply to a play on this board.
+/// The reply to a play on `board`.
 pub fn play_reply(board: &BoardBytes, found: Result<Position, DoorFault>) -> PlayReply
     ensures { result ≡ play_reply board.now found }
 {
@@ -218,14 +218,14 @@ pub fn play_reply(board: &BoardBytes, found: Result<Position, DoorFault>) -> Pla
     }
 }
 
-/// No bytes but 0.
+/// A byte 0 for each point.
 fn no_points() -> [u8; MAX_POINTS]
     ensures { result ≡ replicate largest_points 0 }
 {
     [0; MAX_POINTS]
 }
 
-/// For each point 1 if it is in the set, else 0.
+/// A byte for each point: 1 if `points` has it, else 0.
 fn point_bytes(points: &PointSet) -> [u8; MAX_POINTS]
     ensures { (p : ℕ) → p < largest_points → slice_index_or result p 0 ≡ truth_number (set.contains points.now p) }
 {
@@ -236,7 +236,7 @@ fn point_bytes(points: &PointSet) -> [u8; MAX_POINTS]
     bytes
 }
 
-/// The reply to a question for all its moves.
+/// The reply to a question for all moves that attain the code.
 pub fn moves_reply(found: Result<MoveSet, DoorFault>) -> MovesReply
     ensures { RepliesMoves found result }
 {

@@ -11,10 +11,10 @@ use read_rules::Kind;
 /// A white stone in the middle of a board of 9 rows, with Black on three sides; its last liberty is point 49.
 static ATARI: [(u16, u8); 4] = [(31, 1), (39, 1), (40, 2), (41, 1)];
 
-/// Two black stones with one point between them, which is 41, and a white one far away.
+/// Two black stones with one point between them, point 41, and a white stone far away.
 static JUMP: [(u16, u8); 3] = [(40, 1), (42, 1), (80, 2)];
 
-/// A board of 9 rows with these stones, each a point and its byte, and no ban.
+/// A board of 9 rows with these stones, each a point and its byte, and no ko ban.
 fn board(stones: &[(u16, u8)]) -> BoardBytes {
     let mut cells = [0; 625];
     for (p, byte) in stones {
@@ -30,7 +30,7 @@ fn board(stones: &[(u16, u8)]) -> BoardBytes {
     }
 }
 
-/// Depths of these numbers.
+/// The depths of these numbers.
 fn depths(plies: u8, wide: u8, tree: u8) -> DepthBytes {
     DepthBytes { plies, wide, tree }
 }
@@ -188,7 +188,7 @@ fn a_proof_is_checked_or_has_a_status(rt: HostRuntime) {
 }
 
 /// A question for a proof about the stone in atari: what is special about it, its kind, its target, the room, the
-/// numbers of its reply, and the bytes in front of the buffer.
+/// numbers of its reply, and the bytes of the buffer afterwards.
 type Proved = (&'static str, u8, u16, usize, (u8, u8, u16), &'static str);
 
 /// Questions for a proof.

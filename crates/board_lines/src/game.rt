@@ -1,4 +1,4 @@
-//! A game that protocol lines set up.
+//! A game that protocol lines set up, and how deep readings go in it.
 use go_base::{Bytes, NoMemory, Position, Size};
 use go_history::{History, HistoryError, Move};
 use gtp_cmd::{Command, Parsed, RefuseText, Span, parse, text};
@@ -17,13 +17,13 @@ const FIRST_SIZE: u8 = 19;
 /// The plies of a reading before the first line.
 const FIRST_PLIES: u8 = 10;
 
-/// Its wide plies.
+/// The wide plies of a reading before the first line.
 const FIRST_WIDE: u8 = 2;
 
 /// Why a line is not taken.
 #[derive(Clone, Copy, Debug, PartialEq, Eq)]
 pub enum LineFault {
-    /// The line does not change a board.
+    /// The line asks for a command other than those that set up a game.
     OtherCommand,
     /// The line is refused, as `gopat` refuses it.
     Refused(RefuseText),
@@ -34,7 +34,7 @@ pub enum LineFault {
 /// A game, and how deep readings go.
 #[derive(Drop)]
 pub struct Game {
-    /// Where memory is taken.
+    /// The allocator of the game's memory.
     alloc: Global,
     /// The position and the moves that led to it.
     history: History,
@@ -43,7 +43,7 @@ pub struct Game {
 }
 
 impl Game {
-    /// An empty board of 19 rows, and readings as deep as those of `gopat` at first. `None` if there is no memory.
+    /// A game on an empty board of 19 rows, with the depths that `gopat` has at first, or `None` if there is no memory.
     pub fn new(alloc: Global) -> Option<Game> {
         let history = History::new(alloc, Size::new(FIRST_SIZE)?).ok()?;
         Some(Game {
@@ -53,7 +53,7 @@ impl Game {
         })
     }
 
-    /// The position.
+    /// The present position.
     pub fn position(&self) -> Position {
         self.history.position()
     }
@@ -63,12 +63,12 @@ impl Game {
         self.depths
     }
 
-    /// Makes this position the board, without a move.
+    /// Makes `position` the board, without any move.
     pub fn start(&mut self, position: &Position) {
         self.history.start(position);
     }
 
-    /// Takes a line, without its line feed. A line that is not taken changes nothing.
+    /// Obeys a line, which is given without its line feed. A line with a fault changes nothing.
     pub fn line<L: Loader>(&mut self, line: &[u8], files: &mut L) -> Result<(), LineFault> {
         if line.len() > LONGEST_LINE {
             return Err(LineFault::Refused(RefuseText::LineTooLong));
@@ -80,7 +80,7 @@ impl Game {
         }
     }
 
-    /// Does what a line asks for.
+    /// Obeys the command of a line.
     fn command<L: Loader>(
         &mut self,
         line: &[u8],
@@ -102,7 +102,7 @@ impl Game {
         }
     }
 
-    /// Begins again from the empty board of this size.
+    /// Begins again from the empty board of this size, or refuses a number that is no size.
     fn resize(&mut self, size: Option<Size>) -> Result<(), LineFault> {
         match size {
             Some(size) => {
@@ -147,7 +147,7 @@ impl Game {
         }
     }
 
-    /// Makes the game record that a part of the line names the board.
+    /// Makes the position of a game record the board. A part of the line, `span`, names the record.
     fn load<L: Loader>(&mut self, line: &[u8], span: Span, files: &mut L) -> Result<(), LineFault> {
         if span.from > span.to || span.to as usize > line.len() {
             return Err(LineFault::Refused(RefuseText::SyntaxError));
@@ -165,7 +165,7 @@ impl Game {
         }
     }
 
-    /// Makes the end of a game record's main line the board, without a move.
+    /// Makes the position at the end of the record's main line the board, without any move.
     pub fn start_record(&mut self, record: &[u8]) -> Result<(), LineFault> {
         match read(record) {
             Ok(position) => {
@@ -177,7 +177,7 @@ impl Game {
     }
 }
 
-/// There is no memory.
+/// A failure to find memory is the fault `NoMemory`.
 impl From<NoMemory> for LineFault {
     fn from(_: NoMemory) -> LineFault {
         LineFault::NoMemory

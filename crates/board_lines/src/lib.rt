@@ -1,8 +1,8 @@
-//! A position that protocol lines set up, or the moves of a game record.
+//! A position that protocol lines set up, and the front of a game record with some of its moves.
 //!
-//! The lines are those of the protocol that change a board, and mean what they mean to `gopat`: `boardsize`,
-//! `clear_board`, `play`, `undo`, `loadsgf`, `komi` and `depths`. Each move is played by `go_history`, and a record is
-//! read by `sgf_read`; no clause speaks of which line does what.
+//! The lines are those of the protocol that set up a game, and they mean here what they mean to `gopat`: `boardsize`,
+//! `clear_board`, `play`, `undo`, `loadsgf`, `komi` and `depths`. Each move is played by `go_history`, and each record
+//! is read by `sgf_read`. No contract says what a line does.
 #![tactic(auto)]
 
 mod game;

@@ -1,39 +1,40 @@
-//! The front of a game record with so many moves of its main line.
+//! The front of a game record, cut after a given number of moves of its main line.
 use go_base::NoMemory;
 use std::alloc::Global;
 
-/// The front of a record.
+/// The front of a record, and how many moves it has.
 #[derive(Drop)]
 pub struct Cut {
-    /// A record whose main line ends before the first move that is left out.
+    /// The front as a record of its own: its main line ends before the first move that is left out.
     pub text: Vec<u8>,
-    /// How many moves its main line has.
+    /// How many moves the main line of the front has.
     pub moves: u64,
 }
 
-/// Where the reader of a record is.
+/// What the reader of a record knows at a byte.
 #[derive(Clone, Copy)]
 struct Reading {
-    /// Whether it is within a value.
+    /// Whether the next byte stands in a value.
     in_value: bool,
-    /// Whether the next byte of a value is taken as it is.
+    /// Whether the next byte of a value is taken as it is, since a backslash stands before it.
     is_escaped: bool,
     /// How many trees are open.
     open: u64,
-    /// How many nodes there were.
+    /// How many nodes have begun.
     nodes: u64,
-    /// Whether trees were begun behind the last node, which have no node yet.
+    /// Whether a tree has begun after the last node, and has no node yet.
     begins: bool,
-    /// Where the front ends that has all nodes but the present one.
+    /// The length of the front that has all nodes but the present one.
     front: usize,
-    /// How many trees are open there.
+    /// How many trees are open at the end of that front.
     open_in_front: u64,
-    /// How many letters the present name has so far, and the last of them.
+    /// How many capitals the present name has so far.
     letters: u64,
+    /// The last of these capitals.
     letter: u8,
-    /// Whether the present node has a move.
+    /// Whether a move of the present node was counted.
     has_move: bool,
-    /// How many moves there were.
+    /// How many moves were counted.
     moves: u64,
 }
 
@@ -42,14 +43,14 @@ struct Reading {
 enum Step {
     /// The record goes on.
     On,
-    /// A property of a move begins its first value.
+    /// The first value of a move begins: the node is the next move of the main line.
     Move,
     /// The main line ends here.
     End,
 }
 
 impl Reading {
-    /// Before the first byte.
+    /// The reader before the first byte.
     fn new() -> Reading {
         Reading {
             in_value: false,
@@ -66,7 +67,7 @@ impl Reading {
         }
     }
 
-    /// Reads a byte of a value.
+    /// Reads a byte that stands in a value.
     fn value_byte(&mut self, byte: u8) {
         if self.is_escaped {
             self.is_escaped = false;
@@ -78,7 +79,7 @@ impl Reading {
         }
     }
 
-    /// Begins a tree at this place.
+    /// Begins a tree, whose `(` stands at the index `at`.
     fn begin_tree(&mut self, at: usize) {
         if !self.begins {
             self.front = at;
@@ -88,7 +89,7 @@ impl Reading {
         self.open = self.open.saturating_add(1);
     }
 
-    /// Begins a node at this place.
+    /// Begins a node, whose `;` stands at the index `at`.
     fn begin_node(&mut self, at: usize) {
         if !self.begins {
             self.front = at;
@@ -100,8 +101,8 @@ impl Reading {
         self.has_move = false;
     }
 
-    /// Begins a value: whether it is that of a move, `B` or `W`, the first of its node. A move of the first node
-    /// belongs to the position from which the record begins.
+    /// Begins a value. The step is `Move` if this is the first value of `B` or `W` in its node. In the first node it is
+    /// `On`, since a move there belongs to the position from which the record begins.
     fn begin_value(&mut self) -> Step {
         self.in_value = true;
         let is_move = self.letters == 1 && (self.letter == b'B' || self.letter == b'W');
@@ -112,7 +113,7 @@ impl Reading {
         }
     }
 
-    /// Reads a byte that stands at this place.
+    /// Reads the byte that stands at the index `at`.
     fn byte(&mut self, at: usize, byte: u8) -> Step {
         if self.in_value {
             self.value_byte(byte);
@@ -133,7 +134,7 @@ impl Reading {
     }
 }
 
-/// A record of these bytes, with so many trees closed behind them.
+/// The bytes of `front` as a record: `open` trees are closed at its end.
 fn closed(alloc: Global, front: &[u8], open: u64) -> Result<Vec<u8>, NoMemory> {
     let mut text = Vec::new(alloc);
     text.extend_from_slice(front)?;
@@ -143,8 +144,9 @@ fn closed(alloc: Global, front: &[u8], open: u64) -> Result<Vec<u8>, NoMemory> {
     Ok(text)
 }
 
-/// The front of a record with at most so many moves of its main line: it ends before the node of the next move. The
-/// nodes of the main line are those before the first `)`; a move is a node behind the first with a property `B` or `W`.
+/// The front of a record with at most `most` moves of its main line: it ends before the node of the next move, and is
+/// the whole record if there is none. The nodes of the main line are those before the first `)`; a move is a node after
+/// the first node with a property `B` or `W`.
 pub fn cut_record(alloc: Global, record: &[u8], most: u64) -> Result<Cut, NoMemory> {
     let mut reading = Reading::new();
     for (at, byte) in record.iter().enumerate() {

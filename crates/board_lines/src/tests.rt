@@ -1,10 +1,10 @@
-//! Fronts of game records.
+//! Tests of the fronts of game records.
 use crate::cut_record;
 
-/// A record, how many moves are kept, the front, and how many moves it has.
+/// What a row shows, a record, the most moves to keep, the front, and how many moves the front has.
 type Row = (&'static str, &'static [u8], u64, &'static [u8], u64);
 
-/// What a front ends before.
+/// Records and their fronts.
 static ROWS: [Row; 6] = [
     (
         "the position before the first move",

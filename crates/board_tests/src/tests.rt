@@ -17,7 +17,8 @@ type Play = (Colour, u8, u8);
 // . X . X O     stone beside it, and black may not retake
 // . . X O .     at once.
 // . . . . .
-/// The plays of a ko on a board of five rows, after which black may not play at D3, where white took a stone from C3.
+/// The plays of a ko on a board of five rows, after which black may not play at D3, where white took a
+/// stone by playing at C3.
 static KO: [Play; 8] = [
     (Black, 2, 1),
     (Black, 1, 2),
@@ -29,7 +30,7 @@ static KO: [Play; 8] = [
     (White, 2, 2),
 ];
 
-/// The point in a row and a column of the position's board.
+/// The point in a row and a column of the position's board; `None` if it is off the board.
 fn on(position: &Position, row: u8, column: u8) -> Option<Point>
     ensures { IfSome result (λ p. p < position.now.size * position.now.size) }
 {
@@ -38,7 +39,7 @@ fn on(position: &Position, row: u8, column: u8) -> Option<Point>
     if p < size.points() { Some(p) } else { None }
 }
 
-/// The position after the plays on an empty board of so many rows, and None where one is refused.
+/// The position after the plays on an empty board of `rows` rows; `None` if a play is refused or off the board.
 fn after(rows: u8, plays: &[Play]) -> Option<Position> {
     let mut position = Position::new(Size::new(rows)?);
     for &(colour, row, column) in plays {

@@ -7,11 +7,11 @@ use std::marker::Model;
 
 /// A box in two parts. It owns what the box owned.
 pub struct Parts<T, A: Allocator> {
-    /// Where the value lies.
+    /// The pointer to the value.
     pub at: *mut T,
-    /// What allocated it.
+    /// The allocator of the box.
     pub alloc: A,
-    /// The value.
+    /// The value in the box.
     pub ghost value: { T },
 }
 
@@ -20,7 +20,7 @@ impl<T, A: Allocator> Model for Parts<T, A> {
 }
 
 impl<T, A: Allocator> Parts<T, A> {
-    /// Takes a box apart.
+    /// Takes a box apart. The value stays where it is.
     pub fn of(held: Box<T, A>) -> Parts<T, A>
     where
         T: Drop,
@@ -30,7 +30,7 @@ impl<T, A: Allocator> Parts<T, A> {
         Parts { at, alloc }
     }
 
-    /// Makes the box again.
+    /// Makes the box again from its two parts.
     pub fn into_box(self) -> Box<T, A>
         ensures { result.value ≡ self.value }
     {

@@ -1,9 +1,9 @@
-//! A checker for authors of problem sets: tells of each record the code of its question, all moves that attain it, the
-//! fewest plies with which they do, and whether that is what the author expects.
+//! A checker for authors of problem sets. For each record it prints the code of its question, all moves that attain
+//! this code, the fewest plies with which the question has it, and whether that is what the author expects.
 //!
 //! `check_problems [--depths PLIES WIDE] [--tree stated|wider|sure|sure-wider] [--anywhere] [--only NAME] [--proof]
-//! [--json] FOLDER|FILE...`. The exit status is 0 if all is as expected, 1 if something is not, and 2 if the words are
-//! no command line or name no record, or a folder cannot be listed, or there is no memory.
+//! [--json] FOLDER|FILE...`. The exit status is 0 if every record is as expected, 1 if some record is not, and 2 if the
+//! command line is faulty or names no record, a folder cannot be listed, or memory runs out.
 #![tactic(auto)]
 
 mod names;
@@ -22,23 +22,23 @@ use std::rt::Env;
 use std::time::Clock;
 use std::{env, fs, io};
 
-/// The note of a faulty command line.
+/// The message for a faulty command line.
 const USAGE: &str =
     "usage: check_problems [--depths PLIES WIDE] [--tree stated|wider|sure|sure-wider] [--anywhere] [--only NAME] \
 [--proof] [--json] FOLDER|FILE...";
 
-/// The exit status if something is not as expected.
+/// The exit status if some record is not as expected.
 const NOT_AS_EXPECTED: u8 = 1;
 
-/// The exit status if nothing can be said.
+/// The exit status if no record can be judged.
 const NOT_CHECKED: u8 = 2;
 
-/// Want of memory as an error of the program.
+/// Out of memory, as an error of the program.
 fn no_memory(_error: NoMemory) -> io::Error {
     io::Error::from(io::ErrorKind::OutOfMemory)
 }
 
-/// What is told of the record of this name.
+/// The row of the record called `name`.
 fn row_at<R: Files + AllocGlobal>(rt: &R, options: &Options, name: &str) -> io::Result<Row> {
     match fs::read(rt, name) {
         Ok(text) => {
@@ -57,7 +57,7 @@ fn row_at<R: Files + AllocGlobal>(rt: &R, options: &Options, name: &str) -> io::
     }
 }
 
-/// The line of a row.
+/// The line that prints `row`, as columns or as an object of JSON.
 fn line_of<R: AllocGlobal>(rt: &R, options: &Options, name: &str, row: &Row) -> io::Result<String> {
     let mut line = String::new(rt.alloc());
     if options.json {
@@ -68,7 +68,7 @@ fn line_of<R: AllocGlobal>(rt: &R, options: &Options, name: &str, row: &Row) -> 
     Ok(line)
 }
 
-/// Checks the record of this name, prints its line, and counts it.
+/// Checks the record called `name`, prints its line, and counts it.
 fn check_record<R: Files + Print + Eprint + Clock + AllocGlobal>(
     rt: &R,
     options: &Options,
@@ -84,7 +84,7 @@ fn check_record<R: Files + Print + Eprint + Clock + AllocGlobal>(
     io::writer(rt).write_all(line.as_bytes())
 }
 
-/// Checks the records in their order: the exit status.
+/// Checks the records in their order, and says the exit status.
 fn check_records<R: Files + Print + Eprint + Clock + AllocGlobal + Clone + Drop>(
     rt: &R,
     options: &Options,
@@ -117,7 +117,7 @@ fn words_of<R: Env + AllocGlobal>(rt: &R) -> io::Result<Vec<String>> {
     Ok(words)
 }
 
-/// What the command line asks for. None if its words are no command line, or cannot be had.
+/// What the command line asks for; `None` if it is faulty, or cannot be read.
 fn options_asked<R: Env + AllocGlobal>(rt: &R) -> Option<Options> {
     let words = words_of(rt).ok()?;
     options_of(rt.alloc(), words.as_slice())

@@ -1,13 +1,13 @@
-//! The records that the words of the command line name.
+//! The records that the command line names.
 
 use crate::options::Options;
 use std::fs::{self, Files};
 use std::io;
 
-/// The end of a record's name in a folder.
+/// The ending of a record's file name in a folder.
 const RECORD: &str = ".sgf";
 
-/// Whether the path of a file ends in this file name, or in it and the end of a record's name.
+/// Whether the file of this path is called `name`, or `name` with the ending of a record.
 fn is_of_name(path: &str, name: &str) -> bool {
     let file = match path.rsplit_once('/') {
         Some((_, file)) => file,
@@ -16,7 +16,7 @@ fn is_of_name(path: &str, name: &str) -> bool {
     file == name || file.strip_suffix(RECORD) == Some(name)
 }
 
-/// Whether this name is that of a folder.
+/// Whether `name` is the name of a folder.
 fn is_folder<R: Files>(rt: &R, name: &str) -> bool {
     match fs::metadata(rt, name) {
         Ok(metadata) => metadata.is_dir(),
@@ -40,7 +40,8 @@ fn records_in<R: Files + AllocGlobal + Clone + Drop>(
     Ok(names)
 }
 
-/// The records that the command line asks for: a folder's in the order of their names, and a file itself.
+/// The records that the command line asks for: the records of each folder in the order of their names, and each file
+/// itself.
 pub(crate) fn records_of<R: Files + AllocGlobal + Clone + Drop>(
     rt: &R,
     options: &Options,

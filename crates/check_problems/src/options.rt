@@ -1,31 +1,31 @@
-//! What the words of the command line ask for.
+//! What the command line asks for.
 
 use clap::{Arg, ArgAction, ArgMatches, Command};
 use problem_verdicts::{Depths, Replies, Scope, Tree};
 use std::alloc::{AllocError, Global};
 
-/// The plies of a question whose record tells no depths.
+/// The plies of a question whose record says no depths.
 const USUAL_PLIES: u8 = 10;
 
-/// The wide plies of a question whose record tells no depths.
+/// The wide plies of a question whose record says no depths.
 const USUAL_WIDE: u8 = 2;
 
-/// What the words of the command line ask for.
+/// What the command line asks for.
 #[derive(Drop)]
 pub(crate) struct Options {
-    /// The depths of a question whose record tells none, and the tree of all questions.
+    /// The depths of a question whose record says none, and the tree of all questions.
     pub(crate) depths: Depths,
-    /// Against which replies an answer holds.
+    /// The defender's replies against which an answer holds.
     pub(crate) replies: Replies,
-    /// Which moves of a question are judged.
+    /// The moves of a question that are judged.
     pub(crate) scope: Scope,
-    /// The file name of the records that are checked, if not all are.
+    /// The file name of the records that are checked; `None` if all records are checked.
     pub(crate) only: Option<String>,
-    /// Whether the proof behind each code is told.
+    /// Whether the proof of each code is printed.
     pub(crate) proof: bool,
-    /// Whether a line is an object of JSON.
+    /// Whether each line is an object of JSON.
     pub(crate) json: bool,
-    /// The names of folders and files, one at least.
+    /// The names of folders and files, at least one.
     pub(crate) places: Vec<String>,
 }
 
@@ -34,7 +34,7 @@ fn flag<'a>(alloc: Global, name: &'a str) -> Arg<'a> {
     Arg::new(alloc, name).long(name).action(ArgAction::SetTrue)
 }
 
-/// An option with so many values.
+/// An option with this number of values.
 fn option<'a>(alloc: Global, name: &'a str, values: usize) -> Arg<'a> {
     Arg::new(alloc, name)
         .long(name)
@@ -69,7 +69,7 @@ fn is_set(matches: &ArgMatches<'_>, flag: &str) -> bool {
     matches.get_str(flag) == Some("true")
 }
 
-/// The depths. None if they are not two numbers in their ranges.
+/// The depths; `None` if they are not two numbers in their ranges.
 fn depths_in(matches: &ArgMatches<'_>) -> Option<Depths> {
     match matches.get_strs("depths") {
         Some([plies, wide]) => Depths::new(plies.parse().ok()?, wide.parse().ok()?),
@@ -78,8 +78,8 @@ fn depths_in(matches: &ArgMatches<'_>) -> Option<Depths> {
     }
 }
 
-/// Against which replies answers hold, and the tree: in a sure one it has the attacker's candidates. None if the word
-/// names no tree.
+/// The replies against which answers hold, and the tree. For sure answers the tree says which candidates the attacker
+/// has. `None` if the word names no tree.
 fn tree_in(matches: &ArgMatches<'_>) -> Option<(Replies, Tree)> {
     match matches.get_str("tree") {
         None | Some("stated") => Some((Replies::Tried, Tree::Stated)),
@@ -90,7 +90,7 @@ fn tree_in(matches: &ArgMatches<'_>) -> Option<(Replies, Tree)> {
     }
 }
 
-/// Which moves of a question are judged.
+/// The moves of a question that are judged.
 fn scope_in(matches: &ArgMatches<'_>) -> Scope {
     if is_set(matches, "anywhere") {
         Scope::Anywhere
@@ -108,7 +108,8 @@ fn places_in(alloc: Global, matches: &ArgMatches<'_>) -> Option<Vec<String>> {
     Some(places)
 }
 
-/// The file name of the records that are checked, if not all are. None if there is no memory.
+/// The file name of the records that are checked: `Some(None)` if all records are checked, and `None` if memory runs
+/// out.
 fn only_in(alloc: Global, matches: &ArgMatches<'_>) -> Option<Option<String>> {
     match matches.get_str("only") {
         Some(name) => Some(Some(String::from_str(alloc, name).ok()?)),
@@ -116,8 +117,8 @@ fn only_in(alloc: Global, matches: &ArgMatches<'_>) -> Option<Option<String>> {
     }
 }
 
-/// What the matches of a command line ask for. None if it names no folder and no file, or asks for the proof of a sure
-/// code, which has none.
+/// What a parsed command line asks for. `None` if it names no folder and no file, or asks for the proof of a sure code,
+/// which has no proof.
 fn options_in(alloc: Global, matches: &ArgMatches<'_>) -> Option<Options> {
     let (replies, tree) = tree_in(matches)?;
     let proof = is_set(matches, "proof");
@@ -140,8 +141,8 @@ fn options_in(alloc: Global, matches: &ArgMatches<'_>) -> Option<Options> {
     })
 }
 
-/// The options that the words of a command line give, which are without the program's name. None if they are no
-/// command line with a folder or a file.
+/// What the words of a command line ask for; the program's name is not one of them. `None` if they are no command line
+/// with a folder or a file.
 pub(crate) fn options_of(alloc: Global, words: &[String]) -> Option<Options> {
     let matches = command(alloc).ok()?.try_get_matches_from(words).ok()?;
     options_in(alloc, &matches)

@@ -11,12 +11,12 @@ use Rattle.connect_rules.specs.ConnectionArea.{IsNodeOf}
 use Rattle.connect_rules.specs.InWords.{BothStand, IsMove}
 use Rattle.connect_rules.specs.Linkages.{is_connect, link_of}
 
--- the point x holds a stone of the strings' colour, and four steps lead from its string to p
+-- the point x holds a stone of the strings' colour, and four steps lead from the string of x to p
 pub record IsReachedFrom (link : Link) (here : BoardState) (x p : ℕ) : Type 0 where
   pub stands : cell_at here.cells x ≡ stone_of link.colour
   pub reached : IsReachedIn here.size here.cells x 4 p
 
--- at a node of the question four steps lead to p from the string of the one point or of the other
+-- at some node of the question four steps lead to p from the string of one of its two points
 pub record IsLookedAt (q : LinkQuestion) (pos : BoardState) (p : ℕ) : Type 0 where
   pub plies : ℕ
   pub own : Bool
@@ -40,8 +40,8 @@ pub record IsByPass (side : Bool) (there here : BoardState) : Type 0 where
   pub others_turn : side ≡ false
   pub passed : here ≡ pass there
 
--- a connecting move of the side to play, or the other colour's pass, leads to the node from one of the question with a
--- ply more, if both strings stand and are not one
+-- a connecting move of the side to play, or the other colour's pass, leads to this node from a node of the question
+-- with one ply more, at which both strings stand and are not one
 pub record IsNextOf (q : LinkQuestion) (pos : BoardState) (n : ℕ) (own : Bool) (here : BoardState) : Type 0 where
   pub side : Bool
   pub there : BoardState

@@ -1,5 +1,5 @@
 -- The moves that a reading of a connection tries, once as tests that compute and once in terms of strings and
--- liberties. The law `connecting_moves_are_by_strings` says that both have the same moves.
+-- liberties. The law `connecting_moves_are_by_strings` says that both definitions have the same moves.
 use Rattle.std.specs.Prelude.{◌≡◌, ℕ, ◌*◌, ◌&&◌, ◌||◌, Bool, true, List}
 use Rattle.go_rules.specs.declared.Cell.{Cell}
 use Rattle.go_rules.specs.Board.{are_neighbours}
@@ -17,18 +17,18 @@ is_facing s cells a b p =
     is_liberty s cells a p && any_below (s * s) (λ q. is_liberty s cells b q && are_neighbours s q p)
 
 -- p is a liberty of the strings of a and b, or a liberty of one of them and a neighbour of a liberty of the other, or
--- the one liberty of one of them
+-- the only liberty of one of them
 unfoldable pub is_between : ℕ → List Cell → ℕ → ℕ → ℕ → Bool
 is_between s cells a b p =
     (is_liberty s cells a p && is_liberty s cells b p)
     || (is_facing s cells a b p || is_facing s cells b a p)
     || (is_only_liberty s cells a p || is_only_liberty s cells b p)
 
--- p is the one liberty of an enemy string that is next to the string of a or to that of b
+-- p is the only liberty of an enemy string that is next to the string of a or to the string of b
 unfoldable pub is_capture : ℕ → List Cell → ℕ → ℕ → ℕ → Bool
 is_capture s cells a b p = is_last_liberty_of_enemy s cells a p || is_last_liberty_of_enemy s cells b p
 
--- p lies between the two strings, or captures beside one of them
+-- p is a connecting move: it lies between the two strings, or it captures an enemy string next to one of them
 abbrev pub is_connecting_move : Link → BoardState → ℕ → Bool
 is_connecting_move link pos p =
     is_between pos.size pos.cells link.a link.b p || is_capture pos.size pos.cells link.a link.b p

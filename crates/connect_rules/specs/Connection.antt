@@ -1,6 +1,6 @@
 -- The bounded tree of a connection: what decides a node, which moves lead on, and whether the strings can be joined.
 -- Five rules decide a node, in this order: a string is gone, the two are one string, no ply is left, their own colour
--- is to play, the other colour is to play. A ban is never dropped.
+-- is to play, the other colour is to play. No side may ignore the ko ban.
 use Rattle.std.specs.Prelude.{ℕ, zero, suc, ◌*◌, Bool, true, false, not, ◌&&◌, ◌||◌, Option, Result, Ok, Err}
 use Rattle.std.specs.Prelude.{if◌then◌else◌}
 use Rattle.go_rules.specs.declared.Colour.{Colour}
@@ -12,21 +12,21 @@ use Rattle.go_rules.specs.Play.{play, pass}
 use Rattle.connect_rules.specs.declared.link.Link.{Link}
 use Rattle.connect_rules.specs.ConnectingMoves.{is_connecting_move}
 
--- both points hold stones of the colour
+-- both strings stand: both points hold stones of the colour
 abbrev pub both_stand : Link → BoardState → Bool
 both_stand link pos =
     same_cell (cell_at pos.cells link.a) (stone_of link.colour)
     && same_cell (cell_at pos.cells link.b) (stone_of link.colour)
 
--- the string of the one point holds the other
+-- the string of the first point holds the second
 abbrev pub is_one_string : Link → BoardState → Bool
 is_one_string link pos = is_in_string pos.size pos.cells link.a link.b
 
--- both stand, and they are one string
+-- both strings stand, and they are one string
 abbrev pub are_joined : Link → BoardState → Bool
 are_joined link pos = both_stand link pos && is_one_string link pos
 
--- the colour whose turn it is: the strings' own or the other
+-- the colour whose turn it is: the strings' own if own is true, else the other
 abbrev pub mover_of : Link → Bool → Colour
 mover_of link own = if own then link.colour else other link.colour
 
@@ -35,7 +35,8 @@ abbrev pub leads_to : (BoardState → Bool) → Result BoardState Illegal → Bo
 leads_to test (Ok new) = test new
 leads_to test (Err why) = false
 
--- the side that moved, the strings' own or the other, has its way: they can be joined, or they cannot
+-- the side that moved has its way: if it is the strings' own colour, they can be joined; if it is the other, they
+-- cannot
 abbrev pub has_way : Bool → Bool → Bool
 has_way own joined = if own then joined else not joined
 
@@ -48,8 +49,8 @@ abbrev pub some_move_to : (BoardState → Bool) → Link → Bool → BoardState
 some_move_to test link own pos = any_below (pos.size * pos.size) (is_move_to test link own pos)
 
 -- with n plies left the strings can be joined: they are joined already; or both stand, and it is their own turn, and
--- some connecting move leads to where they can be joined; or both stand, and it is the other colour's turn, and they
--- can be joined after its pass, and no connecting move leads to where they cannot
+-- some connecting move leads to a position on which they can be joined; or both stand, and it is the other colour's
+-- turn, and they can be joined after its pass, and no connecting move leads to a position on which they cannot
 unfoldable pub can_connect : ℕ → Link → Bool → BoardState → Bool
 can_connect zero link own pos = are_joined link pos
 can_connect (suc n) link own pos = both_stand link pos && (is_one_string link pos || (if own

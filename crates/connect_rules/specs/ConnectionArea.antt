@@ -11,8 +11,8 @@ use Rattle.connect_rules.specs.ConnectingMoves.{is_connecting_move}
 use Rattle.connect_rules.specs.Connection.{both_stand, is_one_string, mover_of}
 use Rattle.connect_rules.specs.Linkages.{is_connect, link_of}
 
--- the points that the reading of one node may look at, from the points of a string: the neighbourhood taken four times,
--- since a connecting move lies in the second and a play looks as far again as the second
+-- the points that the reading of one node may look at, if S has the points of a string: the neighbourhood of S taken
+-- four times. A connecting move lies in the second neighbourhood, and a play looks two neighbourhoods farther
 unfoldable pub reach_of : ℕ → List Cell → (ℕ → Bool) → ℕ → Bool
 reach_of s cells S =
     neighbourhood_of s cells (neighbourhood_of s cells (neighbourhood_of s cells (neighbourhood_of s cells S)))
@@ -32,9 +32,9 @@ pub record IsUndecided (link : Link) (pos : BoardState) : Type 0 where
   pub stand : both_stand link pos ≡ true
   pub apart : is_one_string link pos ≡ false
 
--- the position, with this many plies left and this side to play, the strings' own or not, is a node of the question's
--- tree from the position: the first node, or a child by a connecting move or by the other colour's pass of a node that
--- is undecided
+-- a position, with a number of plies left and a side to play (true for the strings' own colour), is a node of the
+-- question's tree from pos: it is the first node, or the child of an undecided node by a legal connecting move or by
+-- the other colour's pass
 pub data IsNodeOf (q : LinkQuestion) (pos : BoardState) : ℕ → Bool → BoardState → Type 0 where
   first : IsNodeOf q pos q.plies (is_connect q.kind) pos
   by_play : {n : ℕ} {own : Bool} {here : BoardState} → IsNodeOf q pos (suc n) own here → IsUndecided (link_of q) here

@@ -26,7 +26,7 @@ pub record IsMove (link : Link) (own : Bool) (pos : BoardState) (p : ℕ) (new :
   pub connecting : IsTrue (is_connecting_move link pos p)
   pub legal : play pos (mover_of link own) p ≡ Ok new
 
--- some move of the strings' own colour leads to where they can be joined with n plies left
+-- some move of the strings' own colour leads to a position on which they can be joined with n plies left
 pub record SomeMoveJoins (n : ℕ) (link : Link) (pos : BoardState) : Type 0 where
   pub point : ℕ
   pub new : BoardState
@@ -38,13 +38,13 @@ pub record NoMoveParts (n : ℕ) (link : Link) (pos : BoardState) : Type 0 where
   pub passed : IsTrue (can_connect n link true (pass pos))
   pub played : (p : ℕ) (new : BoardState) → IsMove link false pos p new → IsTrue (can_connect n link true new)
 
--- p is a move, and with n plies left after it the side that made it has its way
+-- the play at p is a legal connecting move, and with n plies left after it the side that made it has its way
 pub record Succeeds (n : ℕ) (link : Link) (own : Bool) (pos : BoardState) (p : ℕ) : Type 0 where
   pub new : BoardState
   pub move : IsMove link own pos p new
   pub attains : IsTrue (has_way own (can_connect n link (not own) new))
 
--- p is the first point in reading order that succeeds, if the pass does not attain what is asked
+-- the pass does not attain what is asked, and p is the first point in reading order that succeeds
 pub record IsFirstPoint (q : LinkQuestion) (pos : BoardState) (p : ℕ) : Type 0 where
   pub no_pass : pass_attains q pos ≡ false
   pub succeeds : Succeeds (q.plies - 1) (link_of q) (is_connect q.kind) pos p

@@ -26,18 +26,18 @@ link_of q = record { a = q.a; b = q.b; colour = q.colour }
 abbrev pub is_about : LinkQuestion → BoardState → Bool
 is_about q pos = (q.size == pos.size) && both_stand (link_of q) pos
 
--- the side that is asked about plays first and has its way: for connect the strings' own colour, and they can be
--- joined; for disconnect the other, and they cannot
+-- the side that is asked about plays first and has its way: for Connect the strings can be joined when their own colour
+-- plays first; for Disconnect they cannot be joined when the other colour plays first
 abbrev pub is_attained : LinkQuestion → BoardState → Bool
 is_attained q pos = has_way (is_connect q.kind) (can_connect q.plies (link_of q) (is_connect q.kind) pos)
 
--- the pass attains it: for connect if the two are one string already, for disconnect if they cannot be joined
--- after it
+-- the pass attains what is asked: for Connect if the two are one string already, for Disconnect if they cannot be
+-- joined after the pass
 abbrev pub pass_attains : LinkQuestion → BoardState → Bool
 pass_attains q pos =
     if is_connect q.kind then is_one_string (link_of q) pos else pass_parts (q.plies - 1) (link_of q) pos
 
--- the first move that attains it: the pass before all points, and then the connecting moves in reading order
+-- the first move that attains what is asked: the pass before all points, and then the connecting moves in reading order
 abbrev pub first_move_of : LinkQuestion → BoardState → Option Spot
 first_move_of q pos = if pass_attains q pos then Some Pass
     else at_point (first_success (q.plies - 1) (link_of q) (is_connect q.kind) pos)
@@ -46,7 +46,7 @@ first_move_of q pos = if pass_attains q pos then Some Pass
 abbrev pub is_yes : LinkQuestion → BoardState → Bool
 is_yes q pos = is_about q pos && is_attained q pos
 
--- the answer to the question on the position; no if it is about another one
+-- the answer to the question on the position; it is no if the question is not about the position
 unfoldable pub linkage_of : LinkQuestion → BoardState → Linkage
 linkage_of q pos = record { yes = is_yes q pos; at = if is_yes q pos then first_move_of q pos else None }
 

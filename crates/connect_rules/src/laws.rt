@@ -15,8 +15,8 @@ ghost use Rattle.connect_rules.specs.InWords.{BothStand, SomeMoveJoins, NoMovePa
 
 use crate::question::LinkKind;
 
-/// A connecting move is a liberty of both strings; a liberty of one that is a neighbour of a liberty of the other; the
-/// one liberty of either; or the last liberty of an enemy string next to either.
+/// A connecting move is a liberty of both strings; a liberty of one string that is a neighbour of a liberty of the
+/// other; the only liberty of either string; or the last liberty of an enemy string next to either.
 pub fn connecting_moves_are_by_strings()
     ensures connecting { (link : Link) (pos : BoardState) (p : ℕ) → link.a < pos.size * pos.size
         → link.b < pos.size * pos.size →
@@ -25,7 +25,8 @@ pub fn connecting_moves_are_by_strings()
         → p < pos.size * pos.size }
 {}
 
-/// The five rules that say whether two strings can be joined, in their order.
+/// The five rules that say whether two strings can be joined, in their order: a string is gone, the two are one string,
+/// no ply is left, their own colour is to play, the other colour is to play.
 pub fn the_tree_is_by_five_rules()
     ensures gone { (n : ℕ) (link : Link) (own : Bool) (pos : BoardState) → (BothStand link pos → ⊥)
         → can_connect n link own pos ≡ false }
@@ -42,7 +43,7 @@ pub fn the_tree_is_by_five_rules()
         IsTrue (can_connect (n + 1) link false pos) ↔ NoMoveParts n link pos }
 {}
 
-/// With more plies strings can be joined wherever they could with fewer.
+/// If two strings can be joined with some number of plies, they can be joined with one more.
 pub fn joining_is_monotone_in_the_plies()
     ensures one_more { (n : ℕ) (link : Link) (own : Bool) (pos : BoardState) → IsTrue (can_connect n link own pos)
         → IsTrue (can_connect (n + 1) link own pos) }
@@ -54,7 +55,8 @@ pub fn either_string_may_be_named_first()
         → link.b < pos.size * pos.size → can_connect n (exchanged link) own pos ≡ can_connect n link own pos }
 {}
 
-/// The answer is yes if the side that is asked about has its way, and then tells the first move that attains it.
+/// The answer is yes exactly if the question is about the position and the side that is asked about has its way; with
+/// at least one ply it then names the first move that attains this.
 pub fn linkages_are_by_the_tree()
     ensures another { (q : LinkQuestion) (pos : BoardState) → is_about q pos ≡ false
         → linkage_of q pos ≡ record { yes = false; at = None } }
@@ -70,9 +72,9 @@ pub fn linkages_are_by_the_tree()
 {}
 
 /// How far the active area of a connection reaches: its points are those that four steps lead to from the string of
-/// either point, at some node where that point holds a stone of the colour. The nodes are the first one, and what a
-/// legal connecting move of the side to play, or the other colour's pass, leads to from a node where both strings stand
-/// and are not one.
+/// either point, at some node at which that point holds a stone of the colour. The nodes are the first one, and each
+/// node to which a legal connecting move of the side to play, or the other colour's pass, leads from a node at which
+/// both strings stand and are not one.
 pub fn the_active_area_is_reached_in_four_steps()
     ensures area { (q : LinkQuestion) (pos : BoardState) (p : ℕ) → q.a < pos.size * pos.size
         → q.b < pos.size * pos.size →

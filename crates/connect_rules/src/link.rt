@@ -1,4 +1,4 @@
-//! What is read of a connection.
+//! The two strings of a connection.
 
 ghost use Rattle.std.specs.Prelude.{◌≡◌};
 ghost use Rattle.connect_rules.specs.Connection.{mover_of};
@@ -12,12 +12,12 @@ pub struct Link {
     pub a: Point,
     /// A point of the second string.
     pub b: Point,
-    /// The colour of both.
+    /// The colour of both strings.
     pub colour: Colour,
 }
 
 impl Link {
-    /// The colour whose turn it is: the strings' own or the other.
+    /// The colour whose turn it is: the strings' own colour if `own`, else the other.
     pub fn mover(self, own: bool) -> Colour
         ensures { result ≡ mover_of self own }
     {

@@ -30,14 +30,14 @@ is_pair_reading OdefendAgainst = true
 is_pair_reading XdefendAgainst = true
 is_pair_reading _ = false
 
--- the value of the function may rest on a reading, as that of each function of moves may and of none of points
+-- the value of the function may rest on a reading: it may for every function of moves, and for no function of points
 abbrev pub is_reading : Function → Bool
 is_reading (OfPoint f) = is_point_reading f
 is_reading (OfPair f) = is_pair_reading f
 is_reading (OfPoints f) = false
 is_reading (OfMoves f) = true
 
--- the right side is needed, if this is the value of the left one
+-- the right side of the operator is needed, if x is the value of its left side
 abbrev pub needs_right : Op → ℤ → Bool
 needs_right Or x = not (is_so x)
 needs_right And x = is_so x

@@ -1,5 +1,5 @@
--- How large the values of expressions are: each number and each call is worth at most 999,999, and no operator makes
--- more of two values than their sum or their difference.
+-- How large the values of expressions are: each number and each call is worth at most 999,999, and an operator gives 1,
+-- 0, or the sum or the difference of two values.
 use Rattle.std.specs.Prelude.{ℕ, ◌≤◌, List, IsTrue, ℤ, pos, neg_ℤ, ◌≤ℤ◌}
 use Rattle.pat_types.specs.declared.pattern.LabelAt.{LabelAt}
 use Rattle.pat_types.specs.declared.expr.Expr.{Expr}
@@ -18,7 +18,7 @@ pub record IsWithin (n : ℕ) (x : ℤ) : Type 0 where
   pub low : neg_ℤ (pos n) ≤ℤ x
   pub high : x ≤ℤ pos n
 
--- a pattern with some labels may keep the expression, or it is a part of such an expression
+-- the expression is one that a pattern with some labels may keep, or it is a part of one
 pub record IsConstraint (e : Expr) : Type 0 where
   pub labels : List LabelAt
   pub can : IsTrue (can_evaluate labels e)

@@ -1,6 +1,6 @@
--- The functions of constraint expressions. Each looks at the position before the pattern's move, with its ban; a and
--- b are points of the board. The friend is the colour that plays the pattern's move, the enemy is the other one. A
--- test is worth 1 if it holds.
+-- The functions of constraint expressions. Each looks at the position before the pattern's move, with its ko ban; a and
+-- b are points of the board. The friend is the colour that plays the pattern's move, the enemy is the other colour. A
+-- test is worth 1 if it holds, else 0.
 use Rattle.std.specs.Prelude.{ℕ, ◌==◌, ◌&&◌, ◌||◌, nat_lt, Bool, true, false, List, [], ◌∷◌, Option, Some, None}
 use Rattle.std.specs.Prelude.{is_some, Result, Ok, Err, ℤ, pos as whole, ◌-ℤ◌}
 use Rattle.std.specs.List.{list_any}
@@ -16,7 +16,7 @@ use Rattle.read_rules.specs.declared.question.Kind.{Kind}
 use Rattle.read_rules.specs.declared.question.Kind.TheVariants.{Attack, Defend}
 use Rattle.cons_eval.specs.Readings.{Codes, code_at}
 
--- what f says of the position after a play, and d if the play is illegal
+-- what f says of the position after a play, or d if the play is illegal
 abbrev pub after_play : {A : Type 0} → A → (BoardState → A) → Result BoardState Illegal → A
 after_play d f (Ok next) = f next
 after_play d f (Err e) = d
@@ -25,15 +25,15 @@ after_play d f (Err e) = d
 abbrev pub lib : BoardState → ℕ → ℕ
 lib pos a = liberties pos.size pos.cells a
 
--- how many liberties the string of the stone has that c plays at a, 0 if the play is illegal
+-- how many liberties the stone that c plays at a has with its string; 0 if the play is illegal
 unfoldable pub liberties_after : BoardState → Colour → ℕ → ℕ
 liberties_after pos c a = after_play 0 (λ next. liberties next.size next.cells a) (play pos c a)
 
--- how many liberties the string of the enemy's stone has after a play at a, 0 if the play is illegal
+-- how many liberties the stone that the enemy plays at a has with its string; 0 if the play is illegal
 abbrev pub xlib : BoardState → Colour → ℕ → ℕ
 xlib pos friend a = liberties_after pos (other friend) a
 
--- how many liberties the string of the friend's stone has after a play at a, 0 if the play is illegal
+-- how many liberties the stone that the friend plays at a has with its string; 0 if the play is illegal
 abbrev pub olib : BoardState → Colour → ℕ → ℕ
 olib pos friend a = liberties_after pos friend a
 
@@ -45,23 +45,23 @@ attack code pos a = code_at code Attack pos a
 abbrev pub defend : Codes → BoardState → ℕ → ℕ
 defend code pos a = code_at code Defend pos a
 
--- c may play at a with the ban dropped, and the play leaves a ban
+-- c may play at a with the ko ban dropped, and the play leaves a ko ban
 unfoldable pub leaves_ban : BoardState → Colour → ℕ → Bool
 leaves_ban pos c a = after_play false (λ next. is_some next.ban) (play_free pos c a)
 
--- a is empty, and one of the colours may play there with the ban dropped and leaves a ban
+-- a is empty, and one of the colours may play there with the ko ban dropped and leaves a ko ban
 abbrev pub ko : BoardState → ℕ → Bool
 ko pos a = same_cell (cell_at pos.cells a) Empty && (leaves_ban pos black a || leaves_ban pos white a)
 
--- c may play at a, and the stone's string cannot be captured afterwards: the code of an attack on it is 0
+-- c may play at a, and the string of that stone cannot be captured afterwards: the code of an attack on it is 0
 unfoldable pub is_safe_move : Codes → BoardState → Colour → ℕ → Bool
 is_safe_move code pos c a = after_play false (λ next. code_at code Attack next a == 0) (play pos c a)
 
--- the enemy may play at a and is safe there
+-- the enemy may play at a and cannot be captured there
 abbrev pub safe_xmove : Codes → BoardState → Colour → ℕ → Bool
 safe_xmove code pos friend a = is_safe_move code pos (other friend) a
 
--- the friend may play at a and is safe there
+-- the friend may play at a and cannot be captured there
 abbrev pub safe_omove : Codes → BoardState → Colour → ℕ → Bool
 safe_omove code pos friend a = is_safe_move code pos friend a
 
@@ -96,7 +96,7 @@ colour_of Empty = None
 colour_of Black = Some black
 colour_of White = Some white
 
--- what f says of the colour of a stone, and d if there is none
+-- what f says of the colour of a stone, or d if there is no stone
 abbrev pub of_stone : {A : Type 0} → A → (Colour → A) → Option Colour → A
 of_stone d f None = d
 of_stone d f (Some c) = f c
@@ -117,7 +117,7 @@ does_attack code pos a b =
 abbrev pub does_defend : Codes → BoardState → ℕ → ℕ → ℤ
 does_defend code pos a b = of_stone (whole 0) (λ c. lack_after code Attack pos c a b) (colour_of (cell_at pos.cells b))
 
--- c may not play at b, or can be captured there: the code of an attack on the stone is above 0
+-- c may not play at b, or can be captured there: the code of an attack on the stone played at b is above 0
 unfoldable pub is_refuted : Codes → BoardState → Colour → ℕ → Bool
 is_refuted code pos c b = after_play true (λ next. nat_lt 0 (code_at code Attack next b)) (play pos c b)
 
@@ -140,27 +140,27 @@ unfoldable pub after_move : BoardState → Colour → Option ℕ → BoardState
 after_move pos c None = pass pos
 after_move pos c (Some a) = after_play (pass pos) (λ next. next) (play pos c a)
 
--- the position after these moves in turn, of which c makes the first
+-- the position after these moves in turn; c makes the first of them
 unfoldable pub after_moves : BoardState → Colour → List (Option ℕ) → BoardState
 after_moves pos c [] = pos
 after_moves pos c (m ∷ ms) = after_moves (after_move pos c m) (other c) ms
 
--- the code of an attack on the string at a after these moves in turn, of which the friend makes the first; 0 if a
--- is empty then
+-- the code of an attack on the string at a after these moves in turn, if the friend makes the first of them; 0 if a is
+-- then empty
 abbrev pub oplay_attack : Codes → BoardState → Colour → List (Option ℕ) → ℕ → ℕ
 oplay_attack code pos friend moves a = attack code (after_moves pos friend moves) a
 
--- the code of a defence of the string at a after these moves in turn, of which the friend makes the first; 0 if a
--- is empty then
+-- the code of a defence of the string at a after these moves in turn, if the friend makes the first of them; 0 if a is
+-- then empty
 abbrev pub oplay_defend : Codes → BoardState → Colour → List (Option ℕ) → ℕ → ℕ
 oplay_defend code pos friend moves a = defend code (after_moves pos friend moves) a
 
--- the code of an attack on the string at a after these moves in turn, of which the enemy makes the first; 0 if a
--- is empty then
+-- the code of an attack on the string at a after these moves in turn, if the enemy makes the first of them; 0 if a is
+-- then empty
 abbrev pub xplay_attack : Codes → BoardState → Colour → List (Option ℕ) → ℕ → ℕ
 xplay_attack code pos friend moves a = attack code (after_moves pos (other friend) moves) a
 
--- the code of a defence of the string at a after these moves in turn, of which the enemy makes the first; 0 if a
--- is empty then
+-- the code of a defence of the string at a after these moves in turn, if the enemy makes the first of them; 0 if a is
+-- then empty
 abbrev pub xplay_defend : Codes → BoardState → Colour → List (Option ℕ) → ℕ → ℕ
 xplay_defend code pos friend moves a = defend code (after_moves pos (other friend) moves) a

@@ -1,4 +1,5 @@
--- What an expression is valued by: a position, the friend, the points of its arguments, and the codes of readings.
+-- What the value of an expression depends on: a position, the friend, the points of its arguments, and the codes of
+-- readings.
 use Rattle.std.specs.Prelude.{◌≡◌, ℕ, ◌*◌, ◌≤◌, nat_lt, Bool, true, ◌&&◌, List, [], ◌∷◌, Option, Some, None}
 use Rattle.std.specs.List.{list_all}
 use Rattle.pat_types.specs.declared.expr.Arg.{Arg}
@@ -7,7 +8,7 @@ use Rattle.go_rules.specs.declared.Colour.{Colour}
 use Rattle.go_rules.specs.Position.{BoardState}
 use Rattle.cons_eval.specs.Readings.{Codes}
 
--- what an expression is valued by
+-- what the value of an expression depends on
 pub record Meanings : Type 0 where
   -- the position before the pattern's move
   pub position : BoardState
@@ -23,11 +24,11 @@ abbrev pub is_on_board : ℕ → Option ℕ → Bool
 is_on_board s None = true
 is_on_board s (Some p) = nat_lt p (s * s)
 
--- each of the arguments that has a point has one on a board of size s
+-- the point of each argument that has one is on a board of size s
 abbrev pub are_on_board : ℕ → (Arg → Option ℕ) → List Arg → Bool
 are_on_board s point args = list_all (λ a. is_on_board s (point a)) args
 
--- each argument of the expression that has a point has one on the board
+-- the point of each argument of the expression that has one is on the board
 unfoldable pub are_placed : Meanings → Expr → Bool
 are_placed m (Num n) = true
 are_placed m (Call f args) = are_on_board m.position.size m.point args
@@ -35,22 +36,22 @@ are_placed m (Not' p e) = are_placed m e
 are_placed m (Neg' p e) = are_placed m e
 are_placed m (Bin' op p a q b) = are_placed m a && are_placed m b
 
--- each of the counts has stayed or risen
+-- no count is lower than before
 abbrev pub NoneLower : List ℕ → List ℕ → Type 0
 NoneLower [] [] = Unit {0}
 NoneLower [] (n ∷ new) = ⊥
 NoneLower (o ∷ old) [] = ⊥
 NoneLower (o ∷ old) (n ∷ new) = (o ≤ n) × NoneLower old new
 
--- what an expression is valued by, with numbers that no call changes, how many readings were asked for, and counts of
--- which no call lowers any
+-- what contracts see of an `Env`: what the value of an expression depends on, numbers that no call changes, how many
+-- readings were asked for, and counts that no call lowers
 pub record EnvView : Type 0 where
   pub meanings : Meanings
   pub fixed : List ℕ
   pub asked : ℕ
   pub counts : List ℕ
 
--- a call may lead from the first view to the second: only what was asked and counts have changed, and no count is lower
+-- a call may lead from old to new: only the readings asked for and the counts may differ, and no count is lower
 pub record Stays (old new : EnvView) : Type 0 where
   pub meanings : new.meanings ≡ old.meanings
   pub fixed : new.fixed ≡ old.fixed

@@ -1,5 +1,5 @@
--- How many readings an expression asks for. A reading is asked for only if a stone stands, and a side of `&&` or
--- `||` that is not needed asks for none.
+-- How many readings an expression asks for. It asks only at a point with a stone, and a side of `&&` or `||` that is
+-- not needed asks for nothing.
 use Rattle.std.specs.Prelude.{ℕ, zero, suc, ◌+◌, ◌-◌, ◌^◌, min, if◌then◌else◌, List, map, Option, Some, None}
 use Rattle.go_rules.specs.declared.Colour.{Colour}
 use Rattle.go_rules.specs.Position.{BoardState, other}
@@ -19,15 +19,15 @@ use Rattle.cons_eval.specs.Functions.{after_play, after_moves, colour_of, of_sto
 use Rattle.cons_eval.specs.Meanings.{Meanings}
 use Rattle.cons_eval.specs.Values.{only_point, two_points, moves_and_point, value_of}
 
--- one reading if a stone stands at p, and none if it is empty
+-- one reading if a stone stands at p, else none
 abbrev pub readings_at : BoardState → ℕ → ℕ
 readings_at pos p = if is_stone (cell_at pos.cells p) then 1 else 0
 
--- one reading if a stone stands at b after c plays at a, and none if the play is illegal
+-- one reading if a stone stands at b after c plays at a; none if b is then empty or the play is illegal
 unfoldable pub readings_after : BoardState → Colour → ℕ → ℕ → ℕ
 readings_after pos c a b = after_play 0 (λ next. readings_at next b) (play pos c a)
 
--- the reading of the other colour's stone at b after c plays at a; none if one of the two plays is illegal
+-- one reading, of the stone that the other colour plays at b after c plays at a; none if either play is illegal
 unfoldable pub readings_against : BoardState → Colour → ℕ → ℕ → ℕ
 readings_against pos c a b = after_play 0 (λ next. readings_after next (other c) b b) (play pos c a)
 
@@ -39,11 +39,12 @@ point_readings m point.SafeXmove a = readings_after m.position (other m.friend) 
 point_readings m point.SafeOmove a = readings_after m.position m.friend a a
 point_readings m _ a = 0
 
--- the reading of the string at b after the other colour plays at a; none if b is empty or the play is illegal
+-- one reading, of the string at b after the other colour plays at a; none if b is empty, or if the play is illegal or
+-- captures the string
 abbrev pub attack_readings : BoardState → ℕ → ℕ → ℕ
 attack_readings pos a b = of_stone 0 (λ c. readings_after pos (other c) a b) (colour_of (cell_at pos.cells b))
 
--- the reading of the string at b after its colour plays at a; none if b is empty or the play is illegal
+-- one reading, of the string at b after its colour plays at a; none if b is empty or the play is illegal
 abbrev pub defence_readings : BoardState → ℕ → ℕ → ℕ
 defence_readings pos a b = of_stone 0 (λ c. readings_after pos c a b) (colour_of (cell_at pos.cells b))
 
@@ -62,7 +63,7 @@ moves_readings m moves.OplayDefend play = readings_at (after_moves m.position m.
 moves_readings m moves.XplayAttack play = readings_at (after_moves m.position (other m.friend) play.0) play.1
 moves_readings m moves.XplayDefend play = readings_at (after_moves m.position (other m.friend) play.0) play.1
 
--- how many there are at what is there, and none if nothing is
+-- f of what is there, or 0 if nothing is there
 abbrev pub many_there : {A : Type 0} → (A → ℕ) → Option A → ℕ
 many_there f None = 0
 many_there f (Some a) = f a
@@ -74,7 +75,7 @@ call_readings m (OfPair f) args = many_there (pair_readings m f) (two_points arg
 call_readings m (OfPoints f) args = 0
 call_readings m (OfMoves f) args = many_there (moves_readings m f) (moves_and_point args)
 
--- how many readings an expression asks for: those of its calls, a right side's only if it is needed
+-- how many readings an expression asks for: those of its calls, but those of a right side only if it is needed
 unfoldable pub readings_of : Meanings → Expr → ℕ
 readings_of m (Num n) = 0
 readings_of m (Call f args) = call_readings m f (map m.point args)
@@ -83,11 +84,11 @@ readings_of m (Neg' p e) = readings_of m e
 readings_of m (Bin' op p a q b) =
     readings_of m a + (if needs_right op (value_of m a) then readings_of m b else 0)
 
--- a count of questions after one more; it stands still at the end of what a u64 counts
+-- the count plus one, but at most the greatest value of a u64
 abbrev pub one_more : ℕ → ℕ
 one_more count = min (count + 1) (2 ^ 64 - 1)
 
--- a count of questions after so many more
+-- the count after this many more readings
 abbrev pub counted : ℕ → ℕ → ℕ
 counted zero count = count
 counted (suc more) count = counted more (one_more count)

@@ -20,14 +20,14 @@ use go_rules::Colour;
 use pat_types::{Arg, Function, MovesFunction, PairFunction, PointFunction, PointsFunction};
 use read_rules::Kind;
 
-/// What a test is worth.
+/// What a test is worth: 1 if it holds, else 0.
 pub fn worth_of(test: bool) -> i64
     ensures { result ≡ worth test }
 {
     if test { 1 } else { 0 }
 }
 
-/// The point of the only argument, if there is one with a point.
+/// The point of the only argument; `None` if there is not exactly one argument, or if it has no point.
 fn only_point<E: Env>(env: &E, args: &[Arg]) -> Option<Point>
     ensures { result ≡ only (map (E.view env.now).meanings.point args.now) }
 {
@@ -37,7 +37,7 @@ fn only_point<E: Env>(env: &E, args: &[Arg]) -> Option<Point>
     }
 }
 
-/// The points of two arguments, if there are two with points.
+/// The points of two arguments; `None` if there are not exactly two arguments, or if one of them has no point.
 fn two_points<E: Env>(env: &E, args: &[Arg]) -> Option<(Point, Point)>
     ensures { result ≡ two (map (E.view env.now).meanings.point args.now) }
 {
@@ -50,7 +50,7 @@ fn two_points<E: Env>(env: &E, args: &[Arg]) -> Option<(Point, Point)>
     }
 }
 
-/// The value of a function of one point, at this.
+/// The value of a function of one point at `a`.
 #[tactic(auto, using(crate::proofs::CallCounts::stays_same))]
 fn value_at<E: Env>(env: &mut E, function: PointFunction, a: Point) -> i64
     requires { a < (E.view env.old).meanings.position.size * (E.view env.old).meanings.position.size }
@@ -78,7 +78,7 @@ fn value_at<E: Env>(env: &mut E, function: PointFunction, a: Point) -> i64
     }
 }
 
-/// The value of a function of one point, 0 if the arguments are not one with a point.
+/// The value of a function of one point; 0 if `args` are not one argument with a point.
 #[tactic(auto, using(crate::proofs::CallCounts::stays_same))]
 fn of_point<E: Env>(env: &mut E, function: PointFunction, args: &[Arg]) -> i64
     requires { are_on_board (E.view env.old).meanings.position.size (E.view env.old).meanings.point args.now ≡ true }
@@ -96,7 +96,7 @@ fn of_point<E: Env>(env: &mut E, function: PointFunction, args: &[Arg]) -> i64
     }
 }
 
-/// The value of a function of two points, at these.
+/// The value of a function of two points at `a` and `b`.
 #[tactic(auto, using(crate::proofs::CallCounts::stays_same))]
 fn value_at_pair<E: Env>(env: &mut E, function: PairFunction, a: Point, b: Point) -> i64
     requires a_on_board { a < (E.view env.old).meanings.position.size * (E.view env.old).meanings.position.size }
@@ -120,7 +120,7 @@ fn value_at_pair<E: Env>(env: &mut E, function: PairFunction, a: Point, b: Point
     }
 }
 
-/// The value of a function of two points, 0 if the arguments are not two with points.
+/// The value of a function of two points; 0 if `args` are not two arguments with points.
 #[tactic(auto, using(crate::proofs::CallCounts::stays_same))]
 fn of_pair<E: Env>(env: &mut E, function: PairFunction, args: &[Arg]) -> i64
     requires { are_on_board (E.view env.old).meanings.position.size (E.view env.old).meanings.point args.now ≡ true }
@@ -178,7 +178,7 @@ fn of_points<E: Env>(env: &E, function: PointsFunction, args: &[Arg]) -> i64
     }
 }
 
-/// The position after moves in turn, of which `first` makes the first.
+/// The position after `moves` in turn; the colour `first` makes the first of them.
 fn after_moves<E: Env>(env: &E, position: &Position, first: Colour, moves: &[Arg]) -> Position
     requires { are_on_board position.now.size (E.view env.now).meanings.point moves.now ≡ true }
     ensures value { result ≡ moves_then position.now first (map (E.view env.now).meanings.point moves.now) }
@@ -193,7 +193,7 @@ fn after_moves<E: Env>(env: &E, position: &Position, first: Colour, moves: &[Arg
     next
 }
 
-/// The code of a reading at a point after moves in turn, of which `first` makes the first.
+/// The code of a reading at `at` after `moves` in turn; the colour `first` makes the first of them.
 fn code_after<E: Env>(env: &mut E, kind: Kind, first: Colour, moves: &[Arg], at: Point) -> u8
     requires at_on_board { at < (E.view env.old).meanings.position.size * (E.view env.old).meanings.position.size }
     requires moves_on_board { are_on_board (E.view env.old).meanings.position.size (E.view env.old).meanings.point
@@ -210,7 +210,7 @@ fn code_after<E: Env>(env: &mut E, kind: Kind, first: Colour, moves: &[Arg], at:
     code_at(env, kind, &after, at)
 }
 
-/// The value of a function of moves and a point, at these.
+/// The value of a function of moves and a point, after `moves` and at `at`.
 #[tactic(auto, using(crate::proofs::CallCounts::stays_same))]
 fn value_after<E: Env>(env: &mut E, function: MovesFunction, moves: &[Arg], at: Point) -> i64
     requires at_on_board { at < (E.view env.old).meanings.position.size * (E.view env.old).meanings.position.size }
@@ -233,7 +233,7 @@ fn value_after<E: Env>(env: &mut E, function: MovesFunction, moves: &[Arg], at: 
     }
 }
 
-/// The value of a function of moves and a point, 0 if the last argument has no point.
+/// The value of a function of moves and a point; 0 if there is no last argument with a point.
 #[tactic(auto, using(crate::proofs::CallCounts::stays_same))]
 fn of_moves<E: Env>(env: &mut E, function: MovesFunction, args: &[Arg]) -> i64
     requires { are_on_board (E.view env.old).meanings.position.size (E.view env.old).meanings.point args.now ≡ true }
@@ -253,7 +253,8 @@ fn of_moves<E: Env>(env: &mut E, function: MovesFunction, args: &[Arg]) -> i64
     }
 }
 
-/// The value of a call, 0 if the arguments are not as the function takes them.
+/// The value of a call. A function of one or two points is worth 0 unless it has that many arguments, all with points;
+/// a function of moves is worth 0 unless its last argument has a point.
 #[tactic(auto, using(crate::proofs::CallCounts::stays_same), unfolding(crate::specs::Values::call_value, crate::specs::Questions::call_readings))]
 pub fn call<E: Env>(env: &mut E, function: Function, args: &[Arg]) -> i64
     requires { are_on_board (E.view env.old).meanings.position.size (E.view env.old).meanings.point args.now ≡ true }

@@ -1,4 +1,4 @@
-//! What an expression is valued by, as the matcher hands it in.
+//! What the value of an expression depends on, as the matcher passes it in.
 
 ghost use Rattle.std.specs.Prelude.{◌≡◌, ◌*◌, ◌<◌, IsTrue, IsSome, None};
 ghost use Rattle.go_rules.specs.Strings.{cell_at, is_stone};
@@ -10,14 +10,14 @@ use go_rules::Colour;
 use pat_types::Arg;
 use read_rules::Kind;
 
-/// What an expression is valued by: a position, the friend, the point of each argument and the codes of readings.
-/// Each call answers by these, and none changes them. How many readings were asked for is counted, as far as a `u64`
-/// counts.
+/// What the value of an expression depends on: a position, the friend, the point of each argument and the codes of
+/// readings. Each call answers from these and changes none of them. The readings that were asked for are counted, up to
+/// the greatest value of a `u64`.
 pub trait Env {
     ghost use Rattle.pat_types.specs.declared.expr.Arg.TheVariants.{Star, Nowhere};
 
-    /// The meanings that its answers are by, numbers that no call changes, how many readings were asked for, and
-    /// counts of which no call lowers any.
+    /// What contracts see: the meanings that the answers follow, numbers that no call changes, how many readings were
+    /// asked for, and counts that no call lowers.
     ghost view: { Self → EnvView };
 
     /// The position before the pattern's move.
@@ -32,7 +32,7 @@ pub trait Env {
     fn point(&self, arg: Arg) -> Option<Point>
         ensures { result ≡ (view self.now).meanings.point arg };
 
-    /// The code of a reading of the string at a stone. It counts as one that was asked for.
+    /// The code of a reading of the string at `target`, where a stone stands. The reading counts as one asked for.
     fn code(&mut self, kind: Kind, on: &Position, target: Point) -> u8
         requires on_board { target < on.now.size * on.now.size }
         requires stone { IsTrue (is_stone (cell_at on.now.cells target)) }

@@ -17,7 +17,7 @@ use go_base::{Point, Position};
 use go_rules::{Cell, Colour};
 use read_rules::Kind;
 
-/// The code of a reading at a point, 0 if it is empty.
+/// The code of a reading at `at`; 0 if this point is empty.
 #[tactic(auto, using(crate::proofs::CallCounts::stays_same))]
 pub fn code_at<E: Env>(env: &mut E, kind: Kind, on: &Position, at: Point) -> u8
     requires { at < on.now.size * on.now.size }
@@ -57,7 +57,7 @@ fn colour_at(position: &Position, at: Point) -> Option<Colour>
     }
 }
 
-/// 3 minus the code of a reading at `target` after `colour` plays at `at`, 0 if the play is illegal.
+/// 3 minus the code of a reading at `target` after `colour` plays at `at`; 0 if the play is illegal.
 #[tactic(auto, using(crate::proofs::CallCounts::stays_same), unfolding(crate::specs::Functions::lack_after, crate::specs::Questions::readings_after))]
 fn lack_after<E: Env>(
     env: &mut E,
@@ -81,7 +81,7 @@ fn lack_after<E: Env>(
     }
 }
 
-/// How much a play at `at` attacks the string at `target`, 0 if that is empty or the play is illegal.
+/// How much a play at `at` attacks the string at `target`; 0 if `target` is empty or the play is illegal.
 #[tactic(auto, using(crate::proofs::CallCounts::stays_same))]
 pub fn does_attack<E: Env>(env: &mut E, position: &Position, at: Point, target: Point) -> i64
     requires at_on_board { at < position.now.size * position.now.size }
@@ -97,7 +97,7 @@ pub fn does_attack<E: Env>(env: &mut E, position: &Position, at: Point, target: 
     }
 }
 
-/// How much a play at `at` defends the string at `target`, 0 if that is empty or the play is illegal.
+/// How much a play at `at` defends the string at `target`; 0 if `target` is empty or the play is illegal.
 #[tactic(auto, using(crate::proofs::CallCounts::stays_same))]
 pub fn does_defend<E: Env>(env: &mut E, position: &Position, at: Point, target: Point) -> i64
     requires at_on_board { at < position.now.size * position.now.size }

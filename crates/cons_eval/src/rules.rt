@@ -8,7 +8,7 @@ ghost use Rattle.cons_eval.specs.Functions.{after_move as move_from};
 use go_base::{Point, Position};
 use go_rules::{Cell, Colour};
 
-/// How many liberties the string of the stone has that `colour` plays at `at`, 0 if the play is illegal.
+/// How many liberties the stone that `colour` plays at `at` has with its string; 0 if the play is illegal.
 #[tactic(auto, unfolding(crate::specs::Functions::liberties_after))]
 pub fn liberties_after(position: &Position, colour: Colour, at: Point) -> u16
     requires { at < position.now.size * position.now.size }
@@ -28,7 +28,7 @@ pub fn is_legal(position: &Position, colour: Colour, at: Point) -> bool
     position.play(colour, at).is_ok()
 }
 
-/// Whether `colour` may play at `at` with the ban dropped, and leaves a ban.
+/// Whether `colour` may play at `at` with the ko ban dropped, and the play leaves a ko ban.
 #[tactic(auto, unfolding(crate::specs::Functions::leaves_ban))]
 fn leaves_ban(position: &Position, colour: Colour, at: Point) -> bool
     requires { at < position.now.size * position.now.size }
@@ -40,7 +40,7 @@ fn leaves_ban(position: &Position, colour: Colour, at: Point) -> bool
     }
 }
 
-/// Whether `at` is empty, and one of the colours may play there with the ban dropped and leaves a ban.
+/// Whether `at` is empty, and one of the colours may play there with the ko ban dropped and leaves a ko ban.
 pub fn is_ko(position: &Position, at: Point) -> bool
     requires { at < position.now.size * position.now.size }
     ensures { result ≡ ko position.now at }
@@ -49,7 +49,7 @@ pub fn is_ko(position: &Position, at: Point) -> bool
         && (leaves_ban(position, Colour::Black, at) || leaves_ban(position, Colour::White, at))
 }
 
-/// Whether both points hold stones of one string.
+/// Whether `a` and `b` hold stones of one string.
 pub fn is_same_string(position: &Position, a: Point, b: Point) -> bool
     requires a_on_board { a < position.now.size * position.now.size }
     requires b_on_board { b < position.now.size * position.now.size }

@@ -19,7 +19,7 @@ fn counts_as_true(value: i64) -> bool
     value != 0
 }
 
-/// Whether the right side of an operator is needed, where `left` is the value of the left one.
+/// Whether the right side of the operator `op` is needed, if `left` is the value of its left side.
 fn needs_right(op: Op, left: i64) -> bool
     ensures { result ≡ right_is_needed op left }
 {
@@ -30,7 +30,7 @@ fn needs_right(op: Op, left: i64) -> bool
     }
 }
 
-/// The value of two values with an operator between them.
+/// The value of `left` and `right` with the operator `op` between them.
 fn joined(op: Op, left: i64, right: i64) -> i64
     requires left_small { IsWithin (most_leaves * most) left }
     requires right_small { IsWithin (most_leaves * most) right }
@@ -52,22 +52,22 @@ fn joined(op: Op, left: i64, right: i64) -> i64
 
 /// The value of an expression, a whole number.
 ///
-/// It never overflows: each of the at most 4,096 numbers and calls is worth at most 999,999, and no operator makes
-/// more of two values than their sum. A side of `&&` or `||` that is not needed is left out, so it asks for no
-/// reading.
+/// It never overflows: each of the at most 4,096 numbers and calls is worth at most 999,999, and an operator gives 1,
+/// 0, or the sum or difference of its two sides. A side of `&&` or `||` that is not needed is left out, so it asks for
+/// no reading.
 pub fn eval<E: Env>(expr: &Expr, env: &mut E) -> i64
     requires constraint { IsConstraint expr.now }
     requires placed { are_placed (E.view env.old).meanings expr.now ≡ true }
-    // The value is that of the definition.
+    // The value is the one that the definition gives.
     ensures value { result ≡ value_of (E.view env.old).meanings expr.now }
-    // It is as small as the number of leaves says.
+    // The absolute value is at most 999,999 times the number of leaves.
     ensures small { IsWithin (leaf_count expr.now * most) result }
-    // It asks for exactly the readings that the definition says: a right side's only if it is needed.
+    // `eval` asks for exactly the readings that the definition counts; those of a right side only if it is needed.
     ensures asked { (E.view env.new).asked
         ≡ counted (readings_of (E.view env.old).meanings expr.now) (E.view env.old).asked }
-    // Only what was asked and counts have changed, and no count is lower.
+    // Only the number of readings asked for and the counts may change, and no count gets lower.
     ensures stays { Stays (E.view env.old) (E.view env.new) }
-    // If no part that is needed may ask for a reading, the counts have not changed either.
+    // If no part that is needed may ask for a reading, the counts do not change either.
     ensures quiet { asks (E.view env.old).meanings expr.now ≡ false
         → (E.view env.new).counts ≡ (E.view env.old).counts }
 {

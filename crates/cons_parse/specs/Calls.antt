@@ -32,12 +32,12 @@ abbrev pub is_comma : Token → Bool
 is_comma token.Comma = true
 is_comma _ = false
 
--- an argument with the token behind it: a parenthesis ends the arguments, a comma goes on to more of them
+-- the arguments that begin with a; u is the token behind a: a parenthesis ends the arguments, a comma goes on to more
 abbrev pub with_next : Arg → Token → Option (List Arg × ℕ) → Option (List Arg × ℕ)
 with_next a u more =
     if is_close u then Some (a ∷ [], 2) else if is_comma u then option_map (λ m. (a ∷ m.0, 2 + m.1)) more else None
 
--- the arguments that begin with this one, if it is an argument, with the token behind it
+-- the arguments that begin with a, if a is an argument; u is the token behind it
 abbrev pub arg_before : Option Arg → Token → Option (List Arg × ℕ) → Option (List Arg × ℕ)
 arg_before a u more = option_and_then (λ x. with_next x u more) a
 
@@ -65,11 +65,11 @@ item_at token.Open ts = Some (Open, 0)
 item_at token.Close ts = Some (Close, 0)
 item_at _ ts = None
 
--- an item in front of others
+-- an item in front of other items
 abbrev pub and_more : Item → Option (List Item) → Option (List Item)
 and_more i rest = option_map (λ is. i ∷ is) rest
 
--- the items of these tokens, of which the first so many belong to the item before
+-- the items of these tokens; the first n tokens belong to the item before them
 unfoldable pub items_after : ℕ → List Token → Option (List Item)
 items_after n [] = Some []
 items_after (suc n) (t ∷ ts) = items_after n ts

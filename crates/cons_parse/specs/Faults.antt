@@ -19,7 +19,7 @@ use Rattle.cons_parse.specs.Grammar.{Written, Num, Call, Parens, Not, Neg, Bin}
 abbrev pub most_levels : ℕ
 most_levels = 32
 
--- some leaf stands within too many levels, where this many are around the expression
+-- some leaf stands within too many levels, if n levels are around the expression
 abbrev pub is_too_deep : ℕ → Written → Bool
 is_too_deep n (Num k) = nat_lt most_levels n
 is_too_deep n (Call name args) = nat_lt most_levels n
@@ -28,7 +28,7 @@ is_too_deep n (Not e) = is_too_deep (suc n) e
 is_too_deep n (Neg e) = is_too_deep (suc n) e
 is_too_deep n (Bin op a b) = is_too_deep n a || is_too_deep n b
 
--- the name is no function's
+-- the name is not the name of a function
 abbrev pub is_unknown : Name → Bool
 is_unknown (Letter c) = true
 is_unknown (Known f) = false
@@ -49,16 +49,16 @@ is_some_nowhere (Some a) = is_nowhere a
 abbrev pub ends_nowhere : List Arg → Bool
 ends_nowhere args = is_some_nowhere (slice_get args (length args - 1))
 
--- a pass stands elsewhere than as a move of a play
+-- a pass stands where no move may: as the last argument, or as any argument if the function takes no moves
 abbrev pub has_stray_pass : Function → List Arg → Bool
 has_stray_pass f args = if takes_moves f then ends_nowhere args else list_any is_nowhere args
 
--- the number of arguments is not that of the function, or a pass stands where no move may
+-- the function does not take these arguments: they are too few or too many, or a pass stands where no move may
 abbrev pub is_miscalled : Function → List Arg → Bool
 is_miscalled f args =
     nat_lt (length args) (arity_of f).0 || nat_lt (arity_of f).1 (length args) || has_stray_pass f args
 
--- the name is that of a function which is not called as it may be
+-- the name is that of a function that does not take these arguments
 abbrev pub misses : Name → List Arg → Bool
 misses (Letter c) args = false
 misses (Known f) args = is_miscalled f args
@@ -70,7 +70,7 @@ is_unknown_label labels (Label letter) = not (names labels letter)
 is_unknown_label labels Star = false
 is_unknown_label labels Nowhere = false
 
--- the call passes, if the item is one
+-- the item is a call that passes the test
 abbrev pub calls : (Name → List Arg → Bool) → Item → Bool
 calls test (item.Number n) = false
 calls test (item.Call name args) = test name args
@@ -79,7 +79,7 @@ calls test item.Bang = false
 calls test item.Open = false
 calls test item.Close = false
 
--- some call of an expression passes
+-- some call of an expression passes the test
 abbrev pub some_call : (Name → List Arg → Bool) → Written → Bool
 some_call test (Num n) = false
 some_call test (Call name args) = test name args
@@ -88,20 +88,20 @@ some_call test (Not e) = some_call test e
 some_call test (Neg e) = some_call test e
 some_call test (Bin op a b) = some_call test a || some_call test b
 
--- the tests of a call, one for each fault
+-- the name of the call is not the name of a function
 abbrev pub is_unknown_call : Name → List Arg → Bool
 is_unknown_call name args = is_unknown name
 
--- an argument is a letter that no label has
+-- an argument of the call is a letter that no label has
 abbrev pub is_unlabelled : List LabelAt → Name → List Arg → Bool
 is_unlabelled labels name args = list_any (is_unknown_label labels) args
 
--- the first fault of which the test passes
+-- the first fault whose test is true
 abbrev pub first_of : List (Bool × ConsError) → Option ConsError
 first_of [] = None
 first_of (fault ∷ more) = if fault.0 then Some fault.1 else first_of more
 
--- the first fault of the calls of items
+-- the first fault of the calls among the items
 abbrev pub call_fault : List LabelAt → List Item → Option ConsError
 call_fault labels is = first_of (
     (list_any (calls is_unknown_call) is, UnknownFunction)

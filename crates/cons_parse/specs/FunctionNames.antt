@@ -17,7 +17,7 @@ pub record FunctionRow : Type 0 where
   pub name : List ℕ
   pub function : Function
 
--- the functions, by the arguments that they take
+-- the functions, grouped by the arguments that they take
 abbrev pub functions : List FunctionRow
 functions =
     record { name = codes "lib"; function = OfPoint Lib }
@@ -47,6 +47,6 @@ functions =
 abbrev pub function_in : List FunctionRow → List ℕ → Option Function
 function_in rows name = option_map (λ r. r.function) (find (λ r. bytes_eq name r.name) rows)
 
--- the function of a name
+-- the function with this name, if there is one
 abbrev pub function_named : List ℕ → Option Function
 function_named name = function_in functions name

@@ -12,7 +12,7 @@ use Rattle.cons_parse.specs.Scan.{scanned}
 use Rattle.cons_parse.specs.Building.{Forms, built}
 use Rattle.cons_parse.specs.Parsing.{items_within}
 
--- an expression as it is written, made of its parts
+-- the forms that make an expression as it is written
 abbrev pub as_written : Forms Written
 as_written = record { num = Num; call = Call; parens = Parens; denied = Not; negated = Neg; joined = Bin }
 
@@ -24,7 +24,7 @@ written_of is = option_map (λ deep. built as_written is) (scanned is)
 unfoldable pub expression_in : List ℕ → Option Written
 expression_in text = option_and_then written_of (items_within text)
 
--- the first fault of what a text spells, and Syntax where it spells nothing
+-- the first fault of the expression that a text spells, or Syntax if the text spells none
 abbrev pub fault_of_reading : List LabelAt → Option Written → Option ConsError
 fault_of_reading labels None = Some Syntax
 fault_of_reading labels (Some w) = fault_of labels w
@@ -33,7 +33,7 @@ fault_of_reading labels (Some w) = fault_of labels w
 unfoldable pub fault_in : List LabelAt → List ℕ → Option ConsError
 fault_in labels text = fault_of_reading labels (expression_in text)
 
--- an error that is told is the first fault, want of memory aside
+-- the error is the first fault, unless it is NoMemory
 abbrev pub Blames : ConsError → Option ConsError → Type 0
 Blames Syntax fault = fault ≡ Some Syntax
 Blames TooDeep fault = fault ≡ Some TooDeep

@@ -11,14 +11,14 @@ use Rattle.cons_parse.specs.declared.scan.Opener.TheVariants.{Prefix, Parenthesi
 use Rattle.cons_parse.specs.declared.scan.Place.{Place}
 use Rattle.cons_parse.specs.Faults.{most_levels}
 
--- a place: what is open, the newest first; whether an operand stands before it, and whether a leaf before it is too
--- deep
+-- a place: what is open, the newest first; whether an operand stands before the place; and whether a leaf before the
+-- place is too deep
 pub record Spot : Type 0 where
   pub openers : List Opener
   pub after : Bool
   pub deep : Bool
 
--- the place that the code keeps
+-- the place that the code keeps, as the definitions have it
 abbrev pub spot_of : Place → Spot
 spot_of p = record { openers = reverse p.openers.items; after = p.after; deep = p.deep }
 
@@ -28,17 +28,17 @@ is_prefixed [] = false
 is_prefixed (Prefix ∷ ms) = true
 is_prefixed (Parenthesis ∷ ms) = false
 
--- without the prefixes of an operand that has been read
+-- what stays open once the operand behind the newest signs has been read
 abbrev pub settled : List Opener → List Opener
 settled [] = []
 settled (Prefix ∷ ms) = settled ms
 settled (Parenthesis ∷ ms) = Parenthesis ∷ ms
 
--- behind a leaf
+-- the place behind a leaf, if ms was open before the leaf
 abbrev pub after_leaf : List Opener → Bool → Spot
 after_leaf ms deep = record { openers = settled ms; after = true; deep = deep || nat_lt most_levels (length ms) }
 
--- behind what is open now
+-- the place behind the opener m
 abbrev pub behind : Opener → List Opener → Bool → Spot
 behind m ms deep = record { openers = m ∷ ms; after = false; deep = deep }
 
@@ -47,7 +47,7 @@ abbrev pub is_sub : Op → Bool
 is_sub Sub = true
 is_sub _ = false
 
--- behind an item where an operand was to come
+-- the place behind an item that stands where an operand was expected; none if the item may not stand there
 abbrev pub begun : List Opener → Bool → Item → Option Spot
 begun ms deep (item.Number n) = Some (after_leaf ms deep)
 begun ms deep (item.Call name args) = Some (after_leaf ms deep)
@@ -56,13 +56,13 @@ begun ms deep item.Bang = Some (behind Prefix ms deep)
 begun ms deep item.Open = Some (behind Parenthesis ms deep)
 begun ms deep item.Close = None
 
--- without the parenthesis that was opened last
+-- the place behind a closing parenthesis; none if the newest opener is no parenthesis
 abbrev pub closed : List Opener → Bool → Option Spot
 closed [] deep = None
 closed (Prefix ∷ ms) deep = None
 closed (Parenthesis ∷ ms) deep = Some (record { openers = settled ms; after = true; deep = deep })
 
--- behind an item where an operand stands before it
+-- the place behind an item that follows an operand; none if the item may not stand there
 abbrev pub gone_on : List Opener → Bool → Item → Option Spot
 gone_on ms deep (item.Number n) = None
 gone_on ms deep (item.Call name args) = None
@@ -71,20 +71,20 @@ gone_on ms deep item.Bang = None
 gone_on ms deep item.Open = None
 gone_on ms deep item.Close = closed ms deep
 
--- behind an item
+-- the place behind an item; none if the item may not stand there
 abbrev pub advance : Spot → Item → Option Spot
 advance s i = if s.after then gone_on s.openers s.deep i else begun s.openers s.deep i
 
--- whether a leaf stands too deep, where all is closed
+-- whether a leaf stands too deep; none if something is still open
 abbrev pub ended_with : List Opener → Bool → Option Bool
 ended_with [] deep = Some deep
 ended_with (m ∷ ms) deep = None
 
--- whether a leaf stands too deep, if this place may be the end
+-- whether a leaf stands too deep; none if the expression may not end at this place
 abbrev pub ended : Spot → Option Bool
 ended s = if s.after then ended_with s.openers s.deep else None
 
--- whether a leaf stands too deep, from a place on, if the items are in the grammar
+-- whether a leaf stands too deep once these items follow the place; none if the grammar does not allow them there
 unfoldable pub scanned_from : Spot → List Item → Option Bool
 scanned_from s [] = ended s
 scanned_from s (i ∷ is) = option_and_then (λ t. scanned_from t is) (advance s i)
@@ -93,11 +93,11 @@ scanned_from s (i ∷ is) = option_and_then (λ t. scanned_from t is) (advance s
 abbrev pub at_start : Spot
 at_start = record { openers = []; after = false; deep = false }
 
--- whether a leaf stands too deep, if the items are in the grammar
+-- whether a leaf stands too deep; none if the items are not in the grammar
 abbrev pub scanned : List Item → Option Bool
 scanned is = scanned_from at_start is
 
--- what closing a parenthesis answers, and what is then open
+-- closing the newest opener succeeds exactly if it is a parenthesis; new is then what stays open
 abbrev pub Closes : List Opener → List Opener → Bool → Type 0
 Closes old new true = (ms : List Opener) × (old ≡ Parenthesis ∷ ms) × (new ≡ settled ms)
 Closes [] new false = Unit {0}

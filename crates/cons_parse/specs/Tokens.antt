@@ -25,27 +25,27 @@ is_digit b = nat_le 48 b && nat_le b 57
 abbrev pub is_name_byte : ℕ → Bool
 is_name_byte b = is_letter b || is_digit b || b == 95
 
--- the value of digits that follow a number
+-- the number that is written by the digits of n and then these digits
 abbrev pub value_after : ℕ → List ℕ → ℕ
 value_after n [] = n
 value_after n (d ∷ ds) = value_after (n * 10 + (d - 48)) ds
 
--- the value of digits
+-- the number that digits write
 abbrev pub value_of : List ℕ → ℕ
 value_of digits = value_after 0 digits
 
--- the name of a function, or of none
+-- the name of this function, or an unknown name if there is no function
 abbrev pub known_as : Option Function → Name
 known_as (Some f) = Known f
 known_as None = Unknown
 
--- the name that these bytes are
+-- the name that these bytes spell
 abbrev pub name_of : List ℕ → Name
 name_of [] = Unknown
 name_of (b ∷ []) = Letter b
 name_of (b ∷ c ∷ bs) = known_as (function_named (b ∷ c ∷ bs))
 
--- the token of two bytes
+-- the token that the two bytes b and c spell, if there is one
 abbrev pub two_at : ℕ → ℕ → Option Token
 two_at b c =
     if b == 124 && c == 124 then Some (Operator Or)
@@ -56,7 +56,7 @@ two_at b c =
     else if b == 62 && c == 61 then Some (Operator Ge)
     else None
 
--- the token of one byte
+-- the token that the byte b alone spells, if there is one
 abbrev pub one_at : ℕ → Option Token
 one_at b =
     if b == 60 then Some (Operator Lt)
@@ -71,16 +71,16 @@ one_at b =
     else if b == 63 then Some Question
     else None
 
--- a token, and how many bytes follow its first
+-- a token, if there is one, and how many bytes follow its first
 abbrev pub with_more : ℕ → Option Token → Option (Token × ℕ)
 with_more n t = option_map (λ token. (token, n)) t
 
--- the longer of two tokens that may begin at a place
+-- the longer of two tokens that may begin at a place, or the shorter one if there is no longer one
 abbrev pub or_shorter : Option (Token × ℕ) → Option (Token × ℕ) → Option (Token × ℕ)
 or_shorter (Some t) shorter = Some t
 or_shorter None shorter = shorter
 
--- the token of two bytes that begins with b, or else the token b
+-- the token of two bytes that begins with b, or else the token of the byte b alone
 abbrev pub sign_at : ℕ → List ℕ → Option (Token × ℕ)
 sign_at b [] = with_more 0 (one_at b)
 sign_at b (c ∷ bs) = or_shorter (with_more 1 (two_at b c)) (with_more 0 (one_at b))
@@ -97,11 +97,11 @@ token_at b bs =
     (Called (name_of (take (prefix_len is_name_byte bs + 1) (b ∷ bs))), prefix_len is_name_byte bs)
     else sign_at b bs
 
--- a token in front of others
+-- a token in front of other tokens
 abbrev pub and_more : Token → Option (List Token) → Option (List Token)
 and_more t rest = option_map (λ ts. t ∷ ts) rest
 
--- the tokens of these bytes, of which the first so many belong to the token before
+-- the tokens of these bytes; the first n bytes belong to the token before them
 unfoldable pub tokens_after : ℕ → List ℕ → Option (List Token)
 tokens_after n [] = Some []
 tokens_after (suc n) (b ∷ bs) = tokens_after n bs
@@ -112,12 +112,12 @@ tokens_after zero (b ∷ bs) =
 abbrev pub tokens_of : List ℕ → Option (List Token)
 tokens_of text = tokens_after 0 text
 
--- the longest sign at the front
+-- the longest sign at the front of these bytes
 abbrev pub first_sign : List ℕ → Option (Token × ℕ)
 first_sign [] = None
 first_sign (b ∷ bs) = sign_at b bs
 
--- the longest token at the front
+-- the longest token at the front of these bytes
 abbrev pub first_token : List ℕ → Option (Token × ℕ)
 first_token [] = None
 first_token (b ∷ bs) = token_at b bs

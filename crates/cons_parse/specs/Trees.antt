@@ -24,7 +24,7 @@ tree_of (Not' p e) = NotTree (tree_of e)
 tree_of (Neg' p e) = NegTree (tree_of e)
 tree_of (Bin' op p a q b) = BinTree op (tree_of a) (tree_of b)
 
--- a call of a function; what is no function's name says nothing
+-- the tree of a call; a name that is no function's gives the number 0
 abbrev pub call_tree : Name → List Arg → Tree
 call_tree (Letter c) args = NumTree 0
 call_tree (Known f) args = CallTree f args

@@ -1,4 +1,4 @@
-//! Building the expression of items, with a stack of what is still open.
+//! Building an expression from its items, with a stack of what is still open.
 
 ghost use Rattle.std.specs.Prelude.{◌≡◌, IfOk};
 ghost use Rattle.std.specs.Option.{option_map};
@@ -12,7 +12,7 @@ use crate::token::Name;
 use pat_types::{Args, Expr, Op};
 use std::alloc::{AllocError, Global};
 
-/// What is open before an operand: a sign before it, a parenthesis, or an operator with its left side.
+/// What may be open before an operand: a sign, a parenthesis, or an operator with its left side.
 #[derive(Drop)]
 pub enum Frame {
     /// A `!`.
@@ -25,7 +25,7 @@ pub enum Frame {
     Left(Op, Expr),
 }
 
-/// The level of an operator, from the loosest.
+/// The level of an operator; 0 is the loosest.
 fn level_of(op: Op) -> u8
     ensures { result ≡ level_of_op op }
 {
@@ -38,14 +38,14 @@ fn level_of(op: Op) -> u8
     }
 }
 
-/// The expression behind a `!`.
+/// The expression `e` with a `!` before it.
 fn not_of(alloc: Global, e: Expr) -> Result<Expr, AllocError>
     ensures { IfOk result (λ r. tree_of r ≡ NotTree (tree_of e)) }
 {
     Ok(Expr::Not(Box::new(alloc, e)?))
 }
 
-/// The expression behind a `-`.
+/// The expression `e` with a `-` before it.
 fn neg_of(alloc: Global, e: Expr) -> Result<Expr, AllocError>
     ensures { IfOk result (λ r. tree_of r ≡ NegTree (tree_of e)) }
 {
@@ -59,7 +59,7 @@ fn bin_of(alloc: Global, op: Op, left: Expr, right: Expr) -> Result<Expr, AllocE
     Ok(Expr::Bin(op, Box::new(alloc, left)?, Box::new(alloc, right)?))
 }
 
-/// A call. Only functions are called here.
+/// A call of `name` with `args`. A name that is no function gives the number 0; `parse` refuses such a name before.
 fn call_of(name: Name, args: Args) -> Expr
     ensures { tree_of result ≡ call_tree name args }
 {
@@ -69,7 +69,7 @@ fn call_of(name: Name, args: Args) -> Expr
     }
 }
 
-/// An operand with the signs before it.
+/// The operand with the open signs before it, which leave the stack.
 fn settle(alloc: Global, frames: &mut Vec<Frame>, operand: Expr) -> Result<Expr, AllocError>
     ensures { IfOk result (λ r. (stack_of frames.new.items, tree_of r)
         ≡ settled_in trees (stack_of frames.old.items) (tree_of operand)) }
@@ -92,7 +92,7 @@ fn settle(alloc: Global, frames: &mut Vec<Frame>, operand: Expr) -> Result<Expr,
     }
 }
 
-/// An operand as the right side of each open operator that binds as tightly as this level.
+/// The operand as the right side of each open operator of this level or a tighter one; these operators leave the stack.
 fn join(
     alloc: Global,
     frames: &mut Vec<Frame>,
@@ -130,7 +130,7 @@ fn join(
     }
 }
 
-/// Goes over an operator, which is a sign if no operand stands before it.
+/// Reads an operator, which is the sign `-` if no operand stands before it.
 fn operator(
     alloc: Global,
     frames: &mut Vec<Frame>,
@@ -150,7 +150,7 @@ fn operator(
     Ok(None)
 }
 
-/// Takes the parenthesis that is open off.
+/// Closes the parenthesis that was opened last.
 fn close(
     alloc: Global,
     frames: &mut Vec<Frame>,
@@ -169,7 +169,7 @@ fn close(
     }
 }
 
-/// Goes over an item: the operand that then stands before the place, where one does.
+/// Reads an item. Returns the operand that then stands before the place, if there is one.
 fn take(
     alloc: Global,
     frames: &mut Vec<Frame>,
@@ -194,7 +194,7 @@ fn take(
     }
 }
 
-/// The expression of items that are in the grammar and call functions alone.
+/// The expression that `items` spell, if they are in the grammar and call nothing but functions.
 pub fn build(alloc: Global, items: Vec<Item>) -> Result<Expr, AllocError>
     ensures { IfOk result (λ e. tree_of e ≡ built trees items.items) }
 {

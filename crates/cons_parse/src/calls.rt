@@ -1,4 +1,4 @@
-//! The items of an expression: its tokens, with each call as one.
+//! The items of an expression: its tokens, with each call as one item.
 
 ghost use Rattle.std.specs.Prelude.{◌≡◌, ◌≤◌, length, IfOk};
 ghost use Rattle.cons_parse.specs.Calls.{arg_of as arg_in, is_open, is_close, is_comma, arguments_at as arguments_in};
@@ -27,7 +27,7 @@ pub enum Item {
     Close,
 }
 
-/// The argument that a token is.
+/// The argument that `token` is, if it is one.
 fn arg_of(token: Token) -> Option<Arg>
     ensures { result ≡ arg_in token }
 {
@@ -59,7 +59,7 @@ fn closes(token: Token) -> bool
     }
 }
 
-/// Whether a token goes on to another argument.
+/// Whether a token is the comma before another argument.
 fn goes_on(token: Token) -> bool
     ensures { result ≡ is_comma token }
 {
@@ -121,7 +121,7 @@ fn item_at(alloc: Global, token: Token, after: &[Token]) -> Result<(Item, usize)
     }
 }
 
-/// The items of tokens, or Syntax where an argument or a comma stands outside a call, or a name begins none.
+/// The items of `tokens`; `Syntax` if an argument or a comma stands outside a call, or if a name begins no call.
 pub fn items_of(alloc: Global, tokens: &[Token]) -> Result<Vec<Item>, ConsError>
     ensures { Gives (λ v. v.items) result (all_items tokens.now) }
 {

@@ -52,14 +52,14 @@ fn ends_nowhere(args: &[Arg]) -> bool
     }
 }
 
-/// Whether an argument of these is a pass.
+/// Whether one of the arguments is a pass.
 fn has_nowhere(args: &[Arg]) -> bool
     ensures { result ≡ list_any nowhere args.now }
 {
     args.iter().any(|a| is_nowhere(*a))
 }
 
-/// Whether a pass stands elsewhere than as a move.
+/// Whether a pass stands where no move may: as the last argument, or as any argument if the function takes no moves.
 fn has_stray_pass(function: Function, args: &[Arg]) -> bool
     ensures { result ≡ stray_pass function args.now }
 {
@@ -70,7 +70,7 @@ fn has_stray_pass(function: Function, args: &[Arg]) -> bool
     }
 }
 
-/// Whether a function is not called as it may be.
+/// Whether `function` does not take `args`: they are too few or too many, or a pass stands where no move may.
 fn is_miscalled(function: Function, args: &[Arg]) -> bool
     ensures { result ≡ miscalled function args.now }
 {
@@ -78,7 +78,7 @@ fn is_miscalled(function: Function, args: &[Arg]) -> bool
     args.len() < low || high < args.len() || has_stray_pass(function, args)
 }
 
-/// Whether a label has this letter.
+/// Whether one of the labels has this letter.
 fn has_label(labels: &[LabelAt], letter: u8) -> bool
     ensures { result ≡ names labels.now letter }
 {
@@ -95,14 +95,14 @@ fn is_unknown_label(labels: &[LabelAt], arg: Arg) -> bool
     }
 }
 
-/// Whether an argument of these is a letter that no label has.
+/// Whether one of the arguments is a letter that no label has.
 fn has_unknown_label(labels: &[LabelAt], args: &[Arg]) -> bool
     ensures { result ≡ list_any (unknown_label labels.now) args.now }
 {
     args.iter().any(|a| is_unknown_label(labels, *a))
 }
 
-/// Whether an item calls what is no function.
+/// Whether an item is a call of a name that is no function.
 fn calls_unknown(item: &Item) -> bool
     ensures { result ≡ calls is_unknown_call item.now }
 {
@@ -112,7 +112,7 @@ fn calls_unknown(item: &Item) -> bool
     }
 }
 
-/// Whether an item calls a function as it may not be called.
+/// Whether an item calls a function with arguments that it does not take.
 fn miscalls(item: &Item) -> bool
     ensures { result ≡ calls misses item.now }
 {
@@ -125,7 +125,7 @@ fn miscalls(item: &Item) -> bool
     }
 }
 
-/// Whether an argument of an item is a letter that no label has.
+/// Whether an item is a call with an argument that is a letter that no label has.
 fn mislabels(labels: &[LabelAt], item: &Item) -> bool
     ensures { result ≡ calls (is_unlabelled labels.now) item.now }
 {
@@ -135,28 +135,28 @@ fn mislabels(labels: &[LabelAt], item: &Item) -> bool
     }
 }
 
-/// Whether one of the items calls what is no function.
+/// Whether one of the items is a call of a name that is no function.
 fn some_call_unknown(items: &[Item]) -> bool
     ensures { result ≡ list_any (calls is_unknown_call) items.now }
 {
     items.iter().any(|i| calls_unknown(i))
 }
 
-/// Whether one of the items calls a function as it may not be called.
+/// Whether one of the items calls a function with arguments that it does not take.
 fn some_miscall(items: &[Item]) -> bool
     ensures { result ≡ list_any (calls misses) items.now }
 {
     items.iter().any(|i| miscalls(i))
 }
 
-/// Whether one of the items has an argument that no label has.
+/// Whether one of the items is a call with an argument that is a letter that no label has.
 fn some_mislabel(labels: &[LabelAt], items: &[Item]) -> bool
     ensures { result ≡ list_any (calls (is_unlabelled labels.now)) items.now }
 {
     items.iter().any(|i| mislabels(labels, i))
 }
 
-/// The first fault of the calls of these items.
+/// The first fault of the calls among `items`, in the order of the variants of `ConsError`.
 pub fn call_fault(labels: &[LabelAt], items: &[Item]) -> Option<ConsError>
     ensures { result ≡ first_call_fault labels.now items.now }
 {

@@ -11,7 +11,7 @@ use pat_types::{Function, MovesFunction, PairFunction, PointFunction, PointsFunc
 /// A name, and the function that it names.
 type Row = (&'static [u8], Function);
 
-/// The functions, by the arguments that they take.
+/// The functions, grouped by the arguments that they take.
 const TABLE: [Row; 21] = [
     (b"lib", OfPoint(PointFunction::Lib)),
     (b"xlib", OfPoint(PointFunction::Xlib)),
@@ -36,7 +36,7 @@ const TABLE: [Row; 21] = [
     (b"xplay_defend", OfMoves(MovesFunction::XplayDefend)),
 ];
 
-/// The function of the first of these rows that has this name.
+/// The function of the first row with this name, if there is one.
 fn first_function(rows: &[Row], name: &[u8]) -> Option<Function>
     ensures { result ≡ option_map (λ r. r.1) (find (λ r. bytes_eq name.now r.0.now) rows.now) }
 {
@@ -44,14 +44,14 @@ fn first_function(rows: &[Row], name: &[u8]) -> Option<Function>
     Some(row.1)
 }
 
-/// The same, by rows as the definitions have them.
+/// The function of the first row with this name, if there is one, by the rows that the definitions have.
 fn function_in(rows: &[Row], name: &[u8]) -> Option<Function>
     ensures { result ≡ function_in (map row_seen rows.now) name.now }
 {
     first_function(rows, name)
 }
 
-/// The function that a name is.
+/// The function called `name`, if there is one.
 pub fn function_named(name: &[u8]) -> Option<Function>
     ensures { result ≡ function_of name.now }
 {

@@ -1,8 +1,9 @@
-//! Reading a constraint expression: the expression that a text spells, or the first fault of the text.
+//! Parsing a constraint expression: the expression that a text spells, or the first fault of the text.
 //!
-//! The text is cut into tokens, each as long as possible, and the tokens into items, of which a call is one. A walk
-//! over the items tells whether they are in the grammar and how deep the leaves stand; only then is an expression
-//! built, with a stack of what is still open. Nothing here is a recursion, so a deep text costs memory and no stack.
+//! The text is cut into tokens, each as long as possible, and the tokens into items; a call with its arguments is one
+//! item. A walk over the items tells whether they are in the grammar and how deep the leaves stand. Only then is an
+//! expression built, with a stack of what is still open. Nothing here is recursive, so a deep text takes memory but no
+//! stack.
 //!
 //! After GNU Go Manual, "The Pattern Code", on constraints; the grammar and the order of the faults are this project's
 //! own.

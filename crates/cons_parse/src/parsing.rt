@@ -20,7 +20,7 @@ use std::alloc::Global;
 /// The most bytes that a text may have.
 const MOST_BYTES: usize = 4096;
 
-/// The items of a text, or Syntax.
+/// The items of `text`; `Syntax` if it is too long or not made of items.
 fn items_in(alloc: Global, text: &[u8]) -> Result<Vec<Item>, ConsError>
     ensures { Gives (λ v. v.items) result (items_within text.now) }
 {
@@ -33,7 +33,7 @@ fn items_in(alloc: Global, text: &[u8]) -> Result<Vec<Item>, ConsError>
     }
 }
 
-/// As `parse`, with what is answered said of what is written.
+/// Parses `text` as `parse` does; the contract speaks of the expression as it is written.
 fn read(alloc: Global, text: &[u8], labels: &[LabelAt]) -> Result<Expr, ConsError>
     ensures ok { IfOk result (λ e. Spells labels.now text.now e) }
     ensures err { IfErr result (λ e. Refuses labels.now text.now e) }
@@ -53,14 +53,14 @@ fn read(alloc: Global, text: &[u8], labels: &[LabelAt]) -> Result<Expr, ConsErro
     }
 }
 
-/// The expression that a text spells, if these are the labels of the constraint diagram, or the first fault of the
-/// text, in the order of the variants of `ConsError`.
+/// Parses the expression that `text` spells. `labels` are those of the constraint diagram. An error is the first fault
+/// of the text, in the order of the variants of `ConsError`, or `NoMemory`.
 pub fn parse(alloc: Global, text: &[u8], labels: &[LabelAt]) -> Result<Expr, ConsError>
     // The expression is the one that the text spells, and no fault stands in the text.
     ensures ok { IfOk result (λ e. Spells labels.now text.now e) }
-    // An error but want of memory is the first fault of the text.
+    // An error other than `NoMemory` is the first fault of the text.
     ensures err { IfErr result (λ e. Refuses labels.now text.now e) }
-    // The same by the functions that compute the expression and the fault.
+    // The functions that compute the expression and the fault of a text agree with the result.
     ensures tree { IfOk result (λ e. option_map meaning_of (expression_in text.now) ≡ Some (tree_of e)) }
     ensures faultless { IfOk result (λ e. fault_in labels.now text.now ≡ None) }
     // A pattern may keep the expression.

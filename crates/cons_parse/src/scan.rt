@@ -13,7 +13,7 @@ use std::alloc::Global;
 /// The most levels within which a leaf may stand.
 const MOST_LEVELS: usize = 32;
 
-/// What is open at a place, each of which is one level.
+/// What may be open at a place among the items. Each opener is one level.
 #[derive(Clone, Copy, Debug, PartialEq, Eq)]
 pub enum Opener {
     /// A `!` or a `-` before its operand.
@@ -33,7 +33,7 @@ pub struct Place {
     pub deep: bool,
 }
 
-/// Whether a sign is what was opened last.
+/// Whether the opener that was opened last is a sign.
 fn is_prefixed(openers: &[Opener]) -> bool
     ensures { result ≡ prefixed (reverse openers.now) }
 {
@@ -43,7 +43,7 @@ fn is_prefixed(openers: &[Opener]) -> bool
     }
 }
 
-/// Closes the prefixes of an operand that has just been read.
+/// Closes the signs before an operand that has just been read.
 fn settle(openers: &mut Vec<Opener>)
     ensures { reverse openers.new.items ≡ settled (reverse openers.old.items) }
 {
@@ -52,7 +52,7 @@ fn settle(openers: &mut Vec<Opener>)
     }
 }
 
-/// Closes a parenthesis, if one is open.
+/// Closes the newest opener and the signs before it, if it is a parenthesis. Returns false if it is none.
 fn close(openers: &mut Vec<Opener>) -> bool
     ensures { Closes (reverse openers.old.items) (reverse openers.new.items) result }
 {
@@ -65,7 +65,7 @@ fn close(openers: &mut Vec<Opener>) -> bool
     }
 }
 
-/// Goes over an item where an operand is to come.
+/// Reads an item at a place where an operand is expected; `Syntax` if the item may not stand there.
 fn begin(place: &mut Place, item: &Item) -> Result<(), ConsError>
     requires { place.old.after ≡ false }
     ensures { Steps result (spot_of place.new) (begun (reverse place.old.openers.items) place.old.deep item.now) }
@@ -83,7 +83,7 @@ fn begin(place: &mut Place, item: &Item) -> Result<(), ConsError>
     Ok(())
 }
 
-/// Goes over an item where an operand stands before it.
+/// Reads an item at a place behind an operand; `Syntax` if the item may not stand there.
 fn go_on(place: &mut Place, item: &Item) -> Result<(), ConsError>
     requires { place.old.after ≡ true }
     ensures { Steps result (spot_of place.new) (gone_on (reverse place.old.openers.items) place.old.deep item.now) }
@@ -100,7 +100,7 @@ fn go_on(place: &mut Place, item: &Item) -> Result<(), ConsError>
     Ok(())
 }
 
-/// Goes over an item.
+/// Reads an item and moves `place` behind it; `Syntax` if the item may not stand there.
 fn step(place: &mut Place, item: &Item) -> Result<(), ConsError>
     ensures { Steps result (spot_of place.new) (advance (spot_of place.old) item.now) }
 {
@@ -111,7 +111,7 @@ fn step(place: &mut Place, item: &Item) -> Result<(), ConsError>
     }
 }
 
-/// Whether a leaf before the end stands too deep, if all is closed there.
+/// Whether a leaf stands too deep; `None` if the expression may not end at this place.
 fn end(place: &Place) -> Option<bool>
     ensures { result ≡ ended (spot_of place.now) }
 {
@@ -124,7 +124,7 @@ fn end(place: &Place) -> Option<bool>
     Some(place.deep)
 }
 
-/// Whether a leaf of these items stands too deep, or Syntax where they are not in the grammar.
+/// Whether a leaf of `items` stands too deep; `Syntax` if the items are not in the grammar.
 pub fn scan(alloc: Global, items: &[Item]) -> Result<bool, ConsError>
     ensures { Gives (λ deep. deep) result (scanned items.now) }
 {

@@ -18,7 +18,7 @@ use std::alloc::Global;
 /// The most digits that a number may have.
 const MOST_DIGITS: usize = 6;
 
-/// A name: one letter, the name of a function, or another.
+/// A name: one letter, the name of a function, or any other name.
 #[derive(Clone, Copy, Debug, PartialEq, Eq)]
 pub enum Name {
     /// One letter, which may be an argument.
@@ -29,7 +29,7 @@ pub enum Name {
     Unknown,
 }
 
-/// A token. `-` is the operator `Sub` also where it stands before its operand.
+/// A token. `-` is the operator `Sub` even if it is a sign before its operand.
 #[derive(Clone, Copy, Debug, PartialEq, Eq)]
 pub enum Token {
     /// A number of at most six digits.
@@ -73,7 +73,7 @@ fn is_name_byte(b: u8) -> bool
     is_letter(b) || is_digit(b) || b == b'_'
 }
 
-/// How many digits stand at the front.
+/// How many digits stand at the front of `bytes`.
 fn digits_len(bytes: &[u8]) -> usize
     ensures value { result ≡ prefix_len digit bytes.now }
     ensures within { result ≤ length bytes.now }
@@ -86,7 +86,7 @@ fn digits_len(bytes: &[u8]) -> usize
     bytes.len()
 }
 
-/// How many letters, digits and `_` stand at the front.
+/// How many letters, digits and `_` stand at the front of `bytes`.
 fn name_len(bytes: &[u8]) -> usize
     ensures value { result ≡ prefix_len name_byte bytes.now }
     ensures within { result ≤ length bytes.now }
@@ -99,14 +99,14 @@ fn name_len(bytes: &[u8]) -> usize
     bytes.len()
 }
 
-/// Whether a digit and so many more are too many for a number.
+/// Whether a number of one digit and `more` further digits is too long.
 fn are_too_many(more: usize) -> bool
     ensures { result ≡ nat_lt 5 more }
 {
     more >= MOST_DIGITS
 }
 
-/// The number that digits write, of which there are few enough.
+/// The number that at most `MOST_DIGITS` digits write.
 fn value_of(digits: &[u8]) -> u32
     requires few { length digits.now ≤ MOST_DIGITS }
     requires digits { (i : ℕ) → i < length digits.now → digit (slice_index digits.now i) ≡ true }
@@ -119,7 +119,7 @@ fn value_of(digits: &[u8]) -> u32
     n
 }
 
-/// The name that these bytes are.
+/// The name that `bytes` spell.
 fn name_of(bytes: &[u8]) -> Name
     ensures { result ≡ name_in bytes.now }
 {
@@ -132,7 +132,7 @@ fn name_of(bytes: &[u8]) -> Name
     }
 }
 
-/// The token of two bytes.
+/// The token that the two bytes `b` and `c` spell, if there is one.
 fn two_at(b: u8, c: u8) -> Option<Token>
     ensures { result ≡ two b c }
 {
@@ -153,7 +153,7 @@ fn two_at(b: u8, c: u8) -> Option<Token>
     }
 }
 
-/// The token of one byte.
+/// The token that the byte `b` alone spells, if there is one.
 fn one_at(b: u8) -> Option<Token>
     ensures { result ≡ one b }
 {
@@ -172,7 +172,7 @@ fn one_at(b: u8) -> Option<Token>
     }
 }
 
-/// The longest sign at the front, and how many bytes follow its first.
+/// The longest sign at the front of `bytes`, and how many bytes it has after its first.
 fn sign_at(bytes: &[u8]) -> Option<(Token, usize)>
     requires { 0 < length bytes.now }
     ensures value { result ≡ first_sign bytes.now }
@@ -189,7 +189,8 @@ fn sign_at(bytes: &[u8]) -> Option<(Token, usize)>
     }
 }
 
-/// The longest token at the front, which is no blank, and how many bytes follow its first.
+/// The longest token at the front of `bytes`, and how many bytes it has after its first; `None` if no token begins
+/// there.
 fn token_at(bytes: &[u8]) -> Option<(Token, usize)>
     requires { 0 < length bytes.now }
     ensures value { result ≡ first_token bytes.now }
@@ -209,7 +210,7 @@ fn token_at(bytes: &[u8]) -> Option<(Token, usize)>
     }
 }
 
-/// The tokens of a text, or Syntax if it is not made of tokens and blanks.
+/// The tokens of `text`; `Syntax` if it is not made of tokens and blanks.
 pub fn tokens_of(alloc: Global, text: &[u8]) -> Result<Vec<Token>, ConsError>
     ensures { Gives (λ v. v.items) result (all_tokens text.now) }
 {

@@ -1,5 +1,5 @@
-//! Worked rows of constraint expressions, from the text to the value on drawn positions, with codes that are counted
-//! off the liberties. There is no code here but the tests and what they hand in.
+//! Worked rows of constraint expressions, from the text to the value on drawn positions, with codes that follow from
+//! the liberties. There is no code here but the tests and the environment that they use.
 #![tactic(auto)]
 
 mod liberty_codes;

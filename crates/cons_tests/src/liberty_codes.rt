@@ -1,4 +1,4 @@
-//! An environment that tells codes by liberties, and counts how often it is asked.
+//! An environment whose codes follow from the liberties, and that counts how often it is asked.
 
 ghost use Rattle.std.specs.Prelude.{◌≡◌, ◌*◌, ◌<◌, IfSome};
 
@@ -7,8 +7,8 @@ use go_base::{Point, Position};
 use go_rules::Colour;
 use pat_types::Arg;
 
-/// An environment with points for the star and for the labels A and B. The code of an attack is 3 less the liberties
-/// of the string, that of a defence its liberties, up to 3.
+/// An environment with points for the star and for the labels A and B. The code of an attack is 3 minus the liberties
+/// of the string, but at least 0. The code of a defence is the number of its liberties, but at most 3.
 #[derive(Drop)]
 pub struct LibertyCodes {
     /// The position before the pattern's move.
@@ -21,7 +21,7 @@ pub struct LibertyCodes {
     pub a: Point,
     /// The point of `B`.
     pub b: Point,
-    /// How often a code was asked for, as far as a `u64` counts.
+    /// How often a code was asked for, up to the greatest value of a `u64`.
     pub asked: u64,
     pub ghost star_on_board: { star < position.size * position.size },
     pub ghost a_on_board: { a < position.size * position.size },
@@ -29,7 +29,7 @@ pub struct LibertyCodes {
 }
 
 impl LibertyCodes {
-    /// None if a point is off the board.
+    /// An environment that was not asked yet; `None` if a point is off the board.
     pub fn new(
         position: Position,
         friend: Colour,

@@ -29,7 +29,7 @@ const ATARI: &str = ".X...XO....X......OO.....";
 /// A play of the enemy at 6 takes 7, and the friend may not retake at once.
 const KO: &str = ".OX..O.OX..OX............";
 
-/// The position after a stone is put, with the ban dropped.
+/// The position after `colour` plays at `p` with any ko ban dropped.
 fn played(position: &Position, colour: Colour, p: usize) -> Option<Position> {
     if p >= usize::from(position.size().points()) {
         return None;
@@ -37,7 +37,7 @@ fn played(position: &Position, colour: Colour, p: usize) -> Option<Position> {
     position.play_free(colour, p as u16).ok()
 }
 
-/// The position after the point of a drawing that has this mark.
+/// The position with the stone for which `mark` stands put at `p`; unchanged if `mark` stands for no stone.
 fn marked(position: &Position, friend: Colour, mark: u8, p: usize) -> Option<Position> {
     match mark {
         b'X' => played(position, friend.other(), p),
@@ -55,7 +55,7 @@ fn drawn(drawing: &str, friend: Colour) -> Option<Position> {
     Some(position)
 }
 
-/// The value of an expression.
+/// The value of the expression that `text` spells.
 fn value(alloc: Global, env: &mut LibertyCodes, text: &str) -> Result<i64, ConsError> {
     let expr = parse(alloc, text.as_bytes(), &LABELS)?;
     Ok(eval(&expr, env))
@@ -136,14 +136,14 @@ static BEFORE_KO: [Row; 3] = [
     ("ko(A)", [0, 20, 0], 0),
 ];
 
-/// Values after it is taken.
+/// Values after the ko is taken.
 static AFTER_KO: [Row; 3] = [
     ("ko(A)", [0, 7, 0], 1),
     ("legal_omove(A)", [0, 7, 0], 0),
     ("legal_xmove(A)", [0, 7, 0], 1),
 ];
 
-/// The value of an expression with the star and the labels A and B at these points.
+/// The value of the expression `text` with the star and the labels A and B at these points.
 fn value_at(
     alloc: Global,
     position: Position,
@@ -155,7 +155,7 @@ fn value_at(
     value(alloc, &mut env, text).ok()
 }
 
-/// Looks at the values on a position.
+/// Checks the values of `rows` on a position.
 fn compare(
     rt: &impl Abort,
     alloc: Global,

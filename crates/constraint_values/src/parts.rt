@@ -1,4 +1,4 @@
-//! The value of a part by those of the parts below it.
+//! The value of a part, from the values of the parts below it.
 ghost use Rattle.std.specs.Prelude.{◌≡◌, ◌*◌};
 ghost use Rattle.cons_eval.specs.Asking.{needs_right as right_is_needed};
 ghost use Rattle.cons_eval.specs.Bounds.{IsWithin, most, most_leaves};
@@ -13,14 +13,14 @@ pub(crate) fn counts_as_true(value: i64) -> bool
     value != 0
 }
 
-/// What a test is worth.
+/// What a test is worth: 1 if it holds, else 0.
 pub(crate) fn worth_of(test: bool) -> i64
     ensures { result ≡ worth test }
 {
     if test { 1 } else { 0 }
 }
 
-/// Whether the right side of an operator is needed, after this value of the left one.
+/// Whether the right side of the operator `op` is needed, if `left` is the value of its left side.
 pub(crate) fn needs_right(op: Op, left: i64) -> bool
     ensures { result ≡ right_is_needed op left }
 {
@@ -31,7 +31,7 @@ pub(crate) fn needs_right(op: Op, left: i64) -> bool
     }
 }
 
-/// The value of two values with an operator between them.
+/// The value of `left` and `right` with the operator `op` between them.
 pub(crate) fn joined(op: Op, left: i64, right: i64) -> i64
     requires left_small { IsWithin (most_leaves * most) left }
     requires right_small { IsWithin (most_leaves * most) right }

@@ -12,7 +12,7 @@ use go_base::NoMemory;
 use pat_types::Expr;
 use std::alloc::Global;
 
-/// Puts the value of a part behind those of the parts below it: the value.
+/// Appends the value of a part to `values`, behind the values of the parts below it, and returns it.
 fn put(value: i64, values: &mut Vec<Option<i64>>) -> Result<i64, NoMemory>
     ensures value { IfOk result (λ v. v ≡ value) }
     ensures put { OnOk result (values.new.items ≡ values.old.items ++ Some value ∷ []) }
@@ -21,7 +21,7 @@ fn put(value: i64, values: &mut Vec<Option<i64>>) -> Result<i64, NoMemory>
     Ok(value)
 }
 
-/// Puts the value of a number or of a call: the value.
+/// Appends the value of a number or of a call to `values` and returns it.
 fn put_leaf<E: Env>(
     expr: &Expr,
     env: &mut E,
@@ -38,7 +38,7 @@ fn put_leaf<E: Env>(
     put(eval(expr, env), values)
 }
 
-/// Puts no value for each part of an expression that is not needed.
+/// Appends `None` to `values` for each part of an expression that is not needed.
 fn put_none(expr: &Expr, values: &mut Vec<Option<i64>>) -> Result<(), NoMemory>
     ensures { OnOk result (values.new.items ≡ values.old.items ++ no_values expr.now) }
 {
@@ -62,7 +62,7 @@ fn put_none(expr: &Expr, values: &mut Vec<Option<i64>>) -> Result<(), NoMemory>
     Ok(())
 }
 
-/// Puts the values of the parts of an expression, its own last: its own.
+/// Appends the values of the parts of an expression to `values`, its own last, and returns its own.
 fn put_values<E: Env>(
     expr: &Expr,
     env: &mut E,
@@ -103,7 +103,7 @@ fn put_values<E: Env>(
 /// The value of each part of an expression, or none for a part that is not needed: the parts below a part come before
 /// it, those of the left side first, so the value of the whole is the last.
 ///
-/// A right side that its left side decides is not needed, nor is any part of it, and no reading is asked for there.
+/// If the left side of an operator decides, no part of the right side is needed, and no reading is asked for there.
 pub fn values<E: Env>(alloc: Global, expr: &Expr, env: &mut E) -> Result<Vec<Option<i64>>, NoMemory>
     requires constraint { IsConstraint expr.now }
     requires placed { are_placed (E.view env.old).meanings expr.now ≡ true }

@@ -1,11 +1,11 @@
--- The lines of diagrams, told apart.
+-- The lines of diagrams: edge lines and rows.
 use Rattle.std.specs.Prelude.{ℕ, Bool, true, false, List, Option, Some, None, if◌then◌else◌}
 use Rattle.db_rules.specs.declared.shape.Shape.{Shape}
 use Rattle.db_rules.specs.Diagram.{is_row as is_row_word, is_edge_line, shape_of, bar, plus}
 use Rattle.db_entry.specs.declared.line.DiagramLine.{DiagramLine}
 use Rattle.db_entry.specs.declared.line.DiagramLine.TheVariants.{Edge, Row}
 
--- the line that a word is, with its shape: a row or an edge line, and none if it is neither
+-- the diagram line that a word is, with its shape: a row or an edge line; none if it is neither
 abbrev pub line_of : List ℕ → Option DiagramLine
 line_of word =
     if is_row_word word then Some (Row (shape_of bar word))

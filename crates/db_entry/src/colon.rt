@@ -23,10 +23,10 @@ use go_base::{Bytes, NoMemory};
 use pat_types::{Item, Items, Letter, Mark};
 use std::alloc::Global;
 
-/// The most fields that are looked at: a mark, class letters, 16 items, and one more, which is one too many.
+/// The most fields that are read: a mark, class letters, 16 items, and one more, which is one too many.
 const MOST_FIELDS: usize = 19;
 
-/// The first fields of a colon line, without the blanks at their ends: no more of them than are looked at.
+/// The first fields of a colon line, without the blanks at their ends: at most `MOST_FIELDS` of them.
 fn first_fields(alloc: Global, line: &[u8]) -> Result<Vec<&[u8]>, NoMemory>
     requires { 0 < length line.now }
     ensures { IfOk result (λ fields. map (λ f. f.now) fields.items ≡ take most_fields (all_fields line.now)) }
@@ -44,7 +44,7 @@ fn first_fields(alloc: Global, line: &[u8]) -> Result<Vec<&[u8]>, NoMemory>
     Ok(fields)
 }
 
-/// The mark that the first field is.
+/// The mark in the first field, if that field is a mark.
 fn mark_of(fields: &[&[u8]]) -> Option<Mark>
     ensures { result ≡ mark_in (map (λ f. f.now) fields.now) }
 {
@@ -185,7 +185,7 @@ fn fields_fault(helpers: &[Bytes], diagram: &Diagram, fields: &[&[u8]]) -> Optio
     ])
 }
 
-/// These bytes in a list of their own.
+/// A copy of `bytes`. Takes memory.
 pub fn bytes_of(alloc: Global, bytes: &[u8]) -> Result<Bytes, NoMemory>
     ensures { IfOk result (λ list. list ≡ bytes.now) }
 {
@@ -194,7 +194,7 @@ pub fn bytes_of(alloc: Global, bytes: &[u8]) -> Result<Bytes, NoMemory>
     Ok(list)
 }
 
-/// The class letters of the second field.
+/// The class letters of the second field, without `-`.
 fn class_letters(alloc: Global, field: &[u8]) -> Result<Bytes, NoMemory>
     ensures { IfOk result (λ list. list ≡ letters_in field.now) }
 {
@@ -223,7 +223,7 @@ fn item_of(alloc: Global, field: &[u8]) -> Result<Item, NoMemory>
     })
 }
 
-/// The items that the further fields are.
+/// The items that `fields` are, the fields after the second.
 fn items_of(alloc: Global, fields: &[&[u8]]) -> Result<Items, NoMemory>
     ensures { IfOk result (λ list. list ≡ map item_from (map (λ f. f.now) fields.now)) }
 {
@@ -245,8 +245,7 @@ pub struct ColonLine {
     pub items: Items,
 }
 
-/// Reads a colon line that stands after a diagram. Of a line with too many fields no more than the first 19 are looked
-/// at.
+/// Reads a colon line that stands after `diagram`. If the line has too many fields, only the first 19 are read.
 pub fn read_colon_line(
     alloc: Global,
     helpers: &[Bytes],
@@ -266,7 +265,7 @@ pub fn read_colon_line(
     }
     let mark = match mark_of(fields) {
         Some(mark) => mark,
-        // Never: fields without a fault begin with a mark.
+        // Never reached: fields without a fault begin with a mark.
         None => return Err(LineError::Kind(FaultKind::BadMark)),
     };
     Ok(ColonLine {

@@ -7,7 +7,7 @@ mod lines;
 use db_rules::Shape;
 use pat_types::Letters;
 
-/// The main diagram of an entry so far.
+/// What is kept of the main diagram of an entry so far.
 #[derive(Debug, Drop)]
 pub struct Diagram {
     /// The number of lines, edge lines among them.
@@ -18,7 +18,7 @@ pub struct Diagram {
     pub top: bool,
     /// Whether the last line is an edge line after a row.
     pub bottom: bool,
-    /// The shape of the first row, or else of the top edge.
+    /// The shape of the first row, or of the top edge if there is no row.
     pub shape: Option<Shape>,
     /// The letters of the rows.
     pub letters: Letters,

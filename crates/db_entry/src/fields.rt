@@ -32,7 +32,7 @@ fn ends_field(b: u8, depth: usize) -> bool
     b == b',' && depth == 0
 }
 
-/// The length of the text up to the first comma outside parentheses, or of all of it.
+/// The length of the text up to the first comma outside parentheses, or of the whole text if there is none.
 pub fn field_len(text: &[u8]) -> usize
     ensures within { result ≤ length text.now }
     ensures first { split_at_commas 0 text.now ≡ take result text.now ∷
@@ -97,7 +97,7 @@ fn is_closed_text(rest: &[u8]) -> bool
     }
 }
 
-/// The index of the first opening parenthesis, or the length.
+/// The index of the first opening parenthesis, or the length of the field if there is none.
 fn open_at(field: &[u8]) -> usize
     ensures value { result ≡ position_or_len (λ b. b == open_paren) field.now }
     ensures within { result ≤ length field.now }
@@ -110,7 +110,7 @@ fn open_at(field: &[u8]) -> usize
     field.len()
 }
 
-/// What follows the first opening parenthesis, or nothing.
+/// What follows the first opening parenthesis; empty if there is none.
 pub fn text_after(field: &[u8]) -> &[u8]
     ensures { result.now ≡ after_open field.now }
 {
@@ -122,7 +122,7 @@ pub fn text_after(field: &[u8]) -> &[u8]
     }
 }
 
-/// The front of a field up to its first opening parenthesis.
+/// The front of a field up to its first opening parenthesis; the whole field if there is none.
 pub fn name_before(field: &[u8]) -> &[u8]
     ensures { result.now ≡ name_part field.now }
 {
@@ -136,7 +136,7 @@ pub fn is_item(field: &[u8]) -> bool
     is_name(field) || (is_name(name_before(field)) && is_closed_text(text_after(field)))
 }
 
-/// The mark that a byte is.
+/// The mark that the byte `b` stands for, if there is one.
 pub fn mark_by(b: u8) -> Option<Mark>
     ensures { result ≡ mark_by_byte b }
 {
@@ -165,7 +165,7 @@ fn are_class_bytes(bytes: &[u8]) -> bool
     bytes.iter().all(|b| is_class_byte(*b))
 }
 
-/// Whether a field is at most 32 ASCII letters and `-`.
+/// Whether a field is at most 32 bytes, each an ASCII letter or `-`.
 pub fn are_classes(field: &[u8]) -> bool
     ensures { result ≡ classes field.now }
 {

@@ -1,8 +1,8 @@
 //! Reading one entry of a database, line by line: its main diagram, its colon line, and the labels of its constraint
 //! diagram.
 //!
-//! A diagram line is given by its word, the colon line by all its bytes. What is kept after some lines is what
-//! `db_rules` defines for them, and a line is refused with the first fault in the list of its kind.
+//! A diagram line is given by its word, the colon line by all its bytes. `db_rules` defines what is kept after some
+//! lines. A line is refused with the first fault that `db_rules` lists for its kind.
 #![tactic(auto)]
 
 mod colon;

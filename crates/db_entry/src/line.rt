@@ -16,7 +16,7 @@ pub enum DiagramLine {
 }
 
 impl DiagramLine {
-    /// The line that a word is, unless it is neither an edge line nor a row.
+    /// The diagram line that `word` is; `None` if it is neither an edge line nor a row.
     pub fn of(word: &[u8]) -> Option<DiagramLine>
         ensures { result ≡ line_of word.now }
     {

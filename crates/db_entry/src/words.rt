@@ -9,7 +9,7 @@ ghost use Rattle.db_rules.specs.Diagram.{is_edge_line as edge_line, is_row as ro
 use db_rules::Shape;
 use pat_types::Letter;
 
-/// The letter that a byte stands for.
+/// The letter that the byte `b` stands for, if there is one.
 pub fn letter(b: u8) -> Option<Letter>
     ensures { result ≡ letter_of b }
 {
@@ -31,7 +31,7 @@ fn is_letter(b: u8) -> bool
     letter(b).is_some()
 }
 
-/// Whether a word begins with a byte that is not 0.
+/// Whether `word` begins with the byte `b`, which is not 0.
 fn starts(b: u8, word: &[u8]) -> bool
     requires { 1 ≤ b }
     ensures { result ≡ begins b word.now }
@@ -42,7 +42,7 @@ fn starts(b: u8, word: &[u8]) -> bool
     }
 }
 
-/// Whether a word ends with a byte that is not 0.
+/// Whether `word` ends with the byte `b`, which is not 0.
 fn stops(b: u8, word: &[u8]) -> bool
     requires { 1 ≤ b }
     ensures { result ≡ (slice_index word.now (length word.now - 1) == b) }
@@ -53,7 +53,7 @@ fn stops(b: u8, word: &[u8]) -> bool
     }
 }
 
-/// The shape and the inner part of a word that may have this byte at either end.
+/// The shape and the inner part of `word`, which may have the byte `b` at either end.
 #[tactic(auto, unfolding(db_rules::specs::Diagram::shape_of))]
 fn parts(b: u8, word: &[u8]) -> (Shape, &[u8])
     requires { 1 ≤ b }
@@ -92,7 +92,7 @@ fn is_lettered(inner: &[u8]) -> bool
     0 < inner.len() && are_letters(inner)
 }
 
-/// The shape of a word that is an optional `+`, one or more `-`, and an optional `+`.
+/// The shape of `word` if it is an edge line: an optional `+`, one or more `-`, and an optional `+`.
 #[tactic(auto, unfolding(db_rules::specs::Diagram::is_edge_line))]
 pub fn edge_shape(word: &[u8]) -> Option<Shape>
     ensures { result ≡ (if edge_line word.now then Some (shape_of plus word.now) else None) }
@@ -101,7 +101,7 @@ pub fn edge_shape(word: &[u8]) -> Option<Shape>
     if is_dashed(inner) { Some(shape) } else { None }
 }
 
-/// The shape of a word that is an optional `|`, one or more letters, and an optional `|`.
+/// The shape of `word` if it is a row: an optional `|`, one or more letters, and an optional `|`.
 #[tactic(auto, unfolding(db_rules::specs::Diagram::is_row))]
 pub fn row_shape(word: &[u8]) -> Option<Shape>
     ensures { result ≡ (if row word.now then Some (shape_of bar word.now) else None) }
@@ -114,7 +114,7 @@ pub fn row_shape(word: &[u8]) -> Option<Shape>
     }
 }
 
-/// The letters of a row, between its edges.
+/// The letters of a row, without the `|` at its ends.
 pub fn row_letters(word: &[u8]) -> &[u8]
     ensures { result.now ≡ inside bar word.now }
 {

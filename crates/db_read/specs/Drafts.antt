@@ -17,18 +17,18 @@ use Rattle.db_entry.specs.Says.{Says}
 use Rattle.db_read.specs.declared.draft.Draft.{Draft}
 use Rattle.db_read.specs.declared.draft.ExpressionText.{ExpressionText}
 
--- this is the text of these expression lines, of which there are some, and the number of the first
+-- kept is the text of these expression lines, of which there is at least one, and the line number of the first
 pub record IsTextOf (kept : ExpressionText) (lines : List KeptLine) : Type 0 where
   pub some : 0 < length lines
   pub line : kept.line ≡ first_number lines
   pub text : kept.text ≡ expression_text lines
 
--- what is kept of these expression lines: nothing if there is none, or else their text
+-- what is kept of these expression lines: nothing if there is no line, else their text
 abbrev pub KeepsText : Option ExpressionText → List KeptLine → Type 0
 KeepsText None lines = lines ≡ []
 KeepsText (Some kept) lines = IsTextOf kept lines
 
--- what is kept of these colon lines: nothing if there is none, or else what the first says
+-- what is kept of these colon lines: nothing if there is no line, else what the first line says
 abbrev pub KeepsColon : Option ColonLine → List KeptLine → Type 0
 KeepsColon None lines = lines ≡ []
 KeepsColon (Some colon) lines = Says colon (colon_bytes lines)
@@ -52,12 +52,12 @@ HasOneStar b = star_count (letters_of (words_in b.diagram)) ≡ 1
 abbrev pub IsPastColon : Block → Type 0
 IsPastColon b = HasOneStar b × (0 < length b.colon)
 
--- what the text that is kept says
+-- what the expression says whose text is kept; nothing if no text is kept
 abbrev pub said_by : Option ExpressionText → Option Tree
 said_by None = None
 said_by (Some kept) = option_map meaning_of (expression_in kept.text)
 
--- the draft has no expression line yet, and so no constraint
+-- the draft has neither an expression line nor a constraint
 pub record IsUnjudged (d : Draft) : Type 0 where
   pub no_line : d.expression ≡ None
   pub no_constraint : d.constraint ≡ None

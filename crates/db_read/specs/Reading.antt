@@ -21,26 +21,26 @@ use Rattle.db_rules.specs.Blocks.{Block, SoFar, blocks_of, table}
 use Rattle.db_read.specs.Drafts.{Drafts, IsPastColon, IsUnjudged, IsJudged}
 use Rattle.db_rules.specs.Entries.{entry_of, entry_of_block}
 
--- the error is want of memory, or this fault
+-- the error is NoMemory, or it is this fault
 abbrev pub BlamesAt : DbError → Option Fault → Type 0
 BlamesAt errors.NoMemory fault = Unit {0}
 BlamesAt (errors.Fault line kind) fault = fault ≡ Some (record { line = line; kind = kind })
 
--- the error that a fault of this kind at a line is told as
+-- the error that a fault of this kind at this line is reported as
 abbrev pub fault_told : ℕ → FaultKind → DbError
 fault_told line kind = errors.Fault line (number_of kind)
 
--- an error of a line of this number
+-- the error of the text, if the line of this number has this error
 abbrev pub error_at : ℕ → LineError → DbError
 error_at number line_errors.NoMemory = errors.NoMemory
 error_at number (line_errors.Kind kind) = fault_told number kind
 
--- the error that a fault of an expression is told as, which begins at the line of this number
+-- the error that a fault of an expression is reported as, if the expression begins at the line of this number
 abbrev pub expression_error : ℕ → ConsError → DbError
 expression_error line cons_errors.NoMemory = errors.NoMemory
 expression_error line e = fault_told line (kind_told e)
 
--- the stage behind what a line of this kind, or the end, closes: a closed expression is left behind
+-- the stage once a line of this kind, or the end of the text, has closed what it ends: a closed expression is left
 abbrev pub settled_stage : Stage → Option LineKind → Stage
 settled_stage Expression (Some Semicolon) = Expression
 settled_stage Expression _ = Actions
@@ -49,7 +49,7 @@ settled_stage Diagram _ = Diagram
 settled_stage Labels _ = Labels
 settled_stage Actions _ = Actions
 
--- what some lines come to, where what a line of this kind closes is left behind
+-- what has been read, once a line of this kind, or the end of the text, has closed what it ends
 abbrev pub settled : Option LineKind → SoFar → SoFar
 settled kind s = record { stage = settled_stage s.stage kind; front = s.front; done = s.done; now = s.now }
 
@@ -62,12 +62,12 @@ IsAtStage Labels d b = IsPastColon b × IsUnjudged d
 IsAtStage Expression d b = IsPastColon b × (d.constraint ≡ None)
 IsAtStage Actions d b = IsPastColon b × IsJudged d
 
--- the draft is that of the block that may go on; there is none at the start alone
+-- the draft has read the block that may go on; only at the start is there no such block
 abbrev pub ReadsNow : Draft → Stage → Option Block → Type 0
 ReadsNow d stage None = stage ≡ Start
 ReadsNow d stage (Some b) = Drafts d b × IsAtStage stage d b × (stage ≢ Start)
 
--- the reader has read what some lines come to
+-- the reader has read what s says
 pub record Shows (r : Reader) (s : SoFar) : Type 0 where
   pub stage : r.stage ≡ s.stage
   pub entries : map entry_of r.done.items ≡ map entry_of_block s.done
@@ -79,8 +79,8 @@ pub record IsReading (r : Reader) : Type 0 where
   pub so_far : SoFar
   pub shows : Shows r so_far
 
--- the reader has read some lines, behind which the table takes a line of this kind and first byte to this stage; a line
--- that would leave an expression comes when that is left behind
+-- the reader has read some lines, and the table takes a line of this kind and first byte to this stage; if the line
+-- ends an expression, the expression is already closed
 pub record IsTaking (r : Reader) (kind : LineKind) (first : ℕ) (stage : Stage) : Type 0 where
   pub so_far : SoFar
   pub shows : Shows r so_far

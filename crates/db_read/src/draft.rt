@@ -12,24 +12,24 @@ use pat_types::{Bytes, Expr};
 /// What is kept of the expression lines of an entry.
 #[derive(Debug, Drop)]
 pub struct ExpressionText {
-    /// The number of the first of these lines.
+    /// The line number of the first expression line.
     pub line: u64,
-    /// Their text, joined by one blank.
+    /// The texts of the expression lines, joined by one blank.
     pub text: Bytes,
 }
 
-/// An entry so far.
+/// What has been read of an entry so far.
 #[derive(Drop)]
 pub struct Draft<'a> {
     /// The name on the Pattern line.
     pub name: Bytes,
     /// The words of the main diagram lines.
     pub words: Vec<&'a [u8]>,
-    /// The main diagram so far.
+    /// What is kept of the main diagram so far.
     pub diagram: Diagram,
     /// What the colon line says, once it is read.
     pub colon: Option<ColonLine>,
-    /// The constraint diagram so far.
+    /// What is kept of the constraint diagram so far.
     pub marks: Marks,
     /// What is kept of the expression lines, if there is one.
     pub expression: Option<ExpressionText>,

@@ -1,20 +1,20 @@
-//! Why a database text is not read.
+//! Why a database text is refused.
 
 ghost use Rattle.std.specs.Prelude.{Some};
 ghost use Rattle.db_read.specs.Messages.{error_text};
 
 use std::fmt::{self, Display, Formatter, Write};
 
-/// Why a database text is not read: no memory was found, or the first fault of the text.
+/// Why a database text is refused: memory ran out, or the first fault of the text.
 #[derive(Clone, Copy, Debug, PartialEq, Eq)]
 pub enum DbError {
-    /// No memory was found.
+    /// Memory ran out.
     NoMemory,
     /// The first fault of the text.
     Fault {
-        /// The number of its line, counted from 1.
+        /// The number of the line, counted from 1.
         line: u64,
-        /// Its kind, from 1 to 18.
+        /// The kind of the fault, from 1 to 18.
         kind: u8,
     },
 }

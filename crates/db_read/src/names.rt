@@ -8,7 +8,7 @@ ghost use Rattle.db_rules.specs.Faults.{is_name_char as may_be_in_name, pattern_
 use db_lex::{trim, word_len};
 use db_rules::FaultKind;
 
-/// The name on a Pattern line: the first word of its rest.
+/// The name on a Pattern line: the first word of what follows `Pattern`.
 pub fn name_of(line: &[u8]) -> &[u8]
     ensures value { result.now ≡ name_on line.now }
     ensures within { length result.now ≤ length line.now }
@@ -35,7 +35,7 @@ fn is_no_name(name: &[u8]) -> bool
     name.len() == 0 || name.len() > 80 || !are_name_chars(name)
 }
 
-/// The first fault of a Pattern line before which so many entries begin.
+/// The first fault of a Pattern line, if this many entries begin before it.
 #[tactic(auto, unfolding(db_rules::specs::Faults::pattern_fault))]
 pub fn pattern_fault(entries: usize, line: &[u8]) -> Option<FaultKind>
     ensures value { result ≡ first_pattern_fault entries line.now }

@@ -27,16 +27,16 @@ use pat_types::{Bytes, NoMemory, Pattern};
 use std::alloc::Global;
 use std::mem;
 
-/// A reader of a text.
+/// A reader of a text: what it has read of the text so far.
 #[derive(Drop)]
 pub struct Reader<'a> {
     /// Where in a block the reader stands.
     pub stage: Stage,
-    /// The entries that another follows.
+    /// The entries that another entry follows.
     pub done: Vec<Pattern>,
     /// The number of entries that were begun.
     pub begun: usize,
-    /// The entry that may go on. Before the first Pattern line it is `nameless`, and no entry.
+    /// The entry that may go on. Before the first Pattern line it is `nameless`, which is no entry.
     pub draft: Draft<'a>,
 }
 
@@ -46,7 +46,7 @@ fn is_start(stage: Stage) -> bool
     matches!(stage, Stage::Start)
 }
 
-/// Puts the entry that was read at the end, unless there is none.
+/// Puts the entry `before` at the end of `done`. At the start there is no entry yet, so nothing is put.
 fn close(done: &mut Vec<Pattern>, stage: Stage, before: Draft<'_>) -> Result<(), NoMemory>
     requires { (stage ≡ Stage.Start → ⊥) → IsComplete before }
     ensures { OnOk result ((now : Option Block) → ReadsNow before.entry stage now →
@@ -63,7 +63,8 @@ fn close(done: &mut Vec<Pattern>, stage: Stage, before: Draft<'_>) -> Result<(),
 }
 
 impl<'a> Reader<'a> {
-    /// Closes the constraint diagram or the expression that a line of this number and kind, or the end, leaves.
+    /// Closes the constraint diagram or the expression, if a line of this number and kind ends it. `None` as the kind
+    /// is the end of the text.
     fn close_stage(
         &mut self,
         alloc: Global,
@@ -84,7 +85,7 @@ impl<'a> Reader<'a> {
         }
     }
 
-    /// Closes the constraint diagram, which a line of this number leaves.
+    /// Closes the constraint diagram, which a line of this number ends.
     fn close_labels(&self, number: u64) -> Result<(), DbError>
         ensures ok { OnOk result ((s : SoFar) → s.stage ≡ Stage.Labels → Shows self.now s
             → fault_gathered number s.stage s.now ≡ None) }
@@ -97,7 +98,7 @@ impl<'a> Reader<'a> {
         }
     }
 
-    /// Closes the expression.
+    /// Closes the expression and leaves its stage.
     fn close_expression(&mut self, alloc: Global) -> Result<(), DbError>
         ensures ok { OnOk result ((number : ℕ) (kind : Option LineKind) (s : SoFar) → closes_stage s.stage kind ≡ true
             → s.stage ≡ Stage.Expression → Shows self.old s →
@@ -114,7 +115,7 @@ impl<'a> Reader<'a> {
         Ok(())
     }
 
-    /// Reads a Pattern line that the table takes.
+    /// Reads a Pattern line that the table of stages accepts.
     fn pattern_line(&mut self, alloc: Global, line: &[u8]) -> Result<(), LineError>
         requires { IsTaking self.old LineKind.Pattern (slice_index line.now 0) Stage.Diagram }
         ensures ok { OnOk result ((s : SoFar) (k : KeptLine) → k.bytes ≡ line.now → Shows self.old s →
@@ -140,7 +141,7 @@ impl<'a> Reader<'a> {
         Ok(())
     }
 
-    /// Reads a colon line that the table takes.
+    /// Reads a colon line that the table of stages accepts.
     fn colon_line(&mut self, alloc: Global, helpers: &[Bytes], line: &[u8]) -> Result<(), LineError>
         requires { 0 < length line.now }
         ensures ok { OnOk result ((s : SoFar) (k : KeptLine) → k.bytes ≡ line.now → s.stage ≡ Stage.Diagram
@@ -156,7 +157,7 @@ impl<'a> Reader<'a> {
         Ok(())
     }
 
-    /// Reads a main diagram line that the table takes.
+    /// Reads a main diagram line that the table of stages accepts.
     fn diagram_line(&mut self, word: &'a [u8]) -> Result<(), LineError>
         ensures ok { OnOk result ((helpers : List (List ℕ)) (s : SoFar) (k : KeptLine) → word_of k.bytes ≡ word.now
             → s.stage ≡ Stage.Diagram → Shows self.old s →
@@ -168,7 +169,7 @@ impl<'a> Reader<'a> {
         self.draft.diagram_line(word)
     }
 
-    /// Reads a constraint line that the table takes.
+    /// Reads a constraint diagram line that the table of stages accepts.
     fn constraint_line(&mut self, word: &[u8]) -> Result<(), LineError>
         ensures ok { OnOk result ((helpers : List (List ℕ)) (s : SoFar) (k : KeptLine) → word_of k.bytes ≡ word.now
             → s.stage ≡ Stage.Labels → Shows self.old s →
@@ -180,7 +181,7 @@ impl<'a> Reader<'a> {
         self.draft.constraint_line(word)
     }
 
-    /// Reads an expression line that the table takes.
+    /// Reads an expression line that the table of stages accepts.
     fn expression_line(&mut self, alloc: Global, number: u64, line: &[u8]) -> Result<(), LineError>
         requires { 0 < length line.now }
         ensures ok { OnOk result ((s : SoFar) (k : KeptLine) → k.number ≡ number → k.bytes ≡ line.now
@@ -194,7 +195,7 @@ impl<'a> Reader<'a> {
         Ok(())
     }
 
-    /// Passes over an action line that the table takes.
+    /// Skips an action line that the table of stages accepts.
     fn action_line(&mut self)
         ensures { (byte : ℕ) (s : SoFar) (k : KeptLine)
             → next_by_table s.stage LineKind.Action byte ≡ TableCell.Next Stage.Actions
@@ -206,7 +207,7 @@ impl<'a> Reader<'a> {
 }
 
 impl<'a> Reader<'a> {
-    /// Reads another line, where the table's next stage is this one.
+    /// Reads a line of kind `Other` that the table of stages accepts; `stage` is the next stage.
     fn other_line(&mut self, stage: Stage, line: &'a [u8]) -> Result<(), LineError>
         ensures ok { OnOk result ((helpers : List (List ℕ)) (s : SoFar) (k : KeptLine) → k.bytes ≡ line.now
             → next_by_table s.stage LineKind.Other (slice_index line.now 0) ≡ TableCell.Next stage → Shows self.old s →
@@ -223,7 +224,7 @@ impl<'a> Reader<'a> {
         }
     }
 
-    /// Reads a line that the table takes, where its next stage is this one.
+    /// Reads a line that the table of stages accepts; `stage` is the next stage.
     fn taken_line(
         &mut self,
         alloc: Global,
@@ -254,7 +255,7 @@ impl<'a> Reader<'a> {
         }
     }
 
-    /// Reads a line that closes nothing that is at fault.
+    /// Reads a line by the table of stages, once what the line ends has been closed without a fault.
     fn tabled_line(
         &mut self,
         alloc: Global,
@@ -279,7 +280,7 @@ impl<'a> Reader<'a> {
         }
     }
 
-    /// Reads a line that has no bad byte.
+    /// Reads a line that has no bad byte: closes what the line ends, then reads the line by the table of stages.
     pub fn line(
         &mut self,
         alloc: Global,
@@ -310,7 +311,7 @@ impl<'a> Reader<'a> {
 }
 
 impl<'a> Reader<'a> {
-    /// The entries at the end of the text, whose line has this number.
+    /// Ends the text and returns its entries. A fault at the end of the text has this line number.
     fn end(mut self, alloc: Global, number: u64) -> Result<Vec<Pattern>, DbError>
         requires { IsReading self }
         ensures ok { IfOk result (λ v. (s : SoFar) → Shows self.entry s → (found_at_end number s ≡ None)
@@ -338,7 +339,7 @@ impl<'a> Reader<'a> {
     }
 }
 
-/// The reader before the first line of a text.
+/// The reader before the first line of a text. `out` is the list in which it gathers the entries.
 fn start<'a>(alloc: Global, out: Vec<Pattern>) -> Reader<'a>
     requires { out.items ≡ [] }
     ensures { Shows result at_start }
@@ -353,7 +354,7 @@ fn start<'a>(alloc: Global, out: Vec<Pattern>) -> Reader<'a>
 
 /// Reads a database text: its entries in order, or its first fault. `out` must be empty.
 ///
-/// The names of the helpers that entries may name are handed in. Only want of memory is answered in place of these.
+/// `helpers` are the names of the helpers that entries may name. The only other error is `NoMemory`.
 pub fn read(
     alloc: Global,
     text: &[u8],
@@ -361,10 +362,10 @@ pub fn read(
     out: Vec<Pattern>,
 ) -> Result<Vec<Pattern>, DbError>
     requires { out.items ≡ [] }
-    // The entries are told exactly if there is no fault, want of memory aside.
+    // If entries are returned, the text has no fault, and they are the entries of the text.
     ensures ok { IfOk result (λ v. (first_fault helpers.now text.now ≡ None)
         × (map entry_of v.items ≡ entries text.now)) }
-    // A fault that is told is the first one.
+    // An error other than `NoMemory` is the first fault of the text.
     ensures err { IfErr result (λ e. BlamesAt e (first_fault helpers.now text.now)) }
 {
     let mut reader = start(alloc, out);

@@ -1,4 +1,4 @@
-//! The table of stages, and what leaving a stage closes.
+//! The table of stages, and what is closed when a stage ends.
 
 ghost use Rattle.std.specs.Prelude.{[], ◌∷◌, ◌≡◌, ◌<◌, ◌&&◌, nat_lt, Some, None};
 ghost use Rattle.std.specs.List.{position_or_len};
@@ -18,7 +18,7 @@ use db_lex::LineKind;
 use db_rules::{FaultKind, LineError, Shape, Stage, TableCell};
 use pat_types::{Letter, Pattern};
 
-/// The table's cell for a line of this kind and first byte.
+/// The cell of the table of stages for a line of this kind and first byte.
 pub fn table(stage: Stage, kind: LineKind, first: u8) -> TableCell
     ensures { result ≡ next_by_table stage kind first }
 {
@@ -45,7 +45,7 @@ pub fn table(stage: Stage, kind: LineKind, first: u8) -> TableCell
     }
 }
 
-/// Whether a line of this kind, or the end, leaves a stage that gathers lines.
+/// Whether a line of this kind, or the end of the text, ends the constraint diagram or the expression of this stage.
 pub fn closes(stage: Stage, kind: Option<LineKind>) -> bool
     ensures { result ≡ leaves stage kind }
 {
@@ -56,7 +56,7 @@ pub fn closes(stage: Stage, kind: Option<LineKind>) -> bool
     }
 }
 
-/// The fault of a constraint diagram that is closed, by the numbers of its lines and of the main lines.
+/// The fault of a constraint diagram that ends after `lines` lines, if its main diagram has `mains` lines.
 pub fn labels_fault(mains: usize, lines: usize) -> Option<FaultKind>
     ensures { result ≡ first_of ((nat_lt 0 lines && nat_lt lines mains, FaultKind.ConstraintShape) ∷ []) }
 {
@@ -67,7 +67,7 @@ pub fn labels_fault(mains: usize, lines: usize) -> Option<FaultKind>
     }
 }
 
-/// The fault at the end of the text, by the table.
+/// The fault if the text ends in this stage, by the table of stages.
 pub fn end_kind(stage: Stage) -> Option<FaultKind>
     ensures { result ≡ end_refused stage }
 {
@@ -77,7 +77,7 @@ pub fn end_kind(stage: Stage) -> Option<FaultKind>
     }
 }
 
-/// The error of a fault at the line of this number: here its kind becomes the number that callers see.
+/// The error for a fault of this kind at this line. Here the kind becomes the number that callers see.
 pub fn fault_at(line: u64, kind: FaultKind) -> DbError
     ensures { result ≡ fault_told line kind }
 {
@@ -87,7 +87,7 @@ pub fn fault_at(line: u64, kind: FaultKind) -> DbError
     }
 }
 
-/// The error of a line of this number.
+/// The error of the text, if the line of this number has the error `e`.
 pub fn at(number: u64, e: LineError) -> DbError
     ensures { result ≡ error_at number e }
 {
@@ -97,7 +97,7 @@ pub fn at(number: u64, e: LineError) -> DbError
     }
 }
 
-/// The index of the first star, or the length.
+/// The index of the first star, or the number of letters if there is none.
 fn star_index(letters: &[Letter]) -> usize
     ensures { result ≡ position_or_len is_star letters.now }
 {
@@ -109,7 +109,7 @@ fn star_index(letters: &[Letter]) -> usize
     letters.len()
 }
 
-/// The pattern that was read, where the colon line had no fault.
+/// The pattern of a complete draft: its colon line has no fault, and its expression is judged.
 pub fn finish(draft: Draft<'_>) -> Pattern
     requires { IsComplete draft }
     ensures { (b : Block) → Drafts draft.entry b → entry_of result ≡ entry_of_block b }

@@ -12,7 +12,7 @@ use Rattle.db_rules.specs.declared.stage.TableCell.TheVariants.{Next, Refused}
 use Rattle.db_rules.specs.declared.stage.Stage.{Stage}
 use Rattle.db_rules.specs.declared.stage.Stage.TheVariants.{Start, Diagram, Labels, Expression, Actions}
 
--- the table of stages; at the start the first byte of another line counts
+-- the table of stages: its cell for a line of this kind; the first byte b counts only for kind Other in stage Start
 abbrev pub table : Stage → LineKind → ℕ → TableCell
 table Start Pattern b = Next Diagram
 table Start Colon b = Refused StrayLine
@@ -40,7 +40,7 @@ table Actions Semicolon b = Refused StrayLine
 table Actions Action b = Next Actions
 table Actions Other b = Refused StrayLine
 
--- the table's last column: the fault at the end of the text
+-- the last column of the table of stages: the fault if the text ends in this stage
 abbrev pub end_refused : Stage → Option FaultKind
 end_refused Diagram = Some NoColonLine
 end_refused _ = None
@@ -58,19 +58,19 @@ pub record Block : Type 0 where
 abbrev pub lines_in : Block → List KeptLine
 lines_in b = b.head ∷ (b.diagram ++ b.colon ++ b.constraint ++ b.expression ++ b.actions)
 
--- the words of lines
+-- the words of these lines, each the front of a line up to its first blank
 abbrev pub words_in : List KeptLine → List (List ℕ)
 words_in lines = map (λ l. word_of l.bytes) lines
 
--- what some lines of a text come to: the stage after them, the lines before the first Pattern line, the blocks that
--- another follows, and the block that may go on
+-- what has been read after some lines of a text: the stage, the lines before the first Pattern line, the blocks that
+-- another block follows, and the block that may go on
 pub record SoFar : Type 0 where
   pub stage : Stage
   pub front : List KeptLine
   pub done : List Block
   pub now : Option Block
 
--- the blocks in their order
+-- all blocks in their order
 abbrev pub blocks_of : SoFar → List Block
 blocks_of s = s.done ++ option_to_list s.now
 
@@ -78,11 +78,11 @@ blocks_of s = s.done ++ option_to_list s.now
 abbrev pub begun_with : KeptLine → Block
 begun_with line = record { head = line; diagram = []; colon = []; constraint = []; expression = []; actions = [] }
 
--- the blocks so far, with the stage, and a change of the block that may go on
+-- what has been read, with this stage, and with the block that may go on changed by f
 abbrev pub with_now : Stage → SoFar → (Block → Block) → SoFar
 with_now stage s f = record { stage = stage; front = s.front; done = s.done; now = option_map f s.now }
 
--- where a line of each kind goes
+-- what has been read, with this line put in its place by its kind, and with this stage
 abbrev pub placed : KeptLine → Stage → SoFar → LineKind → SoFar
 placed line stage s Pattern =
     record { stage = stage; front = s.front; done = blocks_of s; now = Some (begun_with line) }
@@ -95,23 +95,24 @@ placed line Labels s Other = with_now Labels s (λ b. record b { constraint = b.
 placed line Expression s Other = s
 placed line Actions s Other = s
 
--- the table's cell for a line
+-- the cell of the table of stages for this line
 abbrev pub cell_for : Stage → KeptLine → TableCell
 cell_for stage line = table stage (kind_of line.bytes) (slice_index line.bytes 0)
 
--- the blocks after one more line, by the table's cell for it; a line that the table refuses changes nothing
+-- what has been read after one more line, for which the table has this cell; a line that the table refuses changes
+-- nothing
 abbrev pub with_cell : SoFar → KeptLine → TableCell → SoFar
 with_cell s line (Next stage) = placed line stage s (kind_of line.bytes)
 with_cell s line (Refused kind) = s
 
--- the blocks after one more line, which goes where the table takes it
+-- what has been read after one more line, which goes where the table takes it
 unfoldable pub after_line : SoFar → KeptLine → SoFar
 after_line s line = with_cell s line (cell_for s.stage line)
 
--- what no line comes to
+-- what has been read before the first line
 abbrev pub at_start : SoFar
 at_start = record { stage = Start; front = []; done = []; now = None }
 
--- what some lines come to
+-- what has been read after these lines
 unfoldable pub so_far : List KeptLine → SoFar
 so_far lines = fold after_line at_start lines

@@ -19,11 +19,11 @@ use Rattle.db_rules.specs.Diagram.{has_row, letters_of}
 abbrev pub comma : ℕ
 comma = 44
 
--- the byte that opens a text
+-- the byte that opens the text of a further field
 abbrev pub open_paren : ℕ
 open_paren = 40
 
--- the byte that closes a text
+-- the byte that closes the text of a further field
 abbrev pub close_paren : ℕ
 close_paren = 41
 
@@ -31,15 +31,15 @@ close_paren = 41
 abbrev pub dash : ℕ
 dash = 45
 
--- the byte that a name may have beside letters and digits
+-- the byte that a name may have besides letters and digits
 abbrev pub underscore : ℕ
 underscore = 95
 
--- a letter from `A` to `Z` or from `a` to `z`
+-- the byte is a letter from `A` to `Z` or from `a` to `z`
 abbrev pub is_ascii_letter : ℕ → Bool
 is_ascii_letter b = nat_le 65 b && nat_le b 90 || nat_le 97 b && nat_le b 122
 
--- a digit
+-- the byte is a digit
 abbrev pub is_digit : ℕ → Bool
 is_digit b = nat_le 48 b && nat_le b 57
 
@@ -47,7 +47,7 @@ is_digit b = nat_le 48 b && nat_le b 57
 abbrev pub depth_after : ℕ → ℕ → ℕ
 depth_after depth b = if b == open_paren then depth + 1 else if b == close_paren then depth - 1 else depth
 
--- the parts between the commas that stand outside parentheses, where so many are open at the front
+-- the parts between the commas that stand outside parentheses, if depth parentheses are open at the front
 unfoldable pub split_at_commas : ℕ → List ℕ → List (List ℕ)
 split_at_commas depth [] = [] ∷ []
 split_at_commas depth (b ∷ bs) =
@@ -58,14 +58,14 @@ split_at_commas depth (b ∷ bs) =
 abbrev pub fields_of : List ℕ → List (List ℕ)
 fields_of line = map trimmed (split_at_commas 0 (drop 1 line))
 
--- `8 | - / \ + X O`
+-- the mark that this byte stands for: `8 | - / \ + X O`
 abbrev pub mark_by_byte : ℕ → Option Mark
 mark_by_byte b =
     if b == 56 then Some Eight else if b == 124 then Some Bar else if b == 45 then Some Dash else if b == 47 then Some
     Slash else if b == 92 then Some Backslash else if b == 43 then Some Plus else if b == 88 then Some Ex else if b ==
     79 then Some Oh else None
 
--- the mark that the first field is
+-- the mark in the first field, if that field is a mark
 abbrev pub mark_of : List (List ℕ) → Option Mark
 mark_of [] = None
 mark_of ([] ∷ more) = None
@@ -76,7 +76,7 @@ mark_of ((b ∷ c ∷ bs) ∷ more) = None
 abbrev pub class_field : List (List ℕ) → List ℕ
 class_field fields = unwrap_or (slice_get fields 1) []
 
--- a byte of the second field
+-- the byte may stand in the second field
 abbrev pub is_class_byte : ℕ → Bool
 is_class_byte b = is_ascii_letter b || b == dash
 
@@ -84,7 +84,7 @@ is_class_byte b = is_ascii_letter b || b == dash
 abbrev pub are_classes : List ℕ → Bool
 are_classes field = nat_le (length field) 32 && list_all is_class_byte field
 
--- the class letters, without `-`
+-- the class letters of the second field, without `-`
 abbrev pub class_letters : List ℕ → List ℕ
 class_letters field = filter (λ b. not (b == dash)) field
 
@@ -92,11 +92,11 @@ class_letters field = filter (λ b. not (b == dash)) field
 abbrev pub further : List (List ℕ) → List (List ℕ)
 further fields = drop 2 fields
 
--- a byte of a name behind its first
+-- the byte may stand in a name behind its first byte
 abbrev pub is_name_byte : ℕ → Bool
 is_name_byte b = is_ascii_letter b || is_digit b || b == underscore
 
--- an ASCII letter and up to 63 letters, digits or `_`
+-- the field is a name: an ASCII letter and up to 63 letters, digits or `_`
 abbrev pub is_name : List ℕ → Bool
 is_name [] = false
 is_name (b ∷ bs) = is_ascii_letter b && list_all is_name_byte bs && nat_le (length bs) 63
@@ -109,20 +109,20 @@ name_part field = take (position_or_len (λ b. b == open_paren) field) field
 abbrev pub after_open : List ℕ → List ℕ
 after_open field = drop (position_or_len (λ b. b == open_paren) field + 1) field
 
--- a byte that may stand in the text of a field
+-- the byte may stand in the text of a field
 abbrev pub is_text_byte : ℕ → Bool
 is_text_byte b = nat_lt b 128 && not (b == open_paren) && not (b == close_paren)
 
--- a text without parentheses, and a closing one that ends the field
+-- the rest of a field is a text without parentheses and then the closing parenthesis
 abbrev pub is_closed_text : List ℕ → Bool
 is_closed_text rest =
     slice_index rest (length rest - 1) == close_paren && list_all is_text_byte (take (length rest - 1) rest)
 
--- a name, or a name with a text in parentheses that ends the field
+-- the field is an item: a name, or a name with a text in parentheses that ends the field
 abbrev pub is_item : List ℕ → Bool
 is_item field = is_name field || is_name (name_part field) && is_closed_text (after_open field)
 
--- the item that a field is, by its name or by its name and text
+-- the item that a field is: a name alone, or a name with a text
 abbrev pub item_of : List ℕ → Item
 item_of field =
     if is_name field then record { name = field; text = None } else record {
@@ -131,11 +131,11 @@ item_of field =
           Some (take (length (after_open field) - 1) (after_open field));
     }
 
--- the name of no helper, which tests nothing
+-- the name that stands for no helper and tests nothing
 abbrev pub null : List ℕ
 null = codes "NULL"
 
--- a field without parentheses that is neither `NULL` nor one of the names of the helpers
+-- the field is a name, but neither `NULL` nor one of the names of the helpers
 abbrev pub names_nothing : List (List ℕ) → List ℕ → Bool
 names_nothing helpers field = is_name field && not (bytes_eq field null || list_any (bytes_eq field) helpers)
 

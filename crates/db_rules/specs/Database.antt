@@ -1,4 +1,4 @@
--- The form of a database without a fault, as whole blocks: nothing here goes from line to line.
+-- The form of a database without a fault, as whole blocks, without a walk from line to line.
 use Rattle.std.specs.Prelude.{◌≡◌, ℕ, ◌≤◌, IsTrue, false, List, [], ◌∷◌, ◌++◌, length, slice_index, None}
 use Rattle.std.specs.List.{All, flat_map}
 use Rattle.db_lex.specs.declared.line.LineKind.{LineKind}
@@ -15,7 +15,7 @@ pub record IsLineOf (kind : LineKind) (line : KeptLine) : Type 0 where
   pub clean : line.is_bad ≡ false
   pub kind_is : kind_of line.bytes ≡ kind
 
--- the line may stand before the first block: an other line that begins with an ASCII letter
+-- the line may stand before the first block: it is of kind Other and begins with an ASCII letter
 pub record IsInFront (line : KeptLine) : Type 0 where
   pub other : IsLineOf Other line
   pub letter : IsTrue (is_ascii_letter (slice_index line.bytes 0))
@@ -27,8 +27,8 @@ pub record IsColonLine (helpers diagram : List (List ℕ)) (lines : List KeptLin
   pub colon : IsLineOf Colon line
   pub faultless : colon_fault helpers diagram line.bytes ≡ None
 
--- the block is whole: a Pattern line with a name, the lines of a main diagram, one colon line, and then, as far as
--- there are any, the lines of a whole constraint diagram, of an expression and of actions; none of them has a fault
+-- the block is whole: a Pattern line with a name, the lines of a main diagram, one colon line, and then, if there are
+-- any, the lines of a whole constraint diagram, of an expression and of actions; none of them has a fault
 pub record IsBlock (helpers : List (List ℕ)) (b : Block) : Type 0 where
   pub head : IsLineOf Pattern b.head
   pub named : is_unnamed b.head.bytes ≡ false
@@ -42,7 +42,7 @@ pub record IsBlock (helpers : List (List ℕ)) (b : Block) : Type 0 where
   pub judged : expression_kind b ≡ None
   pub actions : All (IsLineOf Action) b.actions
 
--- the lines that are not passed over are a front and then at most 4,096 whole blocks
+-- the lines that are not skipped are a front and then at most 4,096 whole blocks
 pub record IsDatabase (helpers : List (List ℕ)) (text : List ℕ) : Type 0 where
   pub front : List KeptLine
   pub blocks : List Block

@@ -13,7 +13,7 @@ use Rattle.db_rules.specs.declared.kind.FaultKind.{FaultKind}
 use Rattle.db_rules.specs.declared.kind.FaultKind.TheVariants.{BadLetter, EdgePlace, Ragged, TooLarge}
 use Rattle.db_rules.specs.Kinds.{first_of}
 
--- `O X . o x ? *`
+-- the letter that this byte stands for: `O X . o x ? *`
 abbrev pub letter_of : ℕ → Option Letter
 letter_of b =
     if b == 79 then Some Friend else if b == 88 then Some Enemy else if b == 46 then Some Empty else if b == 111 then
@@ -24,15 +24,15 @@ letter_of b =
 abbrev pub is_letter : ℕ → Bool
 is_letter b = is_some (letter_of b)
 
--- `-`
+-- the byte is `-`
 abbrev pub is_dash : ℕ → Bool
 is_dash b = b == 45
 
--- `+`, which ends an edge line on a side that has an edge
+-- the byte `+`, which ends an edge line on a side that has an edge
 abbrev pub plus : ℕ
 plus = 43
 
--- `|`, which ends a row on a side that has an edge
+-- the byte `|`, which ends a row on a side that has an edge
 abbrev pub bar : ℕ
 bar = 124
 
@@ -40,27 +40,27 @@ bar = 124
 abbrev pub begins : ℕ → List ℕ → Bool
 begins b word = slice_index word 0 == b
 
--- the word without this byte at its front
+-- the word without this byte at its front, if it begins with it
 abbrev pub without_left : ℕ → List ℕ → List ℕ
 without_left b word = drop (drawn_strip (begins b word)) word
 
--- what is left of the word ends with this byte
+-- the word ends with this byte, not counting one at its front
 abbrev pub ends : ℕ → List ℕ → Bool
 ends b word = slice_index (without_left b word) (length (without_left b word) - 1) == b
 
--- the word without this byte at either end
+-- the word without this byte at either end, as far as it stands there
 abbrev pub inner : ℕ → List ℕ → List ℕ
 inner b word = take (length (without_left b word) - drawn_strip (ends b word)) (without_left b word)
 
--- an optional `+`, one or more `-`, an optional `+`
+-- the word is an edge line: an optional `+`, one or more `-`, an optional `+`
 unfoldable pub is_edge_line : List ℕ → Bool
 is_edge_line word = nat_lt 0 (length (inner plus word)) && list_all is_dash (inner plus word)
 
--- an optional `|`, one or more letters, an optional `|`
+-- the word is a row: an optional `|`, one or more letters, an optional `|`
 unfoldable pub is_row : List ℕ → Bool
 is_row word = nat_lt 0 (length (inner bar word)) && list_all is_letter (inner bar word)
 
--- the shape of a line that ends with this byte on a side that has an edge
+-- the shape of a line, if this byte stands at its end on each side that has an edge
 unfoldable pub shape_of : ℕ → List ℕ → Shape
 shape_of b word = record { left = begins b word; right = ends b word; width = length (inner b word) }
 
@@ -68,7 +68,7 @@ shape_of b word = record { left = begins b word; right = ends b word; width = le
 abbrev pub rows_of : List (List ℕ) → List (List ℕ)
 rows_of diagram = filter is_row diagram
 
--- there is a row
+-- the diagram has a row
 abbrev pub has_row : List (List ℕ) → Bool
 has_row diagram = nat_lt 0 (length (rows_of diagram))
 
@@ -87,7 +87,7 @@ ends_in_edge (word ∷ next ∷ more) = ends_in_edge (next ∷ more)
 abbrev pub has_bottom : List (List ℕ) → Bool
 has_bottom diagram = has_row diagram && ends_in_edge diagram
 
--- the shape with which a further line is compared: that of the first row, or of the top edge where there is no row
+-- the shape with which a further line is compared: that of the first of the rows, or of the top edge if there is no row
 abbrev pub wanted_of : List (List ℕ) → List (List ℕ) → Option Shape
 wanted_of (row ∷ more) diagram = Some (shape_of bar row)
 wanted_of [] [] = None
@@ -97,7 +97,7 @@ wanted_of [] (top ∷ more) = Some (shape_of plus top)
 unfoldable pub wanted : List (List ℕ) → Option Shape
 wanted diagram = wanted_of (rows_of diagram) diagram
 
--- the width of a shape, and 0 if there is none
+-- the width of a shape, or 0 if there is no shape
 abbrev pub width_of : Option Shape → ℕ
 width_of None = 0
 width_of (Some s) = s.width
@@ -106,17 +106,17 @@ width_of (Some s) = s.width
 abbrev pub line_shape : List ℕ → Shape
 line_shape word = if is_row word then shape_of bar word else shape_of plus word
 
--- the edges at the sides differ
+-- the shapes have different edges at the sides
 abbrev pub other_sides : Shape → Option Shape → Bool
 other_sides s None = false
 other_sides s (Some w) = not (beq s.left w.left && beq s.right w.right)
 
--- the numbers of letters or of `-` differ
+-- the shapes have different widths
 abbrev pub other_width : Shape → Option Shape → Bool
 other_width s None = false
 other_width s (Some w) = not (s.width == w.width)
 
--- a second edge line before any row, a line after the bottom edge, or edges at the sides that differ
+-- a further line stands wrong: a second edge line before any row, a line after the bottom edge, or other side edges
 unfoldable pub is_misplaced : List (List ℕ) → List ℕ → Bool
 is_misplaced diagram word =
     is_edge_line word && not (has_row diagram) && has_top diagram
@@ -136,7 +136,7 @@ diagram_fault diagram word = first_of (
 abbrev pub letters_of_row : List ℕ → List Letter
 letters_of_row row = filter_map letter_of (inner bar row)
 
--- how many letters are the star
+-- how many of the letters are the star
 abbrev pub star_count : List Letter → ℕ
 star_count letters = count_by is_star letters
 

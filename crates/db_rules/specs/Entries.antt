@@ -35,7 +35,7 @@ pub record Entry : Type 0 where
   pub labels : List LabelAt
   pub constraint : Option Tree
 
--- the entry that a pattern is
+-- the entry that a pattern spells
 abbrev pub entry_of : Pattern → Entry
 entry_of p = record {
   name = p.name;
@@ -54,20 +54,20 @@ entry_of p = record {
   constraint = option_map tree_of p.constraint;
 }
 
--- the name on a Pattern line: the first word of its rest
+-- the name on a Pattern line: the first word of what follows `Pattern`
 abbrev pub name_on : List ℕ → List ℕ
 name_on line = word_of (trimmed (rest_of line))
 
--- the bytes of the colon line
+-- the bytes of the first of these lines, which is the colon line
 abbrev pub colon_bytes : List KeptLine → List ℕ
 colon_bytes [] = []
 colon_bytes (line ∷ more) = line.bytes
 
--- the row and the column of the first star, where a row has so many letters
+-- the row and the column of the first star, if a row has cols letters
 abbrev pub star_place : ℕ → List Letter → ℕ × ℕ
 star_place cols letters = (position_or_len is_star letters / cols, position_or_len is_star letters % cols)
 
--- the shape of the rows
+-- the shape of the rows of a diagram
 abbrev pub shape_in : List (List ℕ) → Shape
 shape_in diagram = unwrap_or (wanted diagram) (record { left = false; right = false; width = 0 })
 

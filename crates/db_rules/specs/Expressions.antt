@@ -19,13 +19,13 @@ blank = 32
 abbrev pub text_on : KeptLine → List ℕ
 text_on line = drop 1 line.bytes
 
--- the text of an expression: that on its lines, joined by one blank
+-- the text of an expression: the texts on its lines, joined by one blank
 abbrev pub expression_text : List KeptLine → List ℕ
 expression_text [] = []
 expression_text (line ∷ []) = text_on line
 expression_text (line ∷ next ∷ more) = text_on line ++ blank ∷ expression_text (next ∷ more)
 
--- the kind that a fault of an expression is told as: an unknown label has its own, the others have one
+-- the kind of fault that an error of an expression is reported as: UnknownLabel for an unknown label, else ExprFault
 abbrev pub kind_told : ConsError → FaultKind
 kind_told UnknownLabel = kinds.UnknownLabel
 kind_told Syntax = kinds.ExprFault
@@ -34,12 +34,12 @@ kind_told UnknownFunction = kinds.ExprFault
 kind_told Arity = kinds.ExprFault
 kind_told NoMemory = kinds.ExprFault
 
--- the kind of the first fault of the expression on these lines, if these are the labels; no line has none
+-- the kind of the first fault of the expression on these lines, if these are the labels; none if there is no line
 abbrev pub kind_of_expression : List LabelAt → List KeptLine → Option FaultKind
 kind_of_expression labels [] = None
 kind_of_expression labels (line ∷ lines) = option_map kind_told (fault_in labels (expression_text (line ∷ lines)))
 
--- what the expression on these lines says; no line says nothing
+-- what the expression on these lines says; nothing if there is no line
 abbrev pub expression_on : List KeptLine → Option Tree
 expression_on [] = None
 expression_on (line ∷ lines) = option_map meaning_of (expression_in (expression_text (line ∷ lines)))

@@ -23,12 +23,12 @@ use Rattle.db_rules.specs.declared.stage.TableCell.TheVariants.{Next, Refused}
 use Rattle.db_rules.specs.declared.stage.Stage.{Stage}
 use Rattle.db_rules.specs.declared.stage.Stage.TheVariants.{Diagram, Labels, Expression}
 
--- the first of two faults that there is
+-- the first of two faults, or the second if there is no first
 abbrev pub or_else : {A : Type 0} → Option A → Option A → Option A
 or_else (Some a) b = Some a
 or_else None b = b
 
--- a byte of a name
+-- the byte may stand in the name of an entry
 abbrev pub is_name_char : ℕ → Bool
 is_name_char b = nat_le 33 b && nat_le b 126
 
@@ -41,18 +41,18 @@ abbrev pub is_unnamed : List ℕ → Bool
 is_unnamed line =
     length (name_on line) == 0 || nat_lt 80 (length (name_on line)) || not (list_all is_name_char (name_on line))
 
--- the first fault of a Pattern line before which so many entries begin
+-- the first fault of a Pattern line, if this many entries begin before it
 unfoldable pub pattern_fault : ℕ → List ℕ → Option FaultKind
 pattern_fault entries line = first_of (
     (nat_le most_entries entries, TooManyPatterns)
     ∷ (is_unnamed line, NoName)
     ∷ [])
 
--- a fault of this kind at a line, which is told by its number
+-- the fault of this kind at this line; its kind is given by its number
 abbrev pub at_line : ℕ → Option FaultKind → Option Fault
 at_line line kind = option_map (λ k. record { line = line; kind = number_of k }) kind
 
--- the number of the first of some lines
+-- the number of the first of these lines
 abbrev pub first_number : List KeptLine → ℕ
 first_number [] = 0
 first_number (line ∷ more) = line.number
@@ -61,11 +61,11 @@ first_number (line ∷ more) = line.number
 abbrev pub expression_kind : Block → Option FaultKind
 expression_kind b = kind_of_expression (labels_of (words_in b.diagram) (words_in b.constraint)) b.expression
 
--- the fault of a block's expression, which is told at its first line
+-- the fault of a block's expression, which is reported at the first line of the expression
 abbrev pub expression_fault : Block → Option Fault
 expression_fault b = at_line (first_number b.expression) (expression_kind b)
 
--- a line of this kind leaves the stage; what leaves it by the end leaves it too
+-- a line of this kind, or the end of the text, ends the constraint diagram or the expression of this stage
 abbrev pub closes : Stage → Option LineKind → Bool
 closes Labels (Some Other) = false
 closes Labels _ = true
@@ -73,7 +73,7 @@ closes Expression (Some Semicolon) = false
 closes Expression _ = true
 closes _ _ = false
 
--- the fault of what a stage has gathered in a block
+-- the fault of the constraint diagram or the expression that this stage has gathered in a block
 abbrev pub gathered_fault : ℕ → Stage → Option Block → Option Fault
 gathered_fault number stage None = None
 gathered_fault number Labels (Some b) =
@@ -81,7 +81,8 @@ gathered_fault number Labels (Some b) =
 gathered_fault number Expression (Some b) = expression_fault b
 gathered_fault number _ (Some b) = None
 
--- the fault of the constraint diagram or the expression that a line of this number and kind closes
+-- the fault of the constraint diagram or the expression, if a line of this number and kind, or the end of the text,
+-- ends it
 abbrev pub closing_fault : ℕ → Option LineKind → SoFar → Option Fault
 closing_fault number kind s = if closes s.stage kind then gathered_fault number s.stage s.now else None
 
@@ -95,7 +96,7 @@ abbrev pub label_words : Option Block → List (List ℕ)
 label_words None = []
 label_words (Some b) = words_in b.constraint
 
--- the first fault in the list of a line's kind
+-- the first fault of a line among the faults that a line of its kind may have
 abbrev pub own_fault : List (List ℕ) → SoFar → KeptLine → LineKind → Option FaultKind
 own_fault helpers s line Pattern = pattern_fault (length (blocks_of s)) line.bytes
 own_fault helpers s line Colon = colon_fault helpers (main_words s.now) line.bytes
@@ -108,29 +109,29 @@ own_fault helpers s line Other = other_fault s.stage
     other_fault Labels = constraint_fault (main_words s.now) (label_words s.now) (word_of line.bytes)
     other_fault _ = None
 
--- the fault of the table of stages, or else the first fault in the list of the line's kind
+-- the fault by the table of stages, or else the first fault among those that a line of its kind may have
 abbrev pub table_fault : List (List ℕ) → SoFar → KeptLine → TableCell → Option FaultKind
 table_fault helpers s line (Refused kind) = Some kind
 table_fault helpers s line (Next stage) = own_fault helpers s line (kind_of line.bytes)
 
--- the first fault that fits at a line that stands after these
+-- the first fault at this line, which stands after what has been read
 unfoldable pub found : List (List ℕ) → SoFar → KeptLine → Option Fault
 found helpers s line =
     if line.is_bad then at_line line.number (Some BadByte)
     else or_else (closing_fault line.number (Some (kind_of line.bytes)) s)
     (at_line line.number (table_fault helpers s line (cell_for s.stage line)))
 
--- the first fault that fits at the end, whose line has this number
+-- the first fault at the end of the text, which counts as the line of this number
 unfoldable pub found_at_end : ℕ → SoFar → Option Fault
 found_at_end number s = or_else (closing_fault number None s) (at_line number (end_refused s.stage))
 
--- the first fault that fits at the k-th of the lines that are not passed over, or at the end where there is none; it
--- looks only at the lines up to there
+-- the first fault at this line, or at the end of the text if there is no line, after what has been read; it does not
+-- depend on later lines
 abbrev pub fault_at_place : List (List ℕ) → ℕ → SoFar → Option KeptLine → Option Fault
 fault_at_place helpers end s None = found_at_end end s
 fault_at_place helpers end s (Some line) = found helpers s line
 
--- the fault at the k-th place of these lines
+-- the first fault at the k-th of these lines, counted from 0, or at the end of the text if there is no such line
 abbrev pub fault_at : List (List ℕ) → ℕ → List KeptLine → ℕ → Option Fault
 fault_at helpers end lines k = fault_at_place helpers end (so_far (take k lines)) (slice_get lines k)
 
@@ -139,11 +140,11 @@ unfoldable pub least_fault : (ℕ → Option Fault) → ℕ → Option Fault
 least_fault at zero = None
 least_fault at (suc n) = or_else (least_fault at n) (at n)
 
--- the number of the end: one more than the number of lines
+-- the line number of the end of the text: one more than the number of lines
 abbrev pub end_number : List ℕ → ℕ
 end_number text = length (lines_of text) + 1
 
--- the first fault of a text, for the names of the helpers
+-- the first fault of a text, if these are the names of the helpers
 unfoldable pub first_fault : List (List ℕ) → List ℕ → Option Fault
 first_fault helpers text =
     least_fault (fault_at helpers (end_number text) (kept_lines text)) (length (kept_lines text) + 1)
@@ -152,7 +153,7 @@ first_fault helpers text =
 unfoldable pub entries : List ℕ → List Entry
 entries text = map entry_of_block (blocks_of (so_far (kept_lines text)))
 
--- the error of a line is want of memory, or tells this kind of fault
+-- the error of a line is NoMemory, or it has this kind of fault
 abbrev pub Blames : LineError → Option FaultKind → Type 0
 Blames errors.NoMemory fault = Unit {0}
 Blames (errors.Kind kind) fault = fault ≡ Some kind

@@ -10,19 +10,19 @@ use Rattle.db_rules.specs.Kinds.{first_of}
 use Rattle.db_rules.specs.Diagram.{is_letter, is_row, bar}
 use Rattle.db_rules.specs.Colon.{is_ascii_letter}
 
--- an ASCII letter other than `O X o x`
+-- the byte is an ASCII letter other than `O X o x`
 abbrev pub is_label : ℕ → Bool
 is_label b = is_ascii_letter b && not (is_letter b)
 
--- the words have one length, and where they differ a label stands over one of the seven letters
+-- the words have the same length, and wherever they differ a label stands over one of the seven letters
 abbrev pub repeats : List ℕ → List ℕ → Bool
 repeats [] [] = true
 repeats [] (w ∷ ws) = false
 repeats (m ∷ ms) [] = false
 repeats (m ∷ ms) (w ∷ ws) = (w == m || is_label w && is_letter m) && repeats ms ws
 
--- the labels of a line: the bytes in which it differs from the main line; its row is given, and the column of its first
--- byte
+-- the labels of a line: the bytes in which it differs from the main line. The line stands in this row, and its first
+-- byte in column col
 abbrev pub labels_from : ℕ → ℕ → List ℕ → List ℕ → List LabelAt
 labels_from row col [] word = []
 labels_from row col (m ∷ ms) [] = []
@@ -34,13 +34,13 @@ labels_from row col (m ∷ ms) (w ∷ ws) =
           col;
     } ∷ labels_from row (col + 1) ms ws
 
--- the labels of the line that repeats this main line, which stands in this row; a `|` at its front is no column
+-- the labels of a line in this row that repeats this main line; a `|` at the front of the main line is no column
 abbrev pub labels_of_line : ℕ → List ℕ → List ℕ → List LabelAt
 labels_of_line row (m ∷ ms) (w ∷ ws) = if m == bar then labels_from row 0 ms ws else labels_from row 0 (m ∷ ms) (w ∷ ws)
 labels_of_line row [] word = []
 labels_of_line row (m ∷ ms) [] = []
 
--- the labels of a constraint diagram under a main diagram, where so many rows stand above
+-- the labels of lines of a constraint diagram that repeat these main lines, if this many rows stand above them
 unfoldable pub labels_under : ℕ → List (List ℕ) → List (List ℕ) → List LabelAt
 labels_under row [] words = []
 labels_under row (main ∷ mains) [] = []
@@ -51,12 +51,12 @@ labels_under row (main ∷ mains) (word ∷ words) =
 abbrev pub labels_of : List (List ℕ) → List (List ℕ) → List LabelAt
 labels_of diagram words = labels_under 0 diagram words
 
--- there is a main line for a further line, which repeats it
+-- there is a main line, and the word repeats it
 abbrev pub repeats_main : Option (List ℕ) → List ℕ → Bool
 repeats_main None word = false
 repeats_main (Some main) word = repeats main word
 
--- the first fault of a further line of a constraint diagram with these lines so far
+-- the first fault of a further line of a constraint diagram that has these lines so far
 unfoldable pub constraint_fault : List (List ℕ) → List (List ℕ) → List ℕ → Option FaultKind
 constraint_fault diagram words word = first_of ((
   not (repeats_main (slice_get diagram (length words)) word
@@ -65,7 +65,7 @@ constraint_fault diagram words word = first_of ((
 )
     ∷ [])
 
--- the fault of a constraint diagram that is closed: it has a line, and fewer than the main diagram
+-- the fault of a constraint diagram at its end: it has a line, but fewer lines than the main diagram
 unfoldable pub labels_closing_fault : List (List ℕ) → List (List ℕ) → Option FaultKind
 labels_closing_fault diagram words =
     first_of ((nat_lt 0 (length words) && nat_lt (length words) (length diagram), ConstraintShape) ∷ [])

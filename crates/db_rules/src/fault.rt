@@ -1,4 +1,4 @@
-//! The first fault of a database text, and what a line is refused with.
+//! The first fault of a database text, and why a line is refused.
 
 ghost use Rattle.std.specs.Prelude.{◌≡◌};
 ghost use Rattle.db_rules.specs.declared.fault.LineError.TheVariants.{NoMemory as no_memory};
@@ -14,14 +14,14 @@ use go_base::NoMemory;
 pub struct Fault {
     /// The number of the line, counted from 1.
     pub line: u64,
-    /// The number of the kind.
+    /// The number of the kind of fault, from 1 to 18.
     pub kind: u8,
 }
 
-/// Why a line is not read: no memory was found, or the kind of its first fault.
+/// Why a line is refused: memory ran out, or the kind of its first fault.
 #[derive(Clone, Copy, Debug, PartialEq, Eq)]
 pub enum LineError {
-    /// No memory was found.
+    /// Memory ran out.
     NoMemory,
     /// The kind of the first fault.
     Kind(FaultKind),

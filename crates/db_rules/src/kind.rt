@@ -3,7 +3,7 @@
 ghost use Rattle.std.specs.Prelude.{◌≡◌};
 ghost use Rattle.db_rules.specs.Kinds.{number_of, first_of as first_that_fits};
 
-/// What is at fault in a database text. Each kind has a number from 1 to 18, by which it is told.
+/// What is at fault in a database text. Each kind has a number from 1 to 18, by which it is reported.
 #[derive(Clone, Copy, Debug, PartialEq, Eq)]
 pub enum FaultKind {
     /// A byte that no line may have.
@@ -22,31 +22,31 @@ pub enum FaultKind {
     MoveCount,
     /// An edge where none may stand, or one that is missing on a side.
     EdgePlace,
-    /// A diagram line that is longer than the largest board is wide, or one more than it has rows.
+    /// A diagram line longer than the largest board is wide, or one that follows as many lines as that board has rows.
     TooLarge,
     /// A pattern that ends before its colon line.
     NoColonLine,
     /// A first field that is none of the eight marks.
     BadMark,
-    /// A second field that is not at most 32 class letters.
+    /// A second field of more than 32 bytes, or with a byte that is neither an ASCII letter nor `-`.
     BadClass,
     /// More than 16 further fields, or one that is not an item.
     BadItem,
     /// A constraint diagram that does not repeat the main diagram.
     ConstraintShape,
-    /// A constraint expression that is not in the grammar, is too deep, or calls no function or calls one as it may not
-    /// be.
+    /// A constraint expression that is not in the grammar, is too deep, calls a name that is no function, or calls a
+    /// function with arguments that it does not take.
     ExprFault,
     /// An argument of a constraint expression that is no label of the constraint diagram.
     UnknownLabel,
-    /// A further field that names no helper.
+    /// A further field without parentheses that is neither the name of a helper nor `NULL`.
     UnknownHelper,
     /// A Pattern line that begins the 4,097th entry.
     TooManyPatterns,
 }
 
 impl FaultKind {
-    /// The kind of the first test that passes.
+    /// The kind of the first test that passes, if one passes.
     pub fn first_of(tests: &[(bool, FaultKind)]) -> Option<FaultKind>
         ensures { result ≡ first_that_fits tests.now }
     {
@@ -58,7 +58,7 @@ impl FaultKind {
         None
     }
 
-    /// The number by which the kind is told, from 1 to 18.
+    /// The number by which the kind is reported, from 1 to 18.
     pub fn number(self) -> u8
         ensures { result ≡ number_of self }
     {

@@ -1,11 +1,11 @@
-//! What the definitions come to, in the words of the grammar.
+//! The main laws of the definitions, in the words of the grammar.
 
 ghost use Rattle.std.specs.Prelude.{◌≡◌, ◌↔◌, ℕ, List, None, map};
 ghost use Rattle.db_rules.specs.Entries.{entry_of_block};
 ghost use Rattle.db_rules.specs.Database.{IsDatabase};
 ghost use Rattle.db_rules.specs.Faults.{entries, first_fault};
 
-/// A text has no first fault exactly if it is a front and then whole blocks without a fault.
+/// A text has no fault exactly if it is a front and then at most 4,096 whole blocks without a fault.
 pub fn databases_have_no_fault()
     ensures { (helpers : List (List ℕ)) (text : List ℕ) → first_fault helpers text ≡ None ↔ IsDatabase helpers text }
 {}

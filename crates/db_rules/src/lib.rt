@@ -1,6 +1,6 @@
 //! The rules of pattern databases as definitions: lines, stages, blocks of whole lines, expressions, entries, and the
 //! first fault of a text. The crates that read a database cite what stands in specs/; here are the small types that the
-//! definitions speak of, and the laws that join going over the lines of a text to the form of a database.
+//! definitions speak of, and the laws that join the walk over the lines of a text to the form of a database.
 //!
 //! After GNU Go Manual, "The Pattern Code"; the exact grammar, the kinds of fault and their order are this project's
 //! own.

@@ -7,6 +7,6 @@ pub struct Shape {
     pub left: bool,
     /// Whether an edge is drawn on the right.
     pub right: bool,
-    /// How many letters or `-` there are.
+    /// How many letters or `-` the line has.
     pub width: usize,
 }

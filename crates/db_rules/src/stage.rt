@@ -20,7 +20,7 @@ pub enum Stage {
 /// What the table of stages has for a line: the next stage, or the kind of the fault.
 #[derive(Clone, Copy, Debug, PartialEq, Eq)]
 pub enum TableCell {
-    /// The line is taken to this stage.
+    /// The line is accepted, and this is the next stage.
     Next(Stage),
     /// The line is refused with this kind of fault.
     Refused(FaultKind),

@@ -11,11 +11,11 @@ use Rattle.dfa_core.specs.Fits.{admits}
 abbrev pub has_letter : LetterMask → Seen → Bool
 has_letter mask x = bit_at mask.bits (letter_number x) == 1
 
--- the mask that stands for a missing one
+-- the mask without letters, which is read past the end of a list of masks
 abbrev pub no_mask : LetterMask
 no_mask = record { bits = 0 }
 
--- there is a mask for each of the first indices, and it has the letters that the pattern admits there
+-- masks has one mask for each of the first count indices, with the letters that the pattern admits there
 pub record AreMasks (p : Pattern) (count : ℕ) (masks : List LetterMask) : Type 0 where
   pub size : length masks ≡ count
   pub each : (i : ℕ) (x : Seen) → i < count → has_letter (slice_index_or masks i no_mask) x ≡ admits p i x

@@ -2,7 +2,7 @@
 ghost use Rattle.std.specs.Prelude.{◌≡◌, ◌++◌};
 ghost use Rattle.dfa_core.specs.RowKinds.{stays_at, kind_with};
 
-/// What a row means to a walk that enters it. It follows from the row.
+/// The kind of a row: what the row means to a walk that enters it. The row's targets and numbers decide it.
 #[derive(Clone, Copy, Debug, PartialEq, Eq)]
 pub enum RowKind {
     /// The row accepts nothing, and some letter leads on.
@@ -13,7 +13,7 @@ pub enum RowKind {
     Dead,
 }
 
-/// Whether each of its targets is the row itself.
+/// Whether each of `targets` is `row` itself.
 fn is_never_left(row: usize, targets: [u32; 4]) -> bool
     ensures { result ≡ stays_at row targets }
 {
@@ -23,7 +23,7 @@ fn is_never_left(row: usize, targets: [u32; 4]) -> bool
         && targets[3] as usize == row
 }
 
-/// The kind of a row that accepts the numbers of both lists.
+/// The kind of `row`, if it has `targets` and accepts the numbers of `first` and `second`.
 pub fn kind_of(row: usize, targets: [u32; 4], first: &[u16], second: &[u16]) -> RowKind
     ensures { result ≡ kind_with row targets (first.now ++ second.now) }
 {

@@ -1,10 +1,10 @@
-//! What the states of a list of patterns come to: each function is a law, which is its contract, and does nothing.
+//! The number of states of a list of patterns. Each function is a law: its contract states it, and its body is empty.
 
 ghost use Rattle.std.specs.Prelude.{◌≡◌, ℕ, ◌<◌, List};
 ghost use Rattle.pat_types.specs.declared.pattern.Pattern.{Pattern};
 ghost use Rattle.dfa_core.specs.States.{HasStates, HasMoreStates};
 
-/// A list of patterns has one number of states, and more than a number of them exactly if that is greater.
+/// A list of patterns has one number of states, and has more than `limit` states exactly if this number is greater.
 pub fn states_are_counted()
     ensures some { (patterns : List Pattern) → (n : ℕ) × HasStates patterns n }
     ensures one { (patterns : List Pattern) (m n : ℕ) → HasStates patterns m → HasStates patterns n → m ≡ n }

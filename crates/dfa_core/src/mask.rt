@@ -7,10 +7,10 @@ ghost use Rattle.dfa_core.specs.Masks.{has_letter};
 use crate::automaton::Seen;
 use pat_types::{Drawn, Letter};
 
-/// Some of the four letters that a walk reads, each a bit.
+/// A set of letters: some of the four that a walk reads, with one bit for each letter.
 #[derive(Clone, Copy)]
 pub struct LetterMask {
-    /// The bit with the number of a letter says whether the letter is one of them.
+    /// The bit at the index of a letter's number is 1 exactly if the set has the letter.
     pub bits: u8,
 }
 
@@ -24,21 +24,21 @@ const EMPTY: u8 = 4;
 const OFF: u8 = 8;
 
 impl LetterMask {
-    /// The mask of no letter.
+    /// The mask without letters.
     pub fn none() -> LetterMask
         ensures { (x : Seen) → has_letter result x ≡ false }
     {
         LetterMask { bits: 0 }
     }
 
-    /// Whether a letter is one of them.
+    /// Whether the mask has the letter `x`.
     pub fn has(self, x: Seen) -> bool
         ensures { result ≡ has_letter self x }
     {
         self.bits >> x as u8 & 1 == 1
     }
 
-    /// Whether each letter is one of them.
+    /// Whether the mask has all four letters.
     pub fn has_all(self) -> bool
         ensures { result ≡ has_letter self Seen.Friend && has_letter self Seen.Enemy && has_letter self Seen.Empty
             && has_letter self Seen.Off }
@@ -50,7 +50,7 @@ impl LetterMask {
     }
 }
 
-/// What a letter of a diagram admits.
+/// The mask of what the letter `l` of a diagram admits.
 fn mask_of_letter(l: Letter) -> LetterMask
     ensures { (x : Seen) → has_letter result x ≡ letter_admits l x }
 {
@@ -66,7 +66,7 @@ fn mask_of_letter(l: Letter) -> LetterMask
     LetterMask { bits }
 }
 
-/// What is admitted if this is drawn.
+/// The mask of what may be seen at a place, if `drawn` is what the pattern draws there.
 pub fn mask_of(drawn: Drawn) -> LetterMask
     ensures { (x : Seen) → has_letter result x ≡ drawn_admits drawn x }
 {

@@ -15,7 +15,7 @@ use go_base::NoMemory;
 use std::alloc::Global;
 use std::marker::Model;
 
-/// The most rows that a table may have: an entry is less than four times as much.
+/// The most rows that a table may have. An entry is four times its row plus the number of the row's kind, in 32 bits.
 const MOST_ROWS: usize = 1_073_741_824;
 
 /// A table of rows, seen as the rows. It grows row by row.
@@ -23,7 +23,7 @@ const MOST_ROWS: usize = 1_073_741_824;
 pub struct Table {
     /// The rows that Friend, Enemy, Empty and Off lead to: four for each row.
     targets: Vec<u32>,
-    /// Where the numbers of each row begin, and at the end where those of the last row end.
+    /// The index at which the numbers of each row begin; the last element is the index past all numbers.
     starts: Vec<usize>,
     /// The numbers of all rows, one row after the other.
     numbers: Vec<u16>,
@@ -56,7 +56,7 @@ impl Model for Table {
     }) t.kinds.items };
 }
 
-/// The place of a letter's target among the four of a row.
+/// The index of the target of `letter` among the four targets of a row.
 fn column(letter: Seen) -> usize
     ensures value { result ≡ letter_number letter }
     ensures bound { result < 4 }
@@ -64,7 +64,7 @@ fn column(letter: Seen) -> usize
     letter as usize
 }
 
-/// The entry of the row that a letter leads to from a row, of the entries of an automaton.
+/// The entry of the row that `letter` leads to from `row`. `entries` are those of an automaton.
 pub fn entry_at(entries: &[u32], row: u32, letter: Seen) -> u32
     requires { 4 * row + 4 ≤ length entries.now }
     ensures { result ≡ slice_index_or entries.now (4 * row + letter_number letter) 0 }
@@ -72,7 +72,7 @@ pub fn entry_at(entries: &[u32], row: u32, letter: Seen) -> u32
     entries[4 * row as usize + column(letter)]
 }
 
-/// The numbers from one place to another.
+/// The elements of `numbers` whose index is at least `from` and below `to`.
 fn between(numbers: &[u16], from: usize, to: usize) -> &[u16]
     requires order { from ≤ to }
     requires within { to ≤ length numbers.now }
@@ -81,7 +81,7 @@ fn between(numbers: &[u16], from: usize, to: usize) -> &[u16]
     &numbers[from..to]
 }
 
-/// Makes room in the five vectors of a table for a row with so many numbers. What they hold stays.
+/// Makes room in the five vectors of a table for one row with `more` numbers. Their elements stay as they are.
 fn make_room(
     targets: &mut Vec<u32>,
     starts: &mut Vec<usize>,
@@ -109,7 +109,7 @@ fn make_room(
     Ok(())
 }
 
-/// Appends the targets of a row, for which there is room.
+/// Appends the four targets of a row. There must be room for them.
 fn append_targets(targets: &mut Vec<u32>, of_row: [u32; 4])
     requires { vec_len targets.old + 4 ≤ vec_capacity targets.old }
     ensures { targets.new.items ≡ targets.old.items ++ of_row }
@@ -117,7 +117,7 @@ fn append_targets(targets: &mut Vec<u32>, of_row: [u32; 4])
     targets.extend_from_slice(&of_row).unwrap();
 }
 
-/// Appends numbers for which there is room. Most rows have none.
+/// Appends `more` to `numbers`, which must have room for them. Most rows have no numbers.
 fn append(numbers: &mut Vec<u16>, more: &[u16])
     requires { vec_len numbers.old + length more.now ≤ vec_capacity numbers.old }
     ensures items { numbers.new.items ≡ numbers.old.items ++ more.now }
@@ -131,7 +131,7 @@ fn append(numbers: &mut Vec<u16>, more: &[u16])
 }
 
 impl Table {
-    /// A table without rows, with room for so many. Takes memory.
+    /// A table without rows, with room for `rows` rows. Takes memory.
     pub fn with_room(alloc: Global, rows: u32) -> Result<Table, NoMemory>
         ensures { IfOk result (λ t. t ≡ []) }
     {
@@ -150,8 +150,8 @@ impl Table {
         })
     }
 
-    /// Adds a row that accepts the numbers of both lists, one list after the other. Takes memory; for more than 2^30
-    /// rows there is none. If there is none, no row is added.
+    /// Adds a row that accepts the numbers of `first` and then those of `second`. Takes memory. If there is none, or if
+    /// the table already has 2^30 rows, it answers `NoMemory` and adds no row.
     pub fn add_row(
         &mut self,
         targets_of_row: [u32; 4],
@@ -188,14 +188,14 @@ impl Table {
         Ok(())
     }
 
-    /// How many rows it has.
+    /// How many rows the table has.
     pub fn rows(&self) -> usize
         ensures { result ≡ length self.now }
     {
         self.depths.len()
     }
 
-    /// The closed table of the same rows.
+    /// The closed table that has the same rows.
     pub fn closed(self) -> ClosedTable
         requires { IsAutomaton self }
         ensures { result ≡ self }
@@ -218,7 +218,7 @@ impl Table {
     }
 }
 
-/// Writes each of these targets as its entry.
+/// Replaces each row number in `targets` by the entry of that row. `kinds` has the kinds of all rows.
 fn write_kinds(targets: &mut [u32], kinds: &[RowKind])
     requires few { length kinds.now ≤ most_rows }
     requires rows { All (λ row. row < length kinds.now) targets.old }
@@ -230,12 +230,12 @@ fn write_kinds(targets: &mut [u32], kinds: &[RowKind])
     }
 }
 
-/// A table to which no row is added, seen as the rows. Beside each target it has the kind of its row.
+/// A table to which no more rows are added, seen as its rows. It keeps each target as an entry, with the target's kind.
 #[derive(Drop)]
 pub struct ClosedTable {
     /// The entries of the rows that Friend, Enemy, Empty and Off lead to: four for each row.
     entries: Vec<u32>,
-    /// Where the numbers of each row begin, and at the end where those of the last row end.
+    /// The index at which the numbers of each row begin; the last element is the index past all numbers.
     starts: Vec<usize>,
     /// The numbers of all rows, one row after the other.
     numbers: Vec<u16>,
@@ -269,7 +269,7 @@ impl Model for ClosedTable {
 }
 
 impl ClosedTable {
-    /// How many rows it has. Each has a target for each letter.
+    /// How many rows the table has. Each row has a target for each letter.
     pub fn rows(&self) -> usize
         ensures value { result ≡ length self.now }
         ensures four { HaveFourTargets self.now }
@@ -277,7 +277,7 @@ impl ClosedTable {
         self.depths.len()
     }
 
-    /// The row that a letter leads to from a row.
+    /// The row that `letter` leads to from `row`.
     pub fn target(&self, row: u32, letter: Seen) -> u32
         requires { row < length self.now }
         ensures { result ≡ step_at self.now row letter }
@@ -293,7 +293,7 @@ impl ClosedTable {
         self.entries.as_slice()
     }
 
-    /// How many letters lead to a row.
+    /// The depth of `row`, as `add_row` was given it.
     pub fn depth(&self, row: u32) -> u16
         requires { row < length self.now }
         ensures { result ≡ (row_at self.now row).depth }
@@ -301,7 +301,7 @@ impl ClosedTable {
         self.depths[row as usize]
     }
 
-    /// The kind of a row.
+    /// The kind of `row`.
     pub fn kind(&self, row: u32) -> RowKind
         requires { row < length self.now }
         ensures { result ≡ kind_at self.now row }
@@ -316,7 +316,7 @@ impl ClosedTable {
         self.numbers.as_slice()
     }
 
-    /// The first index of a row's numbers among those of all rows, and the index past the last.
+    /// The index of the first number of `row` in `numbers`, and the index past its last number.
     pub fn range(&self, row: u32) -> (usize, usize)
         requires { row < length self.now }
         ensures from { result.0 ≡ length (numbers_of (take row self.now)) }
@@ -325,7 +325,7 @@ impl ClosedTable {
         (self.starts[row as usize], self.starts[row as usize + 1])
     }
 
-    /// The numbers of a row.
+    /// The numbers that `row` accepts.
     pub fn accepts(&self, row: u32) -> &[u16]
         requires { row < length self.now }
         ensures { result.now ≡ (row_at self.now row).numbers }

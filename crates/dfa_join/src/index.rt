@@ -1,4 +1,4 @@
-//! The numbers of pairs of rows, by the pairs.
+//! The numbers of pairs of rows, found by the pair.
 ghost use Rattle.std.specs.Prelude.{◌≡◌, ◌≢◌, ℕ, ◌<◌, length, slice_set, Some, None, IfOk, IfErr, OnOk, OnErr};
 ghost use Rattle.dfa_join.specs.Pairs.{Pair};
 ghost use Rattle.dfa_join.specs.Index.{no_number, has_place, number_at, told_by};
@@ -9,10 +9,10 @@ use dfa_core::{Automaton, RowKind};
 use indexmap::IndexMap;
 use std::alloc::{AllocError, Global};
 
-/// What stands at the place of a pair without a number.
+/// Stands in the list for a pair that has no number.
 const NO_NUMBER: u32 = u32::MAX;
 
-/// The first row of an automaton after which nothing can be accepted; the count of its rows, if there is none.
+/// The first dead row of `automaton`, or the count of its rows if it has no dead row.
 fn dead_row(automaton: &Automaton) -> u32 {
     for row in 0..automaton.rows() {
         if automaton.kind(row) == RowKind::Dead {
@@ -22,17 +22,17 @@ fn dead_row(automaton: &Automaton) -> u32 {
     automaton.rows()
 }
 
-/// The numbers of the pairs of one automaton's rows with one row of the other.
+/// The numbers of the pairs of each row of one automaton with the dead row of the other.
 #[derive(Drop)]
 pub struct Side {
     /// The dead row of the other automaton.
     dead: u32,
-    /// For each row of this automaton the number of its pair with that dead row, or NO_NUMBER.
+    /// For each row of this automaton, the number of its pair with the other's dead row, or `NO_NUMBER`.
     numbers: Vec<u32>,
 }
 
 impl Side {
-    /// No pair has a number. Takes memory.
+    /// A side for an automaton with `rows` rows, in which no pair has a number. Takes memory.
     fn new(alloc: Global, rows: u32, dead: u32) -> Result<Side, AllocError>
         ensures { IfOk result (λ side. (row : ℕ) → number_at side.numbers.items row ≡ None) }
     {
@@ -41,7 +41,7 @@ impl Side {
         Ok(Side { dead, numbers })
     }
 
-    /// Whether it has a place for the pair of these two rows.
+    /// Whether this side has a place for the pair of `row` with the row `other` of the other automaton.
     #[inline(always)]
     fn has_place(&self, row: u32, other: u32) -> bool
         ensures { result ≡ has_place self.now row other }
@@ -49,7 +49,7 @@ impl Side {
         other == self.dead && (row as usize) < self.numbers.len()
     }
 
-    /// The number of a row's pair, if it has one.
+    /// The number of the pair of `row`, or `None` if the pair has no number.
     #[inline(always)]
     fn number(&self, row: u32) -> Option<u32>
         requires { row < length self.now.numbers.items }
@@ -62,7 +62,7 @@ impl Side {
         Some(number)
     }
 
-    /// Gives a row's pair a number.
+    /// Gives the pair of `row` the number `number`.
     #[inline(always)]
     fn put(&mut self, row: u32, number: u32)
         requires { row < length self.old.numbers.items }
@@ -73,20 +73,20 @@ impl Side {
     }
 }
 
-/// The numbers of pairs of rows. Many pairs have a row after which nothing can be accepted: their numbers stand in a
-/// list by the other row, and only those of the others are looked up.
+/// The numbers of pairs of rows. Many pairs have a dead row: their numbers stand in a list, at the index of the other
+/// row. Only the numbers of the remaining pairs are looked up in a map.
 #[derive(Drop)]
 pub struct Index {
-    /// The numbers of rows of the first automaton with the dead row of the second.
+    /// The numbers of the pairs of rows of the first automaton with the dead row of the second.
     left: Side,
-    /// The numbers of rows of the second automaton with the dead row of the first.
+    /// The numbers of the pairs of rows of the second automaton with the dead row of the first.
     right: Side,
-    /// The numbers of all others.
+    /// The numbers of all other pairs.
     others: IndexMap<RowPair, u32>,
 }
 
 impl Index {
-    /// No pair of rows of these two automata has a number. Takes memory.
+    /// The index for rows of `a` and `b` in which no pair has a number. Takes memory.
     pub fn new(alloc: Global, a: &Automaton, b: &Automaton) -> Result<Index, JoinError>
         ensures none { IfOk result (λ index. (pair : Pair) → told_by index pair ≡ None) }
         ensures no_limit { IfErr result (λ e. e ≡ JoinError.NoMemory) }
@@ -99,7 +99,7 @@ impl Index {
         })
     }
 
-    /// The number of a pair, None exactly if it has none.
+    /// The number of `pair`, or `None` if it has no number.
     #[inline(always)]
     pub fn number(&self, pair: (u32, u32)) -> Option<u32>
         ensures { result ≡ told_by self.now pair }
@@ -116,7 +116,7 @@ impl Index {
         }
     }
 
-    /// Gives a pair a number; if there is no memory, nothing changes.
+    /// Gives `pair` the number `number`. If there is no memory, no number changes.
     pub fn put(&mut self, pair: (u32, u32), number: u32) -> Result<(), JoinError>
         requires { number ≢ no_number }
         ensures here { OnOk result (told_by self.new pair ≡ Some number) }

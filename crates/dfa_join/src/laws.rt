@@ -1,4 +1,4 @@
-//! What the rows of a product come to: each function is a law, which is its contract, and does nothing.
+//! The rows of a product. Each function is a law: its contract states it, and its body is empty.
 
 ghost use Rattle.std.specs.Prelude.{◌≡◌, List};
 ghost use Rattle.pat_types.specs.declared.pattern.Pattern.{Pattern};
@@ -6,7 +6,8 @@ ghost use Rattle.dfa_core.specs.Automata.{Row};
 ghost use Rattle.dfa_join.specs.Pairs.{IsCanonical, AreNumberedAsMet};
 ghost use Rattle.dfa_join.specs.Compiled.{IsTableOf};
 
-/// Rows in the canonical order are numbered in the order in which they are first led to, each by a row before it.
+/// In the canonical order, each row but the start is a target of an earlier row, and rows are numbered as they are
+/// first met.
 pub fn rows_are_numbered_as_they_are_met()
     ensures { (rows : List Row) → IsCanonical rows → AreNumberedAsMet rows }
 {}

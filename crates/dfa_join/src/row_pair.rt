@@ -1,15 +1,15 @@
-//! Pairs of rows, as they are looked up.
+//! A pair of rows, as the key by which its number is looked up.
 ghost use Rattle.std.specs.Prelude.{◌≡◌};
 
 use std::hash::{Hash, Hasher};
 use std::marker::Model;
 
-/// A row of the first automaton and a row of the second. Seen as these two numbers.
+/// A row of the first automaton and a row of the second. Seen as the pair of their numbers.
 #[derive(Clone, Copy, PartialEq, Eq)]
 pub struct RowPair {
-    /// The number of the first one's row.
+    /// The row of the first automaton.
     left: u32,
-    /// The number of the second one's row.
+    /// The row of the second automaton.
     right: u32,
 }
 
@@ -23,7 +23,7 @@ impl Model for RowPair {
     ghost inverse = { λ pair. record { left = pair.0; right = pair.1 } };
 }
 
-/// A pair is hashed as one number, so that its place is found by one step of the hasher.
+/// A pair is hashed as one number, so that the hasher takes one step.
 impl Hash for RowPair {
     ghost use Rattle.std.specs.Prelude.{◌+◌, ◌*◌};
     ghost use Rattle.std.proofs.Common.{rules};
@@ -40,7 +40,7 @@ impl Hash for RowPair {
 }
 
 impl RowPair {
-    /// The pair of these two rows.
+    /// The key of the pair `pair`.
     pub fn new(pair: (u32, u32)) -> RowPair
         ensures { result ≡ pair }
     {

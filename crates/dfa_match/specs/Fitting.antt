@@ -1,4 +1,4 @@
--- Where a pattern fits, by its cells.
+-- When a pattern fits at an anchor, by its cells.
 use Rattle.std.specs.Prelude.{◌≡◌, ℕ, ◌*◌, ◌<◌, true, ℤ, pos, ◌-ℤ◌, List, Some, slice_get}
 use Rattle.go_rules.specs.declared.Colour.{Colour}
 use Rattle.go_rules.specs.Position.{BoardState}
@@ -15,7 +15,7 @@ pub record FitsAt (p : Pattern) (at : BoardState) (friend : Colour) (t m : ℕ) 
   pub cells : (r c : ℤ) → drawn_fits (drawn_at p r c) at friend
       (place_at at.size t m (r -ℤ pos (anchor_of p).0, c -ℤ pos (anchor_of p).1)) ≡ true
 
--- the pattern with the hit's number fits at the hit's anchor under its transformation
+-- the pattern with the hit's number fits at the hit's anchor under the hit's transformation
 pub record IsFit (patterns : List Pattern) (at : BoardState) (friend : Colour) (hit : Hit) : Type 0 where
   pub transform : hit.transform < transformations
   pub anchor : hit.anchor < at.size * at.size

@@ -15,19 +15,19 @@ use Rattle.dfa_match.specs.Steps.{step_by}
 abbrev pub ring_letters : ℕ
 ring_letters = 8
 
--- the letters of the ring around the anchor with this corner, as they are read under t
+-- the letters of the ring around the anchor whose square begins at corner, as they are read under t
 abbrev pub letters_around : List Seen → ℕ → ℕ → Word
 letters_around letters t corner =
     word_from (λ i. slice_index_or letters (corner + step_by (transformed t (offset_at i))) Off) 1 ring_letters
 
--- the ring around the anchor of a walk, by the numbers of its letters as they are and mirrored
+-- the ring around the anchor of a walk: the numbers of its letters as they are, and mirrored
 abbrev pub ring_of : List Seen → Walk → Ring
 ring_of letters w = record {
   plain = word_number (letters_around letters 0 w.corner);
   mirrored = word_number (letters_around letters 4 w.corner);
 }
 
--- the number of eight letters whose first two are put behind the others
+-- the number of eight letters after the first two of them are put last
 abbrev pub turned_number : ℕ → ℕ
 turned_number n = n % 4096 * 16 + n / 4096
 

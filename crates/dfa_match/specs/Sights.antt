@@ -14,7 +14,7 @@ use Rattle.dfa_core.specs.declared.automaton.Seen.{Seen}
 use Rattle.dfa_core.specs.declared.automaton.Seen.TheVariants.{Friend, Enemy, Empty, Off}
 use Rattle.dfa_core.specs.Words.{Word}
 
--- what a cell is for a friend of this colour
+-- what a cell is for a friend of this colour: a stone of the friend or of the enemy, or empty
 abbrev pub seen_of : Colour → Cell → Seen
 seen_of black black_stone = Friend
 seen_of black white_stone = Enemy
@@ -23,35 +23,34 @@ seen_of white black_stone = Enemy
 seen_of white white_stone = Friend
 seen_of white empty_cell = Empty
 
--- what is seen at a point, or off the board
+-- what the friend sees at a point, or at None, which is off the board
 abbrev pub seen_at_place : BoardState → Colour → Option ℕ → Seen
 seen_at_place pos friend None = Off
 seen_at_place pos friend (Some q) = seen_of friend (cell_at pos.cells q)
 
--- what is seen at the place that the offset with the index i, moved by t, leads to from the anchor m
+-- what is seen from the anchor m at index i of the spiral, whose offset is moved by t
 unfoldable pub seen_at : BoardState → Colour → ℕ → ℕ → ℕ → Seen
 seen_at pos friend t m i = seen_at_place pos friend (place_at pos.size t m (offset_at i))
 
--- the n letters that are seen from the index i on
+-- the word of the n letters from index i on, if the letter at each index is as seen says
 unfoldable pub word_from : (ℕ → Seen) → ℕ → ℕ → Word
 word_from seen i zero = []
 word_from seen i (suc n) = seen i ∷ word_from seen (suc i) n
 
--- the word that is read from the anchor m under t, as far as n letters
+-- the word of the first n letters that are read from the anchor m under t
 abbrev pub word_at : BoardState → Colour → ℕ → ℕ → ℕ → Word
 word_at pos friend t m n = word_from (seen_at pos friend t m) 0 n
 
--- how many rows and columns the padded board has: those of the largest board, and the largest offset before and behind
--- them
+-- how many rows and columns the padded board has: those of the largest board, and the largest offset on both sides
 abbrev pub padded_side : ℕ
 padded_side = 73
 
--- the point in a row and a column of the padded board of size s, whose board begins behind the largest offset
+-- the point of a board of size s in row r and column c of the padded board, if there is one
 abbrev pub padded_point : ℕ → ℕ → ℕ → Option ℕ
 padded_point s r c = point_of s (strip_of s (plus r -ℤ plus largest_offset))
     (strip_of s (plus c -ℤ plus largest_offset))
 
--- what is seen at a point below n, or off the board
+-- what the friend sees at a point below n; off the board at other points and at None
 abbrev pub seen_below : ℕ → BoardState → Colour → Option ℕ → Seen
 seen_below n pos friend None = Off
 seen_below n pos friend (Some q) = if nat_lt q n then seen_of friend (cell_at pos.cells q) else Off
@@ -62,7 +61,7 @@ pub record AreSightsBelow (n : ℕ) (pos : BoardState) (friend : Colour) (letter
   pub each : (r c : ℕ) → r < padded_side → c < padded_side
       → slice_index_or letters (r * padded_side + c) Off ≡ seen_below n pos friend (padded_point pos.size r c)
 
--- the padded board shows what the friend sees at each point of a board of this size
+-- letters shows, on the padded board, what the friend sees at each point of a board of this size
 pub record AreSights (pos : BoardState) (friend : Colour) (size : ℕ) (letters : List Seen) : Type 0 where
   pub same_size : size ≡ pos.size
   pub few : size ≤ largest_size

@@ -5,12 +5,12 @@ ghost use Rattle.dfa_match.specs.Steps.{anchor_at_corner, cursor_at, last_corner
 use crate::sights::SIDE;
 use go_base::{Point, Size};
 
-/// Where a point of a board stands. From one point to the next it is counted on, without a division.
+/// Where a point of a board stands. The cursor at the next point is found without a division.
 #[derive(Clone, Copy)]
 pub struct Cursor {
     /// The column of the point.
     pub column: u8,
-    /// Where the square of all offsets around the point begins on the padded board.
+    /// The index at which the square of all offsets around the point begins on the padded board.
     pub corner: u16,
 }
 
@@ -46,7 +46,7 @@ impl Cursor {
     }
 }
 
-/// The point of a board around which the square of all offsets begins at this index of the padded board.
+/// The point of a board around which the square of all offsets begins at the index `corner` of the padded board.
 pub fn anchor_at(corner: u16, size: Size) -> Point
     requires { corner ≤ last_corner }
     ensures { result ≡ anchor_at_corner size corner }

@@ -1,10 +1,10 @@
 //! The scan of a board: an automaton is run from each point under each transformation.
 //!
 //! A hit is a number that the automaton accepts at the end of a word, which is what is seen along the moved spiral from
-//! an anchor. `scan` gives exactly the hits, each once; it is given no diagrams. The walks from all anchors stand in
-//! one list: each of them reads a letter, and then each the next. The anchor's own letter is read once for all
-//! transformations, the first nine letters in one look if nothing is accepted among them, and letters at which no
-//! pattern looks are passed over. Two laws say that a word that is read from an anchor matches a pattern exactly if
+//! an anchor. `scan` finds exactly the hits, each once; it does not look at diagrams. The walks from all anchors stand
+//! in one list: each walk reads one letter, and only then do they read the next. The anchor's own letter is read once
+//! for all transformations, the first nine letters in one look if nothing is accepted among them, and letters at which
+//! no pattern looks are passed over. Two laws say that a word that is read from an anchor matches a pattern exactly if
 //! the pattern fits there.
 //!
 //! After GNU Go Manual, "The DFA pattern matcher".
@@ -54,7 +54,7 @@ pub struct Hit {
     pub anchor: Point,
 }
 
-/// Adds the hits of these patterns.
+/// Adds the hits of the patterns with these `numbers`, at `anchor` under `t`.
 fn add(out: &mut Vec<Hit>, numbers: &[u16], t: Transform, anchor: Point) -> Result<(), NoMemory>
     ensures { OnOk result (out.new.items ≡ out.old.items ++ hits_at t anchor numbers.now) }
 {
@@ -68,12 +68,12 @@ fn add(out: &mut Vec<Hit>, numbers: &[u16], t: Transform, anchor: Point) -> Resu
     Ok(())
 }
 
-/// How often a letter is read on each walk before those that do not go on are dropped.
+/// How many letters are read on each walk before the walks that have ended are dropped.
 const PASSES: u16 = 4;
 
-/// Runs the automaton from all anchors under one transformation, until no walk is left. `first` are the walks before
-/// the first letter, `second` those behind it and `rings` the rings around their anchors; they are the same under each
-/// transformation.
+/// Runs the automaton from all anchors under the transformation `t`, until no walk is left. `first` are the walks
+/// before the first letter, `second` the walks after it, and `rings` the rings around the anchors of `second`; they are
+/// the same under each transformation.
 fn sweep(
     automaton: &Automaton,
     shortcuts: &Shortcuts,
@@ -113,8 +113,8 @@ fn sweep(
     Ok(())
 }
 
-/// The hits of an automaton on the position of a look: each number that it accepts along the spiral from some anchor
-/// under some transformation, once. `out` must be empty, and gives the allocator. Takes memory.
+/// The hits of an automaton on the position of `look`: each number that it accepts along the spiral from some anchor
+/// under some transformation, once. `out` must be empty and supplies the allocator. Takes memory.
 pub fn scan<L: Look>(
     scanner: &Scanner,
     look: &mut L,

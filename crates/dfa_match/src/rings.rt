@@ -1,8 +1,9 @@
 //! The rings around the anchors, which are read once for all transformations.
 //!
 //! The first nine letters of a word are the anchor's and those of the ring around it. Transformations 1 to 3 turn this
-//! ring by quarters, and 7, 6 and 5 turn the ring that 4 mirrors. By a quarter more the first two letters come last. So
-//! a ring is read twice, as it is and mirrored, and its number under each transformation follows.
+//! ring by one, two and three quarters; 7, 6 and 5 turn in the same way the ring that 4 mirrors. A turn by a quarter
+//! puts the first two letters last. So a ring is read twice, as it is and mirrored, and its number under each
+//! transformation follows.
 ghost use Rattle.std.specs.Prelude.{◌≡◌, ℕ, ◌+◌, ◌≤◌, List, All, IfOk, map, slice_index_or};
 ghost use Rattle.dfa_core.specs.declared.automaton.Seen.{Seen as SeenThere};
 ghost use Rattle.dfa_shortcuts.specs.Openings.{opening_letters, word_number};
@@ -21,19 +22,19 @@ use std::alloc::Global;
 /// The letters of the ring around an anchor, as the digits of a number to the base four, the first one highest.
 #[derive(Clone, Copy)]
 pub struct Ring {
-    /// The letters as they are read if nothing is moved.
+    /// The letters as they are read under transformation 0, which moves nothing.
     pub plain: u16,
-    /// The letters as they are read if the ring is mirrored, by transformation 4.
+    /// The letters as they are read under transformation 4, which mirrors the ring.
     pub mirrored: u16,
 }
 
-/// How many letters a ring has: those of an opening, but for the anchor's.
+/// How many letters a ring has: those of an opening without the anchor's.
 const RING_LETTERS: usize = OPENING_LETTERS as usize - 1;
 
-/// How many numbers there are for a ring.
+/// How many numbers a ring can have.
 const RING_NUMBERS: u32 = 65_536;
 
-/// The number of a ring that is turned by a quarter: its first two letters come last.
+/// The number of the ring with this `number` after a turn by a quarter, which puts its first two letters last.
 #[inline(always)]
 fn turned(number: u16) -> u16
     ensures { result ≡ turned_number number }
@@ -42,7 +43,7 @@ fn turned(number: u16) -> u16
 }
 
 impl Ring {
-    /// The number of its letters as they are read under a transformation.
+    /// The number of the ring's letters as they are read under the transformation `t`.
     #[inline(always)]
     fn under(self, t: Transform) -> u16
         ensures { result ≡ ring_under t self }
@@ -60,7 +61,7 @@ impl Ring {
     }
 }
 
-/// The number of the ring that is read around a corner's anchor by these steps.
+/// The number of the ring that is read by `steps` around the anchor whose square begins at `corner`.
 fn ring_number(sights: &Sights, steps: &[u16], corner: u16) -> u16
     requires corner { corner ≤ last_corner }
     requires steps { (t : ℕ) × AreSteps t steps.now }
@@ -73,7 +74,8 @@ fn ring_number(sights: &Sights, steps: &[u16], corner: u16) -> u16
     number
 }
 
-/// The rings around the anchors of these walks, in their order. Takes memory.
+/// The rings around the anchors of `walks`, in the order of the walks. `plain` and `mirrored` are the steps under
+/// transformations 0 and 4. Takes memory.
 pub fn rings(
     alloc: Global,
     sights: &Sights,
@@ -96,7 +98,7 @@ pub fn rings(
     Ok(rings)
 }
 
-/// The number of an opening, from its anchor's letter and the ring around it.
+/// The number of the opening that has the letter `anchor` and then the letters of `ring` under the transformation `t`.
 #[inline(always)]
 pub fn opening_number(anchor: Seen, ring: Ring, t: Transform) -> u32
     ensures { (letters : List SeenThere) (steps : List ℕ) (w : WalkThere) → AreSteps t steps

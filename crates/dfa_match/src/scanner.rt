@@ -8,12 +8,15 @@ use go_base::NoMemory;
 use std::alloc::Global;
 use std::marker::Model;
 
-/// An automaton beside what makes its scans short, seen as the rows of the automaton: its shortcuts, and where the
-/// places of the spiral lie under each transformation. All of it follows from the automaton, and is made once.
+/// An automaton together with what makes its scans short, seen as the rows of the automaton: its shortcuts, and the
+/// steps to the places of the spiral under each transformation. All of it follows from the automaton, and is made once.
 #[derive(Drop)]
 pub struct Scanner {
+    /// The automaton.
     pub(crate) automaton: Automaton,
+    /// The shortcuts of the automaton.
     pub(crate) shortcuts: Shortcuts,
+    /// The steps to the places of the spiral, under each transformation.
     pub(crate) steps: Vec<u16>,
 }
 
@@ -33,7 +36,7 @@ impl Model for Scanner {
 }
 
 impl Scanner {
-    /// Makes an automaton ready for scans. Takes memory: five bytes for each letter of each row, 55 kilobytes, and a
+    /// Makes `automaton` ready for scans. Takes memory: five bytes for each letter of each row, 55 kilobytes, and a
     /// megabyte if the automaton is not small.
     pub fn new(alloc: Global, automaton: Automaton) -> Result<Scanner, NoMemory>
         ensures { IfOk result (λ scanner. scanner ≡ automaton) }

@@ -14,21 +14,21 @@ use go_base::{Cell, Colour, Look, Point, Size};
 /// How many rows and columns the padded board has.
 pub const SIDE: usize = 73;
 
-/// How far behind the beginning of the square of all offsets around a point the point itself lies.
+/// The step from the beginning of the square of all offsets around a point to the point itself.
 const CENTRE: usize = MAX_OFFSET as usize * SIDE + MAX_OFFSET as usize;
 
-/// The letters that a friend sees, row by row, with the largest offset before the first row and column and behind the
-/// last ones.
+/// The letters that a friend sees, row by row. The board is padded by the largest offset before its first row and
+/// column, and by at least as much after its last ones.
 #[derive(Drop)]
 pub struct Sights {
     /// The size of the board.
     pub size: Size,
-    /// The letters, off the board wherever there is no point.
+    /// The letters; `Off` at each place that is no point of the board.
     pub letters: [Seen; SIDE * SIDE],
     ghost whole: { length letters ≡ padded_side * padded_side },
 }
 
-/// What a cell is for a friend of this colour.
+/// What `cell` is for a friend of the colour `friend`.
 fn seen(friend: Colour, cell: Cell) -> Seen
     ensures { result ≡ seen_of friend cell }
 {
@@ -46,7 +46,7 @@ fn seen(friend: Colour, cell: Cell) -> Seen
     }
 }
 
-/// What a friend sees at a point.
+/// What a friend of the colour `friend` sees at the point `p`.
 fn sight<L: Look>(look: &mut L, friend: Colour, p: Point) -> Seen
     requires { p < (L.shows look.old).size * (L.shows look.old).size }
     ensures value { result ≡ seen_of friend (cell_at (L.shows look.old).cells p) }
@@ -55,14 +55,14 @@ fn sight<L: Look>(look: &mut L, friend: Colour, p: Point) -> Seen
     seen(friend, look.cell(p))
 }
 
-/// A padded board without points.
+/// A padded board on which every place is off the board.
 fn no_letters() -> [Seen; SIDE * SIDE]
     ensures { result ≡ replicate (padded_side * padded_side) Seen.Off }
 {
     [Seen::Off; SIDE * SIDE]
 }
 
-/// The row or the column of the square of all offsets that the part of an offset leads to.
+/// The row or the column of the square of all offsets that `by`, one part of an offset, leads to.
 fn strip_in_square(by: i8) -> u16
     requires low { neg_ℤ (pos largest_offset) ≤ℤ by }
     requires high { by ≤ℤ pos largest_offset }
@@ -72,7 +72,8 @@ fn strip_in_square(by: i8) -> u16
     (MAX_OFFSET as i16 + by as i16) as u16
 }
 
-/// How far behind the beginning of the square of all offsets the place of an offset lies, for each anchor the same.
+/// The step from the beginning of the square of all offsets to the place of the offset `by`. It is the same for each
+/// anchor.
 pub fn step_of(by: (i8, i8)) -> u16
     requires { IsNear by }
     ensures value { result ≡ step_by by }
@@ -82,7 +83,7 @@ pub fn step_of(by: (i8, i8)) -> u16
 }
 
 impl Sights {
-    /// What a friend sees on the position of a look. Each point is looked at once.
+    /// What a friend of the colour `friend` sees on the position of `look`. Each point is looked at once.
     pub fn of<L: Look>(look: &mut L, friend: Colour) -> Sights
         ensures sights { AreSights (L.shows look.old) friend result.size result.letters }
         ensures same { L.shows look.new ≡ L.shows look.old }
@@ -98,7 +99,7 @@ impl Sights {
         Sights { size, letters }
     }
 
-    /// The letter of the anchor with this corner.
+    /// The letter of the anchor whose square begins at `corner`.
     #[inline(always)]
     pub fn anchor(&self, corner: u16) -> Seen
         requires { corner ≤ last_corner }
@@ -107,7 +108,7 @@ impl Sights {
         self.letters[corner as usize + CENTRE]
     }
 
-    /// The letter that a walk from the anchor with this corner reads at this step.
+    /// The letter that a walk reads at `step`, if the square of its anchor begins at `corner`.
     pub fn letter(&self, corner: u16, step: u16) -> Seen
         requires corner { corner ≤ last_corner }
         requires step { step ≤ last_step }

@@ -1,4 +1,4 @@
-//! How far the places of the offsets lie from where a square of all offsets begins, under each transformation.
+//! The steps from the beginning of a square of all offsets to the places of the offsets, under each transformation.
 ghost use Rattle.std.specs.Prelude.{IfOk, OnOk};
 ghost use Rattle.dfa_match.specs.Steps.{step_count, AreSteps, AreAllSteps, AreStepsBehind};
 
@@ -8,13 +8,13 @@ use go_base::{NoMemory, Transform};
 use spiral::{OFFSETS, following};
 use std::alloc::Global;
 
-/// How many steps stand behind those of the offsets: a walk may come so far past the last offset before it is dropped.
+/// How many steps follow those of the offsets: a walk may go so far past the last offset before it is dropped.
 const PAST: u16 = 1024;
 
-/// How many steps a transformation has.
+/// How many steps each transformation has.
 const STEPS: usize = OFFSETS as usize + PAST as usize;
 
-/// Adds the steps under one transformation, and behind them those past the last offset, which lead to the corner.
+/// Adds the steps of all offsets under `t`, and after them those past the last offset, which lead to the corner.
 fn add_steps(steps: &mut Vec<u16>, t: Transform) -> Result<(), NoMemory>
     ensures { OnOk result (AreStepsBehind t step_count steps.old.items steps.new.items) }
 {
@@ -42,7 +42,7 @@ pub fn all_steps(alloc: Global) -> Result<Vec<u16>, NoMemory>
     Ok(steps)
 }
 
-/// The steps of all offsets under one transformation.
+/// The steps of all offsets under the transformation `t`.
 pub fn steps_under(steps: &[u16], t: Transform) -> &[u16]
     requires { AreAllSteps steps.now }
     ensures { AreSteps t result.now }

@@ -1,4 +1,4 @@
-//! The walks of an automaton from all anchors: how they begin, how they go on, and what they give out.
+//! The walks of an automaton from all anchors: how they begin, how they go on, and which hits they find.
 ghost use Rattle.std.specs.Prelude.{◌≡◌, ℕ, ◌+◌, ◌*◌, ◌%◌, ◌<◌, ◌≤◌, ◌++◌, false, List, length, map, filter, take, All};
 ghost use Rattle.std.specs.Prelude.{IfOk, OnOk};
 ghost use Rattle.dfa_core.specs.Entries.{row_of};
@@ -22,16 +22,16 @@ use std::alloc::Global;
 /// A walk from one anchor.
 #[derive(Clone, Copy)]
 pub struct Walk {
-    /// The row where it stands, beside its kind, as an entry of an automaton.
+    /// The entry of the row where the walk stands: the row and its kind.
     pub entry: u32,
     /// How many letters it has read or passed over.
     pub letters: u16,
-    /// Where the square of all offsets around its anchor begins on the padded board.
+    /// The index at which the square of all offsets around the anchor begins on the padded board.
     pub corner: u16,
 }
 
 impl Walk {
-    /// Whether it goes on: its row is not dead, and there are letters left.
+    /// Whether the walk goes on: its row is not dead, and there are letters left.
     #[inline(always)]
     fn goes_on(self) -> bool
         ensures { result ≡ goes_on self }
@@ -39,7 +39,7 @@ impl Walk {
         !is_dead(self.entry) && self.letters < OFFSETS
     }
 
-    /// Makes this walk the other one, part by part, which is faster than a whole walk that is put together first.
+    /// Copies `other` into this walk field by field, which is faster than to put a whole walk together first.
     #[inline(always)]
     fn set(&mut self, other: Walk)
         ensures { self.new ≡ other }
@@ -50,7 +50,7 @@ impl Walk {
     }
 }
 
-/// The walks from all points of a board, before the first letter. Takes memory.
+/// The walks from all points of a board of this size, before the first letter. Takes memory.
 pub fn first_walks(alloc: Global, automaton: &Automaton, size: Size) -> Result<Vec<Walk>, NoMemory>
     ensures value { IfOk result (λ walks. walks.items ≡ first_walks_of automaton.now size) }
     ensures standing { IfOk result (λ walks. All (IsStanding automaton.now) walks.items) }
@@ -71,7 +71,7 @@ pub fn first_walks(alloc: Global, automaton: &Automaton, size: Size) -> Result<V
     Ok(walks)
 }
 
-/// The walk behind the letter of its anchor.
+/// The walk after the letter of its anchor.
 fn behind_anchor(automaton: &Automaton, sights: &Sights, walk: Walk) -> Walk
     requires standing { IsStanding automaton.now walk }
     ensures { result ≡ after_anchor automaton.now sights.now.letters walk }
@@ -85,8 +85,8 @@ fn behind_anchor(automaton: &Automaton, sights: &Sights, walk: Walk) -> Walk
     }
 }
 
-/// The walks behind the letters of their anchors, but for those that do not go on. Under each transformation it is the
-/// same letter. Takes memory.
+/// The walks after the letters of their anchors, without those that have ended. They are the same under each
+/// transformation. Takes memory.
 pub fn second_walks(
     alloc: Global,
     automaton: &Automaton,
@@ -107,7 +107,7 @@ pub fn second_walks(
     Ok(walks)
 }
 
-/// The walk behind its opening under one transformation, or as it was if nothing is known of the row there.
+/// The walk after its opening under the transformation `t`, or the walk unchanged if the row there is not known.
 #[inline(always)]
 fn behind_opening(
     shortcuts: &Shortcuts,
@@ -131,8 +131,8 @@ fn behind_opening(
     }
 }
 
-/// Takes each walk behind its opening under one transformation, and moves those that go on to the front. Answers how
-/// many these are. `rings` are the rings around their anchors.
+/// Takes each walk past its opening under the transformation `t`, moves the walks that go on to the front, and answers
+/// how many go on. `rings` are the rings around the anchors of the walks.
 #[inline(never)]
 fn open_all(
     shortcuts: &Shortcuts,
@@ -156,8 +156,8 @@ fn open_all(
     left
 }
 
-/// The walks behind their openings under one transformation, but for those that do not go on. `rings` are the rings
-/// around their anchors. Takes memory.
+/// The walks after their openings under the transformation `t`, without those that have ended. `rings` are the rings
+/// around the anchors of `second`. Takes memory.
 pub fn opened_walks(
     alloc: Global,
     shortcuts: &Shortcuts,
@@ -178,8 +178,8 @@ pub fn opened_walks(
     Ok(walks)
 }
 
-/// Adds the hits of the row where a walk stands, as long as its letters are those of the spiral. Few walks come to a
-/// row that accepts something; apart from their loop this leaves them the registers.
+/// Adds the hits of the row where `walk` stands, unless the walk has left the spiral. It is kept out of the loop over
+/// the walks: accepting rows are rare, and the loop needs the registers.
 #[inline(never)]
 fn give_accepted(
     automaton: &Automaton,
@@ -199,7 +199,7 @@ fn give_accepted(
     add(out, automaton.accepts(row_in(walk.entry)), t, anchor)
 }
 
-/// Adds the hits of the row where a walk stands.
+/// Adds the hits of the row where `walk` stands.
 #[inline(always)]
 fn give_out(
     automaton: &Automaton,
@@ -219,7 +219,7 @@ fn give_out(
     }
 }
 
-/// Adds the hits of the rows where the walks stand.
+/// Adds the hits of the rows where `walks` stand.
 pub fn give_all(
     automaton: &Automaton,
     size: Size,
@@ -236,7 +236,7 @@ pub fn give_all(
     Ok(())
 }
 
-/// Adds the hits of the start, where the walks stand before their first letter. For most automata there are none.
+/// Adds the hits of the start row, where `walks` stand before their first letter. For most automata there are none.
 pub fn give_start(
     automaton: &Automaton,
     size: Size,
@@ -255,9 +255,9 @@ pub fn give_start(
     }
 }
 
-/// Reads a letter on each walk, and answers a number that is even only if no walk came to a row that accepts
-/// something. Apart from its caller it has the registers for itself, and nothing is decided for a walk: what it reads
-/// is far away in memory, and a choice that is foretold wrongly would wait for it.
+/// Reads a letter on each walk, and answers a number that is even only if no walk came to a row that accepts something.
+/// It is a function of its own, so that its loop has all registers, and it does not branch on a walk: what it reads is
+/// far away in memory, and a branch that is predicted wrongly would wait for it.
 #[inline(never)]
 fn read_on(
     entries: &[u32],
@@ -286,8 +286,8 @@ fn read_on(
     met
 }
 
-/// Reads a letter on each walk, and adds the hits of the rows to which they come. A walk that does not go on reads on
-/// too, until it is dropped, and no hit comes of it.
+/// Reads a letter on each walk, and adds the hits of the rows that the walks come to. A walk that has ended reads on
+/// too, until it is dropped, but finds no hit.
 pub fn read_letters(
     automaton: &Automaton,
     shortcuts: &Shortcuts,
@@ -316,10 +316,10 @@ pub fn read_letters(
     Ok(())
 }
 
-/// Moves the walks that go on to the front, and answers how many they are.
+/// Moves the walks that go on to the front, and answers how many there are.
 ///
-/// A walk is written behind those that go on, whether it goes on or not; the next one is written over one that does
-/// not. So nothing is decided for a walk, and no choice can be foretold wrongly.
+/// Each walk is written behind those that go on, whether it goes on itself or not; a walk that has ended is overwritten
+/// by the next one. So there is no branch on a walk that could be predicted wrongly.
 #[inline(never)]
 fn move_to_front(walks: &mut [Walk]) -> usize
     ensures left { take result walks.new ≡ filter goes_on walks.old }
@@ -343,7 +343,7 @@ fn move_to_front(walks: &mut [Walk]) -> usize
     left
 }
 
-/// Drops the walks that do not go on.
+/// Drops the walks that have ended.
 pub fn drop_ended(walks: &mut Vec<Walk>)
     ensures { walks.new.items ≡ filter goes_on walks.old.items }
 {

@@ -1,4 +1,4 @@
--- Rows behind the first letters of words, by the numbers of these.
+-- The rows after the first letters of words, found by the words' numbers.
 use Rattle.std.specs.Prelude.{◌≡◌, ◌≢◌, ℕ, ◌+◌, ◌*◌, ◌^◌, ◌<◌, ◌==◌, List, [], ◌∷◌, ◌++◌, length, slice_index_or}
 use Rattle.std.specs.Prelude.{All, if◌then◌else◌}
 use Rattle.dfa_core.specs.Automata.{Row, reach, accepted}
@@ -11,7 +11,7 @@ use Rattle.dfa_shortcuts.specs.Shortcuts.{is_accepting_entry, IsOfRow}
 abbrev pub opening_letters : ℕ
 opening_letters = 9
 
--- what stands for an entry of which nothing is known
+-- stands for an entry that is not known
 abbrev pub unknown : ℕ
 unknown = 4294967295
 
@@ -24,18 +24,18 @@ number_from n (x ∷ w) = number_from (4 * n + letter_number x) w
 abbrev pub word_number : Word → ℕ
 word_number w = number_from 0 w
 
--- the entry is unknown, or that of the row to which the word leads, and behind its first letter nothing is accepted as
--- far as its last one
+-- the entry is unknown, or it is that of the row to which the word leads and nothing is accepted after the second
+-- letter of the word or a later one
 pub record IsBehind (rows : List Row) (w : Word) (entry : ℕ) : Type 0 where
   pub to : entry ≢ unknown → entry ≡ entry_with (kind_at rows (reach rows w)) (reach rows w)
   pub silent : entry ≢ unknown → (v u : Word) → w ≡ v ++ u → 1 < length v → accepted rows v ≡ []
 
--- the list has the entries behind all words of n letters, by their numbers
+-- the list has the entries after all words of n letters, at the indices of their numbers
 pub record AreBehind (rows : List Row) (n : ℕ) (entries : List ℕ) : Type 0 where
   pub all : length entries ≡ 4 ^ n
   pub each : (w : Word) → length w ≡ n → IsBehind rows w (slice_index_or entries (word_number w) unknown)
 
--- what the list has for an opening is the entry behind it; past its end it says nothing
+-- for each opening the list has the entry after it, or unknown; past its end every entry is unknown
 pub record AreOpenings (rows : List Row) (entries : List ℕ) : Type 0 where
   pub each : (w : Word) → length w ≡ opening_letters
       → IsBehind rows w (slice_index_or entries (word_number w) unknown)
@@ -44,17 +44,17 @@ pub record AreOpenings (rows : List Row) (entries : List ℕ) : Type 0 where
 abbrev pub silent_entry : ℕ → ℕ
 silent_entry entry = if is_accepting_entry entry then unknown else entry
 
--- the entry behind the letter with this number, if that is known
+-- the entry after the letter with this number, or unknown if it is not known
 abbrev pub entry_behind : List ℕ → ℕ → ℕ → ℕ
 entry_behind entries entry letter =
     if entry == unknown then unknown else silent_entry (slice_index_or entries (4 * row_of entry + letter) 0)
 
--- the longer list has n entries: those behind each letter from each entry of the shorter list, one after the other
+-- the longer list has n entries: those after each letter from each entry of the shorter list, one after the other
 pub record AreLonger (entries shorter : List ℕ) (n : ℕ) (longer : List ℕ) : Type 0 where
   pub many : length longer ≡ n
   pub each : (i letter : ℕ) → letter < 4 → 4 * i + letter < n → slice_index_or longer (4 * i + letter) unknown
       ≡ entry_behind entries (slice_index_or shorter i unknown) letter
 
--- the four entries of the row of each known entry lie in the other list
+-- for each known entry of openings, the four entries of its row lie in the list entries
 abbrev pub KnownHaveRows : List ℕ → List ℕ → Type 0
 KnownHaveRows entries openings = All (λ entry. entry ≢ unknown → IsOfRow entries entry) openings

@@ -1,4 +1,4 @@
--- Rows to which a letter leads, and those behind it that are passed over.
+-- Shortcuts: the row after a letter and after the letters that are passed over.
 use Rattle.std.specs.Prelude.{◌≡◌, ℕ, ◌+◌, ◌*◌, ◌%◌, ◌<◌, ◌≤◌, Bool, not, ◌&&◌, ◌==◌, List, [], length}
 use Rattle.std.specs.Prelude.{slice_index_or, All}
 use Rattle.dfa_core.specs.declared.automaton.Seen.{Seen}
@@ -16,18 +16,18 @@ is_accepting_entry entry = entry % 4 == kind_number Accepting
 abbrev pub is_dead_entry : ℕ → Bool
 is_dead_entry entry = entry % 4 == kind_number Dead
 
--- whether the four entries of row r are one
+-- whether the four entries of row r are the same
 abbrev pub has_one_target : List ℕ → ℕ → Bool
 has_one_target entries r = (slice_index_or entries (4 * r + 1) 0 == slice_index_or entries (4 * r) 0) &&
     (slice_index_or entries (4 * r + 2) 0 == slice_index_or entries (4 * r) 0) &&
     (slice_index_or entries (4 * r + 3) 0 == slice_index_or entries (4 * r) 0)
 
--- whether the row of the entry is passed over: it accepts nothing, it is not dead, and its four entries are one
+-- whether the row of the entry is passed over: it accepts nothing, it is not dead, and its four entries are the same
 abbrev pub is_passed : List ℕ → ℕ → Bool
 is_passed entries entry = not (is_accepting_entry entry) && not (is_dead_entry entry)
     && has_one_target entries (row_of entry)
 
--- the entry is that of one of the rows
+-- the entry is that of one of the rows, with its kind
 pub record IsEntryOfRow (rows : List Row) (entry : ℕ) : Type 0 where
   pub row : row_of entry < length rows
   pub kind : entry ≡ entry_with (kind_at rows (row_of entry)) (row_of entry)
@@ -40,12 +40,12 @@ IsOfRow entries entry = 4 * row_of entry + 4 ≤ length entries
 abbrev pub HaveRows : List ℕ → Type 0
 HaveRows entries = All (IsOfRow entries) entries
 
--- each word of so many letters leads from row r to the row of the entry, and before its last letter nothing is accepted
+-- each word of many letters leads from row r to the row of the entry, and before its last letter nothing is accepted
 pub record LeadsOn (rows : List Row) (r many entry : ℕ) : Type 0 where
   pub to : (w : Word) → length w ≡ many → entry ≡ entry_with (kind_at rows (reach_from rows r w)) (reach_from rows r w)
   pub silent : (w : Word) → length w < many → (row_at rows (reach_from rows r w)).numbers ≡ []
 
--- for each row and letter, the entry is that of the row behind the letter and as many letters more as are passed over
+-- for each row and letter, the entry is that of the row after this letter and as many more as passed counts there
 pub record AreShortcuts (rows : List Row) (entries passed : List ℕ) : Type 0 where
   pub many : length entries ≡ 4 * length rows
   pub counted : length passed ≡ 4 * length rows

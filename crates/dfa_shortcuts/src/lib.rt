@@ -1,8 +1,8 @@
 //! Shortcuts through an automaton: rows to which several letters lead, found in one look.
 //!
-//! Behind many rows no pattern looks at the next letters: each of them leads on to one row. A shortcut passes over such
-//! letters. An opening is the first nine letters of a word, which are the anchor's and those of the ring around it; the
-//! row behind them is found by their number. No shortcut leads over a row that accepts something.
+//! After many rows no pattern looks at the next letter: all four letters lead to the same row. A shortcut passes over
+//! such letters. An opening is the first nine letters of a word, the anchor's and those of the ring around it; the row
+//! after it is found by the opening's number. No shortcut leads over a row that accepts something.
 #![tactic(auto)]
 
 ghost use Rattle.std.specs.Prelude.{◌≡◌, ◌≢◌, ◌≤◌, ◌+◌, ◌*◌, length, slice_index_or, IfOk, IfSome, IfNone};
@@ -25,12 +25,12 @@ use std::alloc::Global;
 /// The shortcuts of an automaton.
 #[derive(Drop)]
 pub struct Shortcuts {
-    /// For each row and letter, in the order of the automaton's entries, the entry of the row behind the letter and
-    /// the letters that are passed over.
+    /// For each row and letter, in the order of the automaton's entries: the entry of the row that the letter leads to,
+    /// after the letters that are passed over.
     pub entries: Vec<u32>,
-    /// For each row and letter, how many letters are passed over behind the letter that is read.
+    /// For each row and letter: how many letters are passed over after the letter that is read.
     pub passed: Vec<u8>,
-    /// By the numbers of openings, the entries of the rows behind them. It has none for a small automaton.
+    /// The entry of the row after each opening, at the index of the opening's number. Empty for a small automaton.
     pub openings: Vec<u32>,
 }
 
@@ -55,7 +55,7 @@ impl Shortcuts {
         })
     }
 
-    /// The entry of the row behind the opening with a number; None if nothing is known of it.
+    /// The entry of the row after the opening with the number `number`, or `None` if it is not known.
     #[inline(always)]
     pub fn opening(&self, number: u32) -> Option<u32>
         ensures known { IfSome result (λ entry. (entry ≢ unknown)
@@ -69,9 +69,9 @@ impl Shortcuts {
     }
 }
 
-/// The shortcut from a row by a letter: the entry of the row behind this letter and those that are passed over, and how
-/// many these are. `entries` and `passed` are those of the shortcuts; a loop that is given them as slices keeps them in
-/// registers.
+/// The shortcut from `row` by `letter`: the entry of the row after this letter and the letters that are passed over,
+/// and how many are passed over. `entries` and `passed` are the fields of the shortcuts; a loop that is given them as
+/// slices keeps them in registers.
 #[inline(always)]
 pub fn shortcut(entries: &[u32], passed: &[u8], row: u32, letter: Seen) -> (u32, u8)
     requires entries { 4 * row + 4 ≤ length entries.now }

@@ -1,7 +1,7 @@
-//! The rows behind openings: the first nine letters of words, by their numbers.
+//! The rows after openings, which are the first nine letters of words, found by the openings' numbers.
 //!
-//! The number of a word has its letters as digits, the first one highest. The table of all words grows by a letter at a
-//! time: the words that have one letter more than a word stand together, in its place.
+//! The number of a word has its letters as digits, the first one highest. The table of all words grows by one letter at
+//! a time: the four words that extend a word stand together, in the place of that word.
 ghost use Rattle.std.specs.Prelude.{◌≡◌, ◌≢◌, ◌*◌, ◌<◌, length, IfOk};
 ghost use Rattle.dfa_shortcuts.specs.Shortcuts.{IsOfRow};
 ghost use Rattle.dfa_shortcuts.specs.Openings.{unknown, entry_behind, AreLonger, KnownHaveRows, AreOpenings};
@@ -14,13 +14,14 @@ use std::alloc::Global;
 /// How many letters an opening has: the anchor's, and those of the ring around it.
 pub const OPENING_LETTERS: u8 = 9;
 
-/// What stands for an entry of which nothing is known: a row that accepts something lies on the way.
+/// Stands for an entry that is not known: a row that accepts something lies on the way.
 pub const UNKNOWN: u32 = u32::MAX;
 
-/// How many rows an automaton has at least for a table of its openings.
+/// The least number of rows with which an automaton gets a table of openings.
 const LEAST_ROWS: u32 = 4096;
 
-/// The entry behind one letter more, the one with this number.
+/// The entry after one more letter, whose number is `letter`; `UNKNOWN` if `entry` is, or if the new row accepts
+/// something.
 fn behind(entries: &[u32], entry: u32, letter: usize) -> u32
     requires row { entry ≢ unknown → IsOfRow entries.now entry }
     requires letter { letter < 4 }
@@ -33,7 +34,7 @@ fn behind(entries: &[u32], entry: u32, letter: usize) -> u32
     if is_accepting(next) { UNKNOWN } else { next }
 }
 
-/// The entries behind the words that have one letter more. Takes memory.
+/// For each entry of `shorter`, the entries after each letter more. Takes memory.
 fn longer(alloc: Global, entries: &[u32], shorter: &[u32]) -> Result<Vec<u32>, NoMemory>
     requires { KnownHaveRows entries.now shorter.now }
     ensures { IfOk result (λ longer. AreLonger entries.now shorter.now (4 * length shorter.now) longer.items) }
@@ -47,7 +48,7 @@ fn longer(alloc: Global, entries: &[u32], shorter: &[u32]) -> Result<Vec<u32>, N
     Ok(longer)
 }
 
-/// The entries behind all openings, by their numbers; none for a small automaton. Takes memory.
+/// The entries after all openings, at the indices of their numbers; empty for a small automaton. Takes memory.
 pub fn openings_of(alloc: Global, automaton: &Automaton) -> Result<Vec<u32>, NoMemory>
     ensures { IfOk result (λ openings. AreOpenings automaton.now openings.items) }
 {

@@ -1,4 +1,4 @@
-//! Letters that are passed over, since each of them leads on to one row.
+//! Letters that are passed over, because all letters lead to the same row.
 ghost use Rattle.std.specs.Prelude.{◌≡◌, ◌+◌, ◌*◌, ◌<◌, ◌≤◌, true, List, length, slice_index_or};
 ghost use Rattle.dfa_core.specs.Automata.{Row};
 ghost use Rattle.dfa_core.specs.Entries.{AreEntries};
@@ -7,7 +7,7 @@ ghost use Rattle.dfa_shortcuts.specs.Shortcuts.{IsOfRow, HaveRows, AreShortcuts,
 use crate::entries::{is_accepting, is_dead};
 use dfa_core::{RowKind, row_in};
 
-/// Whether each letter leads from a row to one and the same row.
+/// Whether all letters lead from `row` to the same row.
 fn leads_one_way(entries: &[u32], row: u32) -> bool
     requires { 4 * row + 4 ≤ length entries.now }
     ensures { result ≡ has_one_target entries.now row }
@@ -17,7 +17,7 @@ fn leads_one_way(entries: &[u32], row: u32) -> bool
     entries[first + 1] == entry && entries[first + 2] == entry && entries[first + 3] == entry
 }
 
-/// Whether the row of an entry is passed over: it accepts nothing, it is not dead, and each letter leads on to one row.
+/// Whether the row of `entry` is passed over: it accepts nothing, it is not dead, and all letters lead to the same row.
 fn is_passed_over(entries: &[u32], entry: u32) -> bool
     requires { IsOfRow entries.now entry }
     ensures { result ≡ is_passed entries.now entry }
@@ -30,14 +30,14 @@ fn is_passed_over(entries: &[u32], entry: u32) -> bool
 struct Asked {
     /// The entry.
     entry: u32,
-    /// Whether its row is passed over.
+    /// Whether the row of `entry` is passed over.
     over: bool,
 }
 
 /// An entry of a dead row, which is not passed over.
 const DEAD: u32 = RowKind::Dead as u32;
 
-/// Whether the row of an entry is passed over. The row is asked for only if the entry is not the one asked for last.
+/// Whether the row of `entry` is passed over. If `last` is the answer for this entry, the row is not looked at again.
 fn ask(from: &[u32], entry: u32, last: Asked) -> Asked
     requires row { IsOfRow from.now entry }
     requires last { last.over ≡ is_passed from.now last.entry }
@@ -56,8 +56,8 @@ fn ask(from: &[u32], entry: u32, last: Asked) -> Asked
     }
 }
 
-/// Makes one shortcut longer, to whose entry belongs a row that is passed over: it leads then to where the shortcut from
-/// that row leads, unless this passes over as many letters as a byte counts.
+/// Makes the shortcut at `place` longer. Its letter leads to a row that is passed over, so it now leads to where the
+/// shortcut from that row leads, unless that one already passes over as many letters as a byte can count.
 fn lengthen(from: &[u32], entries: &mut [u32], passed: &mut [u8], place: usize)
     requires rows { HaveRows from.now }
     requires place { place < length from.now }
@@ -78,8 +78,8 @@ fn lengthen(from: &[u32], entries: &mut [u32], passed: &mut [u8], place: usize)
     passed[place] = letters + 1;
 }
 
-/// Makes all shortcuts longer, from the last one on: most letters lead to a row further back, whose shortcuts are final
-/// then. Several letters of a row mostly lead to one row, which is asked for once.
+/// Makes all shortcuts longer, from the last to the first: most letters lead to a later row, whose shortcuts are then
+/// final. Several letters of a row mostly lead to the same row, which is then looked at once.
 pub fn lengthen_all(from: &[u32], entries: &mut [u32], passed: &mut [u8])
     requires rows { HaveRows from.now }
     requires entries { length entries.old ≡ length from.now }

@@ -21,10 +21,10 @@ use std::io;
 /// The longest list of patterns that has an automaton.
 const MOST_PATTERNS: usize = 4096;
 
-/// A stone of the friend beside the move, and the edge behind it; the stone that is played has to be safe.
+/// A friend's stone beside the move, and the edge behind the move; the stone that is played has to be safe.
 const TEXT: &[u8] = b"Pattern Edge\nO*|\n:8";
 
-/// The matches of the patterns on a position.
+/// The matches of `patterns` for a friend on a position.
 fn found(
     alloc: Global,
     patterns: &[Pattern],

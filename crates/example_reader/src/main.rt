@@ -10,7 +10,7 @@ use go_base::{Cell, Colour, Point, Position, Size, Watch};
 use read_tree::{Answer, Depths, Kind, attack, defend};
 use std::io;
 
-/// The point of a vertex in columns A to H. Points are counted from the upper left corner, row by row.
+/// The point of the vertex `name`, in columns A to H. Points are counted from the upper left corner, row by row.
 fn vertex(size: Size, name: &str) -> Option<Point>
     ensures { IfSome result (λ p. p < size * size) }
 {
@@ -21,7 +21,7 @@ fn vertex(size: Size, name: &str) -> Option<Point>
     if p < size.points() { Some(p) } else { None }
 }
 
-/// The position after some stones of one colour.
+/// The position after the stones at the vertices in `names` were played, all of one colour.
 fn with_stones(mut position: Position, colour: Colour, names: &str) -> Option<Position> {
     for name in names.split_whitespace() {
         position = position.play(colour, vertex(position.size(), name)?).ok()?;
@@ -29,7 +29,7 @@ fn with_stones(mut position: Position, colour: Colour, names: &str) -> Option<Po
     Some(position)
 }
 
-/// The answer to a question about the stone at a point, None exactly if none stands there.
+/// The answer to a question of this `kind` about the stone at `target`, or `None` if no stone stands there.
 fn asked(position: &Position, kind: Kind, target: Point, depths: Depths) -> Option<Answer>
     ensures stone { IsSome result
         ↔ ((target < position.now.size * position.now.size) × (cell_at position.now.cells target ≢ Cell.Empty)) }
@@ -46,7 +46,8 @@ fn asked(position: &Position, kind: Kind, target: Point, depths: Depths) -> Opti
     })
 }
 
-/// What can be done to the stone at D4, and for it, 20 plies deep, on a board of 9 rows with these stones.
+/// Whether the stone at D4 can be captured, and whether it can be saved, 20 plies deep, on a board of 9 rows with these
+/// stones.
 fn ladder(black: &str, white: &str) -> Option<(Answer, Answer)> {
     let position = with_stones(Position::new(Size::new(9)?), Colour::Black, black)?;
     let position = with_stones(position, Colour::White, white)?;

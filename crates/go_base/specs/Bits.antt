@@ -22,8 +22,8 @@ bits_set word = count_below 64 (λ k. bit_at word k == 1)
 unfoldable pub marked : List ℕ → set.FinSet nat_cmp
 marked words = set_below largest_points (is_marked words)
 
--- used notes the words that mark a point: each marked point is one of the largest board, the bit of its word is set in
--- used, and each bit that is set in used is that of a word that marks a point
+-- used notes the words that mark a point: each marked point is a point of the largest board, and bit i of used is set
+-- exactly if word i marks a point
 pub record IsNoteOf (words : List ℕ) (used : ℕ) : Type 0 where
   pub on_board : (q : ℕ) → IsTrue (is_marked words q) → q < largest_points
   pub noted : (q : ℕ) → IsTrue (is_marked words q) → bit_at used (q / 64) ≡ 1

@@ -1,4 +1,4 @@
--- One step of a flood, what a whole flood finds, and what one finds that stops where it sees many liberties.
+-- One step of a flood, what a whole flood finds, and what a search finds that stops once it sees many liberties.
 use Rattle.std.specs.Prelude.{◌≡◌, ℕ, ◌+◌, ◌*◌, ◌<◌, ◌≤◌, ◌⊎◌, ◌&&◌, Bool, true, List, Some, if◌then◌else◌}
 use Rattle.std.specs.Ordering.{nat_cmp}
 use Rattle.std.specs.FinSet as set
@@ -12,7 +12,8 @@ use Rattle.go_base.specs.Sides.{neighbour_at}
 use Rattle.go_base.specs.declared.flood.Found.{Found}
 use Rattle.go_base.specs.declared.flood.Searched.{Searched}
 
--- of the first n sides of q, the neighbours whose cell passes the test are there now, and nothing else came
+-- new has the points of old and each neighbour of q on its first n sides whose cell passes the test; each point that
+-- came is a neighbour of q whose cell passes
 pub record Gathers (s : ℕ) (cells : List Cell) (test : Cell
     → Bool) (q n : ℕ) (old new : set.FinSet nat_cmp) : Type 0 where
   pub kept : (r : ℕ) → set.contains old r ≡ true → set.contains new r ≡ true
@@ -21,7 +22,8 @@ pub record Gathers (s : ℕ) (cells : List Cell) (test : Cell
   pub only : (r : ℕ) → set.contains new r ≡ true
       → (set.contains old r ≡ true) ⊎ ((r < s * s) × (are_neighbours s q r ≡ true) × (test (cell_at cells r) ≡ true))
 
--- stones came, each of which is on the board and waits now, and nothing else came or left
+-- stones came to old, each of them on the board and now waiting; as many points came to wait, each of them a stone of
+-- new; no point left either set
 pub record Finds (s : ℕ) (old new wait waits : set.FinSet nat_cmp) : Type 0 where
   pub kept : (r : ℕ) → set.contains old r ≡ true → set.contains new r ≡ true
   pub on_board : (r : ℕ) → set.contains new r ≡ true → (set.contains old r ≡ true) ⊎ (r < s * s)
@@ -34,24 +36,24 @@ pub record Finds (s : ℕ) (old new wait waits : set.FinSet nat_cmp) : Type 0 wh
 abbrev pub with_enemies : Searched → set.FinSet nat_cmp → Found
 with_enemies found met = record { stones = found.stones; liberties = found.liberties; enemies = met }
 
--- an enemy, where enemies are asked for
+-- the cell is an enemy of own, and enemies are asked for
 abbrev pub is_asked_enemy : Bool → Cell → Cell → Bool
 is_asked_enemy asked own cell = asked && is_enemy own cell
 
--- a flood over stones like own came to r, which holds this cell: an own stone goes to the stones, an empty point to the
--- liberties, an enemy to the enemies where they are asked for
+-- a flood over stones like own came to r, which holds the cell: a stone like own goes to the stones, an empty point to
+-- the liberties, and an enemy to the enemies if these are asked for
 pub record Visits (asked : Bool) (own cell : Cell) (r : ℕ) (old new : Found) : Type 0 where
   pub stones : new.stones ≡ (if same_cell cell own then set.insert old.stones r else old.stones)
   pub liberties : new.liberties ≡ (if same_cell cell Empty then set.insert old.liberties r else old.liberties)
   pub enemies : new.enemies ≡ (if is_asked_enemy asked own cell then set.insert old.enemies r else old.enemies)
 
--- a flood over stones like own went to the first n sides of q
+-- a flood over stones like own visited the first n sides of q
 pub record SpreadsOut (asked : Bool) (s : ℕ) (cells : List Cell) (own : Cell) (q n : ℕ) (old new : Found) : Type 0 where
   pub stones : Gathers s cells (λ cell. same_cell cell own) q n old.stones new.stones
   pub liberties : Gathers s cells (λ cell. same_cell cell Empty) q n old.liberties new.liberties
   pub enemies : Gathers s cells (is_asked_enemy asked own) q n old.enemies new.enemies
 
--- a flood over stones like own went to sides of q, to the first n of them unless it saw more liberties than most
+-- a flood over stones like own visited sides of q: the first n of them, unless it saw more liberties than most
 pub record SpreadsUnder (asked : Bool) (s : ℕ) (cells : List Cell) (own : Cell) (q n most : ℕ)
     (old new : Found) : Type 0 where
   pub sides : ℕ
@@ -63,7 +65,7 @@ abbrev pub enemy_points : ℕ → List Cell → ℕ → set.FinSet nat_cmp
 enemy_points s cells p = set_below (s * s)
     (λ q. is_beside_string s cells p q && is_enemy (cell_at cells p) (cell_at cells q))
 
--- what was found of the string of p by a search that stops where it sees more liberties than most: the string and its
+-- what was found of the string of p by a search that stops once it sees more liberties than most: the string and its
 -- liberties, or else some of its stones and more liberties than most
 pub record Searches (s : ℕ) (cells : List Cell) (p most : ℕ) (found : Searched) : Type 0 where
   pub stones : set.len found.liberties ≤ most → found.stones ≡ string_at s cells p
@@ -71,6 +73,6 @@ pub record Searches (s : ℕ) (cells : List Cell) (p most : ℕ) (found : Search
   pub part : (q : ℕ) → set.contains found.stones q ≡ true → set.contains (string_at s cells p) q ≡ true
   pub more : most < set.len found.liberties → most < liberties_at s cells p
 
--- a search that saw no more liberties than most has met the enemies next to the string of p
+-- if a search saw no more liberties than most, it met all enemy stones next to the string of p and no others
 abbrev pub FindsEnemies : ℕ → List Cell → ℕ → ℕ → Searched → set.FinSet nat_cmp → Type 0
 FindsEnemies s cells p most found met = set.len found.liberties ≤ most → met ≡ enemy_points s cells p

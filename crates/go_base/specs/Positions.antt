@@ -10,7 +10,7 @@ use Rattle.go_rules.specs.Position.{BoardState, IsPosition}
 use Rattle.go_base.specs.declared.position.Position.TheInside.{Inside}
 use Rattle.go_base.specs.declared.view.Flat.{Flat}
 
--- the cells past a board of size s
+-- the cells past a board of size s, up to the size of the largest board: all are empty
 abbrev pub padding : ℕ → List Cell
 padding s = replicate (largest_points - s * s) Empty
 
@@ -27,13 +27,13 @@ pub record HoldsPosition (a : Inside) : Type 0 where
 abbrev pub kept_of : BoardState → Inside
 kept_of pos = record { size = pos.size; cells = pos.cells ++ padding pos.size; ban = pos.ban }
 
--- the fields come back from the position
+-- the position determines the fields that keep it
 pub kept_of-position_of : (a : Inside) → HoldsPosition a → kept_of (position_of a) ≡ a
 kept_of-position_of a h =
     ap (λ (cells : List Cell). record { size = a.size; ban = a.ban; cells = cells })
     (ap (λ t. take (a.size * a.size) a.cells ++ t) (sym h.padded) ∙ take-append-drop (a.size * a.size) a.cells)
 
--- the board holds the position
+-- the board holds the position pos, and its cells past the position are empty
 pub record Holds (pos : BoardState) (board : Flat) : Type 0 where
   pub position : IsPosition pos
   pub size : board.size ≡ pos.size
@@ -41,11 +41,11 @@ pub record Holds (pos : BoardState) (board : Flat) : Type 0 where
   pub whole : (length board.cells ≡ largest_points) × (board.size ≤ largest_size)
   pub padded : drop (board.size * board.size) board.cells ≡ padding board.size
 
--- the position on the board, with the ban
+-- the position on the board, with the given ban
 abbrev pub position_on : Flat → Option (ℕ × Colour) → BoardState
 position_on board ban = record { size = board.size; cells = take (board.size * board.size) board.cells; ban = ban }
 
--- the board holds a position with the ban
+-- the board holds a position with the given ban, and the cells past it are empty
 pub record HoldsWith (board : Flat) (ban : Option (ℕ × Colour)) : Type 0 where
   pub position : IsPosition (position_on board ban)
   pub padded : drop (board.size * board.size) board.cells ≡ padding board.size

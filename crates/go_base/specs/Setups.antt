@@ -18,7 +18,7 @@ is_dead_at s cells p = is_stone (cell_at cells p) && liberties s cells p == 0
 unfoldable pub has_dead_string : ℕ → List Cell → Bool
 has_dead_string s cells = any_below (s * s) (is_dead_at s cells)
 
--- what stands at p if these are the points of the black and of the white stones
+-- what stands at p, given the sets of the points of the black stones and of the white stones
 abbrev pub cell_among : set.FinSet nat_cmp → set.FinSet nat_cmp → ℕ → Cell
 cell_among black white p =
     if set.contains black p then Black else if set.contains white p then White else Empty

@@ -6,7 +6,7 @@ ghost use Rattle.go_rules.specs.Position.{is_banned};
 use crate::size::Point;
 use go_rules::Colour;
 
-/// Whether the ban is on the play of c at p. It is on at most one play.
+/// Whether `ban` forbids `c` to play at `p`. A ban forbids one play at most.
 pub fn is_banned(ban: Option<(Point, Colour)>, c: Colour, p: Point) -> bool
     ensures { result ≡ is_banned ban c p }
 {

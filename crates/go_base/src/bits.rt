@@ -16,7 +16,7 @@ pub(crate) const WORD_BITS: u16 = 64;
 /// How many words of 64 bits have a bit for each point of the largest board.
 pub const WORDS: usize = (MAX_POINTS + 63) / 64;
 
-/// A bit for each point of the largest board, in 80 bytes. Seen as its words.
+/// A bit for each point of the largest board, in 80 bytes. It is seen as the list of its words.
 #[derive(Clone, Copy, Debug)]
 pub struct PointBits {
     words: [u64; WORDS],
@@ -33,14 +33,14 @@ impl Model for PointBits {
 }
 
 impl PointBits {
-    /// No point.
+    /// The bits of the empty set: none is set.
     pub fn new() -> PointBits
         ensures { (q : ℕ) → is_marked result q ≡ false }
     {
         PointBits { words: [0; WORDS] }
     }
 
-    /// Whether the bit of p is set.
+    /// Whether the bit of `p` is set.
     pub fn has(&self, p: Point) -> bool
         requires { p < largest_points }
         ensures { result ≡ is_marked self.now p }
@@ -48,7 +48,7 @@ impl PointBits {
         (self.words[p as usize / 64] >> (p % 64)) & 1 == 1
     }
 
-    /// Sets the bit of p.
+    /// Sets the bit of `p`.
     pub fn add(&mut self, p: Point)
         requires { p < largest_points }
         ensures here { IsTrue (is_marked self.new p) }
@@ -57,7 +57,7 @@ impl PointBits {
         self.words[p as usize / 64] |= 1 << (p % 64);
     }
 
-    /// Clears the bit of p.
+    /// Clears the bit of `p`.
     pub(crate) fn remove(&mut self, p: Point)
         requires { p < largest_points }
         ensures here { is_marked self.new p ≡ false }
@@ -66,7 +66,7 @@ impl PointBits {
         self.words[p as usize / 64] &= !(1 << (p % 64));
     }
 
-    /// Whether a word has a bit.
+    /// Whether a bit of the word with this number is set.
     pub(crate) fn has_word(&self, word: u16) -> bool
         requires { word < set_words }
         ensures some { IsTrue result → (q : ℕ) × (q / 64 ≡ word) × IsTrue (is_marked self.now q) }
@@ -75,7 +75,7 @@ impl PointBits {
         lowest_bit(self.words[word as usize], 0) < WORD_BITS
     }
 
-    /// Sets each bit that the other has.
+    /// Sets each bit that is set in `other`.
     pub fn join(&mut self, other: &PointBits)
         ensures { (q : ℕ) → is_marked self.new q ≡ (is_marked self.old q || is_marked other.now q) }
     {
@@ -84,7 +84,7 @@ impl PointBits {
         }
     }
 
-    /// The bits that the other has too.
+    /// The bits that are set here and in `other`.
     pub(crate) fn intersection(&self, other: &PointBits) -> PointBits
         ensures { (q : ℕ) → is_marked result q ≡ (is_marked self.now q && is_marked other.now q) }
     {
@@ -95,7 +95,7 @@ impl PointBits {
         common
     }
 
-    /// The bits that the other has not.
+    /// The bits that are set here and not in `other`.
     pub(crate) fn difference(&self, other: &PointBits) -> PointBits
         ensures { (q : ℕ) → is_marked result q ≡ (is_marked self.now q && not (is_marked other.now q)) }
     {
@@ -106,7 +106,7 @@ impl PointBits {
         rest
     }
 
-    /// How many bits are set, each of them that of a point.
+    /// How many bits are set. Each set bit is the bit of a point.
     pub(crate) fn count(&self) -> u16
         requires { (q : ℕ) → IsTrue (is_marked self.now q) → q < largest_points }
         ensures { result ≡ set.len (marked self.now) }
@@ -118,7 +118,8 @@ impl PointBits {
         count
     }
 
-    /// A note of the words that have a bit, each of them that of a point.
+    /// A note of the words that have a set bit: bit `i` of the note is set exactly if word `i` has one. Each set bit is
+    /// the bit of a point.
     pub(crate) fn words_in_use(&self) -> u16
         requires { (q : ℕ) → IsTrue (is_marked self.now q) → q < largest_points }
         ensures { IsNoteOf self.now result }
@@ -132,7 +133,7 @@ impl PointBits {
         used
     }
 
-    /// The least point from `first` on whose bit is set, None exactly if there is none below `end`.
+    /// The least point from `first` on whose bit is set, if it is below `end`; `None` exactly if there is none.
     pub fn first_from(&self, first: u16, end: u16) -> Option<Point>
         requires { end ≤ largest_points }
         ensures some { IfSome result (λ q. (first ≤ q) × (q < end) × IsTrue (is_marked self.now q)
@@ -142,8 +143,8 @@ impl PointBits {
         first_marked(&self.words, first, end)
     }
 
-    /// Whether the test says yes of each point below `end` whose bit is set. No other point is asked for, and none
-    /// after the first if the test says no.
+    /// Whether `test` says yes of each point below `end` whose bit is set. The test is asked of no other point, and of
+    /// none after the first for which it says no.
     pub fn all_below<F: Fn(Point) -> bool>(&self, end: u16, test: F) -> bool
         requires bound { end ≤ largest_points }
         requires asked { (q : ℕ) → q < end → F.pre test q }
@@ -161,8 +162,8 @@ impl PointBits {
         all_of_word(self.words[base as usize / 64] & below, base, &test)
     }
 
-    /// The least point whose bit is set, None exactly if there is none. Of the words, `used` notes those that have a
-    /// bit, so only the first of them is looked at.
+    /// The least point whose bit is set; `None` exactly if there is none. As `used` notes the words that have a set
+    /// bit, only the first of these words is looked at.
     #[inline(always)]
     pub(crate) fn first_noted(&self, used: u16) -> Option<Point>
         requires { IsNoteOf self.now used }
@@ -177,8 +178,8 @@ impl PointBits {
         Some(word * WORD_BITS + lowest_bit(self.words[word as usize], 0))
     }
 
-    /// The least point from `first` on whose bit is set, None exactly if there is none. `used` notes which words have a
-    /// bit; the other words are passed over.
+    /// The least point from `first` on whose bit is set; `None` exactly if there is none. As `used` notes the words
+    /// that have a set bit, the other words are skipped.
     pub(crate) fn first_in_use(&self, used: u16, first: u16) -> Option<Point>
         requires { IsNoteOf self.now used }
         ensures some { IfSome result (λ q. (first ≤ q) × (q < largest_points) × IsTrue (is_marked self.now q)
@@ -189,8 +190,8 @@ impl PointBits {
     }
 }
 
-/// The least point from `first` on that the words mark, None exactly if there is none. It looks at the word of
-/// `first`, and then at the next one that `used` notes, which has a bit.
+/// The least point from `first` on that `words` mark; `None` exactly if there is none. It looks at the word of `first`,
+/// and then at the next word that `used` notes, which has a set bit.
 fn first_in_words(words: &[u64; WORDS], used: u16, first: u16) -> Option<Point>
     requires { IsNoteOf words.now used }
     ensures some { IfSome result (λ q. (first ≤ q) × (q < largest_points) × IsTrue (is_marked words.now q)
@@ -212,8 +213,8 @@ fn first_in_words(words: &[u64; WORDS], used: u16, first: u16) -> Option<Point>
     Some(next * WORD_BITS + lowest_bit(words[next as usize], 0))
 }
 
-/// The least point from `first` on that the words mark, None exactly if there is none below `end`. It takes no
-/// memory.
+/// The least point from `first` on that `words` mark, if it is below `end`; `None` exactly if there is none. It takes
+/// no memory.
 pub fn first_marked(words: &[u64; WORDS], first: u16, end: u16) -> Option<Point>
     requires { end ≤ largest_points }
     ensures some { IfSome result (λ q. (first ≤ q) × (q < end) × IsTrue (is_marked words.now q)
@@ -233,14 +234,14 @@ pub fn first_marked(words: &[u64; WORDS], first: u16, end: u16) -> Option<Point>
     None
 }
 
-// The point, if it is below the end.
+// The point `q` if it is below `end`, else `None`.
 fn point_below(q: u16, end: u16) -> Option<Point>
     ensures { result ≡ (if nat_lt q end then Some q else None) }
 {
     if q < end { Some(q) } else { None }
 }
 
-// Whether the test says yes of each point that the word marks, whose bits are those of the points from `base` on.
+// Whether `test` says yes of each point that `word` marks. The bits of `word` are those of the points from `base` on.
 fn all_of_word<F: Fn(Point) -> bool>(word: u64, base: Point, test: &F) -> bool
     requires below { base < largest_points }
     requires asked { (k : ℕ) → k < 64 → bit_at word k ≡ 1 → F.pre test.now (base + k) }
@@ -258,28 +259,28 @@ fn all_of_word<F: Fn(Point) -> bool>(word: u64, base: Point, test: &F) -> bool
     true
 }
 
-// The bits of the word that the other has too.
+// The bits that are set in `word` and in `other`.
 fn bits_in_both(word: u64, other: u64) -> u64
     ensures { (k : ℕ) → k < 64 → (bit_at result k == 1) ≡ ((bit_at word k == 1) && (bit_at other k == 1)) }
 {
     word & other
 }
 
-// The bits of the word that the other has not.
+// The bits that are set in `word` and not in `other`.
 fn bits_apart(word: u64, other: u64) -> u64
     ensures { (k : ℕ) → k < 64 → (bit_at result k == 1) ≡ ((bit_at word k == 1) && not (bit_at other k == 1)) }
 {
     word & !other
 }
 
-// How many bits of the word are set.
+// How many bits of `word` are set.
 fn ones_of(word: u64) -> u16
     ensures { result ≡ bits_set word }
 {
     word.count_ones() as u16
 }
 
-// The place of the lowest set bit that is not below `from`, and 64 if there is none.
+// The place of the lowest set bit of `word` that is not below `from`, or 64 if there is none.
 fn lowest_bit(word: u64, from: u16) -> u16
     requires { from < 64 }
     ensures bound { result ≤ 64 }

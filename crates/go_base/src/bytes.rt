@@ -23,7 +23,7 @@ impl<T: Drop> From<AllocFailed<T>> for NoMemory {
     }
 }
 
-/// Bytes one after another, as of a name or a reply, seen as their list.
+/// A growing list of bytes, as of a name or a reply, seen as the list of its bytes.
 #[derive(Debug, Drop)]
 pub struct Bytes {
     items: Vec<u8>,
@@ -54,7 +54,7 @@ impl Bytes {
         self.items.as_slice()
     }
 
-    /// Puts a byte at the end. Takes memory; a refusal changes nothing.
+    /// Appends the byte `x`. Takes memory; a refusal changes nothing.
     pub fn push(&mut self, x: u8) -> Result<(), NoMemory>
         ensures ok { OnOk result (self.new ≡ self.old ++ x ∷ []) }
         ensures err { OnErr result (self.new ≡ self.old) }
@@ -62,7 +62,7 @@ impl Bytes {
         Ok(self.items.push(x)?)
     }
 
-    /// Puts all bytes of `more` at the end. Takes memory; a refusal changes nothing.
+    /// Appends all bytes of `more`. Takes memory; a refusal changes nothing.
     pub fn extend(&mut self, more: &[u8]) -> Result<(), NoMemory>
         ensures ok { OnOk result (self.new ≡ self.old ++ more.now) }
         ensures err { OnErr result (self.new ≡ self.old) }

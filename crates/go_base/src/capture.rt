@@ -1,4 +1,4 @@
-//! What a play takes and which ban it leaves, and how it is taken back, on a board whose cells are told one by one.
+//! Plays on a board that is read cell by cell: what a play takes, which ban it leaves, and how it is taken back.
 
 ghost use Rattle.std.specs.Prelude.{◌≡◌, ◌≢◌, ◌⊎◌, ℕ, ◌+◌, ◌*◌, ◌%◌, ◌<◌, ◌==◌, ◌||◌, ◌&&◌, IsTrue, List, map};
 ghost use Rattle.std.specs.Prelude.{slice_set, IfOk, if◌then◌else◌};
@@ -22,8 +22,8 @@ use crate::view::View;
 use crate::without_liberty::string_without_liberty;
 use go_rules::{Cell, Colour, Illegal};
 
-/// Adds the stones of the string of q to the taken ones, where they are enemies of c without a liberty. A string that
-/// is among the taken ones already is not searched again.
+/// Adds the stones of the string of `q` to `taken`, if they are enemies of `c` and have no liberty. A string that is in
+/// `taken` already is not searched again.
 fn take<V: View>(board: &mut V, c: Colour, q: Point, taken: &mut PointSet)
     requires on_board { q < V.rows board.old * V.rows board.old }
     requires small { q < largest_points }
@@ -50,7 +50,7 @@ fn take<V: View>(board: &mut V, c: Colour, q: Point, taken: &mut PointSet)
     }
 }
 
-/// Adds the string next to a point on one side to the taken ones, if it is an enemy of c without a liberty.
+/// Adds the string next to the point of `spot` on one side to `taken`, if it is an enemy of `c` without a liberty.
 #[inline(always)]
 fn take_side<V: View>(board: &mut V, c: Colour, spot: &Spot, side: u8, taken: &mut PointSet)
     requires on_board { spot.now.point < V.rows board.old * V.rows board.old }
@@ -71,7 +71,7 @@ fn take_side<V: View>(board: &mut V, c: Colour, spot: &Spot, side: u8, taken: &m
     }
 }
 
-/// The points of the enemy strings without a liberty, if a stone of c was put at p.
+/// The points of the enemy strings that have no liberty, after a stone of `c` was put at `p`.
 fn captured<V: View>(board: &mut V, c: Colour, p: Point) -> PointSet
     requires { p < V.rows board.old * V.rows board.old }
     ensures looks { Looks V.cells V.asks board.old board.new anywhere }
@@ -91,7 +91,7 @@ fn captured<V: View>(board: &mut V, c: Colour, p: Point) -> PointSet
     taken
 }
 
-/// Puts the same on each point of the set.
+/// Puts `cell` on each point of `points`.
 pub fn put_all<V: View>(board: &mut V, points: &PointSet, cell: Cell)
     requires { (r : ℕ) → IsTrue (set.contains points.now r) → r < V.rows board.old * V.rows board.old }
     ensures asks { V.asks board.old board.new nowhere }
@@ -106,8 +106,8 @@ pub fn put_all<V: View>(board: &mut V, points: &PointSet, cell: Cell)
     }
 }
 
-/// Whether the string of the stone at p has no liberty, where these stones were taken by it. A stone that took another
-/// has the liberty where that stood, so nothing is searched for it.
+/// Whether the string of the stone at `p`, which took the stones of `taken`, has no liberty. A stone that took another
+/// has a liberty where the taken stone stood, so its string is not searched.
 fn is_suicide<V: View>(board: &mut V, p: Point, taken: &PointSet) -> bool
     requires { p < V.rows board.old * V.rows board.old }
     ensures looks { Looks V.cells V.asks board.old board.new anywhere }
@@ -123,9 +123,9 @@ fn is_suicide<V: View>(board: &mut V, p: Point, taken: &PointSet) -> bool
     string_without_liberty(board, p).is_some()
 }
 
-/// The ban after c took these stones by the one at p: where one stone was taken by one that is alone and has one
-/// liberty, the other colour may not play where the taken one stood. The string of p is searched only where one stone
-/// was taken, and no further once a second liberty is seen.
+/// The ban after `c` put a stone at `p` that took the stones of `taken`: if one stone was taken, and the stone at `p`
+/// is alone and has one liberty, the other colour may not play where the taken stone stood. The string of `p` is
+/// searched only if one stone was taken, and no further once a second liberty is seen.
 pub fn ban_of<V: View>(
     board: &mut V,
     c: Colour,
@@ -153,6 +153,7 @@ pub fn ban_of<V: View>(
     }
 }
 
+/// Whether both numbers are 1.
 fn are_one(a: u16, b: u16) -> bool
     ensures { result ≡ ((a == 1) && (b == 1)) }
 {
@@ -168,8 +169,8 @@ pub struct Played {
     pub ban: Option<(Point, Colour)>,
 }
 
-/// Plays c at p with no regard to a ban, and answers what it took and the new ban: Occupied or Suicide, and never Ko.
-/// After a refusal the board is as it was before. It takes no memory.
+/// Plays `c` at `p` with no regard to a ban. The answer is what the play took and the new ban, or the refusal:
+/// `Occupied` or `Suicide`, and never `Ko`. After a refusal the board is as it was before. It takes no memory.
 pub fn play_on<V: View>(board: &mut V, c: Colour, p: Point) -> Result<Played, Illegal>
     requires { p < V.rows board.old * V.rows board.old }
     ensures asks { V.asks board.old board.new anywhere }
@@ -204,7 +205,8 @@ pub fn play_on<V: View>(board: &mut V, c: Colour, p: Point) -> Result<Played, Il
     Ok(Played { taken, ban })
 }
 
-/// Takes back a play of c at p that took these stones: they stand again, and p is empty. It takes no memory.
+/// Takes back a play of `c` at `p` that took the stones of `taken`: they stand again, and `p` is empty. It takes no
+/// memory.
 pub fn take_back<V: View>(board: &mut V, c: Colour, p: Point, taken: &PointSet)
     requires on_board { p < V.rows board.old * V.rows board.old }
     requires taken_on_board { (q : ℕ) → IsTrue (set.contains taken.now q) → q < V.rows board.old * V.rows board.old }

@@ -1,5 +1,5 @@
-//! Where a search puts the enemy stones that it comes to: most searches are of a string and its liberties alone, and
-//! put them nowhere.
+//! Where a search puts the enemy stones that it meets. Most searches are for a string and its liberties alone, and keep
+//! no enemy stones.
 
 ghost use Rattle.std.specs.Prelude.{◌≡◌, ◌<◌, if◌then◌else◌};
 ghost use Rattle.std.specs.FinSet as set;
@@ -8,25 +8,25 @@ ghost use Rattle.go_rules.specs.Board.{largest_points};
 use crate::points::PointSet;
 use crate::size::Point;
 
-/// Where a search puts the enemy stones that it comes to.
+/// Where a search puts the enemy stones that it meets.
 pub(crate) trait Enemies {
     ghost use Rattle.std.specs.Prelude.{Bool};
     ghost use Rattle.std.specs.Ordering.{nat_cmp};
     ghost use Rattle.std.specs.FinSet as set;
 
-    /// Whether they are asked for.
+    /// Whether enemy stones are asked for.
     ghost asked: { Bool };
 
-    /// The enemy stones that were put there so far.
+    /// The enemy stones that were kept so far.
     ghost met: { Self → set.FinSet nat_cmp };
 
-    /// Puts the enemy at r there, where enemies are asked for.
+    /// Keeps the enemy stone at `r`, if enemy stones are asked for.
     fn meet(&mut self, r: Point)
         requires { r < largest_points }
         ensures { met self.new ≡ (if asked then set.insert (met self.old) r else met self.old) };
 }
 
-/// Enemies are not asked for, and none is kept.
+/// Enemy stones are not asked for, and none is kept.
 #[derive(Clone, Copy, Drop)]
 pub(crate) struct NotAsked;
 

@@ -1,5 +1,5 @@
-//! The recorded facts of a reading: its size, cells of points, and for a point and a colour whether the ko ban forbids
-//! the play.
+//! The recorded facts of a reading: the size of the board, the cells of points, and for a point and a colour whether
+//! the ko ban forbids the play.
 
 ghost use Rattle.std.specs.Prelude.{◌≡◌, ℕ, ◌*◌, ◌<◌, ◌↔◌, IsTrue, false};
 ghost use Rattle.std.specs.FinSet as set;
@@ -19,11 +19,11 @@ use crate::position::Position;
 use crate::size::{MIN_SIZE, Point, Size};
 use go_rules::{Cell, Colour};
 
-/// The facts that were seen of a position, in some 420 bytes. Of the ban it keeps the whole; what counts is what was
-/// asked for.
+/// The facts that were seen of a position, in some 420 bytes. The whole ban is kept, but only what was asked about it
+/// is a fact.
 #[derive(Clone, Copy, Debug)]
 pub struct Facts {
-    /// The size, which is always a fact.
+    /// The size of the board, which is always a fact.
     size: Size,
     /// The ban of the position that was seen.
     ban: Option<(Point, Colour)>,
@@ -39,7 +39,7 @@ pub struct Facts {
     asked_of_white: PointBits,
 }
 
-/// No fact but the size of the smallest board.
+/// The only fact is the size of the smallest board.
 impl Default for Facts {
     fn default() -> Facts {
         Facts::new(Size::new(MIN_SIZE).unwrap(), None)
@@ -47,7 +47,7 @@ impl Default for Facts {
 }
 
 impl Facts {
-    /// Nothing but the size was seen of a position with this ban.
+    /// The facts at the beginning: nothing but the size was seen of a position with the ban `ban`.
     pub(crate) fn new(size: Size, ban: Option<(Point, Colour)>) -> Facts
         ensures size { result.size ≡ size }
         ensures ban { result.ban ≡ ban }
@@ -65,7 +65,7 @@ impl Facts {
         }
     }
 
-    /// Records what was seen to stand at p.
+    /// Records that `cell` was seen at `p`.
     pub(crate) fn see(&mut self, p: Point, cell: Cell)
         requires { p < largest_points }
         ensures { SeesCell self.old self.new p cell }
@@ -77,7 +77,7 @@ impl Facts {
         }
     }
 
-    /// Records that it was asked whether the ban forbids c to play at p.
+    /// Records that it was asked whether the ban forbids `c` to play at `p`.
     pub(crate) fn ask(&mut self, p: Point, c: Colour)
         requires { p < largest_points }
         ensures { AsksBan self.old self.new p c }
@@ -88,7 +88,7 @@ impl Facts {
         }
     }
 
-    /// Whether each cell is as it was seen.
+    /// Whether each cell that was seen is the same in `position`.
     fn cells_stand(&self, position: &Position) -> bool
         ensures { IsTrue result ↔ ((cell : Cell) → AllShow (seen_as self.now cell) cell position.now) }
     {
@@ -101,7 +101,8 @@ impl Facts {
         all_show(&self.white, Cell::White, position)
     }
 
-    /// Whether the ban is as it was seen wherever it was asked for. If it is the same ban, no point is looked at.
+    /// Whether the ban of `position` gives the same answer wherever the ban was asked about. If the two bans are the
+    /// same, no point is looked at.
     fn ban_stands(&self, position: &Position) -> bool
         ensures { IsTrue result ↔ ((c : Colour) → BanStays (asked_of self.now c) self.now.ban c position.now) }
     {
@@ -114,8 +115,8 @@ impl Facts {
         ban_stays(&self.asked_of_white, self.ban, Colour::White, position)
     }
 
-    /// Whether the position has the same size and every fact holds there. It looks only at points that a fact is about,
-    /// and at none after one if it does not hold.
+    /// Whether `position` has the same size and every fact holds on it. It looks only at points that a fact is about,
+    /// and at no further point once a fact does not hold.
     pub fn stands(&self, position: &Position) -> bool
         ensures { IsTrue result ↔ Agrees (told self.now) position.now }
     {
@@ -156,14 +157,15 @@ impl Facts {
     }
 }
 
-/// Whether each marked point of the board holds this cell.
+/// Whether each point of the board that `points` marks holds `cell`.
 fn all_show(points: &PointBits, cell: Cell, position: &Position) -> bool
     ensures { IsTrue result ↔ AllShow points.now cell position.now }
 {
     points.all_below(position.size().points(), |q| position.cell(q) == cell)
 }
 
-/// Whether at each marked point of the board the position's ban forbids the colour exactly if this ban does.
+/// Whether at each point of the board that `points` marks, the ban of `position` forbids `c` to play exactly if `ban`
+/// does.
 fn ban_stays(
     points: &PointBits,
     ban: Option<(Point, Colour)>,

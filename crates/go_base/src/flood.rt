@@ -1,5 +1,5 @@
-//! Strings, their liberties and the enemy stones next to them, found by one search over a board whose cells are told
-//! one by one. A search may be given a bound on liberties, and stops where it sees more.
+//! Strings, their liberties and the enemy stones next to them, found by one search over a board that is read cell by
+//! cell. A search may have a bound on liberties, and stops once it sees more.
 
 ghost use Rattle.std.specs.Prelude.{◌≡◌, ◌≢◌, ◌⊎◌, ℕ, ◌+◌, ◌*◌, ◌%◌, ◌<◌, ◌≤◌, IsTrue, true, IfSome, IfNone};
 ghost use Rattle.std.specs.Prelude.{if◌then◌else◌};
@@ -20,27 +20,27 @@ use crate::size::{MAX_POINTS, Point};
 use crate::view::View;
 use go_rules::Cell;
 
-/// What a search finds of a string that does not ask for the enemies next to it.
+/// What a search finds of a string if it does not ask for enemy stones.
 #[derive(Drop)]
 pub struct Searched {
-    /// Its stones.
+    /// The stones of the string.
     pub stones: PointSet,
-    /// The empty neighbours of its stones.
+    /// The liberties of the string: the empty neighbours of its stones.
     pub liberties: PointSet,
 }
 
-/// What a whole search finds of a string.
+/// What a search without a bound finds of a string.
 #[derive(Drop)]
 pub struct Found {
-    /// Its stones.
+    /// The stones of the string.
     pub stones: PointSet,
-    /// The empty neighbours of its stones.
+    /// The liberties of the string: the empty neighbours of its stones.
     pub liberties: PointSet,
-    /// The neighbours of its stones that hold the other colour.
+    /// The enemy stones next to the string.
     pub enemies: PointSet,
 }
 
-/// Nothing found yet.
+/// What a search has found at its beginning: nothing.
 #[inline(always)]
 pub(crate) fn nothing_found() -> Searched
     ensures stones { result.stones ≡ set.empty }
@@ -52,7 +52,7 @@ pub(crate) fn nothing_found() -> Searched
     }
 }
 
-/// Puts a stone at r among the stones, and lets it wait to be visited, unless it was found before.
+/// Puts a stone at `r` among the stones and lets it wait for its visit, unless it was found before.
 #[inline(always)]
 fn add_stone(r: Point, stones: &mut PointSet, waiting: &mut PointSet)
     requires small { r < largest_points }
@@ -66,8 +66,8 @@ fn add_stone(r: Point, stones: &mut PointSet, waiting: &mut PointSet)
     }
 }
 
-/// Looks at r, a neighbour of a stone like `own`, and puts it where it belongs. A stone that is new waits to be
-/// visited.
+/// Looks at `r`, a neighbour of a stone like `own`: a stone like `own` is a stone of the string, an empty point a
+/// liberty, and any other stone an enemy. A stone that is new waits for its visit.
 #[inline(always)]
 fn visit<V: View, E: Enemies>(
     board: &mut V,
@@ -99,8 +99,8 @@ fn visit<V: View, E: Enemies>(
     }
 }
 
-/// Visits the neighbour of a stone like `own` on one side, if there is one and no more liberties than `most` were
-/// seen.
+/// Visits the neighbour on one side of `spot`, a stone like `own`, if there is a neighbour and no more liberties than
+/// `most` were seen.
 #[inline(always)]
 fn visit_side<V: View, E: Enemies>(
     board: &mut V,
@@ -137,7 +137,7 @@ fn visit_side<V: View, E: Enemies>(
     }
 }
 
-/// Visits the neighbours of q, a stone like `own`, as long as there are no more liberties than `most`.
+/// Visits the neighbours of `q`, a stone like `own`, until more liberties than `most` are seen.
 #[inline(always)]
 fn spread<V: View, E: Enemies>(
     board: &mut V,
@@ -166,7 +166,7 @@ fn spread<V: View, E: Enemies>(
     visit_side(board, own, &spot, 3, most, found, enemies, waiting);
 }
 
-/// The next stone to visit, which waits no longer; None if none waits, or more liberties than `most` were seen.
+/// The next stone to visit, which waits no longer; `None` if no stone waits, or more liberties than `most` were seen.
 #[inline(always)]
 fn next_stone(waiting: &mut PointSet, seen: u16, most: u16) -> Option<Point>
     ensures some { IfSome result (λ q. (q < largest_points) × IsTrue (set.contains waiting.old q)
@@ -179,8 +179,8 @@ fn next_stone(waiting: &mut PointSet, seen: u16, most: u16) -> Option<Point>
     waiting.take_first()
 }
 
-/// Searches as `search` does, and writes what it finds where it stays. Nothing stands there before. Enemies are put
-/// where they are asked for.
+/// Searches as `search` does, and writes what it finds into `found` and `enemies`, which are empty before. Enemy stones
+/// are kept only if `enemies` asks for them.
 pub(crate) fn search_into<V: View, E: Enemies>(
     board: &mut V,
     p: Point,
@@ -217,9 +217,9 @@ pub(crate) fn search_into<V: View, E: Enemies>(
     }
 }
 
-/// The string of p and its liberties, if it has at most `most` liberties; else some of each, with more liberties
-/// than `most`. It visits each stone once, the least that waits first, and nothing but the stones and their neighbours,
-/// and stops as soon as it has seen more liberties than `most`. Both sets are empty if p is.
+/// The string of `p` and its liberties, if it has at most `most` liberties; else some of its stones and more liberties
+/// than `most`. It visits each stone once, the least waiting stone first, looks at nothing but the stones and their
+/// neighbours, and stops once it has seen more liberties than `most`. Both sets are empty if `p` is empty.
 #[inline(always)]
 pub fn search<V: View>(board: &mut V, p: Point, most: u16) -> Searched
     requires { p < V.rows board.old * V.rows board.old }
@@ -237,7 +237,7 @@ pub fn search<V: View>(board: &mut V, p: Point, most: u16) -> Searched
     found
 }
 
-/// The string of p, its liberties and the enemy stones next to it; all three sets are empty if p is.
+/// The string of `p`, its liberties and the enemy stones next to it. All three sets are empty if `p` is empty.
 pub fn flood<V: View>(board: &mut V, p: Point) -> Found
     requires { p < V.rows board.old * V.rows board.old }
     ensures looks { Looks V.cells V.asks board.old board.new anywhere }
@@ -265,7 +265,7 @@ pub fn flood<V: View>(board: &mut V, p: Point) -> Found
     }
 }
 
-/// The stones of the string of p, none if p is empty.
+/// The stones of the string of `p`; none if `p` is empty.
 pub(crate) fn string_of<V: View>(board: &mut V, p: Point) -> PointSet
     requires { p < V.rows board.old * V.rows board.old }
     ensures looks { Looks V.cells V.asks board.old board.new anywhere }
@@ -278,7 +278,7 @@ pub(crate) fn string_of<V: View>(board: &mut V, p: Point) -> PointSet
     found.stones
 }
 
-/// The liberties of the string of p, none if p is empty.
+/// The liberties of the string of `p`; none if `p` is empty.
 pub fn liberties_of<V: View>(board: &mut V, p: Point) -> PointSet
     requires { p < V.rows board.old * V.rows board.old }
     ensures looks { Looks V.cells V.asks board.old board.new anywhere }

@@ -10,8 +10,8 @@ ghost use Rattle.go_rules.specs.Strings.{cell_at};
 ghost use Rattle.go_rules.specs.Position.{BoardState, IsPosition};
 ghost use Rattle.go_base.specs.Setups.{setup_of, CannotBeSetUp};
 
-/// Where stones are set up, each stands on its point and nothing stands elsewhere, no play is banned, and the board is
-/// a position; they are not exactly if a point has stones of both colours or some string has no liberty.
+/// If stones can be set up, each stands on its point and nothing stands elsewhere, no play is banned, and the board is
+/// a position. They cannot be set up exactly if a point has stones of both colours or some string has no liberty.
 pub fn setups_are_in_words()
     ensures black { (s : ℕ) (black white : set.FinSet nat_cmp) (pos : BoardState) (p : ℕ) → p < s * s
         → setup_of s black white ≡ Some pos → IsTrue (set.contains black p) → cell_at pos.cells p ≡ Cell.Black }

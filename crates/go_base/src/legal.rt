@@ -12,7 +12,7 @@ use crate::size::Point;
 use crate::view::Flat;
 use go_rules::Colour;
 
-/// Whether c may play at p with no regard to a ban. The board is as it was before.
+/// Whether `c` may play at `p` with no regard to a ban. Afterwards the board is as it was before.
 fn is_free(board: &mut Flat, c: Colour, p: Point) -> bool
     requires { p < board.old.size * board.old.size }
     ensures holds { (pos : BoardState) → Holds pos board.old → Holds pos board.new }
@@ -28,7 +28,7 @@ fn is_free(board: &mut Flat, c: Colour, p: Point) -> bool
 }
 
 impl Position {
-    /// Whether c may play at p, tried on a board that holds the position and holds it again afterwards.
+    /// Whether `c` may play at `p`. The play is tried on `board`, which holds the position before and afterwards.
     fn is_legal_on(&self, board: &mut Flat, c: Colour, p: Point) -> bool
         requires on_board { p < self.now.size * self.now.size }
         requires holds { Holds self.now board.old }
@@ -41,7 +41,7 @@ impl Position {
         is_free(board, c, p)
     }
 
-    /// The points where c may play. The board is copied once, and each point is tried once on the copy. Takes no
+    /// The points where `c` may play. The board is copied once, and each point is tried once on the copy. Takes no
     /// memory.
     pub fn legal_points(&self, c: Colour) -> PointSet
         ensures { result ≡ legal_points self.now c }

@@ -3,7 +3,7 @@
 //!
 //! A point of a board of size `s` is a number below `s * s`: point `r * s + c` stands in row `r` from the top and
 //! column `c` from the left, both counted from 0. Reading order is the order of these numbers. Each call meets the
-//! rules as `go_rules` defines them, and none takes memory.
+//! rules as `go_rules` defines them, and only the calls that make `Bytes` longer take memory.
 #![tactic(auto)]
 
 pub mod ban;

@@ -10,13 +10,13 @@ use crate::position::Position;
 use crate::size::{Point, Size};
 use go_rules::{Cell, Colour};
 
-/// A view of one position that records what was asked of it. Each answer is that of the position shown, and is among
-/// the facts seen afterwards; the facts only grow, and each call adds the fact that it tells alone.
+/// A view of one position that records what was asked of it. Each answer is true of the position shown, and is among
+/// the facts seen afterwards. The facts only grow, and each call adds no fact but its own answer.
 pub trait Look {
     ghost use Rattle.go_rules.specs.Position.{BoardState};
     ghost use Rattle.go_base.specs.Facts.{Fact, SizeIs, CellIs, BanIs};
 
-    /// The position that it shows, which no call changes.
+    /// The position that the view shows, which no call changes.
     ghost shows: { Self → BoardState };
 
     /// The facts seen so far.
@@ -26,7 +26,7 @@ pub trait Look {
     fn size(&self) -> Size
         ensures { result ≡ (shows self.now).size };
 
-    /// What stands at p.
+    /// What stands at `p`.
     fn cell(&mut self, p: Point) -> Cell
         requires { p < (shows self.old).size * (shows self.old).size }
         ensures same { shows self.new ≡ shows self.old }
@@ -34,7 +34,7 @@ pub trait Look {
         ensures told { IsTrue (seen self.new (CellIs p result)) }
         ensures only { AddsOnly (seen self.old) (seen self.new) (CellIs p result) };
 
-    /// Whether the ko ban forbids c to play at p.
+    /// Whether the ko ban forbids `c` to play at `p`.
     fn ko(&mut self, p: Point, c: Colour) -> bool
         requires { p < (shows self.old).size * (shows self.old).size }
         ensures same { shows self.new ≡ shows self.old }
@@ -49,8 +49,8 @@ pub trait Look {
     ghost sized: { (look : Self) → IsTrue (seen look (SizeIs (shows look).size)) };
 }
 
-/// The recording view over a position. Its facts hold on the position as long as it lives; it is ended by letting it
-/// go.
+/// The recording view over a position. Its facts hold on the position as long as the view lives. Dropping the view ends
+/// it.
 #[derive(Drop)]
 pub struct Watch<'a> {
     position: &'a Position,

@@ -41,7 +41,7 @@ impl Model for Position {
     ghost inverse_ok = { kept_of-position_of };
 }
 
-/// A board with no stone.
+/// The cells of a board with no stone.
 fn empty_cells() -> [Cell; MAX_POINTS]
     ensures { result ≡ replicate largest_points Cell.Empty }
 {
@@ -49,7 +49,7 @@ fn empty_cells() -> [Cell; MAX_POINTS]
 }
 
 impl Position {
-    /// The position that the board holds, with a ban whose point is empty.
+    /// The position that `board` holds, with the ban `ban`. If there is a ban, its point is empty.
     pub fn of(board: &Flat, ban: Option<(Point, Colour)>) -> Position
         requires { HoldsWith board.now ban }
         ensures { result ≡ position_on board.now ban }
@@ -81,7 +81,7 @@ impl Position {
         self.size
     }
 
-    /// What stands at p.
+    /// What stands at `p`.
     pub fn cell(&self, p: Point) -> Cell
         requires { p < self.now.size * self.now.size }
         ensures { result ≡ cell_at self.now.cells p }
@@ -96,7 +96,7 @@ impl Position {
         self.ban
     }
 
-    /// The position after a pass of either colour: the same, without the ban.
+    /// The position after a pass of either colour: this position without its ban.
     pub fn pass(&self) -> Position
         ensures { result ≡ passed self.now }
     {
@@ -105,7 +105,7 @@ impl Position {
         next
     }
 
-    /// A copy of the board.
+    /// A copy of the board, on which plays can be made.
     pub fn board(&self) -> Flat
         ensures { Holds self.now result }
     {
@@ -116,7 +116,7 @@ impl Position {
         }
     }
 
-    /// The stones of the string of p, none if p is empty.
+    /// The stones of the string of `p`; none if `p` is empty.
     pub fn string(&self, p: Point) -> PointSet
         requires { p < self.now.size * self.now.size }
         ensures { result ≡ string_at self.now.size self.now.cells p }
@@ -125,7 +125,7 @@ impl Position {
         string_of(&mut board, p)
     }
 
-    /// The liberties of the string of p, none if p is empty.
+    /// The liberties of the string of `p`; none if `p` is empty.
     pub fn liberty_points(&self, p: Point) -> PointSet
         requires { p < self.now.size * self.now.size }
         ensures { result ≡ liberty_points self.now.size self.now.cells p }
@@ -134,7 +134,7 @@ impl Position {
         liberties_of(&mut board, p)
     }
 
-    /// How many liberties the string of p has, 0 if p is empty.
+    /// How many liberties the string of `p` has; 0 if `p` is empty.
     pub fn liberties(&self, p: Point) -> u16
         requires { p < self.now.size * self.now.size }
         ensures { result ≡ liberties_at self.now.size self.now.cells p }
@@ -142,14 +142,15 @@ impl Position {
         self.liberty_points(p).count()
     }
 
-    /// Whether the ko ban forbids c to play at p.
+    /// Whether the ko ban forbids `c` to play at `p`.
     pub fn bans(&self, c: Colour, p: Point) -> bool
         ensures { result ≡ is_banned self.now.ban c p }
     {
         is_banned(self.ban, c, p)
     }
 
-    /// The position after c plays at p, with the ban dropped first: Occupied or Suicide, as for `play`, and never Ko.
+    /// The position after `c` plays at `p` with the ban dropped first, or the refusal: `Occupied` or `Suicide` as for
+    /// `play`, and never `Ko`.
     pub fn play_free(&self, c: Colour, p: Point) -> Result<Position, Illegal>
         requires { p < self.now.size * self.now.size }
         ensures value { result ≡ played_free self.now c p }
@@ -166,8 +167,8 @@ impl Position {
         }
     }
 
-    /// The position after c plays at p, or the first reason against it: Occupied if a stone stands at p, Ko where
-    /// the ban forbids the play, Suicide if the stone's string would have no liberty after the captures.
+    /// The position after `c` plays at `p`, or the first reason against it: `Occupied` if a stone stands at `p`, `Ko`
+    /// if the ban forbids the play, `Suicide` if the stone's string would have no liberty after the captures.
     pub fn play(&self, c: Colour, p: Point) -> Result<Position, Illegal>
         requires { p < self.now.size * self.now.size }
         ensures value { result ≡ played self.now c p }

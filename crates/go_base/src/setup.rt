@@ -17,7 +17,7 @@ use crate::size::{Point, Size};
 use crate::view::Flat;
 use go_rules::Cell;
 
-/// What stands at p if these are the points of the stones.
+/// What stands at `p` if `black` and `white` are the points of the stones.
 fn cell_of(black: &PointSet, white: &PointSet, p: Point) -> Cell
     requires { p < largest_points }
     ensures { result ≡ cell_among black.now white.now p }
@@ -31,7 +31,7 @@ fn cell_of(black: &PointSet, white: &PointSet, p: Point) -> Cell
     }
 }
 
-/// Whether a point of the board is in both sets, which lie on it.
+/// Whether some point is in both sets. The points of `black` are on the board.
 fn has_common_point(size: Size, black: &PointSet, white: &PointSet) -> bool
     requires { (p : ℕ) → IsTrue (set.contains black.now p) → p < size * size }
     ensures { result ≡ have_common_point size black.now white.now }
@@ -39,7 +39,7 @@ fn has_common_point(size: Size, black: &PointSet, white: &PointSet) -> bool
     black.intersection(white).count() != 0
 }
 
-/// A board with these stones and no others.
+/// A board with the stones of `black` and `white` and no others.
 fn board_with(size: Size, black: &PointSet, white: &PointSet) -> Flat
     ensures size { result.size ≡ size }
     ensures whole { length result.cells ≡ largest_points }
@@ -53,8 +53,8 @@ fn board_with(size: Size, black: &PointSet, white: &PointSet) -> Flat
     board
 }
 
-/// Whether a stone without a liberty stands at p. Where one with a liberty does, the stones of its string are noted to
-/// be alive, and a stone that is noted is not asked about again.
+/// Whether a stone stands at `p` whose string has no liberty. If its string has a liberty, the stones of the string are
+/// noted in `alive`, and a stone that is noted there is not searched again.
 fn is_dead_at(board: &mut Flat, p: Point, alive: &mut PointBits) -> bool
     requires on_board { p < board.old.size * board.old.size }
     requires whole { (length board.old.cells ≡ largest_points) × (board.old.size ≤ largest_size) }
@@ -86,7 +86,7 @@ fn is_dead_at(board: &mut Flat, p: Point, alive: &mut PointBits) -> bool
     false
 }
 
-/// Whether some string has no liberty. Each string is searched once.
+/// Whether some string has no liberty. No string is searched twice.
 fn has_dead_string(board: &mut Flat) -> bool
     requires { (length board.old.cells ≡ largest_points) × (board.old.size ≤ largest_size) }
     ensures keeps { KeepsRest board.old board.new }
@@ -104,8 +104,8 @@ fn has_dead_string(board: &mut Flat) -> bool
 }
 
 impl Position {
-    /// The position with these stones and no ban, None exactly if a point is in both sets or some string has no
-    /// liberty.
+    /// The position with the stones of `black` and `white` and no ban; `None` exactly if a point is in both sets or
+    /// some string has no liberty.
     pub fn setup(size: Size, black: &PointSet, white: &PointSet) -> Option<Position>
         requires black { (p : ℕ) → IsTrue (set.contains black.now p) → p < size * size }
         requires white { (p : ℕ) → IsTrue (set.contains white.now p) → p < size * size }

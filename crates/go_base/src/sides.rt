@@ -6,19 +6,19 @@ ghost use Rattle.go_base.specs.Sides.{neighbour_at};
 
 use crate::size::{Point, Size};
 
-/// A point of a board with its column, which is found once for all four sides.
+/// A point of a board with its column, which is computed once for all four sides.
 #[derive(Drop)]
 pub(crate) struct Spot {
     /// The size of the board.
     pub(crate) size: Size,
-    /// The point.
+    /// The point whose sides are asked for.
     pub(crate) point: Point,
-    /// Its column, counted from 0 at the left.
+    /// The column of the point, counted from 0 at the left.
     pub(crate) column: u16,
 }
 
 impl Spot {
-    /// The spot of p.
+    /// The spot of `p`.
     #[inline(always)]
     pub(crate) fn new(size: Size, p: Point) -> Spot
         requires { p < size * size }
@@ -33,7 +33,7 @@ impl Spot {
         }
     }
 
-    /// The neighbour above (side 0), below (1), to the left (2) or to the right (3), None if the point is on that
+    /// The neighbour above (side 0), below (1), to the left (2) or to the right (3); `None` if the point is on that
     /// edge.
     #[inline(always)]
     pub(crate) fn neighbour(&self, side: u8) -> Option<Point>
@@ -59,7 +59,7 @@ impl Spot {
     }
 }
 
-/// The neighbour of p above (side 0), below (1), to the left (2) or to the right (3), None if p is on that edge.
+/// The neighbour of `p` above (side 0), below (1), to the left (2) or to the right (3); `None` if `p` is on that edge.
 #[inline(always)]
 pub fn neighbour(size: Size, p: Point, side: u8) -> Option<Point>
     requires on_board { p < size * size }

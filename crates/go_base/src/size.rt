@@ -14,13 +14,13 @@ pub const MAX_SIZE: u8 = 25;
 /// How many points the largest board has.
 pub const MAX_POINTS: usize = MAX_SIZE as usize * MAX_SIZE as usize;
 
-/// The greatest number of rows or of columns between two points of a board.
+/// The greatest number of rows or of columns between two points of the largest board.
 pub const MAX_OFFSET: i8 = MAX_SIZE as i8 - 1;
 
-/// A point of a board, as row * size + column.
+/// A point of a board, as `row * size + column`.
 pub use go_rules::Point;
 
-/// The size of a board: how many rows and how many columns it has. Seen as this number.
+/// The size of a board: how many rows and how many columns it has. It is seen as this number.
 #[derive(Clone, Copy, Debug, PartialEq, Eq, Hash)]
 pub struct Size {
     rows: u8,
@@ -37,7 +37,7 @@ impl Model for Size {
 }
 
 impl Size {
-    /// The size of a board with n rows, None exactly if no board may have that many.
+    /// The size of a board with `n` rows; `None` exactly if no board may have that many.
     pub fn new(n: u8) -> Option<Size>
         ensures valid { IsSome result ↔ IsSize n }
         ensures value { IfSome result (λ s. s ≡ n) }
@@ -66,7 +66,8 @@ impl Size {
         self.rows as u16 * self.rows as u16
     }
 
-    /// The point in a row from the top and a column from the left, both counted from 0; None exactly off the board.
+    /// The point in a row from the top and a column from the left, both counted from 0; `None` exactly if it is off the
+    /// board.
     pub fn point(self, row: u8, column: u8) -> Option<Point>
         ensures valid { IsSome result ↔ IsOnBoard self (row, column) }
         ensures value { IfSome result (λ p. p ≡ point_at self (row, column)) }

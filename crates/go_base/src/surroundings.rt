@@ -1,5 +1,5 @@
-//! What stands around a string, on a board whose cells are told one by one: its liberties, and the last liberties of
-//! the enemy strings next to it.
+//! What stands around a string, on a board that is read cell by cell: its liberties, and the last liberties of the
+//! enemy strings next to it.
 
 ghost use Rattle.std.specs.Prelude.{◌≡◌, ℕ, ◌*◌, ◌<◌};
 ghost use Rattle.std.specs.FinSet as set;
@@ -24,14 +24,14 @@ const IN_ATARI: u16 = 1;
 /// What stands around a string.
 #[derive(Drop)]
 pub struct Surroundings {
-    /// Its liberties.
+    /// The liberties of the string.
     pub liberties: PointSet,
-    /// The points that are the only liberty of an enemy string next to it.
+    /// The points that are the only liberty of an enemy string next to the string.
     pub last_liberties: PointSet,
 }
 
-/// Adds the liberty of the string of q if it is the only one, unless the string was seen. No more of the string is
-/// searched once it has shown two liberties.
+/// Adds the liberty of the string of `q` to `last`, if the string has only one, unless the string was seen before. The
+/// search stops once the string has shown two liberties.
 fn add_last_liberty<V: View>(board: &mut V, q: Point, seen: &mut PointBits, last: &mut PointSet)
     requires on_board { q < V.rows board.old * V.rows board.old }
     requires small { q < largest_points }
@@ -56,8 +56,8 @@ fn add_last_liberty<V: View>(board: &mut V, q: Point, seen: &mut PointBits, last
     }
 }
 
-/// The liberties of the string of p and the last liberties of the enemy strings next to it, both none if p is empty.
-/// Each string in atari is searched once.
+/// The liberties of the string of `p` and the last liberties of the enemy strings next to it. Both sets are empty if
+/// `p` is empty. Each enemy string in atari is searched once.
 pub fn surroundings_of<V: View>(board: &mut V, p: Point) -> Surroundings
     requires { p < V.rows board.old * V.rows board.old }
     ensures looks { Looks V.cells V.asks board.old board.new anywhere }

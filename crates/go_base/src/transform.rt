@@ -8,7 +8,7 @@ use std::marker::Model;
 /// How many transformations there are; they are numbered from 0.
 pub const TRANSFORMATIONS: u8 = 8;
 
-/// One of the eight transformations: 0 to 3 turn a diagram by quarters, 4 to 7 mirror it. Seen as its number.
+/// One of the eight transformations: 0 to 3 turn a diagram by quarters, 4 to 7 mirror it. It is seen as its number.
 #[derive(Clone, Copy, Debug, PartialEq, Eq, PartialOrd, Ord)]
 pub struct Transform {
     number: u8,
@@ -28,7 +28,7 @@ impl Model for Transform {
 }
 
 impl Transform {
-    /// The transformation with a number, None exactly above 7.
+    /// The transformation with the number `n`; `None` exactly if `n` is above 7.
     pub fn new(n: u8) -> Option<Transform>
         ensures valid { IsSome result ↔ (n < transformations) }
         ensures value { IfSome result (λ t. t ≡ n) }
@@ -48,7 +48,7 @@ impl Transform {
         self.number
     }
 
-    /// Where an offset of `dr` rows down and `dc` columns to the right is moved.
+    /// The offset to which the transformation moves the offset of `dr` rows down and `dc` columns to the right.
     pub fn apply(self, dr: i8, dc: i8) -> (i8, i8)
         requires { IsNear (dr, dc) }
         ensures value { result ≡ transformed self (dr, dc) }

@@ -1,4 +1,4 @@
-//! Boards whose cells are told one by one, so that one flood serves a position and a board of trial moves.
+//! Boards that are read cell by cell, so that one flood serves a position and a board of trial moves.
 
 ghost use Rattle.std.specs.Prelude.{◌≡◌, ℕ, ◌*◌, ◌<◌, ◌≤◌, List, Bool, IsTrue, length, slice_set, take};
 ghost use Rattle.go_rules.specs.declared.Cell.{Cell};
@@ -9,32 +9,32 @@ ghost use Rattle.go_base.specs.Views.{Looks, nowhere, alone};
 use crate::size::{MAX_POINTS, Point, Size};
 use go_rules::Cell;
 
-/// A board whose cells are told one by one and may be written over, so that one flood serves a position and a board of
-/// trial moves. What it tells is so over each position that agrees with what was told.
+/// A board that is read cell by cell and may be written over, so that one flood serves a position and a board of trial
+/// moves. Its answers are true over each position that agrees with what was read.
 pub trait View {
     /// How many rows the board has.
     ghost rows: { Self → ℕ };
 
-    /// The positions over which all that was told is so.
+    /// The positions that agree with all that was read.
     ghost agrees: { Self → BoardState → Type 0 };
 
     /// The cells of the board, over a position.
     ghost cells: { Self → BoardState → List Cell };
 
-    /// From the first to the second only points of the set were asked for.
+    /// Between the first view and the second, only points of the set were asked for.
     ghost asks: { Self → Self → (ℕ → Bool) → Type 0 };
 
     /// The size of the board.
     fn size(&self) -> Size
         ensures { result ≡ rows self.now };
 
-    /// What stands at p.
+    /// What stands at `p`.
     fn at(&mut self, p: Point) -> Cell
         requires { p < rows self.old * rows self.old }
         ensures looks { Looks cells asks self.old self.new (alone p) }
         ensures over { (pos : BoardState) → agrees self.new pos → result ≡ cell_at (cells self.old pos) p };
 
-    /// Writes over p.
+    /// Puts `cell` at `p`.
     fn put(&mut self, p: Point, cell: Cell)
         requires { p < rows self.old * rows self.old }
         ensures asks { asks self.old self.new nowhere }
@@ -55,10 +55,12 @@ pub trait View {
     ghost whole: { (v : Self) (pos : BoardState) → agrees v pos → length (cells v pos) ≡ rows v * rows v };
 }
 
-/// A board that is held whole, as a position is played on.
+/// A board with a cell for each point of the largest board. Plays from a position are made on it.
 #[derive(Clone, Copy)]
 pub struct Flat {
+    /// The size of the board.
     pub size: Size,
+    /// The cells of the board in reading order, and the cells past it.
     pub cells: [Cell; MAX_POINTS],
 }
 

@@ -1,5 +1,5 @@
-//! Whether a string has a liberty, on a board whose cells are told one by one: the sides of one stone are looked at
-//! before its string is searched.
+//! Whether a string has a liberty, on a board that is read cell by cell. The sides of one stone are looked at before
+//! its string is searched.
 
 ghost use Rattle.std.specs.Prelude.{◌≡◌, ℕ, ◌*◌, ◌<◌, IfSome, IsTrue};
 ghost use Rattle.std.specs.FinSet as set;
@@ -17,7 +17,7 @@ use crate::size::Point;
 use crate::view::View;
 use go_rules::Cell;
 
-/// Whether p is empty.
+/// Whether `p` is empty.
 #[inline(always)]
 fn is_empty_at<V: View>(board: &mut V, p: Point) -> bool
     requires { p < V.rows board.old * V.rows board.old }
@@ -28,7 +28,7 @@ fn is_empty_at<V: View>(board: &mut V, p: Point) -> bool
     board.at(p) == Cell::Empty
 }
 
-/// Whether a neighbour of p is empty. It looks at no further one once it has seen one.
+/// Whether a neighbour of `p` is empty. Once an empty neighbour is seen, no other is looked at.
 fn has_empty_side<V: View>(board: &mut V, p: Point) -> bool
     requires { p < V.rows board.old * V.rows board.old }
     ensures looks { Looks V.cells V.asks board.old board.new (around (V.rows board.old) p) }
@@ -46,8 +46,8 @@ fn has_empty_side<V: View>(board: &mut V, p: Point) -> bool
     false
 }
 
-/// The stones of the string of the stone at p, where a search of it sees no liberty; else None. It is a function of its
-/// own, so that no place is made for what a search finds where none is begun.
+/// The stones of the string of the stone at `p`, if a search finds no liberty of it; else `None`. It is a function of
+/// its own, so that room for what a search finds is made only if a search is begun.
 fn searched_without_liberty<V: View>(board: &mut V, p: Point) -> Option<PointSet>
     requires { p < V.rows board.old * V.rows board.old }
     ensures looks { Looks V.cells V.asks board.old board.new anywhere }
@@ -65,7 +65,7 @@ fn searched_without_liberty<V: View>(board: &mut V, p: Point) -> Option<PointSet
     Some(found.stones)
 }
 
-/// The stones of the string of the stone at p, if it has no liberty; else None. It looks at the stones and their
+/// The stones of the string of the stone at `p`, if it has no liberty; else `None`. It looks at the stones and their
 /// neighbours, and no further once it has seen a liberty. It takes no memory.
 #[inline(always)]
 pub(crate) fn string_without_liberty<V: View>(board: &mut V, p: Point) -> Option<PointSet>

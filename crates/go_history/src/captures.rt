@@ -7,7 +7,7 @@ ghost use Rattle.go_history.specs.Taken.{taken_of};
 
 use go_base::Colour;
 
-/// The stones that each colour took.
+/// How many stones each colour took.
 #[derive(Clone, Copy)]
 pub struct Captures {
     /// How many white stones Black took.
@@ -17,7 +17,7 @@ pub struct Captures {
 }
 
 impl Captures {
-    /// None were taken.
+    /// The counts at the beginning: no stone was taken.
     pub fn none() -> Captures
         ensures { (c : Colour) → taken_of result c ≡ 0 }
     {
@@ -27,7 +27,7 @@ impl Captures {
         }
     }
 
-    /// How many stones a colour took.
+    /// How many stones `c` took.
     pub fn by(&self, c: Colour) -> u32
         ensures { result ≡ taken_of self.now c }
     {
@@ -37,7 +37,7 @@ impl Captures {
         }
     }
 
-    /// A colour took stones.
+    /// Counts `stones` more stones that `c` took.
     pub fn add(&mut self, c: Colour, stones: u32)
         requires { taken_of self.old c + stones < 2 ^ 32 }
         ensures { (d : Colour) → taken_of self.new d ≡ taken_of self.old d + (if same_colour c d then stones else 0) }
@@ -48,7 +48,7 @@ impl Captures {
         }
     }
 
-    /// Stones that a colour took stand again.
+    /// Counts `stones` stones less that `c` took, as they stand again.
     pub fn remove(&mut self, c: Colour, stones: u32)
         requires { stones ≤ taken_of self.old c }
         ensures { (d : Colour) → taken_of self.new d ≡ taken_of self.old d - (if same_colour c d then stones else 0) }

@@ -1,4 +1,4 @@
--- The options that are found in the rows of a parse.
+-- The options in the rows that a parse finds.
 use Rattle.std.specs.Prelude.{◌≡◌, ◌≤◌, ℕ, Bool, false, List, [], Option, Some, codes, unwrap_or, option_map}
 use Rattle.std.specs.Prelude.{MatchOption}
 use Rattle.std.specs.Option.{option_map_or}
@@ -9,15 +9,15 @@ use Rattle.go_options.specs.NumberOptions.{NumberOption, depth_option, branch_op
 use Rattle.go_options.specs.NumberOptions.{generate_option}
 use Rattle.go_options.specs.declared.options.Options.{Options}
 
--- the number that decimal digits write, where a plus may stand first
+-- the number that decimal digits write, perhaps after a plus
 abbrev pub number_of : Text → ℕ
 number_of text = digits_value 10 (without_leading_plus text)
 
--- the number of an option, if it has a value
+-- the number of the option of this name, if the option has a value
 abbrev pub number_in : Text → List Row → Option ℕ
 number_in name rows = option_map number_of (one_of name rows)
 
--- whether a flag is set
+-- the flag of this name is set
 abbrev pub flag_in : Text → List Row → Bool
 flag_in name rows = option_map_or (λ text. bytes_eq text (codes "true")) (first_of name rows) false
 
@@ -25,7 +25,7 @@ flag_in name rows = option_map_or (λ text. bytes_eq text (codes "true")) (first
 abbrev pub words_in : Text → List Row → List Text
 words_in name rows = unwrap_or (all_of name rows) []
 
--- the options are those that the rows have
+-- the options have the values that the rows give
 pub record AreFound (rows : List Row) (options : Options) : Type 0 where
   pub depth : number_in depth_option.name rows ≡ Some options.depth
   pub branch : number_in branch_option.name rows ≡ Some options.branch
@@ -35,7 +35,7 @@ pub record AreFound (rows : List Row) (options : Options) : Type 0 where
   pub stats : flag_in (codes "stats") rows ≡ options.stats
   pub files : words_in (codes "files") rows ≡ options.files
 
--- the number lies from low to high
+-- the number n is at least low and at most high
 abbrev pub IsFrom : ℕ → ℕ → ℕ → Type 0
 IsFrom low high n = (low ≤ n) × (n ≤ high)
 

@@ -1,24 +1,24 @@
--- The options that have a number: each stands here once, with its name, its range and its default.
+-- The options that take a number. Each stands here once, with its name, its range and its default.
 use Rattle.std.specs.Prelude.{ℕ, Option, Some, None, codes}
 use Rattle.clap.specs.Walk.{Text}
 use Rattle.read_rules.specs.Ranges.{least_plies, most_plies, most_wide}
 
--- an option of this name has a number from the least to the greatest, and this text stands if it is not given
+-- an option of this name takes a number from least to greatest; default is its text if the option is not given
 pub record NumberOption : Type 0 where
   pub name : Text
   pub least : ℕ
   pub greatest : ℕ
   pub default : Option Text
 
--- how many plies a reading goes deep
+-- how many plies deep a reading goes
 abbrev pub depth_option : NumberOption
 depth_option = record { name = codes "depth"; least = least_plies; greatest = most_plies; default = Some (codes "10") }
 
--- how many plies of a reading look wide
+-- how many plies of a reading are wide
 abbrev pub branch_option : NumberOption
 branch_option = record { name = codes "branch"; least = 0; greatest = most_wide; default = Some (codes "2") }
 
--- how many questions are kept at most
+-- the most questions that are cached about readings, and the most about connections
 abbrev pub cache_option : NumberOption
 cache_option = record { name = codes "cache"; least = 8; greatest = 65536; default = Some (codes "4096") }
 

@@ -21,7 +21,7 @@ fn option<'a>(alloc: Global, name: &'a str, values: ValueParser<'a>) -> Arg<'a>
         .value_parser(values)
 }
 
-/// An option with a value, and the value that stands if the option is not given.
+/// An option that has one value, which is `text` if the option is not given.
 fn option_or<'a>(alloc: Global, name: &'a str, values: ValueParser<'a>, text: &'a str) -> Arg<'a>
     ensures rule { rule_of result ≡ default_rule name.entry.now values.entry text.entry.now }
     ensures local { result.global ≡ false }
@@ -29,7 +29,7 @@ fn option_or<'a>(alloc: Global, name: &'a str, values: ValueParser<'a>, text: &'
     option(alloc, name, values).default_value(text)
 }
 
-/// The whole numbers from low to high, of one byte each.
+/// The whole numbers from `low` to `high`, which fit a byte.
 fn bytes_from<'a>(low: u8, high: u8) -> ValueParser<'a>
     ensures { result ≡ whole_from low high }
 {
@@ -54,7 +54,7 @@ fn words<'a>(alloc: Global, name: &'a str) -> Arg<'a>
         .num_args(0..)
 }
 
-/// A command whose words begin after its name, without help and version.
+/// A command whose words begin after the name of the program, without help and version.
 fn bare<'a>(alloc: Global, name: &'a str) -> Command<'a>
     ensures { app_of result ≡ bare_command name.entry.now }
 {

@@ -1,4 +1,4 @@
-//! Why there are no options.
+//! The errors of reading the options.
 ghost use Rattle.std.specs.Prelude.{◌≡◌};
 ghost use Rattle.go_options.specs.declared.errors.OptionsError.TheVariants as cause;
 

@@ -1,8 +1,8 @@
-//! The options of the program, which one command of `clap` reads from the words of its command line.
+//! The options of the program. One command of `clap` reads them from the words of the command line.
 //!
 //! The command is one value, `command_line`: five options that take a whole number in a range, a flag, and the names of
-//! files. It has no short names, no help and no version. Which words it takes and what it finds in them are `clap`'s
-//! own definitions over this value.
+//! files. It has no short names, no help and no version. `clap`'s own definitions, applied to this value, say which
+//! words it takes and what it finds in them.
 #![tactic(auto)]
 
 mod command;

@@ -1,4 +1,4 @@
-//! The options, and how the words give them.
+//! The options, and how they are read from the words of the command line.
 ghost use Rattle.std.specs.Prelude.{◌≡◌, ◌≢◌, Some, false, map, string_bytes, true, IfOk, IsErrOf};
 ghost use Rattle.std.specs.Prelude.{OnOk};
 ghost use Rattle.clap.specs.Matches.{found_of};
@@ -16,23 +16,23 @@ use std::alloc::Global;
 /// What the words of the command line ask for. Each number lies in the range that its option has in `command`.
 #[derive(Debug, Drop)]
 pub struct Options {
-    /// How many plies a reading goes deep.
+    /// How many plies deep a reading goes.
     pub depth: u8,
-    /// How many plies of a reading look wide.
+    /// How many plies of a reading are wide.
     pub branch: u8,
-    /// How many questions are kept at most.
+    /// The most questions that are cached about readings, and the most about connections.
     pub cache: u32,
     /// The most states of the automaton.
     pub states: u32,
-    /// Whether the counts are noted at the end.
+    /// Whether the counts are written at the end of the run.
     pub stats: bool,
-    /// How many lines are generated in place of the input.
+    /// How many lines are generated in place of the input, or `None` if the input is read.
     pub generate: Option<u32>,
     /// The names of the pattern files.
     pub files: Files,
 }
 
-/// The number of an option, if it has a value.
+/// The number of the option `name`, if the option has a value.
 fn number(matches: &ArgMatches<'_>, name: &str) -> Option<u32>
     requires { HasOnlyNumber (found_of matches.now) name.now 0 largest }
     ensures { result ≡ number_in name.now (rows_of (found_of matches.now)) }
@@ -40,7 +40,7 @@ fn number(matches: &ArgMatches<'_>, name: &str) -> Option<u32>
     matches.get_one::<u32>(name)
 }
 
-/// The number of an option that has one.
+/// The number of the option `name`, which has a value.
 fn given_number(matches: &ArgMatches<'_>, name: &str) -> u32
     requires { HasNumber (found_of matches.now) name.now 0 largest }
     ensures { number_in name.now (rows_of (found_of matches.now)) ≡ Some result }
@@ -48,7 +48,7 @@ fn given_number(matches: &ArgMatches<'_>, name: &str) -> u32
     number(matches, name).unwrap()
 }
 
-/// Whether a flag is set.
+/// Whether the flag `name` is set.
 fn flag(matches: &ArgMatches<'_>, name: &str) -> bool
     ensures { result ≡ flag_in name.now (rows_of (found_of matches.now)) }
 {
@@ -58,7 +58,7 @@ fn flag(matches: &ArgMatches<'_>, name: &str) -> bool
     }
 }
 
-/// Copies of the names.
+/// Copies of these names.
 fn copied(alloc: Global, names: &[&str]) -> Result<Files, NoMemory>
     ensures { IfOk result (λ files. files ≡ map (λ name. name.now) names.now) }
 {
@@ -69,7 +69,7 @@ fn copied(alloc: Global, names: &[&str]) -> Result<Files, NoMemory>
     Ok(files)
 }
 
-/// The words that are no option.
+/// The words that are no option, copied.
 fn words(alloc: Global, matches: &ArgMatches<'_>, name: &str) -> Result<Files, NoMemory>
     ensures { IfOk result (λ files. files ≡ words_in name.now (rows_of (found_of matches.now))) }
 {
@@ -79,7 +79,7 @@ fn words(alloc: Global, matches: &ArgMatches<'_>, name: &str) -> Result<Files, N
     }
 }
 
-/// The options that were found.
+/// The options that a parse found.
 fn options_in(alloc: Global, matches: &ArgMatches<'_>) -> Result<Options, NoMemory>
     requires { HasNumbers (found_of matches.now) }
     ensures found { IfOk result (AreFound (rows_of (found_of matches.now))) }
@@ -97,7 +97,7 @@ fn options_in(alloc: Global, matches: &ArgMatches<'_>) -> Result<Options, NoMemo
     })
 }
 
-/// What a parse that gave no options fails by.
+/// The error for a parse that failed with this kind of error.
 fn cause(kind: ErrorKind) -> OptionsError
     ensures usage { result ≡ OptionsError.Usage → kind ≢ ErrorKind.OutOfMemory }
     ensures memory { kind ≡ ErrorKind.OutOfMemory → result ≡ OptionsError.NoMemory }
@@ -108,12 +108,11 @@ fn cause(kind: ErrorKind) -> OptionsError
     }
 }
 
-/// The options that the words of a command line give, which are without the program's name.
+/// The options that the words of a command line give. The program's name is not among the words.
 ///
-/// A value stands behind `=` in its option's word or in the word that follows, and `--` ends the options; a word that
-/// begins with no hyphen, or is `-` alone, names a file. Usage comes only if the command line does not take the
-/// words: for a name that it does not have, a value that is no number in its range or is missing, a flag with a value,
-/// and an option that is given twice.
+/// A value stands after `=` in its option's word, or in the next word, and `--` ends the options. A word that begins
+/// with no hyphen, or is `-` alone, names a file. `Usage` comes only if the command line does not take the words: an
+/// option is unknown or given twice, its value is missing or is no number in its range, or a flag has a value.
 pub fn read_options(alloc: Global, words: &[String]) -> Result<Options, OptionsError>
     ensures found { IfOk result (AreFound (rows_in (map string_bytes words.now))) }
     ensures ranges { IfOk result AreInRange }

@@ -44,22 +44,23 @@ column_of s p = p % s
 abbrev pub place_of : ℕ → ℕ → Place
 place_of s p = (row_of s p, column_of s p)
 
--- one number is the other and one more
+-- the numbers a and b differ by one
 abbrev pub are_one_apart : ℕ → ℕ → Bool
 are_one_apart a b = (a == b + 1) || (b == a + 1)
 
--- p and q, which are points of the board, are neighbours: they differ by one in exactly one of row and column
+-- p and q, which are points of the board, are neighbours: their rows are the same and their columns differ by one, or
+-- their columns are the same and their rows differ by one
 unfoldable pub are_neighbours : ℕ → ℕ → ℕ → Bool
 are_neighbours s p q =
     ((row_of s p == row_of s q) && are_one_apart (column_of s p) (column_of s q))
     || ((column_of s p == column_of s q) && are_one_apart (row_of s p) (row_of s q))
 
--- one number follows the other
+-- one of the numbers a and b comes right after the other
 abbrev pub AreConsecutive : ℕ → ℕ → Type 0
 AreConsecutive a b = (a ≡ b + 1) ⊎ (b ≡ a + 1)
 
--- the places are neighbours on a board of size s: both stand on it, and they differ by one in exactly one of row and
--- column
+-- the places a and b are neighbours on a board of size s: both stand on it, and their rows are the same and their
+-- columns differ by one, or their columns are the same and their rows differ by one
 pub record AreNeighbours (s : ℕ) (a b : Place) : Type 0 where
   pub first_on_board : IsOnBoard s a
   pub second_on_board : IsOnBoard s b

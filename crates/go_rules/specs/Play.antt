@@ -14,7 +14,7 @@ use Rattle.go_rules.specs.Below.{count_below, first_below, set_below}
 use Rattle.go_rules.specs.Position.{BoardState, other, stone_of, is_banned}
 use Rattle.go_rules.specs.Strings.{cell_at, is_stone, same_cell, is_in_string, liberties}
 
--- after c put a stone, q holds an enemy stone whose string has no liberty
+-- after c put a stone, which gave the cells put, q holds an enemy stone whose string has no liberty
 unfoldable pub is_taken : ℕ → List Cell → Colour → ℕ → Bool
 is_taken s put c q = same_cell (cell_at put q) (stone_of (other c)) && (liberties s put q == 0)
 
@@ -22,12 +22,12 @@ is_taken s put c q = same_cell (cell_at put q) (stone_of (other c)) && (libertie
 unfoldable pub taken_at : ℕ → List Cell → Colour → set.FinSet nat_cmp
 taken_at s put c = set_below (s * s) (is_taken s put c)
 
--- the cells with the taken stones removed
+-- the cells after the captures of c: the cells put with the taken stones removed
 unfoldable pub cells_after : ℕ → List Cell → Colour → List Cell
 cells_after s put c = map (λ q. if is_taken s put c q then Empty else cell_at put q) (range_with_len 0 (s * s))
 
--- the ban that c leaves at p: where one stone was taken, and the stone played is a string of one stone with one
--- liberty, the other colour may not play where the taken stone stood
+-- the ban that c leaves at p: if one stone was taken, and the stone played is a string of one stone with one liberty,
+-- the other colour may not play where the taken stone stood; else there is no ban
 unfoldable pub ban_after : ℕ → List Cell → List Cell → Colour → ℕ → Option (ℕ × Colour)
 ban_after s put after c p =
     if (count_below (s * s) (is_taken s put c) == 1) && (count_below (s * s) (is_in_string s after p) == 1)
@@ -59,11 +59,11 @@ is_legal pos c p = is_ok (play pos c p)
 unfoldable pub legal_points : BoardState → Colour → set.FinSet nat_cmp
 legal_points pos c = set_below (pos.size * pos.size) (is_legal pos c)
 
--- the position with its ban dropped
+-- the position after a pass: the same, with its ban dropped
 abbrev pub pass : BoardState → BoardState
 pass pos = record { size = pos.size; cells = pos.cells; ban = None }
 
--- a play that left these cells and this ban, or what forbids it
+-- the outcome of a play on a board of size s: the position with the cells and the ban that it left, or the refusal
 abbrev pub played_on : ℕ → List Cell → Result (Option (ℕ × Colour)) Illegal → Result BoardState Illegal
 played_on s cells (Ok ban) = Ok (record { size = s; cells = cells; ban = ban })
 played_on s cells (Err e) = Err e

@@ -24,7 +24,7 @@ abbrev pub stone_of : Colour → Cell
 stone_of black = Black
 stone_of white = White
 
--- the colour of a stone
+-- the colour of the stone in a cell; black for the empty cell, which has none
 abbrev pub colour_of : Cell → Colour
 colour_of Empty = black
 colour_of Black = black
@@ -36,8 +36,8 @@ same_colour black black = true
 same_colour white white = true
 same_colour _ _ = false
 
--- the board is a position: it has a cell for each point, every string has a liberty, and the ban's point is on it and
--- empty
+-- the board is a position: it has a legal size and a cell for each point, every string has a liberty, and the ban's
+-- point is on the board and empty
 pub record IsPosition (pos : BoardState) : Type 0 where
   pub size_at_least : smallest_size ≤ pos.size
   pub size_at_most : pos.size ≤ largest_size
@@ -51,6 +51,6 @@ abbrev pub is_banned : Option (ℕ × Colour) → Colour → ℕ → Bool
 is_banned None c p = false
 is_banned (Some b) c p = (b.0 == p) && same_colour b.1 c
 
--- these cells without a ban
+-- the board of size s with the cells and without a ban
 abbrev pub board_of : ℕ → List Cell → BoardState
 board_of s cells = record { size = s; cells = cells; ban = None }

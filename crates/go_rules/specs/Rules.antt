@@ -12,12 +12,13 @@ pub record IsCaptured (s : ℕ) (put : List Cell) (c : Colour) (q : ℕ) : Type 
   pub enemy : cell_at put q ≡ stone_of (other c)
   pub dead : (l : ℕ) → IsLiberty s put q l → ⊥
 
--- after is the board with what is captured removed
+-- the cells after are the cells put with the captured stones removed
 pub record Removes (s : ℕ) (put : List Cell) (c : Colour) (after : List Cell) : Type 0 where
   pub removed : (q : ℕ) → q < s * s → IsCaptured s put c q → cell_at after q ≡ Empty
   pub kept : (q : ℕ) → q < s * s → (IsCaptured s put c q → ⊥) → cell_at after q ≡ cell_at put q
 
--- new comes from pos by the play of c at p
+-- the play of c at p leads from pos to new: p was empty, the captured stones are removed, and the stone at p has a
+-- liberty
 pub record Follows (pos : BoardState) (c : Colour) (p : ℕ) (new : BoardState) : Type 0 where
   pub was_empty : cell_at pos.cells p ≡ Empty
   pub size : new.size ≡ pos.size
@@ -45,8 +46,8 @@ pub record LeavesBan (pos : BoardState) (c : Colour) (p : ℕ) (after : List Cel
   pub stone_alone : (r : ℕ) → IsInString pos.size after p r → r ≡ p
   pub one_liberty : (l : ℕ) × IsOnlyLiberty pos.size after p l
 
--- the board is of a size, it has a cell for each point, each stone's string has a liberty, and the point of its ban is
--- on it and empty
+-- the board has a legal size and a cell for each point, the string of each stone has a liberty, and the point of the
+-- ban is on the board and empty
 pub record IsPositionInWords (pos : BoardState) : Type 0 where
   pub size : IsSize pos.size
   pub cells : length pos.cells ≡ pos.size * pos.size

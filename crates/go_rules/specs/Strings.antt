@@ -9,7 +9,7 @@ use Rattle.go_rules.specs.declared.Cell.TheVariants.{Empty, Black, White}
 use Rattle.go_rules.specs.Below.{any_below, count_below, set_below}
 use Rattle.go_rules.specs.Board.{are_neighbours}
 
--- the two cells hold the same
+-- the two cells are the same
 abbrev pub same_cell : Cell → Cell → Bool
 same_cell Empty Empty = true
 same_cell Black Black = true
@@ -21,7 +21,7 @@ abbrev pub is_stone : Cell → Bool
 is_stone Empty = false
 is_stone _ = true
 
--- what stands at p; past the last point nothing does
+-- what stands at p; Empty past the last cell of the list
 abbrev pub cell_at : List Cell → ℕ → Cell
 cell_at cells p = slice_index_or cells p Empty
 

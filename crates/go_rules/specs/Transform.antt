@@ -2,7 +2,7 @@
 use Rattle.std.specs.Prelude.{◌≡◌, ℕ, ◌-◌, ◌==◌, ◌⊎◌, ℤ, pos, neg_ℤ, ◌+ℤ◌, ◌≤ℤ◌, if◌then◌else◌}
 use Rattle.go_rules.specs.Board.{largest_size}
 
--- how many rows down and how many columns to the right, each of them negative for the other way
+-- an offset: how many rows down and how many columns to the right; a negative number leads the other way
 abbrev pub Offset : Type 0
 Offset = ℤ × ℤ
 
@@ -10,7 +10,7 @@ Offset = ℤ × ℤ
 abbrev pub largest_offset : ℕ
 largest_offset = largest_size - 1
 
--- the offset may lie between two points of the largest board
+-- each part of the offset is small enough to lie between two points of the largest board
 pub record IsNear (d : Offset) : Type 0 where
   pub row_low : neg_ℤ (pos largest_offset) ≤ℤ d.0
   pub row_high : d.0 ≤ℤ pos largest_offset
@@ -33,10 +33,10 @@ transformed t d =
     else if t == 6 then (neg_ℤ d.0, d.1)
     else (d.1, d.0)
 
--- one number is the other and one more
+-- the numbers a and b differ by one
 abbrev pub AreNextTo : ℤ → ℤ → Type 0
 AreNextTo a b = (a ≡ b +ℤ pos 1) ⊎ (b ≡ a +ℤ pos 1)
 
--- the offsets differ by one in exactly one of row and column, as the places of neighbours do
+-- the offsets differ by one in the row or in the column and are the same in the other, as the places of neighbours are
 abbrev pub AreOneStepApart : Offset → Offset → Type 0
 AreOneStepApart d e = ((d.0 ≡ e.0) × AreNextTo d.1 e.1) ⊎ ((d.1 ≡ e.1) × AreNextTo d.0 e.0)

@@ -33,8 +33,8 @@ pub fn neighbours_are_symmetric()
     ensures on_board { (s : ℕ) (a b : Place) → AreNeighbours s a b → IsOnBoard s a × IsOnBoard s b }
 {}
 
-/// The eight transformations are the symmetries of the board: each is undone by one of them, and each keeps neighbours
-/// neighbours and the offsets within the largest board within it.
+/// The eight transformations are the symmetries of the board: each is undone by one of the eight, takes neighbours to
+/// neighbours, and takes an offset that fits the largest board to one that fits it too.
 pub fn transformations_are_symmetries()
     ensures undone { (t : ℕ) → t < transformations
         → (u : ℕ) × (u < transformations) × ((d : Offset) → transformed u (transformed t d) ≡ d) }
@@ -43,7 +43,7 @@ pub fn transformations_are_symmetries()
     ensures near { (t : ℕ) (d : Offset) → t < transformations → IsNear d → IsNear (transformed t d) }
 {}
 
-/// The tests by which the rules compute say what the rules say of paths.
+/// The computing tests of strings and liberties agree with the definitions by paths.
 pub fn strings_are_by_paths()
     ensures string { (s : ℕ) (cells : List Cell) (p q : ℕ) → p < s * s
         → IsTrue (is_in_string s cells p q) ↔ IsInString s cells p q }
@@ -51,7 +51,8 @@ pub fn strings_are_by_paths()
         → IsTrue (is_liberty s cells p l) ↔ IsLiberty s cells p l }
 {}
 
-/// To be of one string is an equivalence on the stones of a board, of stones of one colour with the same liberties.
+/// Being in one string is an equivalence on the stones of a board. Stones of one string have one colour and the same
+/// liberties.
 pub fn strings_are_classes()
     ensures itself { (s : ℕ) (cells : List Cell) (p : ℕ) → is_stone (cell_at cells p) ≡ true → IsInString s cells p p }
     ensures back { (s : ℕ) (cells : List Cell) (p q : ℕ) → p < s * s → IsInString s cells p q → IsInString s cells q p }
@@ -63,15 +64,16 @@ pub fn strings_are_classes()
         → IsLiberty s cells q l → IsLiberty s cells p l }
 {}
 
-/// The test of the neighbourhood of a set of points says what the words say, and a neighbourhood lies on the board.
+/// The computing test of the neighbourhood of a set of points agrees with its definition in words, and a neighbourhood
+/// lies on the board.
 pub fn neighbourhoods_are_in_words()
     ensures neighbourhood { (s : ℕ) (cells : List Cell) (S : ℕ → Bool) (q : ℕ)
         → IsTrue (neighbourhood_of s cells S q) ↔ InNeighbourhood s cells S q }
     ensures on_board { (s : ℕ) (cells : List Cell) (S : ℕ → Bool) (q : ℕ) → InNeighbourhood s cells S q → q < s * s }
 {}
 
-/// What the computing definition of a play answers is what the rules say: the position that follows, or why there is
-/// none.
+/// The computing definition of a play agrees with the rules: it gives the position that follows, or the reason why none
+/// follows.
 pub fn plays_are_by_rules()
     ensures follows { (pos : BoardState) (c : Colour) (p : ℕ) (new : BoardState) → p < pos.size * pos.size
         → play_free pos c p ≡ Ok new → Follows pos c p new }
@@ -87,7 +89,8 @@ pub fn plays_are_by_rules()
     ensures never_ko { (pos : BoardState) (c : Colour) (p : ℕ) → play_free pos c p ≢ Err Illegal.Ko }
 {}
 
-/// A play changes no cell but its own point, if the stone stands afterwards, and the captured enemy stones.
+/// A play that is not refused changes only its own point, where its stone stands afterwards, and the points of the
+/// captured enemy stones, which are empty afterwards.
 pub fn plays_change_little()
     ensures stone { (pos : BoardState) (c : Colour) (p : ℕ) (new : BoardState) → IsPosition pos
         → p < pos.size * pos.size
@@ -98,13 +101,13 @@ pub fn plays_change_little()
         × IsCaptured pos.size (slice_set pos.cells p (stone_of c)) c q) }
 {}
 
-/// A stone that is put at the only liberty of an enemy string captures it.
+/// A stone put at the only liberty of an enemy string captures the string.
 pub fn an_only_liberty_captures()
     ensures { (s : ℕ) (cells : List Cell) (c : Colour) (l q : ℕ) → length cells ≡ s * s → IsOnlyLiberty s cells q l
         → cell_at cells q ≡ stone_of (other c) → IsCaptured s (slice_set cells l (stone_of c)) c q }
 {}
 
-/// The ban that a play leaves is the one of the words, and it is always on the other colour.
+/// The ban that a play leaves is the one that `LeavesBan` describes, and it is always on the other colour.
 pub fn bans_are_by_rules()
     ensures left { (pos : BoardState) (c : Colour) (p : ℕ) (new : BoardState) (q : ℕ) → p < pos.size * pos.size
         → play_free pos c p ≡ Ok new → (new.ban ≡ Some (q, other c)) ↔ LeavesBan pos c p new.cells q }
@@ -113,7 +116,8 @@ pub fn bans_are_by_rules()
         → play_free pos c p ≡ Ok new → new.ban ≡ Some (q, k) → k ≡ other c }
 {}
 
-/// The reasons against a play come in their order, each exactly if it should, and a pass is never refused.
+/// A play is refused exactly if a reason applies: the point is occupied, the ko ban forbids the play, or it is suicide.
+/// The first reason in this order is given. If neither of the first two applies, the outcome is that of `play_free`.
 pub fn reasons_are_in_order()
     ensures occupied { (pos : BoardState) (c : Colour) (p : ℕ)
         → (play pos c p ≡ Err Illegal.Occupied) ↔ (cell_at pos.cells p ≢ Cell.Empty) }
@@ -125,8 +129,8 @@ pub fn reasons_are_in_order()
         → cell_at pos.cells p ≡ Cell.Empty → pos.ban ≢ Some (p, c) → play pos c p ≡ play_free pos c p }
 {}
 
-/// The empty board is a position, and every play that is answered, every pass and every legal game leads to a position:
-/// each string has a liberty, and the ban's point is empty and on the board.
+/// The empty board is a position, and every play that is not refused, every pass and every legal game leads to a
+/// position: each string has a liberty, and the ban's point is empty and on the board.
 pub fn games_keep_positions()
     ensures empty { (s : ℕ) → IsSize s → IsPosition (empty_board s) }
     ensures play { (pos : BoardState) (c : Colour) (p : ℕ) (new : BoardState) → IsPosition pos → p < pos.size * pos.size
@@ -139,16 +143,16 @@ pub fn games_keep_positions()
         → IsPosition (replay_from pos moves) }
 {}
 
-/// What a position keeps, in words, and so what each legal game keeps from the empty board on: each string has a
-/// liberty, and the ban's point is empty and on the board.
+/// A position in words: each string has a liberty, and the ban's point is empty and on the board. Each legal game from
+/// the empty board leads to a board of which these words are true.
 pub fn positions_are_in_words()
     ensures words { (pos : BoardState) → IsPosition pos ↔ IsPositionInWords pos }
     ensures game { (s : ℕ) (moves : List Move) → IsSize s → IsLegalGame (empty_board s) moves
         → IsPositionInWords (replay s moves) }
 {}
 
-/// What a colour took grows by its own moves alone: by as many stones as stood before the move and do not stand after
-/// it. A pass takes none, and where no move was made nothing was taken.
+/// The captures of a colour grow only by its own moves: by the number of stones that stand before the move and not
+/// after it. A pass takes none, and a game without moves has no captures.
 pub fn captures_are_stones_gone()
     ensures nothing { (s : ℕ) (c : Colour) → captures s c [] ≡ 0 }
     ensures own { (s : ℕ) (moves : List Move) (m : Move) (next : BoardState) → IsSize s

@@ -29,18 +29,23 @@ pub enum Cell {
     White,
 }
 
-/// A move of a game: a colour plays at a point, or passes if there is none.
+/// A move of a game: `colour` plays at the point `at`, or passes if `at` is `None`.
 #[derive(Clone, Copy, Debug, PartialEq, Eq)]
 pub struct Move {
+    /// The colour that moves.
     pub colour: Colour,
+    /// The point of the play; `None` for a pass.
     pub at: Option<Point>,
 }
 
-/// Why a play is refused; where several causes stand together, the first of these is told.
+/// Why a play is refused. If several reasons apply, the first of these is given.
 #[derive(Clone, Copy, Debug, PartialEq, Eq)]
 pub enum Illegal {
+    /// A stone stands at the point.
     Occupied,
+    /// The ko ban forbids the play.
     Ko,
+    /// The string of the stone would have no liberty after the captures.
     Suicide,
 }
 
@@ -67,7 +72,7 @@ impl Colour {
 }
 
 impl Cell {
-    /// The colour of a stone.
+    /// The colour of the stone in this cell, which is not empty.
     pub fn colour(self) -> Colour
         requires { self ≢ Cell.Empty }
         ensures { result ≡ colour_of self }

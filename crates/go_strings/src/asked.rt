@@ -1,4 +1,4 @@
-//! What is told of a point by the strings that are kept.
+//! Questions about a point, answered from the kept strings.
 
 ghost use Rattle.std.specs.Prelude.{◌≡◌, ◌*◌, ◌<◌, MatchOption};
 ghost use Rattle.go_rules.specs.Strings.{cell_at, string_at, liberty_points, liberties};
@@ -12,7 +12,7 @@ use crate::strings::KeptString;
 use go_base::points::PointSet;
 use go_base::{Cell, Point};
 
-/// The string that is kept of the stone at p, none if p is empty.
+/// The kept string of the stone at `p`; `None` if `p` is empty.
 fn kept_string_at<'a>(now: &Standing, strings: &'a [KeptString], p: Point) -> Option<&'a KeptString>
     requires stands { Stands now.now.board now.now.names strings.now }
     requires on_board { p < now.now.board.size * now.now.board.size }
@@ -26,7 +26,7 @@ fn kept_string_at<'a>(now: &Standing, strings: &'a [KeptString], p: Point) -> Op
     Some(&strings[now.names[p as usize] as usize])
 }
 
-/// The stones of the string at p, none if p is empty.
+/// The stones of the string at `p`; none if `p` is empty.
 pub fn stones_at(now: &Standing, strings: &[KeptString], p: Point) -> PointSet
     requires stands { Stands now.now.board now.now.names strings.now }
     requires on_board { p < now.now.board.size * now.now.board.size }
@@ -38,7 +38,7 @@ pub fn stones_at(now: &Standing, strings: &[KeptString], p: Point) -> PointSet
     }
 }
 
-/// The liberties of the string at p, none if p is empty.
+/// The liberties of the string at `p`; none if `p` is empty.
 pub fn liberties_at(now: &Standing, strings: &[KeptString], p: Point) -> PointSet
     requires stands { Stands now.now.board now.now.names strings.now }
     requires on_board { p < now.now.board.size * now.now.board.size }
@@ -50,7 +50,7 @@ pub fn liberties_at(now: &Standing, strings: &[KeptString], p: Point) -> PointSe
     }
 }
 
-/// How many liberties the string at p has, 0 if p is empty. They are counted where they stand.
+/// How many liberties the string at `p` has; 0 if `p` is empty. They are counted in place.
 pub fn liberty_count(now: &Standing, strings: &[KeptString], p: Point) -> u16
     requires stands { Stands now.now.board now.now.names strings.now }
     requires on_board { p < now.now.board.size * now.now.board.size }

@@ -1,4 +1,4 @@
-//! Whether the rules allow a play, told by the strings that are kept.
+//! Whether the rules allow a play, judged by the kept strings.
 
 ghost use Rattle.std.specs.Prelude.{◌≡◌, ℕ, ◌*◌, ◌<◌, ◌⊎◌, true, false, IfOk, IfErr, Err};
 ghost use Rattle.std.specs.FinSet as set;
@@ -15,7 +15,7 @@ use crate::strings::KeptString;
 use go_base::ban::is_banned;
 use go_base::{Cell, Colour, Illegal, Point};
 
-/// What c meets by a play at p, or the first of Occupied, Ko and Suicide that forbids the play.
+/// What a play of `c` at `p` meets, or the first of `Occupied`, `Ko` and `Suicide` that forbids the play.
 pub fn judge(now: &Standing, strings: &[KeptString], c: Colour, p: Point) -> Result<Met, Illegal>
     requires stands { Stands now.now.board now.now.names strings.now }
     requires holds { HoldsWith now.now.board now.now.ban }
@@ -36,7 +36,7 @@ pub fn judge(now: &Standing, strings: &[KeptString], c: Colour, p: Point) -> Res
     Ok(met)
 }
 
-/// Whether a stone would have no liberty, where it had these and took these stones.
+/// Whether a play is suicide: the string `own` of its stone has no liberty, and it takes no stone.
 fn is_suicide(own: &KeptString, taken: &BitSet) -> bool
     ensures yes { result ≡ true → (own.now.liberties ≡ set.empty) × (taken.now ≡ set.empty) }
     ensures more { result ≡ false

@@ -1,4 +1,4 @@
-//! Whether the rules allow a play, told by its four sides, with no set of points made.
+//! Whether the rules allow a play, judged by its four sides, without joining strings.
 
 ghost use Rattle.std.specs.Prelude.{◌≡◌, ◌*◌, ◌<◌, true, false};
 ghost use Rattle.go_rules.specs.Board.{are_neighbours};
@@ -17,8 +17,8 @@ use go_base::sides::neighbour;
 use go_base::view::Flat;
 use go_base::{Cell, Colour, Point};
 
-/// Whether q, a neighbour of p where c plays, gives the stone life: it is empty, or a friend with another liberty than
-/// p, or an enemy with none.
+/// Whether `q`, a neighbour of `p` where `c` plays, gives the stone life: `q` is empty, or holds a friend with a
+/// liberty other than `p`, or an enemy with no other liberty.
 #[inline(always)]
 fn gives_life(
     board: &Flat,
@@ -48,7 +48,7 @@ fn gives_life(
     last
 }
 
-/// Whether a stone of c at the empty point p would have a liberty or take a stone.
+/// Whether a stone of `c` at the empty point `p` would have a liberty or take a stone.
 fn is_alive(board: &Flat, names: &Names, strings: &[KeptString], c: Colour, p: Point) -> bool
     requires stands { Stands board.now names.now strings.now }
     requires put { Puts board.now.size (cells_of board.now) c p }
@@ -66,7 +66,7 @@ fn is_alive(board: &Flat, names: &Names, strings: &[KeptString], c: Colour, p: P
     false
 }
 
-/// Whether c may play at p.
+/// Whether `c` may play at `p`.
 pub fn is_allowed(now: &Standing, strings: &[KeptString], c: Colour, p: Point) -> bool
     requires stands { Stands now.now.board now.now.names strings.now }
     requires holds { HoldsWith now.now.board now.now.ban }

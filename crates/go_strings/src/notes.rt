@@ -1,5 +1,5 @@
-//! Notes of what points had before they were changed. Taking the notes back, the last one first, gives what stood
-//! before them.
+//! Notes of the cell and the name that points had before a change. Taking the notes back, the last one first, restores
+//! what stood before them.
 
 ghost use Rattle.std.specs.Prelude.{◌≡◌, ◌*◌, ◌<◌, ◌++◌, ◌∷◌, [], slice_set, slice_index_or};
 ghost use Rattle.std.specs.Prelude.{take, drop, OnOk, OnErr};
@@ -16,18 +16,21 @@ use go_base::size::MAX_POINTS;
 use go_base::view::Flat;
 use go_base::{Cell, NoMemory, Point};
 
-/// The cells of a board, and those past it.
+/// The cells of a board, and the cells past it.
 type Cells = [Cell; MAX_POINTS];
 
 /// What a point had before it was changed: its cell, and the place of its string.
 #[derive(Clone, Copy)]
 pub struct Note {
+    /// The point that was changed.
     pub at: Point,
+    /// The cell of the point before the change.
     pub cell: Cell,
+    /// The place of the point's string in the list before the change.
     pub name: u32,
 }
 
-/// Notes what p has.
+/// Notes the cell and the name that `p` has.
 fn keep_note(board: &Flat, names: &Names, notes: &mut Vec<Note>, p: Point) -> Result<(), NoMemory>
     requires { p < largest_points }
     ensures ok { OnOk result (notes.new.items ≡ notes.old.items ++ record {
@@ -48,7 +51,7 @@ fn keep_note(board: &Flat, names: &Names, notes: &mut Vec<Note>, p: Point) -> Re
     }
 }
 
-/// Puts this on p, and notes what p had.
+/// Puts `cell` on `p`, and notes what `p` had before.
 pub fn put_cell(
     board: &mut Flat,
     names: &Names,
@@ -68,7 +71,7 @@ pub fn put_cell(
     Ok(())
 }
 
-/// Gives each of the stones the name, and notes what it had.
+/// Gives each point of `stones` the name `name`, and notes what it had before.
 pub fn rename_noted(
     board: &Flat,
     names: &mut Names,
@@ -88,7 +91,7 @@ pub fn rename_noted(
     Ok(())
 }
 
-/// Gives a point back what it had.
+/// Gives the point of `note` its noted cell and name back.
 fn put_back(cells: &mut Cells, names: &mut Names, note: Note)
     ensures cells { cells.new ≡ slice_set cells.old note.at note.cell }
     ensures names { names.new ≡ slice_set names.old note.at note.name }
@@ -99,7 +102,7 @@ fn put_back(cells: &mut Cells, names: &mut Names, note: Note)
     }
 }
 
-/// Takes all notes but the first ones back, the last one first.
+/// Takes back all notes but the first `mark`, the last one first.
 pub fn unwind(board: &mut Flat, names: &mut Names, notes: &mut Vec<Note>, mark: usize)
     ensures board { board.new
         ≡ record { size = board.old.size; cells = cells_before (drop mark notes.old.items) board.old.cells } }

@@ -1,5 +1,5 @@
-//! What may be asked of a board between its moves. Its strings are kept, so no answer searches for one, and none takes
-//! memory.
+//! Questions to a board between its moves. The strings of the board are kept, so no answer searches for a string, and
+//! none takes memory.
 
 ghost use Rattle.std.specs.Prelude.{◌≡◌};
 ghost use Rattle.go_rules.specs.Play.{legal_points};
@@ -10,7 +10,7 @@ use go_base::Colour;
 use go_base::points::PointSet;
 
 impl StringBoard {
-    /// The points where c may play.
+    /// The points where `c` may play.
     pub fn legal_points(&self, c: Colour) -> PointSet
         ensures { result ≡ legal_points (reached self.now) c }
     {

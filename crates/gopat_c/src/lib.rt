@@ -1,9 +1,9 @@
 //! gopat for programs in C, and in any language that can call C: the exports of the static library `libgopat_c.a`.
 //!
 //! Each export is one call of a door of `board_doors`, and its clause says that the reply is the one for the answer
-//! that is defined there. A board crosses by value, so no export but `gopat_check` and `gopat_proof` takes a pointer,
-//! and a caller may hand over any numbers: what has no answer has a status of its own. Nothing takes memory, and no
-//! export keeps anything from one call to the next. `gopat.h`, in the folder of this crate, is what a C compiler reads.
+//! defined there. A board crosses by value, so only `gopat_check` and `gopat_proof` take a pointer. A caller may pass
+//! any numbers: a question without an answer gets a status of its own. Nothing takes memory, and no export keeps
+//! anything from one call to the next. `gopat.h`, in the folder of this crate, is what a C compiler reads.
 #![tactic(auto)]
 
 ghost use Rattle.std.specs.Prelude.{◌≡◌, length, take, true, Ok};
@@ -55,9 +55,9 @@ pub extern "C" fn gopat_all(
 }
 
 /// Writes the first proof of the code of an attack on the string at `target` (`kind` 1) or of its defence (`kind` 2)
-/// into the first bytes of the buffer: the words that the program prints behind the code. `gopat_check` accepts them.
-/// With a fault, and if the buffer is too short, it stays as it is. The buffer is a pointer and then a length; the
-/// pointer is not null, even for no bytes.
+/// into the first bytes of `text`: the words that the program prints after the code. `gopat_check` accepts them. With a
+/// fault, and if the buffer is too short, it stays as it is. The buffer is a pointer and then a length; the pointer is
+/// not null, even for no bytes.
 #[unsafe(no_mangle)]
 pub extern "C" fn gopat_proof(
     board: BoardBytes,
@@ -92,8 +92,8 @@ pub extern "C" fn gopat_disconnect(board: BoardBytes, a: u16, b: u16, plies: u8)
     linkage_reply(board_doors::disconnect(&board, a, b, plies))
 }
 
-/// The board after the colour 1, Black, or 2, White, plays at a point, or passes if it is 65535; with a fault the
-/// board that was handed over.
+/// The board after the colour 1, Black, or 2, White, plays at `at`, or passes if `at` is 65535; with a fault the board
+/// that came in.
 #[unsafe(no_mangle)]
 pub extern "C" fn gopat_play(board: BoardBytes, colour: u8, at: u16) -> PlayReply
     ensures { result ≡ play_reply board (play_of board colour at) }
@@ -101,7 +101,7 @@ pub extern "C" fn gopat_play(board: BoardBytes, colour: u8, at: u16) -> PlayRepl
     play_reply(&board, board_doors::play(&board, colour, at))
 }
 
-/// How many liberties the string at a point has.
+/// How many liberties the string at `at` has.
 #[unsafe(no_mangle)]
 pub extern "C" fn gopat_liberties(board: BoardBytes, at: u16) -> NumberReply
     ensures { result ≡ number_reply (liberties_of board at) }
@@ -109,7 +109,7 @@ pub extern "C" fn gopat_liberties(board: BoardBytes, at: u16) -> NumberReply
     number_reply(board_doors::liberties(&board, at))
 }
 
-/// Whether the text proves that an attack on the string at `target` (`kind` 1) or its defence (`kind` 2) has this code:
+/// Whether `text` proves that an attack on the string at `target` (`kind` 1) or its defence (`kind` 2) has this `code`:
 /// 1 for yes, 0 for no. The text is a pointer and then a length; the pointer is not null, even for no bytes.
 #[unsafe(no_mangle)]
 pub extern "C" fn gopat_check(

@@ -10,8 +10,8 @@ use Rattle.match_doors.specs.Opening.{opened_reply, refused_reply}
 abbrev pub most_states : ℕ
 most_states = 100000
 
--- the handle holds the patterns of the text, and the reply tells how many they are; or it holds nothing, and the reply
--- tells why
+-- the handle holds the patterns of the text, and the reply says how many there are; or the handle is empty, and the
+-- reply says why
 abbrev pub IsOpened : List ℕ → OpenReply → Option (List Pattern) → Type 0
 IsOpened text reply (Some patterns) = AreOpened text most_states patterns × (reply ≡ opened_reply (length patterns))
 IsOpened text reply None = (fault : PatternFault) × IsRefused text most_states fault × (reply ≡ refused_reply fault)

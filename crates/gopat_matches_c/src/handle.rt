@@ -10,17 +10,17 @@ use match_doors::{Matcher, OpenReply, PatternFault, opened_reply, refused_reply}
 use std::alloc::Global;
 use std::mem;
 
-/// A handle of patterns. A caller in C makes it of zeros, and then holds nothing.
+/// A handle of patterns. A caller in C makes it of zeros; then it is empty.
 #[repr(C)]
 pub struct PatternsHandle {
     is_open: bool,
-    /// Where the patterns lie.
+    /// The pointer to the matcher.
     pub slot: Slot,
     ghost tied: { is_open ≡ is_some slot.held },
 }
 
 impl PatternsHandle {
-    /// Holds nothing.
+    /// The empty handle.
     fn none(alloc: Global) -> PatternsHandle
         ensures { result.slot.held ≡ None }
     {
@@ -30,7 +30,7 @@ impl PatternsHandle {
         }
     }
 
-    /// Holds the matcher of a box.
+    /// The handle that holds the matcher of a box.
     fn of(held: Box<Matcher>) -> PatternsHandle
         ensures { result.slot.held ≡ Some held.value }
     {
@@ -40,7 +40,7 @@ impl PatternsHandle {
         }
     }
 
-    /// The box of what is held, if something is.
+    /// The box of the matcher that the handle holds, or `None` if the handle is empty.
     fn into_box(self) -> Option<Box<Matcher>>
         ensures { MatchOption result (self.slot.held ≡ None) (λ held. self.slot.held ≡ Some held.value) }
     {
@@ -53,7 +53,7 @@ impl PatternsHandle {
         }
     }
 
-    /// Takes out what is held, if something is. Then nothing is held.
+    /// Takes out the matcher that the handle holds, if it holds one. Afterwards the handle is empty.
     pub fn take(&mut self, alloc: Global) -> Option<Box<Matcher>>
         ensures taken { MatchOption result (self.old.slot.held ≡ None)
             (λ held. self.old.slot.held ≡ Some held.value) }
@@ -62,7 +62,7 @@ impl PatternsHandle {
         mem::replace(self, PatternsHandle::none(alloc)).into_box()
     }
 
-    /// Puts a matcher into a handle that holds nothing.
+    /// Puts a matcher into an empty handle.
     pub fn put(&mut self, held: Box<Matcher>)
         requires { self.old.slot.held ≡ None }
         ensures { self.new.slot.held ≡ Some held.value }
@@ -71,7 +71,7 @@ impl PatternsHandle {
         slot.discard();
     }
 
-    /// Frees what is held, if something is. Then nothing is held.
+    /// Frees what the handle holds. Afterwards the handle is empty.
     pub fn close(&mut self, alloc: Global)
         ensures { self.new.slot.held ≡ None }
     {
@@ -79,7 +79,7 @@ impl PatternsHandle {
     }
 }
 
-/// A matcher of the patterns of a text in a box of its own, or why there is none.
+/// The matcher for the patterns of `text` in a box of its own, or why there is none.
 fn boxed(alloc: Global, text: &[u8]) -> Result<Box<Matcher>, PatternFault>
     ensures ok { IfOk result (λ held. AreOpened text.now most_states held.value) }
     ensures err { IfErr result (IsRefused text.now most_states) }
@@ -91,7 +91,7 @@ fn boxed(alloc: Global, text: &[u8]) -> Result<Box<Matcher>, PatternFault>
     }
 }
 
-/// Reads the patterns of a text into a handle that holds nothing.
+/// Reads the patterns of `text` into an empty handle.
 pub fn opened(alloc: Global, handle: &mut PatternsHandle, text: &[u8]) -> OpenReply
     requires { handle.old.slot.held ≡ None }
     ensures { IsOpened text.now result handle.new.slot.held }

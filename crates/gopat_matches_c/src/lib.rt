@@ -20,8 +20,9 @@ use handle::{PatternsHandle, opened};
 use match_doors::{MatchBytes, MatchReply, OpenReply, closed_reply, find};
 use std::alloc::Global;
 
-/// Reads the patterns of a text, which name no helper, into a handle. What the handle held before is freed first. The
-/// reply tells how many patterns it holds, or the first fault of the text; then the handle holds nothing.
+/// Reads the patterns of `text`, which name no helper, into a handle. What the handle held before is freed first. The
+/// reply says how many patterns the handle holds, or gives the first fault of the text; with a fault the handle is
+/// empty.
 #[unsafe(no_mangle)]
 pub extern "C" fn gopat_patterns_open(
     alloc: Global,
@@ -62,8 +63,7 @@ pub extern "C" fn gopat_matches(
     }
 }
 
-/// Frees what a handle holds. Afterwards it holds nothing, as before its first call; a handle that holds nothing stays
-/// so.
+/// Frees what a handle holds. Afterwards the handle is empty, as before its first call; an empty handle stays empty.
 #[unsafe(no_mangle)]
 pub extern "C" fn gopat_patterns_close(alloc: Global, patterns: &mut PatternsHandle)
     ensures { patterns.new.slot.held ≡ None }

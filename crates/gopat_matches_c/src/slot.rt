@@ -1,4 +1,4 @@
-//! Where the patterns of a handle lie.
+//! The pointer of a handle to its matcher.
 ghost use Rattle.std.specs.Prelude.{◌≡◌, List, Option, Some, None, is_some, true};
 ghost use Rattle.pat_types.specs.declared.pattern.Pattern.{Pattern};
 ghost use Rattle.gopat_matches_c.specs.Owned.{held_coded};
@@ -25,14 +25,14 @@ impl Model for Slot {
 }
 
 impl Slot {
-    /// Nothing is owned.
+    /// A slot with this pointer, which owns nothing.
     fn empty(at: *mut u8, alloc: Global) -> Slot
         ensures { result.held ≡ None }
     {
         Slot { at, alloc }
     }
 
-    /// The null pointer, which owns nothing.
+    /// The slot with the null pointer, which owns nothing.
     pub fn nothing(alloc: Global) -> Slot
         ensures { result.held ≡ None }
     {
@@ -40,7 +40,7 @@ impl Slot {
         Slot::empty(nowhere, alloc)
     }
 
-    /// Owns what the parts of a box owned.
+    /// The slot that owns what the parts of a box owned.
     pub fn of_parts(parts: Parts<Matcher, Global>) -> Slot
         ensures { result.held ≡ Some parts.value }
     {
@@ -51,7 +51,7 @@ impl Slot {
         }
     }
 
-    /// The parts of the box again.
+    /// The parts of the box that the slot owns.
     pub fn into_parts(self) -> Parts<Matcher, Global>
         requires { is_some self.held ≡ true }
         ensures { self.held ≡ Some result.value }

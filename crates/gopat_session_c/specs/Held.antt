@@ -1,4 +1,4 @@
--- What a handle holds after a call, and what the call tells and writes.
+-- What a handle holds after a call, and what the call replies and writes.
 use Rattle.std.specs.Prelude.{◌≡◌, ℕ, false, List, length, Option, Some, None}
 use Rattle.session_core.specs.Replies.{reply_bytes}
 use Rattle.board_doors.specs.Printed.{printed_over}
@@ -13,19 +13,19 @@ use Rattle.session_doors.specs.Answered.{Answers, has_feed, IsFaultOf}
 use Rattle.session_doors.specs.Opened.{IsOpened, Refuses}
 use Rattle.session_doors.specs.Replies.{line_reply, fault_reply, refused_reply}
 
--- the session is that of the text and the options before its first line, and the reply tells how many patterns it has
+-- the session is that of the text and the options before its first line, and the reply says how many patterns it has
 pub record OpensWith (text : List ℕ) (options : SessionOptions) (reply : OpenReply) (held : HeldSession) : Type 0 where
   pub count : ℕ
   pub opened : IsOpened text options (record { session = held; patterns = count })
   pub told : reply ≡ opened_reply count
 
--- the handle holds the session of the text and the options; or it holds nothing, and the reply tells their first fault
+-- the handle holds the session of the text and the options; or it is empty, and the reply gives their first fault
 abbrev pub Opens : List ℕ → SessionOptions → OpenReply → Option HeldSession → Type 0
 Opens text options reply (Some held) = OpensWith text options reply held
 Opens text options reply None = (fault : OpenFault) × Refuses text options fault × (reply ≡ refused_reply fault)
 
--- The handle that held old answered the line of a text, and the bytes of the reply stand in the buffer if there is room
--- for them; or the text is no line, or there was no memory, and nothing changed.
+-- The handle that held `old` answered the line of a text, and the bytes of the reply stand in the buffer if there is
+-- room for them; or the text is not one line, or memory ran out, and nothing changed.
 pub data HasAnswered (old : HeldSession) (text : List ℕ) (held : Option HeldSession) (before after : List ℕ)
     (reply : LineReply) : Type 0 where
   answered : (new : HeldSession) → held ≡ Some new → Answers old text new → has_feed text ≡ false

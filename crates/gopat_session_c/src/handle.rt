@@ -10,17 +10,17 @@ use session_doors::{HeldSession, OpenFault, OpenedSession, SessionOptions, open,
 use std::alloc::Global;
 use std::mem;
 
-/// A handle of a session. A caller in C makes it of zeros, and then holds nothing.
+/// A handle of a session. A caller in C makes it of zeros; then it is empty.
 #[repr(C)]
 pub struct SessionHandle {
     is_open: bool,
-    /// Where the session lies.
+    /// The pointer to the place of the session.
     pub slot: Slot,
     ghost tied: { is_open ≡ is_some slot.held },
 }
 
 impl SessionHandle {
-    /// Holds nothing.
+    /// The empty handle.
     fn none(alloc: Global) -> SessionHandle
         ensures { result.slot.held ≡ None }
     {
@@ -30,7 +30,7 @@ impl SessionHandle {
         }
     }
 
-    /// Holds the session of a place.
+    /// The handle that holds the session in `place`.
     fn of(place: Box<Option<HeldSession>>) -> SessionHandle
         requires { is_some place.value ≡ true }
         ensures { result.slot.held ≡ place.value }
@@ -41,7 +41,7 @@ impl SessionHandle {
         }
     }
 
-    /// The place of what is held, if something is.
+    /// The place of the session that the handle holds, or `None` if the handle is empty.
     fn into_place(self) -> Option<Box<Option<HeldSession>>>
         ensures { MatchOption result (self.slot.held ≡ None)
             (λ place. (self.slot.held ≡ place.value) × (is_some place.value ≡ true)) }
@@ -55,7 +55,8 @@ impl SessionHandle {
         }
     }
 
-    /// Takes out what is held, if something is, with its place, which is empty then. Then nothing is held.
+    /// Takes out the session that the handle holds, if it holds one, and its place without it. Afterwards the handle is
+    /// empty.
     pub fn take(&mut self, alloc: Global) -> Option<(HeldSession, Box<Option<HeldSession>>)>
         ensures taken { MatchOption result (self.old.slot.held ≡ None)
             (λ taken. self.old.slot.held ≡ Some taken.0) }
@@ -66,7 +67,7 @@ impl SessionHandle {
         Some((held, place))
     }
 
-    /// Puts a place with a session into a handle that holds nothing.
+    /// Puts a place with a session into an empty handle.
     pub fn fill(&mut self, place: Box<Option<HeldSession>>)
         requires none { self.old.slot.held ≡ None }
         requires some { is_some place.value ≡ true }
@@ -76,7 +77,7 @@ impl SessionHandle {
         slot.discard();
     }
 
-    /// Puts a session into its place, and this into a handle that holds nothing.
+    /// Puts the session `held` into `place`, and the place into an empty handle.
     pub fn put(&mut self, held: HeldSession, mut place: Box<Option<HeldSession>>)
         requires { self.old.slot.held ≡ None }
         ensures { self.new.slot.held ≡ Some held }
@@ -85,7 +86,7 @@ impl SessionHandle {
         self.fill(place);
     }
 
-    /// Frees what is held, if something is. Then nothing is held.
+    /// Frees what the handle holds. Afterwards the handle is empty.
     pub fn close(&mut self, alloc: Global)
         ensures { self.new.slot.held ≡ None }
     {
@@ -93,7 +94,7 @@ impl SessionHandle {
     }
 }
 
-/// Opens a session in a handle that holds nothing.
+/// Opens a session in an empty handle.
 pub fn opened(
     alloc: Global,
     handle: &mut SessionHandle,

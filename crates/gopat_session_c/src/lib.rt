@@ -1,11 +1,11 @@
 //! A session for programs in C, and in any language that can call C: the exports of the static library
 //! `libgopat_session_c.a`.
 //!
-//! A handle holds a session: patterns, a board, and the answers that are kept. It is a struct of the caller's, all
-//! zeros before its first call; the calls take it by a pointer, and `gopat_session_close` frees what it holds.
-//! `gopat_line` answers a line of the protocol as the program does, and writes the reply into the caller's buffer.
-//! There are no helpers, and each file that a line names counts as empty. `gopat_session.h`, in the folder of this
-//! crate, is what a C compiler reads.
+//! A handle holds a session: patterns, a board, and the cached answers. It is a struct of the caller's, all zeros
+//! before its first call; the calls take it by a pointer, and `gopat_session_close` frees what it holds. `gopat_line`
+//! answers a line of the protocol as the program does, and writes the reply into the caller's buffer. There are no
+//! helpers, and each file that a line names counts as empty. `gopat_session.h`, in the folder of this crate, is what a
+//! C compiler reads.
 #![tactic(auto)]
 
 ghost use Rattle.std.specs.Prelude.{◌≡◌, None, IfSome, length};
@@ -23,9 +23,9 @@ use match_doors::OpenReply;
 use session_doors::{LineReply, SessionOptions};
 use std::alloc::Global;
 
-/// Opens a session of the patterns of a text, which name no helper, by these options, before its first line. What the
-/// handle held before is freed first. The reply tells how many patterns there are, or the first fault: of the depths,
-/// of the cache, of the states, of the text; then the handle holds nothing.
+/// Opens a session with the patterns of `text`, which name no helper, and with these `options`, before its first line.
+/// What the handle held before is freed first. The reply says how many patterns there are, or gives the first fault: of
+/// the depths, of the cache, of the states, of the text; with a fault the handle is empty.
 #[unsafe(no_mangle)]
 pub extern "C" fn gopat_session_open(
     alloc: Global,
@@ -39,9 +39,9 @@ pub extern "C" fn gopat_session_open(
     handle::opened(alloc, session, text, options)
 }
 
-/// Answers a line of the protocol, which stands without its line feed, and writes the reply over the front of the
-/// buffer. If the buffer is too short, it stays as it is; the line is answered all the same, and `gopat_last_reply`
-/// writes its reply.
+/// Answers a line of the protocol, given without its line feed, and writes the reply over the front of the buffer. If
+/// the buffer is too short, it stays as it is; the line is answered all the same, and `gopat_last_reply` writes its
+/// reply.
 #[unsafe(no_mangle)]
 pub extern "C" fn gopat_line(
     alloc: Global,
@@ -57,8 +57,8 @@ pub extern "C" fn gopat_line(
     lines::answered(alloc, session, line, reply)
 }
 
-/// Writes the reply to the last line over the front of the buffer once more; no bytes before the first line. Nothing is
-/// answered anew.
+/// Writes the reply to the last line over the front of the buffer once more; no bytes before the first line. No line is
+/// answered again.
 #[unsafe(no_mangle)]
 pub extern "C" fn gopat_last_reply(
     alloc: Global,
@@ -73,8 +73,7 @@ pub extern "C" fn gopat_last_reply(
     lines::last_reply(alloc, session, reply)
 }
 
-/// Frees what a handle holds. Afterwards it holds nothing, as before its first call; a handle that holds nothing stays
-/// so.
+/// Frees what a handle holds. Afterwards the handle is empty, as before its first call; an empty handle stays empty.
 #[unsafe(no_mangle)]
 pub extern "C" fn gopat_session_close(alloc: Global, session: &mut SessionHandle)
     ensures { session.new.slot.held ≡ None }

@@ -1,4 +1,4 @@
-//! Lines that the session of a handle answers.
+//! How the session of a handle answers lines.
 
 ghost use Rattle.std.specs.Prelude.{◌≡◌, None, IfSome, length};
 ghost use Rattle.board_doors.specs.Printed.{printed_over};

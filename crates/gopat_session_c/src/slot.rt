@@ -1,4 +1,4 @@
-//! Where the session of a handle lies.
+//! The pointer of a handle to the place of its session.
 ghost use Rattle.std.specs.Prelude.{◌≡◌, Option, None, is_some, true};
 ghost use Rattle.session_doors.specs.declared.held.HeldSession.{HeldSession as SessionSeen};
 ghost use Rattle.gopat_session_c.specs.Owned.{held_coded};
@@ -15,7 +15,7 @@ use std::ptr::null_mut;
 pub struct Slot {
     at: *mut u8,
     alloc: Global,
-    /// What is held; `None` if nothing is.
+    /// The session that is held; `None` if there is none.
     pub ghost held: { Option SessionSeen } by { held_coded },
 }
 
@@ -26,14 +26,14 @@ impl Model for Slot {
 }
 
 impl Slot {
-    /// Nothing is owned.
+    /// A slot with this pointer, which owns nothing.
     fn empty(at: *mut u8, alloc: Global) -> Slot
         ensures { result.held ≡ None }
     {
         Slot { at, alloc }
     }
 
-    /// The null pointer, which owns nothing.
+    /// The slot with the null pointer, which owns nothing.
     pub fn nothing(alloc: Global) -> Slot
         ensures { result.held ≡ None }
     {
@@ -41,7 +41,7 @@ impl Slot {
         Slot::empty(nowhere, alloc)
     }
 
-    /// Owns what the parts of a box owned.
+    /// The slot that owns what the parts of a box owned.
     pub fn of_parts(parts: Parts<Option<HeldSession>, Global>) -> Slot
         requires { is_some parts.value ≡ true }
         ensures { result.held ≡ parts.value }
@@ -53,7 +53,7 @@ impl Slot {
         }
     }
 
-    /// The parts of the box again.
+    /// The parts of the box that the slot owns.
     pub fn into_parts(self) -> Parts<Option<HeldSession>, Global>
         requires { is_some self.held ≡ true }
         ensures { result.value ≡ self.held }

@@ -1,9 +1,9 @@
-//! The program that tells sure captures: it answers protocol lines that set up a position, and `attack` and `defend` by
-//! a capture that holds whatever the defender plays.
+//! The program that finds sure captures. It answers protocol lines that set up a position; `attack` and `defend` count
+//! only a capture that works whatever the defender plays.
 //!
-//! `gopat_sure [--depth N] [--branch N] [--tree stated|wider]`. The exit status is that of `gopat` for each of its ends:
-//! 0 at the end of the input or after `quit`, 2 for a faulty command line, 3 for want of memory, 4 and 5 if the input or
-//! the output fails, 8 if too much is put in.
+//! `gopat_sure [--depth N] [--branch N] [--tree stated|wider]`. The exit status is that of `gopat` for each of its
+//! ends: 0 at the end of the input or after `quit`, 2 for a faulty command line, 3 if memory runs out at the start, 4
+//! if the input fails, 5 if the output fails, 8 if the input is too long.
 #![tactic(auto)]
 
 mod options;
@@ -15,10 +15,10 @@ use std::rt::Env;
 use std::{env, io};
 use sure_lines::{Depths, End, SureMachine, serve};
 
-/// The note of a faulty command line.
+/// The message for a faulty command line.
 const USAGE: &str = "usage: gopat_sure [--depth N] [--branch N] [--tree stated|wider]";
 
-/// The exit status of a faulty command line.
+/// The exit status for a faulty command line.
 const WRONG_WORDS: u8 = 2;
 
 /// The words of the command line without the program's name.
@@ -30,13 +30,14 @@ fn words_of<R: Env + AllocGlobal>(rt: &R) -> io::Result<Vec<String>> {
     Ok(words)
 }
 
-/// The depths that the command line asks for. None if its words are no command line, or cannot be had.
+/// The depths that the command line asks for. `None` if its words are no command line of the program, or cannot be
+/// read.
 fn depths_asked<R: Env + AllocGlobal>(rt: &R) -> Option<Depths> {
     let words = words_of(rt).ok()?;
     depths_of(rt.alloc(), words.as_slice())
 }
 
-/// The note of an end, if it has one.
+/// The message for an end of the session, if it has one.
 fn note_of(end: End) -> Option<&'static str> {
     match end {
         End::Done => None,
@@ -47,7 +48,7 @@ fn note_of(end: End) -> Option<&'static str> {
     }
 }
 
-/// The exit status of an end.
+/// The exit status for an end of the session.
 fn status_of(end: End) -> u8 {
     match end {
         End::Done => 0,

@@ -1,13 +1,13 @@
-//! What the words of the command line ask for.
+//! Parses the words of the command line.
 
 use clap::{Arg, ArgAction, ArgMatches, Command};
 use std::alloc::{AllocError, Global};
 use sure_lines::{Depths, Tree};
 
-/// The plies of a reading if no option says them.
+/// The plies of a reading if no option sets them.
 const USUAL_PLIES: u8 = 10;
 
-/// The wide plies of a reading if no option says them.
+/// The wide plies of a reading if no option sets them.
 const USUAL_WIDE: u8 = 2;
 
 /// An option of the command line with one value.
@@ -29,7 +29,7 @@ fn command<'a>(alloc: Global) -> Result<Command<'a>, AllocError> {
         .arg(option(alloc, "tree"))
 }
 
-/// The number of an option, or the usual one. None if its value is no number.
+/// The number that the option `name` sets, or `usual` if the option is not given. `None` if its value is no number.
 fn number_in(matches: &ArgMatches<'_>, name: &str, usual: u8) -> Option<u8> {
     match matches.get_str(name) {
         Some(value) => value.parse().ok(),
@@ -37,7 +37,8 @@ fn number_in(matches: &ArgMatches<'_>, name: &str, usual: u8) -> Option<u8> {
     }
 }
 
-/// The tree that has the attacker's candidates. None if the word names none.
+/// The tree that names the attacker's candidates: the stated tree if no option names one. `None` if the word names no
+/// tree.
 fn tree_in(matches: &ArgMatches<'_>) -> Option<Tree> {
     match matches.get_str("tree") {
         None | Some("stated") => Some(Tree::Stated),
@@ -46,8 +47,8 @@ fn tree_in(matches: &ArgMatches<'_>) -> Option<Tree> {
     }
 }
 
-/// The depths that the words of a command line give, which are without the program's name. None if they are no command
-/// line, or a number is out of its range.
+/// The depths that the words of a command line set; the words come without the program's name. `None` if they are no
+/// command line of the program, or a number is out of its range.
 pub(crate) fn depths_of(alloc: Global, words: &[String]) -> Option<Depths> {
     let matches = command(alloc).ok()?.try_get_matches_from(words).ok()?;
     let plies = number_in(&matches, "depth", USUAL_PLIES)?;

@@ -1,4 +1,4 @@
-//! The program that reads the wider tree: it answers the same lines as `gopat`, by the same options and files. Its
+//! The program that reads the wider tree: it answers the same lines as `gopat`, with the same options and files. Its
 //! readings try more moves, so they are stronger and take longer.
 #![tactic(auto)]
 

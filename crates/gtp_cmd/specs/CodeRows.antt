@@ -5,7 +5,7 @@ use Rattle.gtp_cmd.specs.declared.rows.Row.{Row as CodeRow}
 use Rattle.gtp_cmd.specs.Words.{kept}
 use Rattle.gtp_cmd.specs.Commands.{Row}
 
--- a row of the code, as a row of the definition
+-- the row of the definition that a row of the code stands for
 abbrev pub row_seen : CodeRow → Row
 row_seen r = record { command = r.command; word = r.word.now }
 

@@ -1,4 +1,4 @@
--- The commands, the words that each takes, and what a line says.
+-- The commands, the words that each command takes, and what a line says.
 use Rattle.std.specs.Prelude.{ℕ, ◌==◌, length, true, false, ◌&&◌, nat_le, Bool, List, [], ◌∷◌, map, Option, None, Some}
 use Rattle.std.specs.Prelude.{is_some, if◌then◌else◌, codes, drop}
 use Rattle.std.specs.List.{find, join_with_byte}
@@ -66,7 +66,7 @@ table =
     ∷ record { command = name.HelperDrop; word = codes "helper_drop" }
     ∷ []
 
--- the command of the first of these rows whose word this is
+-- the command of the first of these rows whose word is this word
 abbrev pub command_in : List Row → List ℕ → Option CommandName
 command_in rows word = option_map (λ r. r.command) (find (λ r. bytes_eq word r.word) rows)
 
@@ -74,30 +74,30 @@ command_in rows word = option_map (λ r. r.command) (find (λ r. bytes_eq word r
 abbrev pub named : List ℕ → Option CommandName
 named word = command_in table word
 
--- the names of the commands, one a line
+-- the names of the commands, one name a line
 abbrev pub names_text : List ℕ
 names_text = join_with_byte line_feed (map (λ r. r.word) table)
 
--- what a first argument says, if there is one and it is well formed
+-- what the first of these words says, if there is a first word and it is well formed
 abbrev pub first_argument : {X : Type 0} → (List ℕ → Option X) → List (List ℕ) → Option X
 first_argument says [] = None
 first_argument says (word ∷ more) = says word
 
--- whether the first argument names a command
+-- the first argument, if there is one, names a command
 abbrev pub known_of : List (List ℕ) → Option Bool
 known_of words = first_argument (λ word. Some (is_some (named word))) words
 
--- the size of a board that a number is
+-- the size of a board with this number, if a board may have it
 abbrev pub size_of : ℕ → Option ℕ
 size_of n = if nat_le smallest_size n && nat_le n largest_size then Some n else None
 
--- a colour and where it moves on a board of size s, if the first two words say both
+-- a colour and the target of its move on a board of size s, if the first two words say both
 abbrev pub move_of : ℕ → List (List ℕ) → Option (Colour × Option ℕ)
 move_of s (colour ∷ target ∷ more) =
     option_and_then (λ c. option_map (λ at. (c, at)) (target_of s target)) (colour_of colour)
 move_of s _ = None
 
--- the number that a word writes, if it lies between these two
+-- the number that a word writes, if it is at least low and at most high
 abbrev pub number_between : ℕ → ℕ → List ℕ → Option ℕ
 number_between low high word =
     option_and_then (λ n. if nat_le low n && nat_le n high then Some n else None) (number_of word)
@@ -113,18 +113,18 @@ depths_of (plies ∷ wide ∷ more) =
     (number_between least_plies most_plies plies)
 depths_of _ = None
 
--- whether a proof is of an attack: `attack` says so, and `defend` that it is of a defence
+-- a proof is of an attack if the word is `attack`, and of a defence if the word is `defend`
 abbrev pub is_attack_of : List ℕ → Option Bool
 is_attack_of word =
     if bytes_eq word (codes "attack") then Some true
     else if bytes_eq word (codes "defend") then Some false
     else None
 
--- the code that a word is: one digit, from 0 to 3
+-- the code that a word writes: one digit, from 0 to 3
 abbrev pub code_of : List ℕ → Option ℕ
 code_of word = if length word == 1 then number_between 0 greatest_code word else None
 
--- what a proof is said to show on a board of size s, if the first three words say it
+-- what a proof claims to show on a board of size s, if the first three words say it
 abbrev pub claim_of : ℕ → List (List ℕ) → Option Claim
 claim_of s (kind ∷ target ∷ code ∷ more) =
     option_and_then (λ attack. option_and_then (λ at. option_map
@@ -137,7 +137,7 @@ points_of s (first ∷ second ∷ more) =
     option_and_then (λ p. option_map (λ q. (p, q)) (vertex_of s second)) (vertex_of s first)
 points_of s _ = None
 
--- what a command is with these words after its name, which stand at these spans, on a board of size s; none if an
+-- the command with this name and these words after it, which stand at these spans, on a board of size s; None if an
 -- argument is missing or malformed
 abbrev pub command_of : CommandName → ℕ → List (List ℕ) → List Span → Option Command
 command_of name.ProtocolVersion s words spans = Some command.ProtocolVersion
@@ -177,27 +177,27 @@ command_of name.HelperOff s words spans = option_map command.HelperOff (first_sp
 command_of name.HelperCalls s words spans = option_map command.HelperCalls (first_span spans)
 command_of name.HelperDrop s words spans = option_map command.HelperDrop (first_span spans)
 
--- a command, or a refusal if its arguments are missing or malformed
+-- the command, or a refusal if its arguments are missing or malformed
 abbrev pub asked : Option ℕ → Option Command → Parsed
 asked id None = parsed.Refused id SyntaxError
 asked id (Some c) = parsed.Command id c
 
--- what the words after a name say, which stand at these spans, or a refusal if the name is no command's
+-- what the words after a name say, which stand at these spans; a refusal if no command has the name
 abbrev pub called : Option ℕ → ℕ → Option CommandName → List (List ℕ) → List Span → Parsed
 called id s None words spans = parsed.Refused id UnknownCommand
 called id s (Some n) words spans = asked id (command_of n s words spans)
 
--- what the words behind the id say, which stand at these spans; if there is none, no command is named
+-- what the words after the id say, which stand at these spans; without a word, no command is named
 abbrev pub said : Option ℕ → ℕ → List (List ℕ) → List Span → Parsed
 said id s [] spans = parsed.Refused id UnknownCommand
 said id s (word ∷ words) spans = called id s (named word) words (drop 1 spans)
 
--- what the words say, which stand at these spans, if the first may be an id
+-- what the words of a line say, which stand at these spans, if the first word was read as an id or found to be none
 abbrev pub said_with : Option ℕ → ℕ → List ℕ → List (List ℕ) → List Span → Parsed
 said_with None s first more spans = said None s (first ∷ more) spans
 said_with (Some id) s first more spans = said (Some id) s more (drop 1 spans)
 
--- what the words of a line say, which stand at these spans
+-- what the words of a line say, which stand at these spans; the first word may be an id
 abbrev pub parsed_words : ℕ → List (List ℕ) → List Span → Parsed
 parsed_words s [] spans = parsed.Nothing
 parsed_words s (first ∷ more) spans = said_with (id_of first) s first more spans

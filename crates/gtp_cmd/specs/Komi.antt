@@ -34,6 +34,6 @@ is_decimal text = is_number text
 abbrev pub is_komi : List ℕ → Bool
 is_komi text = nat_le (length text) komi_room && is_decimal (without_sign text)
 
--- the komi that a word is
+-- the komi that a word writes, if it has the form of a komi
 abbrev pub komi_of : List ℕ → Option (List ℕ)
 komi_of word = if is_komi word then Some word else None

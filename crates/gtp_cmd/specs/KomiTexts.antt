@@ -5,7 +5,7 @@ use Rattle.std.proofs.lemmas.List.{take-append-drop}
 use Rattle.gtp_cmd.specs.Komi.{komi_room}
 use Rattle.gtp_cmd.specs.declared.komi.KomiText.TheInside.{Inside}
 
--- the text that is kept
+-- the text of a komi that is kept so
 abbrev pub text_kept : Inside → List ℕ
 text_kept a = take a.len a.bytes
 
@@ -15,7 +15,7 @@ pub record IsKomiText (a : Inside) : Type 0 where
   pub whole : length a.bytes ≡ komi_room
   pub padded : drop a.len a.bytes ≡ replicate (komi_room - a.len) 0
 
--- how a text is kept
+-- the fields that keep a text
 abbrev pub kept_of : List ℕ → Inside
 kept_of text = record { bytes = text ++ replicate (komi_room - length text) 0; len = length text }
 
@@ -23,7 +23,7 @@ kept_of text = record { bytes = text ++ replicate (komi_room - length text) 0; l
 pub length-text_kept : (a : Inside) → IsKomiText a → length (text_kept a) ≡ a.len
 length-text_kept a h = simp length-take (omega (arith, h.within, h.whole))
 
--- the fields come back from the text
+-- the text determines the fields that keep it
 pub kept_of-text_kept : (a : Inside) → IsKomiText a → kept_of (text_kept a) ≡ a
 kept_of-text_kept a h =
     ap (λ (n : ℕ). record { bytes = text_kept a ++ replicate (komi_room - n) 0; len = n }) (length-text_kept a h)

@@ -7,12 +7,12 @@ use Rattle.gtp_cmd.specs.declared.refusals.RefuseText.TheVariants.{CannotUndo, V
 use Rattle.gtp_cmd.specs.declared.refusals.RefuseText.TheVariants.{CannotLoadFile, BadSgf, ProofTooLong, ColoursDiffer}
 use Rattle.gtp_cmd.specs.declared.refusals.RefuseText.TheVariants.{NoSuchHelper}
 
--- the id, if there is one, as it is printed
+-- the printed id, if there is one
 abbrev pub id_text : Option ℕ → List ℕ
 id_text None = []
 id_text (Some id) = decimal id
 
--- the result behind a blank, and nothing if it is empty
+-- a blank and the result, or nothing if the result is empty
 abbrev pub after_blank : List ℕ → List ℕ
 after_blank [] = []
 after_blank (b ∷ bs) = codes " " ++ b ∷ bs
@@ -21,7 +21,7 @@ after_blank (b ∷ bs) = codes " " ++ b ∷ bs
 abbrev pub reply_end : List ℕ
 reply_end = codes "\n\n"
 
--- a success: `=`, the id if any, a blank and the result if it is not empty, two line feeds
+-- a success: `=`, the id if there is one, a blank and the result if it is not empty, two line feeds
 abbrev pub success_text : Option ℕ → List ℕ → List ℕ
 success_text id text = codes "=" ++ id_text id ++ after_blank text ++ reply_end
 
@@ -42,6 +42,6 @@ text_of ProofTooLong = codes "proof too long"
 text_of ColoursDiffer = codes "colours differ"
 text_of NoSuchHelper = codes "no such helper"
 
--- a refusal: `?`, the id if any, a blank, what it says, two line feeds
+-- a refusal: `?`, the id if there is one, a blank, what the refusal says, two line feeds
 abbrev pub refusal_text : Option ℕ → RefuseText → List ℕ
 refusal_text id refusal = codes "?" ++ id_text id ++ codes " " ++ text_of refusal ++ reply_end

@@ -1,4 +1,4 @@
--- How long the texts are that are kept in place.
+-- The most bytes of the result of a short reply, and of a line.
 use Rattle.std.specs.Prelude.{ℕ}
 pub use Rattle.vertices.specs.Rooms.{short_room}
 
@@ -6,6 +6,6 @@ pub use Rattle.vertices.specs.Rooms.{short_room}
 abbrev pub result_room : ℕ
 result_room = 32
 
--- how many bytes a line may have that is read
+-- how many bytes a line may have that is parsed
 abbrev pub longest_line : ℕ
 longest_line = 65536

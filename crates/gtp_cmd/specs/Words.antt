@@ -1,4 +1,4 @@
--- The words of a protocol line, and those that are ids, after the GTP version 2 draft.
+-- The ids of protocol lines, after the GTP version 2 draft.
 use Rattle.std.specs.Prelude.{ℕ, nat_le, List, Option, None, Some, if◌then◌else◌}
 pub use Rattle.vertices.specs.Words.{tab, line_feed, blank, hash, is_kept, kept, blank_for_tab, plain, cleaned}
 pub use Rattle.vertices.specs.Words.{has_bytes, words_of, is_number, number_of}
@@ -12,6 +12,6 @@ abbrev pub up_to : ℕ → Option ℕ → Option ℕ
 up_to bound None = None
 up_to bound (Some n) = if nat_le n bound then Some n else None
 
--- the id that a word is: a number of digits alone, at most the greatest id
+-- the id that a word writes: a number of digits alone, at most the greatest id
 abbrev pub id_of : List ℕ → Option ℕ
 id_of word = up_to most_id (number_of word)

@@ -31,7 +31,7 @@ fn colour_named(word: &[u8]) -> Option<Colour>
     }
 }
 
-/// The colour that the first word names.
+/// The colour that the first word of `text` names.
 pub fn colour(text: &[u8]) -> Option<Colour>
     ensures { result ≡ first_argument colour_of (words_of (plain text.now)) }
 {
@@ -41,7 +41,7 @@ pub fn colour(text: &[u8]) -> Option<Colour>
     }
 }
 
-/// The point that the first word names.
+/// The point that the first word of `text` names.
 pub fn vertex(text: &[u8], size: Size) -> Option<Point>
     ensures { result ≡ first_argument (vertex_of size) (words_of (plain text.now)) }
 {
@@ -51,7 +51,7 @@ pub fn vertex(text: &[u8], size: Size) -> Option<Point>
     }
 }
 
-/// The colour and the goal of a move, as the first two words say.
+/// The colour and the target of a move, as the first two words say.
 pub fn colour_and_target(text: &[u8], size: Size) -> Option<(Colour, Option<Point>)>
     ensures { result ≡ move_of size (words_of (plain text.now)) }
 {
@@ -62,7 +62,7 @@ pub fn colour_and_target(text: &[u8], size: Size) -> Option<(Colour, Option<Poin
     Some((colour, target))
 }
 
-/// The number that a word writes, if it lies between these two.
+/// The number that a word writes, if it is at least `low` and at most `high`.
 fn number_between(low: u8, high: u8, word: &[u8]) -> Option<u8>
     ensures { result ≡ number_between low high (kept word.now) }
 {
@@ -74,7 +74,7 @@ fn number_between(low: u8, high: u8, word: &[u8]) -> Option<u8>
     }
 }
 
-/// The plies and the wide plies of readings that the first two words write.
+/// The plies and the wide plies of readings, if the first two words write both in their ranges.
 pub fn depths(text: &[u8]) -> Option<(u8, u8)>
     ensures { result ≡ depths_of (words_of (plain text.now)) }
 {
@@ -85,7 +85,7 @@ pub fn depths(text: &[u8]) -> Option<(u8, u8)>
     Some((plies, wide))
 }
 
-/// The number that the first word writes.
+/// The number that the first word of `text` writes.
 pub fn first_number(text: &[u8]) -> Option<u32>
     ensures { result ≡ capped (first_argument number_of (words_of (plain text.now))) }
 {
@@ -95,7 +95,7 @@ pub fn first_number(text: &[u8]) -> Option<u32>
     }
 }
 
-/// The size of a board that a number is.
+/// The size of a board with this number, if a board may have it.
 pub fn size_numbered(number: u32) -> Option<Size>
     ensures { result ≡ size_of number }
 {
@@ -105,18 +105,19 @@ pub fn size_numbered(number: u32) -> Option<Size>
     Size::new(number as u8)
 }
 
-/// What a proof is said to show: the code of an attack, or of a defence, on the string at a point.
+/// What a proof claims to show: the code of an attack on the string at a point, or of its defence.
 #[derive(Clone, Copy)]
 pub struct Claim {
-    /// Whether the code is that of an attack.
+    /// The code is of an attack, and else of a defence.
     pub attack: bool,
-    /// The point whose string the code is of.
+    /// The point whose string is attacked or defended.
     pub target: Point,
     /// The code, from 0 to 3.
     pub code: u8,
 }
 
-/// Whether a word says that a proof is of an attack, and not of a defence.
+/// Whether a proof is of an attack: `attack` says so, `defend` says that it is of a defence, and any other word is
+/// `None`.
 fn is_attack(word: &[u8]) -> Option<bool>
     ensures { result ≡ is_attack_of (kept word.now) }
 {
@@ -129,7 +130,7 @@ fn is_attack(word: &[u8]) -> Option<bool>
     }
 }
 
-/// The code that a word is: one digit from 0 to 3.
+/// The code that a word writes: one digit from 0 to 3.
 fn code(word: &[u8]) -> Option<u8>
     ensures { result ≡ code_of (kept word.now) }
 {
@@ -140,7 +141,7 @@ fn code(word: &[u8]) -> Option<u8>
     }
 }
 
-/// What the first three words say that a proof shows.
+/// What a proof claims to show, as the first three words say.
 pub fn claim_made(text: &[u8], size: Size) -> Option<Claim>
     ensures { result ≡ claim_of size (words_of (plain text.now)) }
 {
@@ -157,7 +158,7 @@ pub fn claim_made(text: &[u8], size: Size) -> Option<Claim>
     })
 }
 
-/// The two points that the first two words name.
+/// The two points that the first two words of `text` name.
 pub fn points(text: &[u8], size: Size) -> Option<(Point, Point)>
     ensures { result ≡ points_of size (words_of (plain text.now)) }
 {

@@ -27,7 +27,7 @@ fn known(text: &[u8]) -> Option<bool>
     }
 }
 
-/// The komi that the first word is.
+/// The komi that the first word writes, if it has the form of a komi.
 fn komi(text: &[u8]) -> Option<KomiText>
     ensures { result ≡ first_argument komi_of (words_of (plain text.now)) }
 {
@@ -37,8 +37,8 @@ fn komi(text: &[u8]) -> Option<KomiText>
     }
 }
 
-/// The command with the arguments that the text behind its name gives, or nothing if one is missing or malformed.
-/// The name begins in the whole text at this place or behind it.
+/// The command `name` with the arguments in `text`, which stands after the name, or `None` if an argument is missing or
+/// malformed. The name begins in `whole` at `place` or after it.
 pub fn arguments(
     name: CommandName,
     text: &[u8],

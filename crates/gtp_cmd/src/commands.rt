@@ -5,7 +5,7 @@ use crate::refusals::RefuseText;
 use crate::spans::Span;
 use go_base::{Colour, Point, Size};
 
-/// Which command a word names, in the order in which the commands are listed.
+/// The name of a command. The variants stand in the order in which the commands are listed.
 #[derive(Clone, Copy, Debug, PartialEq, Eq)]
 pub enum CommandName {
     /// `protocol_version`
@@ -78,7 +78,7 @@ pub enum CommandName {
     HelperDrop,
 }
 
-/// A command with its arguments. Where a point may be missing, a missing one is a pass.
+/// A command with its arguments. In a move, no point means a pass.
 #[derive(Clone, Copy, Debug, PartialEq, Eq)]
 pub enum Command {
     /// Asks for the version of the protocol.
@@ -87,15 +87,15 @@ pub enum Command {
     Name,
     /// Asks for the version of the program.
     Version,
-    /// Whether the word that was asked for names a command.
+    /// Asks whether a word names a command; the answer is known already.
     KnownCommand(bool),
     /// Asks for the names of the commands.
     ListCommands,
     /// Ends the session.
     Quit,
-    /// The size, and none exactly if the number that was given is no size of a board.
+    /// Sets the size of the board; `None` exactly if the number in the line is no size of a board.
     BoardSize(Option<Size>),
-    /// Takes all moves away.
+    /// Clears the board.
     ClearBoard,
     /// Sets the komi, a text that is kept as it is.
     Komi(KomiText),
@@ -121,7 +121,7 @@ pub enum Command {
     Attack(Point),
     /// Asks whether the string at a point can be saved.
     Defend(Point),
-    /// How deep readings go.
+    /// Sets how deep readings go.
     Depths {
         /// The plies, from `MIN_PLIES` to `MAX_PLIES` of `read_rules`.
         plies: u8,
@@ -132,7 +132,7 @@ pub enum Command {
     MatchPatterns(Colour),
     /// Asks for the patterns.
     ListPatterns,
-    /// Sets the board up as a game record has it, which this word of the line names.
+    /// Sets up the position of a game record, whose name is this word of the line.
     LoadSgf(Span),
     /// Asks for a proof of the code of an attack on the string at a point.
     AttackProof(Point),
@@ -140,9 +140,9 @@ pub enum Command {
     DefendProof(Point),
     /// Asks whether words of the line prove a code.
     CheckProof {
-        /// Whether the code is that of an attack, and not of a defence.
+        /// The code is of an attack, and else of a defence.
         attack: bool,
-        /// The point whose string the code is of.
+        /// The point whose string is attacked or defended.
         target: Point,
         /// The code, from 0 to 3.
         code: u8,
@@ -157,9 +157,9 @@ pub enum Command {
     GenMove(Colour),
     /// Chooses a move for a colour.
     RegGenMove(Colour),
-    /// Switches the helper off that this word of the line names.
+    /// Switches off the helper that this word of the line names.
     HelperOff(Span),
-    /// Asks how often the helper was called that this word of the line names.
+    /// Asks how often the helper that this word of the line names was called.
     HelperCalls(Span),
     /// Drops the helper that this word of the line names.
     HelperDrop(Span),
@@ -174,7 +174,7 @@ pub enum Parsed {
     Refused {
         /// The id, if the line has one.
         id: Option<u32>,
-        /// Why it is refused.
+        /// Why the line is refused.
         text: RefuseText,
     },
     /// The command that the line asks for.

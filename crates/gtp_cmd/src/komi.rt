@@ -12,7 +12,7 @@ use vertices::is_kept;
 /// How many bytes a komi may have.
 const MAX_KOMI: usize = 32;
 
-/// The text of a komi, at most 32 bytes. It is kept as it was given and never computed.
+/// The text of a komi, at most 32 bytes. The text is kept as it was given, and gopat does not compute with it.
 #[derive(Clone, Copy, Debug, PartialEq, Eq)]
 pub struct KomiText {
     /// The bytes of the text, and zeros behind them.
@@ -57,7 +57,7 @@ impl KomiText {
         &self.bytes[..self.len]
     }
 
-    /// The komi that a word is, if it has the form of one: perhaps a sign, digits, perhaps a point and digits.
+    /// The komi that a word writes, if it has the form of a komi: perhaps a sign, digits, perhaps a point and digits.
     pub fn named(word: &[u8]) -> Option<KomiText>
         ensures { result ≡ komi_of (kept word.now) }
     {
@@ -69,7 +69,7 @@ impl KomiText {
         }
     }
 
-    /// The text without a byte.
+    /// The text without any byte.
     fn empty() -> KomiText
         ensures { result ≡ [] }
     {
@@ -79,7 +79,7 @@ impl KomiText {
         }
     }
 
-    /// Whether there is room for no more byte.
+    /// Whether the text has 32 bytes, so that there is no room for another.
     fn is_full(&self) -> bool
         ensures full { IsTrue result ↔ (length self.now ≡ komi_room) }
         ensures short { length self.now ≤ komi_room }
@@ -87,7 +87,7 @@ impl KomiText {
         self.len == MAX_KOMI
     }
 
-    /// Puts a byte at the end.
+    /// Appends a byte to the text.
     fn push(&mut self, b: u8)
         requires { length self.old < komi_room }
         ensures { self.new ≡ self.old ++ b ∷ [] }
@@ -97,7 +97,7 @@ impl KomiText {
         self.len += 1;
     }
 
-    /// The bytes of a word, if there are not too many.
+    /// The kept bytes of a word, or `None` if there are more than 32.
     fn copied(word: &[u8]) -> Option<KomiText>
         ensures { MatchOption result (komi_room < length (kept word.now)) (λ text. text ≡ kept word.now) }
     {
@@ -122,7 +122,7 @@ fn all_digits(text: &[u8]) -> bool
     text.iter().all(|b| b.is_ascii_digit())
 }
 
-/// Whether a text is of digits alone, of which there are some.
+/// Whether a text has at least one byte and only digits.
 fn is_digits(text: &[u8]) -> bool
     ensures { result ≡ is_number text.now }
 {
@@ -145,7 +145,7 @@ fn without_sign(text: &[u8]) -> &[u8]
     }
 }
 
-/// How many bytes stand before the first point.
+/// How many bytes stand before the first point, or how many bytes there are if there is no point.
 fn point_place(text: &[u8]) -> usize
     ensures first { result ≡ position_or_len (λ b. b == point) text.now }
     ensures bound { result ≤ length text.now }
@@ -158,7 +158,7 @@ fn point_place(text: &[u8]) -> usize
     text.len()
 }
 
-/// What stands behind the first point.
+/// The bytes after the first point, or none if there is no point.
 fn behind_point(text: &[u8]) -> &[u8]
     ensures { result.now ≡ after_first (λ b. b == point) text.now }
 {

@@ -16,7 +16,7 @@ use crate::word_spans::behind_word;
 use go_base::Size;
 use vertices::{before_comment, next_word};
 
-/// What a command's word and the text behind it say. The word begins in the whole text at this place or behind it.
+/// What a command's word and the text after it say. The word begins in `whole` at `place` or after it.
 fn called(
     id: Option<u32>,
     word: &[u8],
@@ -44,7 +44,7 @@ fn called(
     }
 }
 
-/// What the text behind an id says. The id begins in the whole text at this place or behind it.
+/// What the text after an id says. The id begins in `whole` at `place` or after it.
 fn after_id(id: u32, text: &[u8], size: Size, whole: &[u8], place: usize) -> Parsed
     requires inside { place ≤ length whole.now }
     requires short { length whole.now ≤ longest_line }
@@ -59,13 +59,13 @@ fn after_id(id: u32, text: &[u8], size: Size, whole: &[u8], place: usize) -> Par
     }
 }
 
-/// What a line without its line feed says on a board of this size: nothing, an id and a command, or the first refusal.
+/// What a line, given without its line feed, says on a board of this size: nothing, a command, or the first refusal.
 ///
-/// Control bytes other than tab and line feed are passed over, a tab counts as a blank, and `#` begins a comment. A
-/// first word of digits alone is the id, if it is at most 2147483647. A command that is not known is refused before its
-/// arguments are read, and words after the last argument are passed over. Colours, vertices and `pass` may be in either
-/// case, and a number may have any length. Each point of the answer lies on the board, depths lie in their ranges, and
-/// spans in the line. Takes no memory.
+/// Control bytes other than tab and line feed are ignored, a tab counts as a blank, and `#` begins a comment. A first
+/// word of digits alone is the id, if it is at most 2147483647. An unknown command is refused before its arguments are
+/// read, and words after the last argument are ignored. Colours, vertices and `pass` may be in either case, and a
+/// number may have any length. Each point of the answer lies on the board, depths lie in their ranges, and spans in the
+/// line. Takes no memory.
 ///
 /// After the GTP version 2 draft, on preprocessing and on the structure of a command.
 #[tactic(auto, unfolding(crate::specs::Commands::parsed_of, crate::specs::Spans::spans_of))]

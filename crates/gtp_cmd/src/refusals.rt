@@ -1,6 +1,6 @@
 //! The reasons for which a line is refused.
 
-/// Why a line is refused, as the reply tells it.
+/// Why a line is refused. The reply has the text that is given here for each reason.
 #[derive(Clone, Copy, Debug, PartialEq, Eq)]
 pub enum RefuseText {
     /// No word names a command: `unknown command`.
@@ -13,17 +13,17 @@ pub enum RefuseText {
     UnacceptableSize,
     /// The rules forbid the move: `illegal move`.
     IllegalMove,
-    /// There are as many moves as are kept: `history full`.
+    /// The history holds as many moves as it can: `history full`.
     HistoryFull,
     /// There is no move to take back: `cannot undo`.
     CannotUndo,
     /// No stone stands at the vertex: `vertex must not be empty`.
     VertexEmpty,
-    /// There is no memory for a growing reply: `out of memory`.
+    /// There is no memory for a reply that grows: `out of memory`.
     OutOfMemory,
-    /// The file that a game record is read from cannot be had: `cannot load file`.
+    /// The file of a game record cannot be loaded: `cannot load file`.
     CannotLoadFile,
-    /// The text is no game record, for the reason of this number: `bad sgf kind 5`.
+    /// The text is no game record, for the reason with this number: `bad sgf kind 5`.
     BadSgf(u8),
     /// The proof has more than 60,000 bytes: `proof too long`.
     ProofTooLong,

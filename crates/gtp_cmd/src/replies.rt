@@ -9,7 +9,7 @@ use go_base::{Bytes, NoMemory};
 use itoa::Buffer;
 use vertices::Short;
 
-/// The first byte of a reply, and the id.
+/// The first byte of a reply, and then the id if there is one.
 fn head(first: &[u8], id: Option<u32>) -> Short
     requires { length first.now ≡ 1 }
     ensures text { result ≡ first.now ++ id_text id }
@@ -24,10 +24,10 @@ fn head(first: &[u8], id: Option<u32>) -> Short
     out
 }
 
-/// A success with a result of any length, put at the end of an empty list. Takes memory.
+/// The reply of a success with a result of any length, written to the empty list `out`. Takes memory.
 ///
 /// The reply is `=`, the id if there is one, a blank and the result if the result is not empty, and two line feeds.
-/// After the GTP version 2 draft, on the form of a reply, but for the blank that an empty result has there.
+/// After the GTP version 2 draft, on the form of a reply; there an empty result has a blank before it too.
 pub fn success(id: Option<u32>, text: &[u8], mut out: Bytes) -> Result<Bytes, NoMemory>
     requires { out ≡ [] }
     ensures { IfOk result (λ reply. reply ≡ success_text id text.now) }
@@ -42,7 +42,7 @@ pub fn success(id: Option<u32>, text: &[u8], mut out: Bytes) -> Result<Bytes, No
     Ok(out)
 }
 
-/// The success of a command, with a result of at most 32 bytes. Takes no memory.
+/// The reply of a success with a result of at most 32 bytes. Takes no memory.
 pub fn short(id: Option<u32>, text: &[u8]) -> Short
     requires { length text.now ≤ result_room }
     ensures { result ≡ success_text id text.now }
@@ -56,7 +56,7 @@ pub fn short(id: Option<u32>, text: &[u8]) -> Short
     out
 }
 
-/// The number of a reason behind the words that name it.
+/// The words of a reason, and its number after them.
 fn numbered(words: &[u8], number: u8) -> Short
     requires { length words.now ≤ 14 }
     ensures text { result ≡ words.now ++ decimal number }
@@ -68,7 +68,7 @@ fn numbered(words: &[u8], number: u8) -> Short
     out
 }
 
-/// What a refusal says.
+/// What a refusal says after its id.
 fn reason(text: RefuseText) -> Short
     ensures text { result ≡ text_of text }
     ensures len { length result ≤ 24 }
@@ -91,7 +91,7 @@ fn reason(text: RefuseText) -> Short
     }
 }
 
-/// A refusal: `?`, the id if there is one, a blank, what it says, and two line feeds. Takes no memory.
+/// The reply of a refusal: `?`, the id if there is one, a blank, the reason, and two line feeds. Takes no memory.
 pub fn refusal(id: Option<u32>, text: RefuseText) -> Short
     ensures { result ≡ refusal_text id text }
 {

@@ -159,7 +159,7 @@ const TABLE: [Row; 34] = [
     },
 ];
 
-/// Whether the row's word is this word, which has so many bytes.
+/// Whether `row` has this word; `count` is the number of the word's kept bytes.
 fn is_row_of(row: &Row, word: &[u8], count: usize) -> bool
     requires { count ≡ length (kept word.now) }
     ensures { result ≡ bytes_eq (kept word.now) row.now.word.now }
@@ -167,7 +167,7 @@ fn is_row_of(row: &Row, word: &[u8], count: usize) -> bool
     row.word.len() == count && spells(word, row.word)
 }
 
-/// The command of the first of these rows whose word this is, with the bytes that are dropped still in it.
+/// The command of the first of these rows that has this word, if the bytes to be dropped are left out of the word.
 fn command_spelt(rows: &[Row], word: &[u8]) -> Option<CommandName>
     ensures { result ≡ option_map (λ r. r.command) (find (λ r. bytes_eq (kept word.now) r.word.now) rows.now) }
 {
@@ -176,14 +176,14 @@ fn command_spelt(rows: &[Row], word: &[u8]) -> Option<CommandName>
     Some(row.command)
 }
 
-/// Whether a word stands as the row has it. One of another length is told by its length alone, without a comparison.
+/// Whether a word equals the row's word byte by byte. Words of another length are not compared.
 fn is_written(row: &Row, word: &[u8]) -> bool
     ensures { result ≡ bytes_eq word.now row.now.word.now }
 {
     word.len() == row.word.len() && word == row.word
 }
 
-/// The command of the first of these rows that has this word as it stands.
+/// The command of the first of these rows whose word equals this word byte by byte.
 fn command_written(rows: &[Row], word: &[u8]) -> Option<CommandName>
     ensures { result ≡ option_map (λ r. r.command) (find (λ r. bytes_eq word.now r.word.now) rows.now) }
 {
@@ -191,8 +191,8 @@ fn command_written(rows: &[Row], word: &[u8]) -> Option<CommandName>
     Some(row.command)
 }
 
-/// The command of the first of these rows whose word this is. Mostly no byte of a word is dropped, so it is compared as
-/// it stands before its bytes are read one by one.
+/// The command of the first of these rows that has this word. Most words have no byte to be dropped, so the word is
+/// first compared as it stands, and read byte by byte only if that finds no row.
 fn first_command(rows: &[Row], word: &[u8]) -> Option<CommandName>
     requires { list_all is_plain rows.now ≡ true }
     ensures { result ≡ option_map (λ r. r.command) (find (λ r. bytes_eq (kept word.now) r.word.now) rows.now) }
@@ -203,7 +203,7 @@ fn first_command(rows: &[Row], word: &[u8]) -> Option<CommandName>
     }
 }
 
-/// The command of a word in a table of rows, None if no row has the word.
+/// The command of a word in a table of rows, or `None` if no row has the word.
 fn command_in(rows: &[Row], word: &[u8]) -> Option<CommandName>
     requires { list_all is_plain rows.now ≡ true }
     ensures { result ≡ command_in (map row_seen rows.now) (kept word.now) }
@@ -211,14 +211,14 @@ fn command_in(rows: &[Row], word: &[u8]) -> Option<CommandName>
     first_command(rows, word)
 }
 
-/// The command that a word names. Command words are told apart by case.
+/// The command that a word names. Upper and lower case are different here.
 pub fn named(word: &[u8]) -> Option<CommandName>
     ensures { result ≡ named (kept word.now) }
 {
     command_in(&TABLE, word)
 }
 
-/// Puts the words of these rows, each behind a line feed.
+/// Appends the words of these rows to `out`, each after a line feed.
 fn put_words(out: &mut Bytes, rows: &[Row]) -> Result<(), NoMemory>
     ensures { OnOk result (out.new ≡ out.old ++ flat_map (λ r. line_feed ∷ r.word.now) rows.now) }
 {
@@ -229,7 +229,7 @@ fn put_words(out: &mut Bytes, rows: &[Row]) -> Result<(), NoMemory>
     Ok(())
 }
 
-/// The names of the commands in the order in which they are listed, one a line. Takes memory.
+/// The names of the commands in the order in which they are listed, one name a line. Takes memory.
 pub fn names_text(alloc: Global) -> Result<Bytes, NoMemory>
     ensures { IfOk result (λ text. text ≡ names_text) }
 {

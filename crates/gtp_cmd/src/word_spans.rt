@@ -9,21 +9,21 @@ ghost use Rattle.gtp_cmd.specs.Spans.{spans_at, span_between, end_with, first_sp
 use crate::spans::Span;
 use vertices::is_kept;
 
-/// Whether a byte parts words.
+/// Whether a byte separates words.
 fn is_parting(b: u8) -> bool
     ensures { result ≡ is_parting b }
 {
     b == b' ' || b == b'\t'
 }
 
-/// Whether a byte stands in the front of no word: it is dropped, or it parts words.
+/// Whether no word can begin with this byte: it is dropped, or it separates words.
 fn is_skipped(b: u8) -> bool
     ensures { result ≡ is_skipped b }
 {
     !is_kept(b) || is_parting(b)
 }
 
-/// The place of the first byte of a word from a place on, and the end of the text if there is none.
+/// The place of the first byte of a word at or after `place`, or the end of the text if no word follows.
 fn word_start(text: &[u8], place: usize) -> usize
     requires { place ≤ length text.now }
     ensures order { place ≤ result }
@@ -39,7 +39,7 @@ fn word_start(text: &[u8], place: usize) -> usize
     text.len()
 }
 
-/// The place behind the last kept byte up to one at a place, if it was this before.
+/// The end of a word after one more byte `b` at `place`: just behind `b` if `b` is kept, and else still `end`.
 fn end_after(b: u8, place: usize, end: usize) -> usize
     requires { place ≤ longest_line }
     ensures { result ≡ end_with (is_kept b) place end }
@@ -47,7 +47,7 @@ fn end_after(b: u8, place: usize, end: usize) -> usize
     if is_kept(b) { place + 1 } else { end }
 }
 
-/// The place behind the last byte of the word that begins at a place.
+/// The place just after the last byte of the word that begins at `start`.
 fn word_end(text: &[u8], start: usize) -> usize
     requires inside { start < length text.now }
     requires word { is_skipped (slice_index text.now start) ≡ false }
@@ -66,7 +66,7 @@ fn word_end(text: &[u8], start: usize) -> usize
     end
 }
 
-/// The span of the first word from a place on.
+/// The span of the first word from `place` on.
 fn next_span(text: &[u8], place: usize) -> Option<Span>
     requires inside { place ≤ length text.now }
     requires short { length text.now ≤ longest_line }
@@ -85,7 +85,7 @@ fn next_span(text: &[u8], place: usize) -> Option<Span>
     })
 }
 
-/// The place behind the first word from a place on, and the end of the text if there is none.
+/// The place just after the first word from `place` on, or the end of the text if there is no word.
 pub fn behind_word(text: &[u8], place: usize) -> usize
     requires inside { place ≤ length text.now }
     requires short { length text.now ≤ longest_line }
@@ -98,7 +98,7 @@ pub fn behind_word(text: &[u8], place: usize) -> usize
     }
 }
 
-/// The span of the second word from a place on.
+/// The span of the second word from `place` on.
 pub fn second_span(text: &[u8], place: usize) -> Option<Span>
     requires inside { place ≤ length text.now }
     requires short { length text.now ≤ longest_line }
@@ -107,7 +107,8 @@ pub fn second_span(text: &[u8], place: usize) -> Option<Span>
     next_span(text, behind_word(text, place))
 }
 
-/// The place behind the last byte of a word up to one at a place, if it was this before.
+/// The end of some words after one more byte `b` at `place`: just behind `b` if `b` belongs to a word, and else still
+/// `end`.
 fn word_end_after(b: u8, place: usize, end: usize) -> usize
     requires { place ≤ longest_line }
     ensures { result ≡ end_with (not (is_skipped b)) place end }
@@ -115,7 +116,7 @@ fn word_end_after(b: u8, place: usize, end: usize) -> usize
     if is_skipped(b) { end } else { place + 1 }
 }
 
-/// The place behind the last byte of a text that belongs to a word, if one begins at this place.
+/// The place just after the last byte of the text that belongs to a word; a word begins at `start`.
 fn words_end(text: &[u8], start: usize) -> usize
     requires inside { start < length text.now }
     requires word { is_skipped (slice_index text.now start) ≡ false }
@@ -130,7 +131,7 @@ fn words_end(text: &[u8], start: usize) -> usize
     end
 }
 
-/// The span of all words from a place on.
+/// The span of all words from `place` on.
 fn all_span(text: &[u8], place: usize) -> Span
     requires inside { place ≤ length text.now }
     requires short { length text.now ≤ longest_line }
@@ -147,7 +148,7 @@ fn all_span(text: &[u8], place: usize) -> Span
     }
 }
 
-/// The place behind the first two words from a place on.
+/// The place just after the first two words from `place` on, or the end of the text if there are fewer.
 fn behind_two(text: &[u8], place: usize) -> usize
     requires inside { place ≤ length text.now }
     requires short { length text.now ≤ longest_line }
@@ -157,7 +158,7 @@ fn behind_two(text: &[u8], place: usize) -> usize
     behind_word(text, behind_word(text, place))
 }
 
-/// The span of all words behind the first four from a place on.
+/// The span of all words after the first four from `place` on.
 pub fn tokens_span(text: &[u8], place: usize) -> Span
     requires inside { place ≤ length text.now }
     requires short { length text.now ≤ longest_line }

@@ -1,4 +1,4 @@
--- What contracts see of the objects over the system's streams.
+-- What contracts see of a `StdSource` and a `StdSink`.
 use Rattle.std.specs.Prelude.{ℕ, Bool, List, Option, Result, take, MatchResult}
 use Rattle.std.specs.Io.KnownBytes.{Appends}
 
@@ -15,7 +15,7 @@ pub record SinkState (W : Type 0) : Type 0 where
   pub faults : ℕ
   pub failed : Bool
 
--- the writer got as many of the bytes as the call says that it took, and some front of them where the call failed
+-- the writer got the first bytes: as many as the call says that it took, or any number of them if the call failed
 abbrev pub PassesOn : {E : Type 0} → Option (List ℕ) → Option (List ℕ) → Result ℕ E → List ℕ → Type 0
 PassesOn old new result bytes =
     MatchResult result (λ n. Appends old new (take n bytes)) (λ _. (n : ℕ) × Appends old new (take n bytes))

@@ -1,4 +1,4 @@
-//! What the calls of this crate answer where they fail.
+//! The errors of this crate's calls.
 ghost use Rattle.std.specs.Prelude.{◌≡◌, Some, codes};
 ghost use Rattle.gtp_io.specs.declared.errors.LoadError.TheVariants as load;
 ghost use Rattle.gtp_io.specs.Loading.{load_error_text};
@@ -7,7 +7,7 @@ use std::alloc::AllocError;
 use std::error::Error;
 use std::fmt;
 
-/// The object failed: its count of faults rose in this call, or stands at the greatest value of a u64.
+/// A source or a sink failed: its count of faults rose in this call, or stands at the greatest value of a u64.
 #[derive(Clone, Copy, Debug, PartialEq, Eq)]
 pub struct Failed;
 
@@ -18,7 +18,7 @@ pub struct NoMemory;
 /// Why a load has no contents: the loader failed, or memory was not found.
 #[derive(Clone, Copy, Debug, PartialEq, Eq)]
 pub enum LoadError {
-    /// The loader failed, and the name was appended to those that it missed.
+    /// The loader failed, and the name was appended to its missed names.
     Failed,
     /// Memory was not found.
     NoMemory,

@@ -1,4 +1,4 @@
-//! The files of the system. No contract tells what a file holds.
+//! A loader of the system's files. No contract says what a file holds.
 ghost use Rattle.std.specs.Prelude.{◌≡◌, ◌≤◌, [], None, map, string_bytes, IfOk, IfSome};
 ghost use Rattle.std.specs.Io.{StartsWith};
 ghost use Rattle.gtp_io.specs.Loading.{IsReadUpTo, longest_file};
@@ -15,9 +15,9 @@ use std::{fs, io};
 /// The most bytes that a file may have.
 const LONGEST_FILE: usize = 268_435_456;
 
-/// Loads files by their paths; seen as the most bytes of a file, and the names of those that failed.
+/// Loads files by their paths. Contracts see the most bytes of a file, and the names of the loads that failed.
 ///
-/// A file that cannot be read fails, and so does one of more bytes.
+/// A load fails if the file cannot be read, or if it has more bytes than that.
 #[derive(Drop)]
 pub struct FileLoader<'a, R> {
     files: &'a R,
@@ -36,8 +36,8 @@ impl<'a, R> Model for FileLoader<'a, R> {
     ghost invariant = { λ f. f.most ≤ longest_file };
 }
 
-/// Reads behind the bytes what the reader has left, up to one byte more than `most`, and says whether it was read
-/// whole.
+/// Appends to `into` what the reader has left, up to one byte more than `most`, and returns whether the reader's text
+/// was read whole.
 fn read_up_to<R: Read + Drop>(reader: R, most: usize, into: &mut Vec<u8>) -> io::Result<bool>
     requires { most ≤ longest_file }
     ensures front { StartsWith into.new.items into.old.items }
@@ -48,8 +48,8 @@ fn read_up_to<R: Read + Drop>(reader: R, most: usize, into: &mut Vec<u8>) -> io:
     Ok(count <= most)
 }
 
-/// Reads a file behind the bytes, and says whether it was read whole. Room for the length that the system tells is made
-/// first, so that what is read is not moved, and takes no more than it has.
+/// Appends a file to `into`, and returns whether it was read whole. Room for the length that the system tells is made
+/// first, so that the bytes read so far need not move and no room is wasted.
 fn read_file<R: Files>(files: &R, name: &str, most: usize, into: &mut Vec<u8>) -> io::Result<bool>
     requires { most ≤ longest_file }
     ensures { StartsWith into.new.items into.old.items }
@@ -62,15 +62,15 @@ fn read_file<R: Files>(files: &R, name: &str, most: usize, into: &mut Vec<u8>) -
 }
 
 impl<'a, R: Files> FileLoader<'a, R> {
-    /// A loader of the files that the handle gives, of at most 268,435,456 bytes each. No name was missed yet. It keeps
-    /// the allocator and takes no memory.
+    /// A loader of the files that the handle gives, of at most 268,435,456 bytes each. No name was missed yet. Keeps
+    /// the allocator, and takes no memory.
     pub fn new(alloc: Global, files: &'a R) -> FileLoader<'a, R>
         ensures { result ≡ record { most = longest_file; missed = [] } }
     {
         FileLoader::up_to(alloc, files, LONGEST_FILE)
     }
 
-    /// A loader of the files that takes at most `most` bytes of each.
+    /// A loader of the files that the handle gives, of at most `most` bytes each. No name was missed yet.
     pub fn up_to(alloc: Global, files: &'a R, most: usize) -> FileLoader<'a, R>
         requires { most ≤ longest_file }
         ensures { result ≡ record { most = most; missed = [] } }

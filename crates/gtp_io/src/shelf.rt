@@ -1,4 +1,4 @@
-//! Loaders over contents in memory.
+//! Loaders of contents in memory.
 ghost use Rattle.std.specs.Prelude.{◌≡◌, ◌≢◌, ◌⊎◌, ◌++◌, ◌<◌, [], None, Some, Err, map, length, Contains};
 ghost use Rattle.std.specs.Prelude.{IfOk, OnOk, IsErrOf, IfSome, IsSome, IsSomeAnd, MatchBool, slice_get};
 ghost use Rattle.std.specs.Prelude.{option_and_then, string_bytes, vec_len, unwrap_or};
@@ -10,7 +10,8 @@ use crate::{LoadError, Loader};
 use std::alloc::AllocError;
 use std::marker::Model;
 
-/// Holds contents by name, and fails at the calls that a list names and for every name that it does not hold.
+/// A loader that holds contents by name. It fails at the calls that a list names, and for every name that it does not
+/// hold.
 #[derive(Drop)]
 pub struct Shelf {
     names: Vec<String>,
@@ -34,7 +35,7 @@ impl Model for Shelf {
     ghost invariant = { λ s. vec_len s.names ≡ vec_len s.contents };
 }
 
-// Where the first of the names that is this one stands.
+// The index of the first of `names` that equals `name`.
 fn find(names: &[String], contents: &[Vec<u8>], name: &str) -> Option<usize>
     requires { length names.now ≡ length contents.now }
     ensures bound { IfSome result (λ at. at < length contents.now) }
@@ -49,7 +50,7 @@ fn find(names: &[String], contents: &[Vec<u8>], name: &str) -> Option<usize>
     None
 }
 
-// The bytes, followed by the contents of the name if there are some.
+// Appends the contents under `name` to `into` and returns `true`, or returns `false` if there are none.
 fn append_named(
     names: &[String],
     contents: &[Vec<u8>],
@@ -73,8 +74,8 @@ fn append_named(
 }
 
 impl Shelf {
-    /// The two lists have one length, and the first of equal names is meant. `fails` lists the calls that fail, counted
-    /// from 1.
+    /// A shelf of these contents. `names` and `contents` have one length, and of equal names the first counts. `fails`
+    /// lists the calls that fail, counted from 1.
     pub fn new(names: Vec<String>, contents: Vec<Vec<u8>>, fails: Vec<u64>) -> Shelf
         requires { vec_len names ≡ vec_len contents }
         ensures { result ≡ record {
@@ -107,7 +108,7 @@ impl Loader for Shelf {
         ensures missed { self.new.missed ≡ missed_after self.old.missed name.now result }
         ensures same { named self.new.names self.new.contents ≡ named self.old.names self.old.contents }
 
-        // The listed calls fail, and those for a name that is not there. A call that finds no memory is not counted.
+        // The listed calls fail, and so does a call for an unknown name. A call that finds no memory is not counted.
         ensures failed { IsErrOf result LoadError.Failed →
             Contains self.old.fails (next_call self.old.calls)
             ⊎ (named self.old.names self.old.contents name.now ≡ None) }
@@ -132,7 +133,7 @@ impl Loader for Shelf {
     }
 }
 
-/// Holds contents by name, is empty for a name that it does not hold, and never fails.
+/// A loader that holds contents by name. A name that it does not hold has empty contents, and no call answers `Failed`.
 #[derive(Drop)]
 pub struct SureShelf {
     names: Vec<String>,
@@ -151,7 +152,7 @@ impl Model for SureShelf {
 }
 
 impl SureShelf {
-    /// The two lists have one length, and the first of equal names is meant.
+    /// A shelf of these contents. `names` and `contents` have one length, and of equal names the first counts.
     pub fn new(names: Vec<String>, contents: Vec<Vec<u8>>) -> SureShelf
         requires { vec_len names ≡ vec_len contents }
         ensures { result ≡ record {

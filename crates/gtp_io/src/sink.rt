@@ -1,4 +1,4 @@
-//! Where bytes go.
+//! The trait of sinks: where bytes go.
 ghost use Rattle.std.specs.Prelude.{◌≡◌, Bool, List, Option, ℕ, is_err};
 ghost use Rattle.std.specs.Io.KnownBytes.{WriteAppends};
 ghost use Rattle.gtp_io.specs.Outside.{IsCounted, TakesSome};
@@ -16,9 +16,9 @@ pub trait Sink {
     /// Whether the sink's last call failed.
     ghost failed: { Self → Bool };
 
-    /// Takes a front of the bytes and says how many: at least one where the piece is not empty.
+    /// Takes a front of `bytes` and returns how many bytes it took: at least one if `bytes` is not empty.
     ///
-    /// A call that answers Failed leaves what was written before.
+    /// A call that answers `Failed` leaves what was written before.
     fn put(&mut self, bytes: &[u8]) -> Result<usize, Failed>
         ensures some { TakesSome result bytes.now }
         ensures bytes { WriteAppends (written self.old) (written self.new) result bytes.now }

@@ -1,4 +1,4 @@
-//! Where bytes come from.
+//! The trait of sources: where bytes come from.
 ghost use Rattle.std.specs.Prelude.{◌≡◌, Bool, List, Option, ℕ, is_err};
 ghost use Rattle.std.specs.Io.{ReadsAtMost};
 ghost use Rattle.std.specs.Io.KnownBytes.{ReadConsumes};
@@ -20,9 +20,9 @@ pub trait Source {
     /// Whether the source's last call failed.
     ghost failed: { Self → Bool };
 
-    /// Gives the next bytes of what is left, at most as many as the buffer holds, and says how many.
+    /// Copies the next bytes of what is left into `buf`, at most as many as it holds, and returns how many.
     ///
-    /// 0 for a buffer that is not empty is the end. A call that answers Failed takes no byte.
+    /// A result of 0 for a buffer that is not empty means the end. A call that answers `Failed` takes no byte.
     fn next(&mut self, buf: &mut [u8]) -> Result<usize, Failed>
         ensures bound { ReadsAtMost result buf.new }
         ensures bytes { ReadConsumes (left self.old) (left self.new) result buf.new }

@@ -6,12 +6,12 @@ use Rattle.gtp_lex.specs.declared.lines.Phase.{Phase}
 use Rattle.gtp_lex.specs.declared.lines.Phase.TheVariants.{Open, Full, Given}
 use Rattle.gtp_lex.specs.declared.lines.Lines.TheInside.{Inside}
 
--- what is seen of a line in its phase
+-- what contracts see of a line in this phase
 abbrev pub state_of : Phase → RawLine → LinesState
 state_of Open held = record { held = held; waits = false; given = None }
 state_of Full held = record { held = held; waits = true; given = None }
 state_of Given held = record { held = Line []; waits = false; given = given_of held }
 
--- what is seen of the fields
+-- what contracts see of the fields
 abbrev pub lines_view : Inside → LinesState
 lines_view l = state_of l.phase (line_of l.bytes.items)

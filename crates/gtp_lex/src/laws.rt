@@ -1,4 +1,4 @@
-//! What the lines that are taken come to: each function is a law, which is its contract, and does nothing.
+//! Laws of the lines that are taken. Each function is a law: its contract says it, and its body does nothing.
 
 ghost use Rattle.std.specs.Prelude.{◌≡◌, List, ℕ, [], ◌++◌};
 ghost use Rattle.std.specs.List.{concat};

@@ -1,9 +1,9 @@
-//! A stream of bytes, in pieces cut anywhere, as protocol lines. The room for a line is taken once, and nothing after
+//! A stream of bytes, in pieces cut anywhere, as protocol lines. The room for a line is taken once, and no memory after
 //! it.
 //!
-//! A line is what stands before a line feed. One of more than 65,536 bytes is told as too long, and the line after it
-//! is whole again. For every cutting of the bytes into pieces the lines are those that `gtp_rules` defines for the
-//! whole stream.
+//! A line is the bytes before a line feed. A line of more than 65,536 bytes is reported as too long, and the line after
+//! it is whole again. However the bytes are cut into pieces, the lines are those that `gtp_rules` defines for the whole
+//! stream.
 #![tactic(auto)]
 
 pub mod laws;

@@ -1,4 +1,4 @@
-//! The line that a stream has come to, in a room that is made once.
+//! The line that is being read from a stream, in room that is made once.
 ghost use Rattle.std.specs.Prelude.{◌≡◌, ◌≢◌, ◌+◌, ◌≤◌, ◌<◌, true, false, Some, None, All, ◌==◌, [], ◌++◌, length};
 ghost use Rattle.std.specs.Prelude.{take, slice_index, vec_len, vec_capacity, IfOk, IsSome};
 ghost use Rattle.gtp_rules.specs.Lines.{Line, line_of, line_feed, longest_line};
@@ -14,10 +14,10 @@ use std::marker::Model;
 /// The most bytes that a line may have before its line feed.
 const LONGEST_LINE: usize = 65_536;
 
-/// The bytes that are kept of a line at most: one byte more tells that it is too long.
+/// The most bytes that are kept of a line: one byte more than a line may have shows that it is too long.
 const LONGEST_HELD: usize = LONGEST_LINE + 1;
 
-/// What `take` and `finish` tell of a line: it stands in `bytes`, or it is too long.
+/// What `take` and `finish` answer for a line: it stands in `bytes`, or it is too long.
 #[derive(Clone, Copy, Debug, PartialEq, Eq)]
 pub enum Taken {
     /// The line stands in `bytes`.
@@ -26,18 +26,18 @@ pub enum Taken {
     TooLong,
 }
 
-/// Where the line stands: it is still open, its line feed has come, or it was given out.
+/// The state of a line: it is still open, or its line feed has come, or it was given out.
 #[derive(Clone, Copy, Debug, PartialEq, Eq)]
 enum Phase {
-    /// Its line feed has not come.
+    /// The line feed has not come.
     Open,
-    /// Its line feed has come, and it was not given out.
+    /// The line feed has come, and the line was not given out yet.
     Full,
-    /// It was given out.
+    /// The line was given out.
     Given,
 }
 
-/// The line that a stream has come to.
+/// The line that is being read from a stream.
 ///
 /// Contracts see the line so far, whether its line feed waits for `take`, and the bytes of the line that was given
 /// last.
@@ -62,7 +62,7 @@ impl Model for Lines {
     ghost invariant = { λ l. (longest_held ≤ vec_capacity l.bytes) × (vec_len l.bytes ≤ longest_held) };
 }
 
-// The length of the front of a piece that has no line feed.
+// The number of bytes of `piece` before its first line feed, or of all bytes if it has none.
 fn text_len(piece: &[u8]) -> usize
     ensures bound { result ≤ length piece.now }
     ensures front { All (λ b. (b == line_feed) ≡ false) (take result piece.now) }
@@ -76,7 +76,7 @@ fn text_len(piece: &[u8]) -> usize
     piece.len()
 }
 
-// Drops the bytes of a line that was given.
+// Clears the bytes of a line that was given out.
 fn drop_given(bytes: &mut Vec<u8>, phase: Phase)
     requires { longest_held ≤ vec_capacity bytes.old }
     ensures held { line_of bytes.new.items ≡ (state_of phase (line_of bytes.old.items)).held }
@@ -88,7 +88,7 @@ fn drop_given(bytes: &mut Vec<u8>, phase: Phase)
     }
 }
 
-// Adds as much of a text as tells the line.
+// Appends as much of `text` as is needed to know the line.
 fn keep(bytes: &mut Vec<u8>, text: &[u8])
     requires room { longest_held ≤ vec_capacity bytes.old }
     requires len { vec_len bytes.old ≤ longest_held }
@@ -100,7 +100,7 @@ fn keep(bytes: &mut Vec<u8>, text: &[u8])
     bytes.extend_from_slice(&text[..count]).unwrap();
 }
 
-// What is taken for the line of a text.
+// The answer for the line of a text.
 fn line_taken(text: &[u8]) -> Taken
     ensures { result ≡ taken_of (line_of text.now) }
 {
@@ -112,7 +112,7 @@ fn line_taken(text: &[u8]) -> Taken
 }
 
 impl Lines {
-    /// No bytes of a line yet. Takes the room for a line, 65,537 bytes, which is all the memory that it ever takes.
+    /// A `Lines` without any byte of a line. Takes the room for a line, 65,537 bytes, and no memory after that.
     pub fn new(alloc: Global) -> Result<Lines, NoMemory>
         ensures { IfOk result (λ l. l ≡ no_line) }
     {
@@ -125,9 +125,10 @@ impl Lines {
         }
     }
 
-    /// Takes bytes of a piece up to and with its first line feed, and says how many: all if it has none.
+    /// Takes the bytes of `piece` up to and with its first line feed, or all bytes if it has none, and returns how
+    /// many.
     ///
-    /// While a line feed that was taken waits for `take` it takes none and answers 0.
+    /// Takes no byte and returns 0 while a line feed waits for `take`.
     pub fn feed(&mut self, piece: &[u8]) -> usize
         ensures bound { result ≤ length piece.now }
         ensures waits { self.old.waits ≡ true → (result ≡ 0) × (self.new ≡ self.old) }
@@ -148,7 +149,7 @@ impl Lines {
         len + 1
     }
 
-    /// The line whose line feed waits. None comes exactly if no line feed was taken since the last `take`.
+    /// The line whose line feed waits, or `None` exactly if no line feed was fed since the last `take`.
     pub fn take(&mut self) -> Option<Taken>
         ensures none { self.old.waits ≡ false → (result ≡ None) × (self.new ≡ self.old) }
         ensures some { self.old.waits ≡ true
@@ -162,7 +163,7 @@ impl Lines {
         }
     }
 
-    /// The rest of the stream as a last line. None comes exactly if there is no rest.
+    /// The rest of the stream as a last line, or `None` exactly if there is no rest.
     pub fn finish(&mut self) -> Option<Taken>
         requires { self.old.waits ≡ false }
         ensures none { self.old.held ≡ Line [] → (result ≡ None) × (self.new ≡ self.old) }

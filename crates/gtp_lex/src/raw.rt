@@ -1,10 +1,10 @@
-//! A line as it is handed on.
+//! A line in the form in which it is passed to the machine.
 
-/// A line of the stream: its bytes without the line feed, or that it has more than 65,536.
+/// A line of the stream: its bytes without the line feed, or the fact that it has more than 65,536 bytes.
 #[derive(Clone, Copy, Debug)]
 pub enum Raw<'a> {
-    /// Its bytes, without the line feed.
+    /// The bytes of the line, without the line feed.
     Line(&'a [u8]),
-    /// It has more than 65,536 bytes.
+    /// The line has more than 65,536 bytes.
     TooLong,
 }

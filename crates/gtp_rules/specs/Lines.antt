@@ -11,12 +11,12 @@ line_feed = 10
 abbrev pub longest_line : ℕ
 longest_line = 65536
 
--- a line: its bytes without the line feed, or that it has more bytes than a line may have
+-- a line: either its bytes without the line feed, or the fact that it has more bytes than a line may have
 pub data RawLine : Type 0 where
   Line : List ℕ → RawLine
   TooLong : RawLine
 
--- the line of a text
+-- the line that a text makes
 abbrev pub line_of : List ℕ → RawLine
 line_of text = if nat_le (length text) longest_line then Line text else TooLong
 
@@ -30,7 +30,7 @@ all_but_last [] = []
 all_but_last (x ∷ []) = []
 all_but_last (x ∷ y ∷ ys) = x ∷ all_but_last (y ∷ ys)
 
--- the last text of the list, and no bytes where it is empty
+-- the last text of the list, or no bytes if the list is empty
 abbrev pub last_text : List (List ℕ) → List ℕ
 last_text [] = []
 last_text (x ∷ []) = x
@@ -40,7 +40,7 @@ last_text (x ∷ y ∷ ys) = last_text (y ∷ ys)
 abbrev pub ended_texts : List ℕ → List (List ℕ)
 ended_texts bytes = all_but_last (texts_of bytes)
 
--- what stands after the last line feed
+-- the bytes after the last line feed
 abbrev pub rest_of : List ℕ → List ℕ
 rest_of bytes = last_text (texts_of bytes)
 
@@ -48,11 +48,11 @@ rest_of bytes = last_text (texts_of bytes)
 abbrev pub lines_of : List ℕ → List RawLine
 lines_of bytes = map line_of (ended_texts bytes)
 
--- a rest as a last line, if it is not empty
+-- the rest as a last line, if the rest is not empty
 abbrev pub rest_line : List ℕ → List RawLine
 rest_line [] = []
 rest_line (b ∷ bs) = line_of (b ∷ bs) ∷ []
 
--- the lines of the bytes, and what stands after the last line feed as a last line where it is not empty
+-- the lines of the bytes that have their line feed, and then the bytes after the last line feed as a last line, if any
 abbrev pub lines_with_rest : List ℕ → List RawLine
 lines_with_rest bytes = lines_of bytes ++ rest_line (rest_of bytes)

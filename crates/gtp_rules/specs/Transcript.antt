@@ -1,32 +1,32 @@
--- What may be written for a list of lines, by any machine M. It is a relation: another answer may stand in place of a
--- reply, and what a line gives may rest on a file, which may hold one text now and another later. So a step is a
--- relation too, between a machine, a line and what is given for it.
+-- What a machine M may write for a list of lines. This is a relation, for two reasons: another answer may stand in
+-- place of a reply, and a reply may rest on a file, which may hold one text now and another later. So a step is a
+-- relation too, between a machine, a line and what is given for the line.
 use Rattle.std.specs.Prelude.{◌≡◌, ◌⊎◌, ℕ, ◌<◌, Bool, true, false, MatchBool, List, [], ◌∷◌, ◌++◌, length}
 use Rattle.gtp_rules.specs.Lines.{RawLine}
 use Rattle.gtp_rules.specs.Steps.{Fallback, Step}
 
--- out is one of these answers, with new the machine after it
+-- out is the reply of one of these answers, and new is the machine after it
 abbrev pub IsOneOf : {M : Type 0} → List (Fallback M) → List ℕ → M → Type 0
 IsOneOf [] out new = ⊥
 IsOneOf (answer ∷ answers) out new = ((out ≡ answer.reply) × (new ≡ answer.next)) ⊎ IsOneOf answers out new
 
--- out may be given where a step gives this, with new the machine after it: it is the step's reply, or one that may
--- stand in its place, which never ends the session
+-- a step with this result may write out, with new the machine after it: out is the step's reply, or an answer that may
+-- stand in its place, and such an answer never ends the session
 abbrev pub MayGive : {M : Type 0} → Step M → List ℕ → M → Bool → Type 0
 MayGive given out new ends =
     ((out ≡ given.reply) × (new ≡ given.next) × (ends ≡ given.ends))
     ⊎ (IsOneOf given.fallbacks out new × (ends ≡ false))
 
--- the line may be answered with out, and the machine is new after it; ends says whether it ends the session
+-- the line may be answered with out, and new is the machine after it; ends says whether the line ends the session
 abbrev pub Answers : {M : Type 0} → (M → RawLine → Step M → Type 0) → M → RawLine → List ℕ → M → Bool → Type 0
 Answers {M} step old line out new ends = (given : Step M) × step old line given × MayGive given out new ends
 
--- something is given for each line
+-- for each machine and line the step gives something
 abbrev pub IsTotal : {M : Type 0} → (M → RawLine → Step M → Type 0) → Type 0
 IsTotal {M} step = (old : M) (line : RawLine) → (given : Step M) × step old line given
 
--- The lines may be answered with out, one after another, and the machine is new after them. After a line that ends the
--- session nothing is answered, and ended says whether there is one.
+-- The lines may be answered with out, one after another, and new is the machine after them. No line is answered after
+-- one that ends the session, and ended says whether one of them did.
 abbrev pub IsRun : {M : Type 0} → (M → RawLine → Step M → Type 0) → M → List RawLine → List ℕ → M → Bool → Type 0
 IsRun step old [] out new ended = (out ≡ []) × (new ≡ old) × (ended ≡ false)
 IsRun {M} step old (line ∷ lines) out new ended =
@@ -34,16 +34,16 @@ IsRun {M} step old (line ∷ lines) out new ended =
     × (out ≡ first ++ rest)
     × MatchBool ends ((rest ≡ []) × (new ≡ mid) × (ended ≡ true)) (IsRun step mid lines rest new ended)
 
--- out is a transcript of the lines
+-- the bytes out are a transcript of the lines
 abbrev pub IsTranscript : {M : Type 0} → (M → RawLine → Step M → Type 0) → M → List RawLine → List ℕ → Type 0
 IsTranscript {M} step first lines out = (last : M) × (ended : Bool) × IsRun step first lines out last ended
 
--- out is a transcript of the lines in which no line ends the session
+-- the bytes out are a transcript of the lines, and none of the lines ends the session
 abbrev pub GoesOn : {M : Type 0} → (M → RawLine → Step M → Type 0) → M → List RawLine → List ℕ → Type 0
 GoesOn {M} step first lines out = (last : M) × IsRun step first lines out last false
 
--- put breaks off within the reply to one of the lines: those before it are answered whole, and of its reply a part is
--- missing
+-- the bytes put break off within the reply to one of the lines: the lines before it are answered whole, and the end of
+-- its reply, missing, was not put
 pub record Cut {M : Type 0} (step : M → RawLine → Step M → Type 0) (first : M) (lines : List RawLine)
     (put : List ℕ) : Type 0 where
   pub before : List RawLine

@@ -1,4 +1,4 @@
-//! What the lines of a stream come to: each function is a law, which is its contract, and does nothing.
+//! Laws of the lines of a stream. Each function is a law: its contract says it, and its body does nothing.
 
 ghost use Rattle.std.specs.Prelude.{◌≡◌, ℕ, List, [], ◌∷◌, ◌++◌};
 ghost use Rattle.std.specs.List.{join_with_byte};

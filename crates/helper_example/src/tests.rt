@@ -1,4 +1,4 @@
-//! A run that is handed the helper, over a pattern file that names it.
+//! A run with the caller's helper, and with a pattern file that names it.
 use crate::TwoLiberties;
 use gtp_io::{Feed, Page, Shelf};
 use helpers::Helper;
@@ -6,22 +6,22 @@ use session::{Outcome, run};
 use std::alloc::Global;
 use std::process::Abort;
 
-/// The most bytes of one call, and room for the replies.
+/// The most bytes of one call, and the room for the replies.
 const ROOM: usize = 4096;
 
 /// A pattern that asks the helper.
 const PATTERNS: &[u8] = b"Pattern P\nO*\n:O,s,two_liberties\n";
 
-/// Beside B5 black's string has room; beside D1 it has its last liberty at E2.
+/// A play at C5 leaves Black's string many liberties; a play at E1 leaves it only one, E2.
 const LINES: &[u8] = b"boardsize 5\nplay b B5\nplay w D2\nplay b D1\nplay w C1\nmatch_patterns b\n";
 
-/// The replies to these lines: E1 would be a match without the helper.
+/// The replies to `LINES`: without the helper E1 would be a match too.
 const REPLIES: &[u8] = b"=\n\n=\n\n=\n\n=\n\n=\n\n= P 0 C5\n\n";
 
-/// What the test says that ends for want of memory.
+/// What the test says if memory runs out.
 const MEMORY: &str = "memory is found";
 
-/// The name of the pattern file, as the one word of the command line and on the shelf.
+/// The name of the pattern file: the only word of the command line, and the name on the shelf.
 fn names(rt: &impl Abort, alloc: Global) -> Vec<String> {
     let name = String::from_str(alloc, "patterns").expect(rt, MEMORY);
     let mut names = Vec::new(alloc);

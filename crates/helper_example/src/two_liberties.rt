@@ -13,7 +13,7 @@ pub struct TwoLiberties {
 }
 
 impl TwoLiberties {
-    /// One that was not asked yet.
+    /// A helper that was not asked yet.
     pub fn new() -> TwoLiberties
         ensures { ⟦<TwoLiberties as Helper>⟧.state result ≡ two_liberties 0 }
     {
@@ -21,7 +21,7 @@ impl TwoLiberties {
     }
 }
 
-/// Whether a play is legal and its string has at least two liberties afterwards.
+/// Whether the play of `friend` at `at` is legal and its string has at least two liberties afterwards.
 fn has_two_liberties(pos: &Position, at: Point, friend: Colour) -> bool
     requires { at < pos.now.size * pos.now.size }
     ensures { result ≡ has_two_liberties pos.now at friend }

@@ -1,4 +1,4 @@
-//! A helper that says the same of every move.
+//! A helper that says the same about every move.
 
 ghost use Rattle.std.specs.Prelude.{◌≡◌, string_bytes};
 ghost use Rattle.helper_tests.specs.Always.{always};
@@ -6,7 +6,7 @@ ghost use Rattle.helper_tests.specs.Always.{always};
 use go_base::{Colour, Point, Position};
 use helpers::Helper;
 
-/// Gives one answer to every question, under any name.
+/// A helper of any name that gives the same answer to every question.
 #[derive(Drop)]
 pub struct Always {
     name: String,
@@ -15,7 +15,7 @@ pub struct Always {
 }
 
 impl Always {
-    /// One that was not asked yet.
+    /// An `Always` that was not asked yet.
     pub fn new(name: String, answer: bool) -> Always
         ensures { ⟦<Always as Helper>⟧.state result ≡ always (string_bytes name) answer 0 }
     {

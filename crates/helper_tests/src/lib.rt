@@ -1,5 +1,5 @@
-//! Worked rows of helpers that are handed in as boxed objects, one of a type of this crate among them: asked by their
-//! names, in turn, switched off and taken out.
+//! Worked rows of helpers that are passed in as boxed objects; one of them is of a type of this crate. They are asked
+//! by their names, asked in turn, switched off and taken out.
 #![tactic(auto)]
 
 mod always;

@@ -12,10 +12,10 @@ use crate::Helpers;
 use go_base::{Colour, Point, Position};
 use pat_types::Item;
 
-/// The place of the first of these fields whose helper says no to a play of `friend` at `at`; `None` exactly if all say
-/// yes.
+/// The index in `items` of the first field whose helper says no to a play of `friend` at `at`; `None` exactly if no
+/// helper says no.
 ///
-/// The helpers are asked in order, until one says no. Each is asked once, though it be named twice.
+/// The helpers are asked in the order of `items`, until one says no. A helper that several fields name is asked once.
 pub fn first_refusal(
     helpers: &mut Helpers,
     items: &[Item],
@@ -39,8 +39,8 @@ pub fn first_refusal(
     None
 }
 
-/// Whether the helpers that these fields name all say yes to a play of `friend` at `at`. They are asked as
-/// `first_refusal` asks them.
+/// Whether the helpers that `items` name all say yes to a play of `friend` at `at`. They are asked in order until one
+/// says no, as in `first_refusal`.
 pub fn all_agree(
     helpers: &mut Helpers,
     items: &[Item],
@@ -58,7 +58,7 @@ pub fn all_agree(
     first_refusal(helpers, items, pos, at, friend).is_none()
 }
 
-/// What the helper of a field says, if no field before it names the same; else yes.
+/// What the helper that `item` names says; yes if `item` names no helper, or if a field in `before` names the same one.
 fn agrees(
     helpers: &mut Helpers,
     before: &[Item],
@@ -81,7 +81,7 @@ fn agrees(
     }
 }
 
-/// Whether a field names a helper that no field before it names.
+/// Whether `item` names a helper that no field in `before` names.
 fn names_anew(before: &[Item], item: &Item) -> bool
     ensures { result ≡ (is_helper_name item.now
         && not (list_any (λ k. bytes_eq k item.now.name) (helper_names before.now))) }
@@ -89,7 +89,7 @@ fn names_anew(before: &[Item], item: &Item) -> bool
     names_helper(item) && !is_named_in(before, item.name.as_slice())
 }
 
-/// Whether one of the fields names the helper of this name.
+/// Whether one of the fields `items` names the helper called `name`.
 fn is_named_in(items: &[Item], name: &[u8]) -> bool
     ensures { result ≡ list_any (λ k. bytes_eq k name.now) (helper_names items.now) }
 {
@@ -101,7 +101,7 @@ fn is_named_in(items: &[Item], name: &[u8]) -> bool
     false
 }
 
-/// Whether a field names the helper of this name.
+/// Whether the field `item` names the helper called `name`.
 fn names(item: &Item, name: &[u8]) -> bool
     ensures { result ≡ (is_helper_name item.now && bytes_eq item.now.name name.now) }
 {

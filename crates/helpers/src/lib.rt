@@ -1,7 +1,7 @@
-//! Helpers: questions on a move that the caller hands in as objects, and that patterns ask for by name.
+//! Helpers: tests of a move that the caller passes in as objects, and that patterns ask for by name.
 //!
-//! A helper is seen as its name, its meaning (what it says of a position, a point and a colour) and the number of its
-//! calls. A list of helpers is asked by name, and where two share a name the first is meant. A helper that is switched
+//! Contracts see a helper as its name, its meaning (what it says of a position, a point and a colour) and the number of
+//! its calls. A list of helpers is asked by name; if two share a name, the first is meant. A helper that is switched
 //! off or taken out is not asked, and counts as one that says no.
 #![tactic(auto)]
 

@@ -10,38 +10,38 @@ use crate::Helper;
 use go_base::{Bytes, Colour, NoMemory, Point, Position};
 use std::alloc::{AllocError, Global};
 
-/// A place of a list of helpers.
+/// A place in a list of helpers.
 #[derive(Drop)]
 pub struct HelperSlot {
-    /// The helper that stands there.
+    /// The helper at this place.
     pub helper: Box<dyn Helper>,
-    /// Whether it is on. A helper that is off is not asked, and counts as one that says no.
+    /// Whether the helper is on. A helper that is off is not asked, and counts as one that says no.
     pub on: bool,
 }
 
 impl HelperSlot {
-    /// The name of its helper.
+    /// The name of the helper at this place.
     fn name(&self) -> &str
         ensures { result.now ≡ (slot_state state self.now).helper.name }
     {
         self.helper.name()
     }
 
-    /// Whether its helper has the name.
+    /// Whether the helper at this place is called `name`.
     fn has_name(&self, name: &[u8]) -> bool
         ensures { result ≡ has_name name.now (slot_state state self.now) }
     {
         self.helper.name().as_bytes() == name
     }
 
-    /// How often its helper was asked.
+    /// How often the helper at this place was asked.
     fn calls(&self) -> u64
         ensures { result ≡ (slot_state state self.now).helper.calls }
     {
         self.helper.calls()
     }
 
-    /// What its helper says of a play of `friend` at `at`, no if it is off.
+    /// What the helper at this place says of a play of `friend` at `at`; no if it is off.
     fn decide(&mut self, pos: &Position, at: Point, friend: Colour) -> bool
         requires { at < pos.now.size * pos.now.size }
         ensures answer { result ≡ slot_says (Some (slot_state state self.old)) pos.now at friend }
@@ -60,7 +60,7 @@ fn copied(alloc: Global, bytes: &[u8]) -> Result<Bytes, NoMemory>
     Ok(copy)
 }
 
-/// A list of helpers. Each is asked by its name; where two share a name the first is meant.
+/// A list of helpers. Each is asked by its name; if two share a name, the first is meant.
 #[derive(Drop)]
 pub struct Helpers {
     /// The helpers in order.
@@ -68,10 +68,10 @@ pub struct Helpers {
 }
 
 impl Helpers {
-    /// One place for each helper, in order, all on. Takes memory.
+    /// A list with one place for each helper in `list`, in order, all switched on. Takes memory.
     ///
-    /// The empty condition of this call and of `off` and `remove` says that they make no helper of their own, so that
-    /// the crates above are proved for whatever helpers they are handed.
+    /// The empty condition of this call and of `off` and `remove` says that these calls make no helper of their own, so
+    /// the crates above are proved for whatever helpers they are given.
     pub fn new(alloc: Global, list: Vec<Box<dyn Helper>>) -> Result<Helpers, NoMemory>
         requires { ⊤ }
         ensures slots { IfOk result
@@ -85,7 +85,7 @@ impl Helpers {
         }
     }
 
-    /// The helpers of a list, each switched on, or the error of the allocator.
+    /// The helpers in `list`, each switched on, or the error of the allocator.
     fn all_on(alloc: Global, list: Vec<Box<dyn Helper>>) -> Result<Helpers, AllocError>
         ensures { IfOk result
             (λ helpers. helpers.slots.items ≡ map (λ b. record { helper = b; on = true }) list.items) }
@@ -97,7 +97,7 @@ impl Helpers {
         Ok(Helpers { slots })
     }
 
-    /// The names of the helpers in order. Takes memory.
+    /// The names of the helpers, in order. Takes memory.
     pub fn names(&self, alloc: Global) -> Result<Vec<Bytes>, NoMemory>
         ensures { IfOk result (λ names. names.items ≡ map (λ s. s.helper.name) (listed state self.now)) }
     {
@@ -108,7 +108,7 @@ impl Helpers {
         Ok(names)
     }
 
-    /// Where the helper of the name stands.
+    /// The index of the first helper called `name`, or `None` if there is none.
     fn place(&self, name: &[u8]) -> Option<usize>
         ensures bound { IfSome result (λ i. i < length self.now.slots.items) }
         ensures first { result ≡ position_from (has_name name.now) 0 (listed state self.now) }
@@ -121,7 +121,7 @@ impl Helpers {
         None
     }
 
-    /// How often the helper of the name was asked. None exactly if no helper has the name.
+    /// How often the helper called `name` was asked; `None` exactly if no helper has this name.
     pub fn calls(&self, name: &[u8]) -> Option<u64>
         ensures { result ≡ calls_of name.now (listed state self.now) }
     {
@@ -129,7 +129,7 @@ impl Helpers {
         Some(self.slots[place].calls())
     }
 
-    /// Switches the helper of the name off. False exactly if no helper has the name.
+    /// Switches off the helper called `name`. Returns false exactly if no helper has this name.
     pub fn off(&mut self, name: &[u8]) -> bool
         requires { ⊤ }
         ensures found { result ≡ is_some (named name.now (listed state self.old)) }
@@ -144,7 +144,7 @@ impl Helpers {
         }
     }
 
-    /// Takes the helper of the name out of the list. None exactly if no helper has the name.
+    /// Takes the helper called `name` out of the list. Returns `None` exactly if no helper has this name.
     pub fn remove(&mut self, name: &[u8]) -> Option<Box<dyn Helper>>
         requires { ⊤ }
         ensures found { option_map state result ≡ option_map (λ s. s.helper) (named name.now (listed state self.old)) }
@@ -155,8 +155,8 @@ impl Helpers {
         Some(slot.helper)
     }
 
-    /// What the helper of the name says of a play of `friend` at `at`. If there is none, or it is off, this is no,
-    /// and nothing is called.
+    /// What the helper called `name` says of a play of `friend` at `at`. If no helper has this name, or the helper is
+    /// off, the answer is no and nothing is called.
     pub fn decide(&mut self, name: &[u8], pos: &Position, at: Point, friend: Colour) -> bool
         requires { at < pos.now.size * pos.now.size }
         ensures answer { result ≡ says_yes (listed state self.old) name.now pos.now at friend }

@@ -1,4 +1,4 @@
-//! Connections, counted and kept.
+//! Cached answers about connections, with counts.
 
 ghost use Rattle.std.specs.Prelude.{◌≡◌, ◌≢◌, ◌*◌, ◌<◌, ◌≤◌, ◌↔◌, false, IsNone, IfOk, IfSome, IfNone};
 ghost use Rattle.go_rules.specs.Strings.{cell_at};
@@ -17,10 +17,11 @@ use read_cache::KeptAnswers;
 use std::alloc::Global;
 use std::marker::Model;
 
-/// Answers about connections, all at the same plies, with counts of the answers that were fresh and of those that could
-/// not be kept.
+/// Cached answers about connections, all read to the same number of plies, with counts of the answers that were fresh
+/// and of those that could not be cached.
 ///
-/// Each answer is that of a fresh reading. It is kept with the facts that it rests on, and is used again if these hold.
+/// Each answer is that of a fresh reading. It is cached with the facts that it rests on, and is used again if these
+/// facts hold.
 #[derive(Drop)]
 pub struct Connections {
     plies: u8,
@@ -40,8 +41,8 @@ impl Model for Connections {
 }
 
 impl Connections {
-    /// Keeps nothing yet, and at most `capacity` questions, from 8 to 65,536. Connections are read `plies` deep, from 1
-    /// to 200. Both counts are 0. Takes memory.
+    /// An empty cache for at most `capacity` questions, from 8 to 65,536, with both counts 0. Connections are read
+    /// `plies` deep, from 1 to 200. Takes memory.
     pub fn new(alloc: Global, plies: u8, capacity: u32) -> Result<Connections, NoMemory>
         requires some_plies { 1 ≤ plies }
         requires few_plies { plies ≤ most_moves }
@@ -55,9 +56,9 @@ impl Connections {
         })
     }
 
-    /// Answers a question about two stones of the position, of one colour, at the present plies. The answer is that of
-    /// a fresh reading. It is a kept one exactly if a kept variant of the question stands on the position; else the
-    /// question is read and its answer is kept.
+    /// Answers a question about two stones of one colour on the position, at the present plies. The answer is that of a
+    /// fresh reading. It comes from the cache exactly if a cached variant of the question stands on the position; else
+    /// the question is read, and its answer is cached if there is memory for it.
     pub fn ask(&mut self, kind: LinkKind, position: &Position, a: Point, b: Point) -> Linkage
         requires a_on { a < position.now.size * position.now.size }
         requires b_on { b < position.now.size * position.now.size }
@@ -67,12 +68,12 @@ impl Connections {
         ensures none { IsNone result.at ↔ (result.yes ≡ false) }
         ensures on_board { IfSome result.at (IsOnBoard position.now.size) }
 
-        // A kept answer was found, and no count has changed; or the answer was fresh, and is counted and kept first or
-        // refused.
+        // Either the answer was found in the cache, and no count has changed; or it was fresh and counted, and it is
+        // cached first or was refused for want of memory.
         ensures asked { HasAsked (key_on position.now kind a b self.old.plies) position.now result
             self.old.answers self.new.answers }
 
-        // Each kept variant rests on its facts.
+        // Each cached variant rests on its facts.
         ensures rest { HoldsOfEach Rests self.new.answers.kept }
         ensures plies { self.new.plies ≡ self.old.plies }
     {
@@ -80,8 +81,8 @@ impl Connections {
         self.answers.ask(key, position).answer
     }
 
-    /// Answers a question about two stones of the position, of one colour, if a kept variant of the question stands on
-    /// the position. Else nothing changes.
+    /// Answers a question about two stones of one colour on the position, if a cached variant of the question stands
+    /// there; else `None`, and nothing changes.
     pub fn find_kept(
         &mut self,
         kind: LinkKind,
@@ -109,7 +110,7 @@ impl Connections {
         Some(linkage)
     }
 
-    /// Changes the plies alone, from 1 to 200.
+    /// Sets the number of plies, from 1 to 200, and changes nothing else.
     pub fn set(&mut self, plies: u8)
         requires some_plies { 1 ≤ plies }
         requires few_plies { plies ≤ most_moves }
@@ -125,7 +126,7 @@ impl Connections {
         self.answers.fresh()
     }
 
-    /// How many answers could not be kept for want of memory, as far as a `u64` counts.
+    /// How many answers could not be cached for want of memory, as far as a `u64` counts.
     pub fn refused(&self) -> u64
         ensures { result ≡ self.now.answers.refused }
     {

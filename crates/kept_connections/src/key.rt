@@ -1,4 +1,4 @@
-//! Questions about connections as they are kept, and how one is read.
+//! Questions about connections as they are cached, and how one is read.
 
 ghost use Rattle.std.specs.Prelude.{◌≡◌, ◌≢◌, ◌*◌, ◌<◌, ◌≤◌};
 ghost use Rattle.go_rules.specs.Strings.{cell_at};
@@ -13,7 +13,7 @@ use read_cache::{PLY_VALUES, POINT_VALUES, Question, Readable, Variant};
 use read_connect::read;
 use std::hash::{Hash, Hasher};
 
-/// A question as it is kept: its size, kind, both points, colour and plies.
+/// A question as it is cached: its size, kind, both points, colour and plies.
 #[derive(Clone, Copy, Debug, PartialEq, Eq)]
 pub struct LinkKey {
     /// The question.
@@ -54,7 +54,7 @@ impl Readable for LinkKey {
     ghost right = { λ key variant rests. record { right = λ pos stands. (rests.answers pos stands).right } };
 }
 
-/// A question is hashed as one number, so that its place is found by one step of the hasher.
+/// A question is hashed as one number, so that the hasher needs one step.
 impl Hash for LinkKey {
     ghost use Rattle.std.proofs.Common.{ap};
     ghost use Rattle.std.specs.Hash as fed;
@@ -69,7 +69,7 @@ impl Hash for LinkKey {
     }
 }
 
-/// The number of a kind.
+/// The number of a kind of question: 0 for `Connect` and 1 for `Disconnect`.
 fn number_of_kind(kind: LinkKind) -> u64
     ensures value { result ≡ number_of_kind kind }
     ensures small { result < 2 }
@@ -81,7 +81,7 @@ fn number_of_kind(kind: LinkKind) -> u64
 }
 
 /// The number that a question is hashed as. Its digits are, from the highest to the lowest, the size, both points, the
-/// kind and the plies. Two questions that differ in one of these have two numbers.
+/// kind and the plies. Questions that differ in one of these have different numbers.
 fn number_of(question: &LinkQuestion) -> u64
     ensures { result ≡ number_of question.now }
 {
@@ -90,7 +90,7 @@ fn number_of(question: &LinkQuestion) -> u64
     (both * 2 + number_of_kind(question.kind)) * PLY_VALUES + question.plies as u64
 }
 
-/// The question of this kind about two stones of the position, of one colour.
+/// The question of this kind about the stones at `a` and `b` on the position, which have one colour.
 pub(crate) fn key_of(kind: LinkKind, position: &Position, a: Point, b: Point, plies: u8) -> LinkKey
     requires a_on { a < position.now.size * position.now.size }
     requires b_on { b < position.now.size * position.now.size }

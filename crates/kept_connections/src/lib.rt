@@ -1,7 +1,8 @@
-//! Answers about connections, counted and kept.
+//! Cached answers about connections, with counts.
 //!
-//! `Connections` answers each question as a fresh reading does. It keeps the answer with the facts that it rests on,
-//! and answers from what it keeps exactly if a kept variant of the question stands on the position.
+//! `Connections` answers each question as a fresh reading does. It caches the answer with the facts that it rests on,
+//! and answers from the cache exactly if a cached variant of the question stands on the position: if its facts hold
+//! there.
 //!
 //! After GNU Go Manual, "Tactical reading", on the persistent cache; connections are read by this project's own tree.
 #![tactic(auto)]

@@ -1,6 +1,6 @@
-//! Worked rows of the lines that go in and out, and of what stands around them: what a line of the protocol says and
-//! the bytes of a reply, a stream as lines, sources, sinks and loaders, generated lines, notes, and the words of a
-//! command line. There is no code here but tests, so that these crates are not proved once more for them.
+//! Worked rows for the crates of lines, and for what these crates need: what a line of the protocol says and the bytes
+//! of a reply, a stream as lines, sources, sinks and loaders, generated lines, notes, and the words of a command line.
+//! This crate has tests and no other code, so the crates of lines need not be proved again for their tests.
 #![tactic(auto)]
 
 #[cfg(test)]

@@ -1,4 +1,4 @@
-//! The crates of lines, lowest first.
+//! The tests of the crates of lines, one file for each subject.
 mod commands;
 mod notes;
 mod options;

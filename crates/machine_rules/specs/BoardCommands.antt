@@ -1,4 +1,4 @@
--- What the commands do that set up a board, play on it and tell of it.
+-- What the commands do that set up a board, play on it and answer questions about it.
 use Rattle.std.specs.Prelude.{ℕ, ◌-◌, ◌==◌, Bool, List, [], ◌∷◌, ◌++◌, length, take, Option, None, Some, is_ok}
 use Rattle.std.specs.Prelude.{if◌then◌else◌, codes, decimal}
 use Rattle.go_rules.specs.declared.Colour.{Colour}
@@ -13,12 +13,13 @@ use Rattle.machine_rules.specs.Effects.{Effect, refused, told, grown}
 use Rattle.machine_rules.specs.BoardText.{board_text}
 use Rattle.machine_rules.specs.PointLists.{legal_list, liberty_list, vertices_text}
 
--- a new size begins again from the empty board of that size, also if it is the present one
+-- the board becomes the empty board of this size, even if it has this size already; the command is refused if no board
+-- has the size
 abbrev pub resized : Machine → Option ℕ → Effect
 resized old None = refused old UnacceptableSize
 resized old (Some size) = told [] (record old { base = empty_board size; moves = [] })
 
--- the list of moves is emptied, and the moves are played from the empty board, whose size stays
+-- the list of moves is emptied, and the base becomes the empty board of the same size
 abbrev pub cleared : Machine → Effect
 cleared old = told [] (record old { base = empty_board old.base.size; moves = [] })
 
@@ -47,27 +48,27 @@ shown old = grown old (board_text (position_of old)) old
 abbrev pub digit_of : Bool → List ℕ
 digit_of holds = if holds then codes "1" else codes "0"
 
--- whether the rules allow the move
+-- the reply is `1` if the rules allow the move, else `0`
 abbrev pub allowed : Machine → Move → Effect
 allowed old move = told (digit_of (is_ok (moved (position_of old) move))) old
 
--- the points where the colour may play
+-- the reply lists the points where the colour may play
 abbrev pub all_allowed : Machine → Colour → Effect
 all_allowed old c = grown old (vertices_text old.base.size (legal_list (position_of old) c)) old
 
--- what is told of the string of a point, if a stone stands there
+-- the effect, if a stone stands at the point; else the command is refused
 abbrev pub of_stone : Machine → ℕ → Effect → Effect
 of_stone old p effect = if is_stone (cell_at (position_of old).cells p) then effect else refused old VertexEmpty
 
--- how many liberties the string of a point has
+-- the reply is the number of liberties of the string of a point
 abbrev pub liberties_counted : Machine → ℕ → Effect
 liberties_counted old p = of_stone old p
     (told (decimal (liberties (position_of old).size (position_of old).cells p)) old)
 
--- the liberties of the string of a point
+-- the reply lists the liberties of the string of a point
 abbrev pub liberties_found : Machine → ℕ → Effect
 liberties_found old p = of_stone old p (grown old (vertices_text old.base.size (liberty_list (position_of old) p)) old)
 
--- how many stones the moves of a colour took, played from the base
+-- the reply is the number of stones that the moves of a colour captured, played from the base
 abbrev pub captures_counted : Machine → Colour → Effect
 captures_counted old c = told (decimal (captures_from old.base c old.moves)) old

@@ -14,11 +14,11 @@ mark_of Empty = codes "."
 mark_of Black = codes "X"
 mark_of White = codes "O"
 
--- the number of a row, right in two places
+-- the number of a row, right-aligned in two characters
 abbrev pub row_number_text : ℕ → List ℕ
 row_number_text n = (if nat_le 10 n then [] else codes " ") ++ decimal n
 
--- a point of a row as it is shown, behind a blank
+-- the mark of a point of a row, after a blank
 abbrev pub cell_text : ℕ → List Cell → ℕ → ℕ → List ℕ
 cell_text s cells row column = codes " " ++ mark_of (cell_at cells (point_at s (row, column)))
 
@@ -26,7 +26,7 @@ cell_text s cells row column = codes " " ++ mark_of (cell_at cells (point_at s (
 abbrev pub row_text : ℕ → List Cell → ℕ → List ℕ
 row_text s cells row = row_number_text (s - row) ++ flat_map (cell_text s cells row) (range_with_len 0 s) ++ codes "\n"
 
--- a column's letter, behind a blank
+-- a column's letter, after a blank
 abbrev pub letter_text : ℕ → List ℕ
 letter_text column = codes " " ++ slice_index column_letters column ∷ []
 

@@ -3,15 +3,15 @@ use Rattle.std.specs.Prelude.{◌≡◌, List, map}
 use Rattle.helpers.specs.HelperStates.{SlotState}
 use Rattle.machine_rules.specs.Machine.{Machine}
 
--- a place of a list of helpers without the calls of its helper
+-- the slot of a helper, with its count of calls set to 0
 abbrev pub without_its_calls : SlotState → SlotState
 without_its_calls s = record s { helper = record s.helper { calls = 0 } }
 
--- a list of helpers without their calls: the number, the order, the names and the meanings, and which are on
+-- the slots of helpers with their counts of calls set to 0; number, order, names, meanings and which are on stay
 abbrev pub without_calls : List SlotState → List SlotState
 without_calls slots = map without_its_calls slots
 
--- a machine without the calls of its helpers
+-- a machine with the counts of calls of its helpers set to 0
 abbrev pub quiet : Machine → Machine
 quiet machine = record machine { helpers = without_calls machine.helpers }
 

@@ -1,5 +1,5 @@
--- Certain hits: readings that are surely answered by an earlier one that was kept. They are told by lines, positions
--- and active areas alone.
+-- Certain hits: lines whose reading is certainly answered from an earlier, cached one. Lines, positions and active
+-- areas alone decide which lines they are.
 use Rattle.std.specs.Prelude.{◌≡◌, ◌⊎◌, ℕ, suc, ◌≤◌, Bool, true, false, List, [], ◌∷◌, ◌++◌, count_by, Option, Some}
 use Rattle.std.specs.Prelude.{None}
 use Rattle.go_rules.specs.Position.{BoardState}
@@ -19,7 +19,7 @@ abbrev pub first_named : List (List ℕ) → Option CommandName
 first_named [] = None
 first_named (word ∷ words) = named word
 
--- the command that the words name, if the first may be an id
+-- the command that the words name: the second word names it if the first is an id, else the first word does
 abbrev pub named_after : Option ℕ → List ℕ → List (List ℕ) → Option CommandName
 named_after None first more = named first
 named_after (Some id) first more = first_named more
@@ -51,7 +51,7 @@ is_matching _ = false
 abbrev pub reading_lines : List (Turn Machine) → ℕ
 reading_lines turns = count_by (λ turn. is_reading (named_in turn.line)) turns
 
--- how many are `match_patterns`, `genmove` or `reg_genmove` lines
+-- how many of the lines are `match_patterns`, `genmove` or `reg_genmove` lines
 abbrev pub matching_lines : List (Turn Machine) → ℕ
 matching_lines turns = count_by (λ turn. is_matching (named_in turn.line)) turns
 
@@ -64,8 +64,8 @@ abbrev pub board_at : Turn Machine → BoardState
 board_at turn = position_of turn.machine
 
 -- After the lines before it, a line is a certain hit: an earlier line asks the same question, both are answered with a
--- code, their positions agree on the active area of the question at the earlier one, and between them stand at most
--- three `attack` and `defend` lines and no `match_patterns`, `genmove` or `reg_genmove` line.
+-- code, their positions agree on the active area of the question at the earlier line, and between the two lines stand
+-- at most three `attack` and `defend` lines and no `match_patterns`, `genmove` or `reg_genmove` line.
 pub record IsCertainHit (before : List (Turn Machine)) (now : Turn Machine) : Type 0 where
   pub first : List (Turn Machine)
   pub earlier : Turn Machine
@@ -78,8 +78,8 @@ pub record IsCertainHit (before : List (Turn Machine)) (now : Turn Machine) : Ty
   pub few : reading_lines between ≤ 3
   pub no_matching : matching_lines between ≡ 0
 
--- n of the lines, picked from them, are certain hits; each is one after `before` and the lines that precede it, picked
--- or not
+-- n lines picked from the list are certain hits, each after the lines of `before` and after all lines of the list that
+-- precede it, picked or not
 abbrev pub HaveCertainHits : List (Turn Machine) → List (Turn Machine) → ℕ → Type 0
 HaveCertainHits before [] n = n ≡ 0
 HaveCertainHits before (turn ∷ turns) n = HaveCertainHits (before ++ turn ∷ []) turns n

@@ -22,7 +22,7 @@ abbrev pub move_or_pass : ℕ → Option ℕ → List ℕ
 move_or_pass s None = codes "PASS"
 move_or_pass s (Some p) = vertex_text s p
 
--- the machine with a move more
+-- the machine with one more move at the end of its list
 abbrev pub with_move : Machine → Move → Machine
 with_move machine move = record machine { moves = machine.moves ++ move ∷ [] }
 
@@ -30,12 +30,12 @@ with_move machine move = record machine { moves = machine.moves ++ move ∷ [] }
 abbrev pub is_full : Machine → Bool
 is_full machine = length machine.moves == most_moves
 
--- the chosen move for a friend is told, and no move is added
+-- the chosen move for a friend is printed, and no move is added
 abbrev pub move_told : Matcher → Machine → Colour → Effect
 move_told matcher old friend = advised old (after_asking matcher old friend)
     (move_or_pass old.base.size (chosen_point matcher old friend)) (after_asking matcher old friend)
 
--- the chosen move for a friend is told and added, if the list is not full
+-- the chosen move for a friend is printed and added, if the list is not full
 abbrev pub move_made : Matcher → Machine → Colour → Effect
 move_made matcher old friend =
     if is_full old then refused old HistoryFull

@@ -20,7 +20,7 @@ is_read machine (command.Attack p) = has_stone machine p
 is_read machine (command.Defend p) = has_stone machine p
 is_read machine _ = false
 
--- whether what a line says asks for a reading and is answered with a code
+-- whether a parsed line asks for a reading and is answered with a code
 abbrev pub is_parsed_read : Machine → Parsed → Bool
 is_parsed_read machine (parsed.Command id command) = is_read machine command
 is_parsed_read machine _ = false
@@ -34,6 +34,6 @@ is_read_line machine (Line text) = is_parsed_read machine (parsed_of text machin
 abbrev pub readings_in : List (Turn Machine) → ℕ
 readings_in turns = count_by (λ turn. is_read_line turn.machine turn.line) turns
 
--- a count after one more, if there is one; it stands still at the greatest value of a u64
+-- the count plus one if there is one more, else the count; counting stops at the greatest value of a u64
 abbrev pub counted : ℕ → Bool → ℕ
 counted n more = if more then min (n + 1) (2 ^ 64 - 1) else n

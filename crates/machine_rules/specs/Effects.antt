@@ -1,4 +1,4 @@
--- What a command does and tells, and the reply that this is behind the id of its line.
+-- What a command does and prints, and the reply that this becomes with the id of its line.
 use Rattle.std.specs.Prelude.{◌≡◌, ◌⊎◌, ℕ, Bool, true, false, List, [], ◌∷◌, map, Option, None, Some}
 use Rattle.gtp_rules.specs.Steps.{Fallback, Step}
 use Rattle.gtp_cmd.specs.Replies.{success_text, refusal_text}
@@ -11,7 +11,7 @@ pub record Excuse : Type 0 where
   pub refusal : RefuseText
   pub next : Machine
 
--- what a command does and tells
+-- what a command does and what it prints
 pub record Effect : Type 0 where
   -- why the command is refused; none if it succeeds
   pub refusal : Option RefuseText
@@ -28,7 +28,7 @@ pub record Effect : Type 0 where
 abbrev pub refused : Machine → RefuseText → Effect
 refused old text = record { refusal = Some text; result = []; excuses = []; next = old; ends = false }
 
--- the command succeeds with this result, and the machine is next after it
+-- the command succeeds with this result, and `next` is the machine after it
 abbrev pub told : List ℕ → Machine → Effect
 told result next = record { refusal = None; result = result; excuses = []; next = next; ends = false }
 
@@ -36,7 +36,7 @@ told result next = record { refusal = None; result = result; excuses = []; next 
 abbrev pub ended : Machine → Effect
 ended old = record { refusal = None; result = []; excuses = []; next = old; ends = true }
 
--- the excuse that there was no memory, and that the machine is this one after it
+-- the excuse that memory ran out; `next` is the machine after it
 abbrev pub out_of_memory : Machine → Excuse
 out_of_memory next = record { refusal = OutOfMemory; next = next }
 
@@ -44,16 +44,16 @@ out_of_memory next = record { refusal = OutOfMemory; next = next }
 abbrev pub growing : Machine → Effect → Effect
 growing old effect = record effect { excuses = out_of_memory old ∷ effect.excuses }
 
--- the command succeeds with this result in a growing reply, and the machine is next after it
+-- the command succeeds with this result in a growing reply, and `next` is the machine after it
 abbrev pub grown : Machine → List ℕ → Machine → Effect
 grown old result next = growing old (told result next)
 
--- the text of a reply behind an id: that of the refusal, or that of the result if there is no refusal
+-- the text of a reply with an id: the text of the refusal if there is one, else the text of the result
 abbrev pub reply_text : Option ℕ → Option RefuseText → List ℕ → List ℕ
 reply_text id None result = success_text id result
 reply_text id (Some refusal) result = refusal_text id refusal
 
--- an excuse behind an id
+-- an excuse as a fallback: its refusal with the id, and the machine after it
 abbrev pub fallback : Option ℕ → Excuse → Fallback Machine
 fallback id excuse = record { reply = refusal_text id excuse.refusal; next = excuse.next }
 
@@ -66,7 +66,7 @@ replied id effect = record {
   ends = effect.ends;
 }
 
--- one of these excuses was told, and the machine is new after it
+-- one of these excuses has this refusal, and `new` is the machine after it
 abbrev pub IsExcused : List Excuse → RefuseText → Machine → Type 0
 IsExcused [] refusal new = ⊥
 IsExcused (excuse ∷ excuses) refusal new = ((refusal ≡ excuse.refusal) × (new ≡ excuse.next))

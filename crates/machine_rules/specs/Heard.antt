@@ -10,12 +10,12 @@ use Rattle.gtp_cmd.specs.declared.commands.Parsed.TheVariants as parsed
 use Rattle.gtp_cmd.specs.declared.refusals.RefuseText.TheVariants.{LineTooLong}
 use Rattle.machine_rules.specs.Machine.{Machine}
 
--- what a line says to a machine: one that is too long is refused
+-- what a line says to a machine; a line that is too long is refused
 abbrev pub heard : Machine → RawLine → Parsed
 heard machine TooLong = parsed.Refused None LineTooLong
 heard machine (Line text) = parsed_of text machine.base.size
 
--- the bytes of a line; of one that is too long none count
+-- the bytes of a line; a line that is too long counts as empty
 abbrev pub bytes_in : RawLine → List ℕ
 bytes_in TooLong = []
 bytes_in (Line text) = text

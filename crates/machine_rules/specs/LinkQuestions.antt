@@ -32,7 +32,7 @@ asks_link_of machine (command.Connect a b) = asks_link_at machine Connect a b
 asks_link_of machine (command.Disconnect a b) = asks_link_at machine Disconnect a b
 asks_link_of machine _ = None
 
--- the question about a connection that is asked by what a line says, if one is
+-- the question about a connection that a parsed line asks, if it asks one
 abbrev pub asks_link_of_parsed : Machine → Parsed → Option LinkQuestion
 asks_link_of_parsed machine (parsed.Command id command) = asks_link_of machine command
 asks_link_of_parsed machine _ = None

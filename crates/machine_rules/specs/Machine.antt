@@ -17,16 +17,16 @@ pub record Machine : Type 0 where
   pub moves : List Move
   -- the text of the komi
   pub komi : List ℕ
-  -- which tree a reading is of, and how deep it may be
+  -- the tree of the readings, and how deep they go
   pub depths : ReadingDepths
   -- the helpers, each with its name and its meaning, on or off, and how often it was asked
   pub helpers : List SlotState
 
--- the size of the board before the first line that says one
+-- the size of the board until a line sets another
 abbrev pub first_size : ℕ
 first_size = 19
 
--- the machine before the first line, with these helpers, whose readings have these depths: its board is empty
+-- the machine before the first line: an empty board, these helpers, and readings of these depths
 abbrev pub first_machine : List SlotState → ReadingDepths → Machine
 first_machine helpers depths = record {
   base = empty_board first_size;

@@ -1,4 +1,4 @@
--- What a session tells of matches.
+-- How a session prints matches.
 use Rattle.std.specs.Prelude.{ℕ, ◌*◌, ◌<◌, List, [], ◌++◌, length, map, Option, Some, None, slice_get, Contains}
 use Rattle.std.specs.Prelude.{codes, decimal}
 use Rattle.std.specs.List.{join_with_byte}
@@ -7,18 +7,18 @@ use Rattle.match_rules.specs.declared.found.Match.{Match}
 use Rattle.gtp_cmd.specs.Words.{line_feed}
 use Rattle.gtp_cmd.specs.Vertices.{vertex_text}
 
--- the name of a pattern, if there is one
+-- the name of a pattern; empty if there is no pattern
 abbrev pub name_of : Option Pattern → List ℕ
 name_of None = []
 name_of (Some p) = p.name
 
--- a match of these patterns on a board of size s: the name of its pattern, its transformation and its point, parted
+-- a match of these patterns on a board of size s: the name of its pattern, its transformation and its point, separated
 -- by blanks
 abbrev pub match_text : List Pattern → ℕ → Match → List ℕ
 match_text patterns s z =
     name_of (slice_get patterns z.pattern) ++ codes " " ++ decimal z.transform ++ codes " " ++ vertex_text s z.at
 
--- matches, one a line
+-- the texts of matches, one a line
 abbrev pub matches_text : List Pattern → ℕ → List Match → List ℕ
 matches_text patterns s zs = join_with_byte line_feed (map (match_text patterns s) zs)
 

@@ -1,4 +1,4 @@
--- How a session finds matches. No line changes it, so it is no part of the machine, and the step of a line is given it.
+-- How a session finds matches. No line changes the matcher: it is not part of the machine, and `step` takes it.
 use Rattle.std.specs.Prelude.{List}
 use Rattle.go_rules.specs.declared.Colour.{Colour}
 use Rattle.pat_types.specs.declared.pattern.Pattern.{Pattern}
@@ -11,7 +11,7 @@ use Rattle.cons_eval.specs.Readings.{Codes}
 use Rattle.match_engine.specs.Readings.{codes_at}
 use Rattle.machine_rules.specs.Machine.{Machine, position_of}
 
--- patterns, and their matches on the position of a machine for a friend, by what helpers say
+-- patterns, and their matches on the position of a machine for a friend, given what the helpers advise
 pub record Matcher : Type 0 where
   pub patterns : List Pattern
   pub matches : Advice → Machine → Colour → List Match
@@ -28,7 +28,7 @@ plain_matcher patterns = record {
   matches = λ advice machine friend. matches_of (codes_of machine) advice patterns (position_of machine) friend;
 }
 
--- the matcher of these patterns by an automaton, which need not be theirs
+-- the matcher that finds matches of these patterns with an automaton, which need not be built from them
 abbrev pub automaton_matcher : List Pattern → List Row → Matcher
 automaton_matcher patterns rows = record {
   patterns = patterns;

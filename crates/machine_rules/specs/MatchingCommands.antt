@@ -1,4 +1,4 @@
--- What the commands do that tell of patterns and of their matches.
+-- What the commands do that list patterns and their matches.
 use Rattle.std.specs.Prelude.{List, ℕ}
 use Rattle.go_rules.specs.declared.Colour.{Colour}
 use Rattle.helpers.specs.HelperStates.{says_yes}
@@ -11,7 +11,7 @@ use Rattle.machine_rules.specs.Effects.{Effect, told, grown, growing}
 use Rattle.machine_rules.specs.MatchTexts.{matches_text}
 use Rattle.machine_rules.specs.PatternTexts.{patterns_text}
 
--- the matches for a friend to which the helpers that are there and on say yes
+-- the matches for a friend that pass the helpers; a helper that is missing or off says no
 abbrev pub matches_found : Matcher → Machine → Colour → List Match
 matches_found matcher old friend = matcher.matches (says_yes old.helpers) old friend
 

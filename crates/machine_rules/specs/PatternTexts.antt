@@ -1,4 +1,4 @@
--- What a session tells of its patterns.
+-- How a session prints its patterns.
 use Rattle.std.specs.Prelude.{ℕ, List, [], ◌∷◌, ◌++◌, map, codes, decimal}
 use Rattle.std.specs.List.{join_with_byte}
 use Rattle.pat_types.specs.declared.mark.Mark.{Mark}
@@ -22,15 +22,15 @@ abbrev pub classes_text : List ℕ → List ℕ
 classes_text [] = codes "-"
 classes_text (letter ∷ letters) = letter ∷ letters
 
--- the name of a pattern, and behind a blank its rows and columns with `x` between them
+-- the name of a pattern, a blank, and its rows and columns with `x` between them
 abbrev pub name_text : Pattern → List ℕ
 name_text p = p.name ++ codes " " ++ decimal p.rows ++ codes "x" ++ decimal p.cols
 
--- a pattern: its name and size, its mark and its class letters, parted by blanks
+-- a pattern: its name and size, its mark and its class letters, separated by blanks
 abbrev pub pattern_text : Pattern → List ℕ
 pattern_text p = name_text p ++ codes " " ++ mark_text p.mark ++ codes " " ++ classes_text p.classes
 
--- patterns, one a line
+-- the texts of patterns, one a line
 abbrev pub patterns_text : List Pattern → List ℕ
 patterns_text patterns = join_with_byte line_feed (map pattern_text patterns)
 

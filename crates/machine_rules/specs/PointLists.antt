@@ -22,7 +22,7 @@ legal_list pos c = in_reading_order pos.size (legal_points pos c)
 abbrev pub liberty_list : BoardState → ℕ → List ℕ
 liberty_list pos p = in_reading_order pos.size (liberty_points pos.size pos.cells p)
 
--- the vertices of points of a board of size s, parted by blanks
+-- the vertices of points of a board of size s, separated by blanks
 abbrev pub vertices_text : ℕ → List ℕ → List ℕ
 vertices_text s points = join_with_byte blank (map (vertex_text s) points)
 

@@ -23,7 +23,7 @@ pub data Asks : Type 0 where
   -- what the classes and constraints of patterns ask
   Many : Asks
 
--- the question about the string of a point, as it is kept
+-- the key under which the reading of the string of a point is cached: its question
 abbrev pub key_at : Machine → Kind → ℕ → Key
 key_at machine kind p = record { question = question_at machine kind p }
 
@@ -40,12 +40,12 @@ asks_of machine (command.GenMove friend) = if is_full machine then Nothing else 
 asks_of machine (command.RegGenMove friend) = Many
 asks_of machine _ = Nothing
 
--- what a line that says this asks of them
+-- what a parsed line asks of the readings
 abbrev pub asks_of_parsed : Machine → Parsed → Asks
 asks_of_parsed machine (parsed.Command id command) = asks_of machine command
 asks_of_parsed machine _ = Nothing
 
--- what a line asks of them
+-- what a line asks of the readings
 unfoldable pub asks_of_line : Machine → RawLine → Asks
 asks_of_line machine TooLong = Nothing
 asks_of_line machine (Line text) = asks_of_parsed machine (parsed_of text machine.base.size)

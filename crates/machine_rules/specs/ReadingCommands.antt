@@ -16,12 +16,12 @@ abbrev pub spot_text : ℕ → Spot → List ℕ
 spot_text s (At p) = vertex_text s p
 spot_text s Pass = codes "PASS"
 
--- a move behind a blank, and nothing if there is none
+-- a move after a blank; empty if there is no move
 abbrev pub move_text : ℕ → Option Spot → List ℕ
 move_text s None = []
 move_text s (Some spot) = blank ∷ spot_text s spot
 
--- an answer on a board of size s: its code, and its move behind a blank if there is one
+-- an answer on a board of size s: its code, and its move after a blank if there is one
 abbrev pub answer_text : ℕ → Answer → List ℕ
 answer_text s answer = decimal answer.code ++ move_text s answer.at
 
@@ -29,7 +29,7 @@ answer_text s answer = decimal answer.code ++ move_text s answer.at
 abbrev pub reading_of : Machine → Kind → ℕ → Answer
 reading_of machine kind p = answer_of (question_at machine kind p) (position_of machine)
 
--- the answer to a question about the string of a point is told
+-- the answer to a question about the string of a point is printed
 abbrev pub read : Machine → Kind → ℕ → Effect
 read old kind p = of_stone old p (told (answer_text old.base.size (reading_of old kind p)) old)
 

@@ -1,4 +1,4 @@
--- What the command does that makes a game record the position.
+-- What the command does that loads a game record: its position becomes the base of the machine.
 use Rattle.std.specs.Prelude.{ℕ, List, [], ◌∷◌, length, ◌==◌, Bool, Result, Ok, Err, if◌then◌else◌}
 use Rattle.std.specs.Str.Lossy.{utf8_valid_len}
 use Rattle.go_rules.specs.Position.{BoardState}
@@ -9,7 +9,7 @@ use Rattle.gtp_cmd.specs.declared.refusals.RefuseText.TheVariants.{SyntaxError, 
 use Rattle.machine_rules.specs.Machine.{Machine}
 use Rattle.machine_rules.specs.Effects.{Excuse, Effect, refused, told, growing}
 
--- whether the bytes are a text in UTF-8: the longest front of them that is one is the whole
+-- whether the bytes are UTF-8: their longest prefix in UTF-8 is the whole
 abbrev pub is_utf8 : List ℕ → Bool
 is_utf8 bytes = utf8_valid_len bytes == length bytes
 
@@ -17,15 +17,15 @@ is_utf8 bytes = utf8_valid_len bytes == length bytes
 abbrev pub not_loaded : Machine → Excuse
 not_loaded old = record { refusal = CannotLoadFile; next = old }
 
--- the position of a game record is that from which moves are played from now on, or its first fault is told
+-- moves are played from the position of the game record from now on, or the command is refused with its first fault
 abbrev pub recorded : Machine → Result BoardState FaultKind → Effect
 recorded old (Ok board) = told [] (record old { base = board; moves = [] })
 recorded old (Err kind) = refused old (BadSgf (number_of kind))
 
--- what a text does to the machine that is read as a game record; its file could perhaps not be loaded
+-- a text is parsed as a game record; the file may also fail to load
 abbrev pub loaded : Machine → List ℕ → Effect
 loaded old file = record (recorded old (game_of file)) { excuses = not_loaded old ∷ [] }
 
--- the file of this name, with this text, is loaded; a name that is no text names none. There may be no memory for that.
+-- the file of this name, with this text, is loaded; a name that is not UTF-8 is refused. Memory may run out.
 abbrev pub loaded_by : Machine → List ℕ → List ℕ → Effect
 loaded_by old name file = growing old (if is_utf8 name then loaded old file else refused old SyntaxError)

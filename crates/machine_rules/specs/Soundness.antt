@@ -27,13 +27,13 @@ IsSuccess bytes = (more : List ℕ) × (bytes ≡ equals_sign ∷ more)
 abbrev pub IsRefusal : List ℕ → Type 0
 IsRefusal bytes = (more : List ℕ) × (bytes ≡ question_mark ∷ more)
 
--- each of these answers is a refusal, and leaves the machine as it was but for the calls of helpers
+-- each of these fallbacks is a refusal, and leaves the machine as it was but for the calls of helpers
 abbrev pub AreExcuses : Machine → List (Fallback Machine) → Type 0
 AreExcuses old [] = Unit {0}
 AreExcuses old (answer ∷ answers) = IsRefusal answer.reply × AreSameButCalls old answer.next × AreExcuses old answers
 
--- The step keeps its word: a refused line keeps the machine, what may stand in place of a reply is a refusal that keeps
--- it but for the calls of helpers, and a line that ends the session is a success that keeps the machine.
+-- A step is sound: a refused line keeps the machine, each fallback is a refusal that keeps the machine but for the
+-- calls of helpers, and a line that ends the session is a success that keeps the machine.
 pub record IsSound (old : Machine) (given : Step Machine) : Type 0 where
   pub refused : IsRefusal given.reply → given.next ≡ old
   pub excuses : AreExcuses old given.fallbacks

@@ -1,5 +1,5 @@
--- What the machine gives for a line: the reply, what may stand in its place, and the machine after it. A refused line
--- and a line whose reply tells something keep the machine, but for the calls of helpers.
+-- What the machine gives for a line: the reply, the fallbacks that may stand in its place, and the machine after the
+-- line. A refused line keeps the machine.
 use Rattle.std.specs.Prelude.{◌≡◌, ℕ, false, List, [], codes}
 use Rattle.gtp_rules.specs.Lines.{RawLine}
 use Rattle.gtp_rules.specs.Steps.{Step}
@@ -27,12 +27,12 @@ use Rattle.machine_rules.specs.ReadingCommands.{read, deepened}
 use Rattle.machine_rules.specs.RecordCommands.{loaded_by}
 use Rattle.machine_rules.specs.MatchingCommands.{matches_listed, patterns_listed}
 
--- what stands behind the words of a line: its bytes, and the text of the file that it loads
+-- what a command reads besides its arguments: the bytes of its line, and the text of the file that the line loads
 pub record Input : Type 0 where
   pub line : List ℕ
   pub file : List ℕ
 
--- what a command does to the machine, and what it tells
+-- what a command does to the machine, and what it prints
 abbrev pub effect_of : Matcher → Machine → Input → Command → Effect
 effect_of matcher old input command.ProtocolVersion = told (codes "2") old
 effect_of matcher old input command.Name = told (codes "gopat") old
@@ -70,18 +70,18 @@ effect_of matcher old input (command.HelperOff span) = switched_off old (word_at
 effect_of matcher old input (command.HelperCalls span) = calls_told old (word_at input.line span)
 effect_of matcher old input (command.HelperDrop span) = dropped old (word_at input.line span)
 
--- the answer to what a line says
+-- the step for a parsed line
 abbrev pub parsed_step : Matcher → Machine → Input → Parsed → Step Machine
 parsed_step matcher old input parsed.Nothing =
     record { reply = []; fallbacks = []; next = old; ends = false }
 parsed_step matcher old input (parsed.Refused id text) = replied id (refused old text)
 parsed_step matcher old input (parsed.Command id command) = replied id (effect_of matcher old input command)
 
--- the answer to a line that loads this text, or to one that loads none
+-- the step for a line; `file` is the text that the line loads, if it loads one
 unfoldable pub step_on : Matcher → Machine → List ℕ → RawLine → Step Machine
 step_on matcher old file line = parsed_step matcher old (record { line = bytes_in line; file = file }) (heard old line)
 
--- the answer to a line: that on a text which is the contents of the file that it loads
+-- `given` is a step for the line: the step on some text that the file loaded by the line may hold
 abbrev pub step : Matcher → Contents → Machine → RawLine → Step Machine → Type 0
 step matcher contents old line given =
     (file : List ℕ) × IsFileOf contents (load_in old line) file × (given ≡ step_on matcher old file line)

@@ -1,4 +1,4 @@
-//! What holds of every step and of every certain hit, in words.
+//! Laws of the plain machine: what every step keeps, and which lines are certain hits.
 ghost use Rattle.std.specs.Prelude.{List, [], ◌∷◌, ◌++◌};
 ghost use Rattle.gtp_rules.specs.Lines.{RawLine};
 ghost use Rattle.machine_rules.specs.Machine.{Machine};
@@ -12,15 +12,16 @@ ghost use Rattle.machine_rules.specs.Turns.{Turn};
 ghost use Rattle.machine_rules.specs.CertainHit.{AsksFor, IsCertainHit};
 ghost use Rattle.read_rules.specs.declared.question.ReadingQuestion.{ReadingQuestion};
 
-/// A refused line keeps the machine; what may stand in place of a reply is a refusal, which keeps it but for the calls
-/// of helpers; and only a success ends the session, which keeps the machine. Something is given for each line.
+/// A refused line keeps the machine. A fallback, which may stand in place of a reply, is a refusal that keeps the
+/// machine but for the calls of helpers. Only a success ends the session, and it keeps the machine. `step` gives
+/// something for each line.
 pub fn replies_are_sound()
     ensures sound { (matcher : Matcher) (contents : Contents) (machine : Machine) (line : RawLine)
         (given : Step Machine) → step matcher contents machine line given → IsSound machine given }
     ensures total { (matcher : Matcher) (contents : Contents) → IsTotal (step matcher contents) }
 {}
 
-/// A question that the same machine is asked again at once is a certain hit, and no first line is one.
+/// A question asked twice in a row of the same machine is a certain hit the second time. The first line is never one.
 pub fn certain_hits_were_asked_before()
     ensures again { (before : List (Turn Machine)) (turn : Turn Machine) (q : ReadingQuestion) → AsksFor turn q
         → IsCertainHit (before ++ turn ∷ []) turn }

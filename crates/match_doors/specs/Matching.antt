@@ -1,4 +1,4 @@
--- The matches on a caller's board, and the numbers that tell them.
+-- The matches on a caller's board, and their numbers.
 use Rattle.std.specs.Prelude.{◌≡◌, ◌<◌, ◌≤◌, ℕ, List, [], length, nat_lt, slice_index_or, Option, Some, None}
 use Rattle.std.specs.Prelude.{Result, Ok, Err, if◌then◌else◌}
 use Rattle.go_rules.specs.declared.Colour.{Colour}
@@ -20,7 +20,7 @@ use Rattle.board_doors.specs.Replies.{status_of}
 use Rattle.match_doors.specs.declared.replies.MatchBytes.{MatchBytes}
 use Rattle.match_doors.specs.declared.replies.MatchReply.{MatchReply}
 
--- the depths that numbers name
+-- the depths that these numbers name
 abbrev pub depths_named : DepthBytes → ReadingDepths
 depths_named depths = record { tree = tree_named depths.tree; plies = depths.plies; wide = depths.wide }
 
@@ -28,14 +28,13 @@ depths_named depths = record { tree = tree_named depths.tree; plies = depths.pli
 abbrev pub matches_on : List Pattern → Colour → DepthBytes → BoardState → List Match
 matches_on patterns friend depths pos = matches_of (codes_at (depths_named depths)) (says_yes []) patterns pos friend
 
--- the matches of the patterns for the friend, if there is such a colour, or the first fault: of the colour, of the
--- depths
+-- the matches of the patterns for the friend, or the first fault: of the colour if there is none, then of the depths
 abbrev pub matching_by : List Pattern → DepthBytes → BoardState → Option Colour → Result (List Match) DoorFault
 matching_by patterns depths pos None = Err bad_colour
 matching_by patterns depths pos (Some friend) =
     if are_depths depths then Ok (matches_on patterns friend depths pos) else Err bad_depths
 
--- the matches of the patterns for the colour with this number, or the first fault: of the colour, of the depths
+-- the matches of the patterns for the colour with this number, or the first fault: of the colour, then of the depths
 unfoldable pub matching_on : List Pattern → ℕ → DepthBytes → BoardState → Result (List Match) DoorFault
 matching_on patterns colour depths pos = matching_by patterns depths pos (colour_named colour)
 
@@ -47,24 +46,24 @@ matching_of patterns board colour depths = on_position (matching_on patterns col
 abbrev pub bytes_of : Match → MatchBytes
 bytes_of z = record { pattern = z.pattern; at = z.at; transform = z.transform }
 
--- the reply to a question with so many matches, by the room for them
+-- the reply to a question with n matches, for a buffer with this much room
 abbrev pub found_reply : ℕ → ℕ → MatchReply
 found_reply n room =
     if nat_lt room n then record { status = status_of ShortBuffer; number = n } else record { status = 0; number = n }
 
--- the reply to a question, by the room for its matches; or that of its fault
+-- the reply to a question, for a buffer with this much room: of its matches, or of its fault
 abbrev pub match_reply : Result (List Match) DoorFault → ℕ → MatchReply
 match_reply (Ok zs) room = found_reply (length zs) room
 match_reply (Err fault) room = record { status = status_of fault; number = 0 }
 
--- the numbers of the first n matches stand at the front of the buffer, in their order, and behind them what stood there
+-- the numbers of the first n matches stand at the front of the buffer, in their order; the rest of the buffer stays
 pub record AreWrittenTo (n : ℕ) (zs : List Match) (old new : List MatchBytes) : Type 0 where
   pub whole : length new ≡ length old
   pub front : (i : ℕ) (z : Match) (none : MatchBytes) → i < n
       → slice_index_or new i none ≡ bytes_of (slice_index_or zs i z)
   pub behind : (i : ℕ) (none : MatchBytes) → n ≤ i → slice_index_or new i none ≡ slice_index_or old i none
 
--- the numbers of the matches stand at the front of the buffer, and behind them what stood there
+-- the numbers of the matches stand at the front of the buffer, in their order; the rest of the buffer stays
 abbrev pub AreWritten : List Match → List MatchBytes → List MatchBytes → Type 0
 AreWritten zs old new = AreWrittenTo (length zs) zs old new
 
@@ -78,7 +77,7 @@ abbrev pub IsBuffer : Result (List Match) DoorFault → List MatchBytes → List
 IsBuffer (Ok zs) old new = AreWrittenIf zs old new
 IsBuffer (Err fault) old new = new ≡ old
 
--- the status of a handle that holds nothing
+-- the status of an empty handle
 abbrev pub closed : ℕ
 closed = 17
 
@@ -90,7 +89,7 @@ no_memory = 18
 abbrev pub unanswered : MatchReply
 unanswered = record { status = no_memory; number = 0 }
 
--- the reply to a question to a handle that holds nothing
+-- the reply to a question to an empty handle
 abbrev pub closed_reply : MatchReply
 closed_reply = record { status = closed; number = 0 }
 

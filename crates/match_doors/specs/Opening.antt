@@ -1,4 +1,4 @@
--- The numbers that tell what became of a text of patterns.
+-- The numbers that say how a text of patterns was opened.
 use Rattle.std.specs.Prelude.{ℕ}
 use Rattle.match_doors.specs.declared.patterns.PatternFault.{PatternFault}
 use Rattle.match_doors.specs.declared.patterns.PatternFault.TheVariants.{NoMemory, Text, TooManyStates}
@@ -13,11 +13,11 @@ bad_text = 19
 abbrev pub too_many_states : ℕ
 too_many_states = 20
 
--- the reply to a text that gave so many patterns
+-- the reply to a text that gave n patterns
 abbrev pub opened_reply : ℕ → OpenReply
 opened_reply n = record { status = 0; kind = 0; line = 0; patterns = n }
 
--- the reply to a text that gave none
+-- the reply to a text that gave no patterns
 abbrev pub refused_reply : PatternFault → OpenReply
 refused_reply NoMemory = record { status = no_memory; kind = 0; line = 0; patterns = 0 }
 refused_reply (Text line kind) = record { status = bad_text; kind = kind; line = line; patterns = 0 }

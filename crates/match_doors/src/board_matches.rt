@@ -1,4 +1,4 @@
-//! The matches on a board that is handed over as bytes.
+//! The matches on a board of bytes.
 
 ghost use Rattle.std.specs.Prelude.{◌≡◌, length};
 ghost use Rattle.match_doors.specs.Matching.{matching_on, matching_of, Answers};
@@ -11,7 +11,7 @@ use board_doors::{DepthBytes, DoorFault};
 use go_base::Position;
 use std::alloc::Global;
 
-/// Writes the matches on the position, or tells the first fault: of the colour, of the depths.
+/// Writes the matches on the position, or gives the first fault: of the colour, then of the depths.
 #[tactic(auto, unfolding(crate::specs::Matching::matching_on))]
 fn find_on(
     matcher: &mut Matcher,
@@ -37,8 +37,8 @@ fn find_on(
 }
 
 /// Writes the matches on the board for the colour 1, Black, or 2, White, over the front of the buffer, in order: by the
-/// pattern's number, the transformation and the point. With a fault, and if the buffer is too short, it stays as it
-/// is. The faults come in this order: of the board, of the colour, of the depths, want of memory, of the buffer.
+/// pattern's number, the transformation and the point. With a fault, and if the buffer is too short, it stays as it is.
+/// The faults come in this order: of the board, of the colour, of the depths, too little memory, of the buffer.
 #[tactic(auto, unfolding(crate::specs::Matching::matching_of))]
 pub fn find(
     matcher: &mut Matcher,

@@ -1,9 +1,8 @@
-//! Matches for a program in another language: the patterns of a text, and where they match on a board that is handed
-//! over as bytes.
+//! Matches for a program in another language: the patterns of a text, and where they match on a board of bytes.
 //!
-//! `read_patterns` reads a text and joins its patterns into one automaton, or tells why not. A `Matcher` keeps both,
-//! and `find` writes the matches on a board into the caller's buffer: for each the number of its pattern, the point of
-//! its move, and its transformation. Patterns have no helpers here. `gopat_matches_c` exports this behind a handle.
+//! `read_patterns` reads a text and joins its patterns into one automaton, or says why not. A `Matcher` keeps both, and
+//! `find` writes the matches on a board into the caller's buffer: for each match the number of its pattern, the point
+//! of its move, and its transformation. Patterns have no helpers here. `gopat_matches_c` exports this behind a handle.
 #![tactic(auto)]
 
 mod board_matches;

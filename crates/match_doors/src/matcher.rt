@@ -1,4 +1,4 @@
-//! Patterns that are ready to be found.
+//! Patterns with the automaton that finds them.
 
 ghost use Rattle.std.specs.Prelude.{◌≡◌, [], length, IfOk, IfErr};
 ghost use Rattle.helpers.specs.HelperStates.{says_yes};
@@ -17,14 +17,14 @@ use read_rules::{Depths, MIN_PLIES};
 use std::alloc::Global;
 use std::marker::Model;
 
-/// The most states of the automaton, as in the program without the option `states`.
+/// The most states of the automaton, as in the program if the option `states` is not given.
 const MOST_STATES: u32 = 100_000;
 
-/// How many questions a matcher may keep with their answers, as the program without the option `cache`.
+/// How many questions a matcher may cache, as in the program if the option `cache` is not given.
 const KEPT: u32 = 4096;
 
-/// Patterns, their automaton, and the answers to the readings that their matches asked for. Seen as the patterns alone:
-/// kept answers change no match.
+/// Patterns, their automaton, and the cached readings that their matches asked for. Contracts see the patterns alone:
+/// the cache changes no match.
 #[derive(Drop)]
 pub struct Matcher {
     patterns: Vec<Pattern>,
@@ -53,7 +53,7 @@ impl Model for Matcher {
 }
 
 impl Matcher {
-    /// The patterns of a text, ready to be found, or why not. Takes memory.
+    /// The matcher for the patterns of a text, or why there is none. Takes memory.
     pub fn open(alloc: Global, text: &[u8]) -> Result<Matcher, PatternFault>
         ensures ok { IfOk result (AreOpened text.now MOST_STATES) }
         ensures err { IfErr result (IsRefused text.now MOST_STATES) }
@@ -75,7 +75,7 @@ impl Matcher {
         self.patterns.len()
     }
 
-    /// The matches for a friend on a position, with readings of these depths: in order, by the pattern's number, the
+    /// The matches for `friend` on `position`, with readings of these `depths`, in order: by the pattern's number, the
     /// transformation and the point. Takes memory.
     pub fn find(
         &mut self,

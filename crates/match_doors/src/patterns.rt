@@ -18,7 +18,7 @@ const MOST_PATTERNS: usize = 4096;
 pub struct Patterns {
     /// The patterns in their order.
     pub list: Vec<Pattern>,
-    /// Their automaton.
+    /// The automaton of the patterns.
     pub automaton: Automaton,
 }
 
@@ -29,9 +29,9 @@ pub enum PatternFault {
     NoMemory,
     /// The first fault of the text.
     Text {
-        /// The number of its line, counted from 1.
+        /// The number of the faulty line, counted from 1.
         line: u64,
-        /// Its kind, from 1 to 18.
+        /// The kind of the fault, from 1 to 18.
         kind: u8,
     },
     /// The automaton would have more states than the caller allows.
@@ -77,8 +77,8 @@ impl From<NoMemory> for PatternFault {
     }
 }
 
-/// Reads the patterns of a text, which name no helper, and joins them into one automaton of at most so many states; or
-/// tells why not. The text's first fault comes before the states. Takes memory.
+/// Reads the patterns of `text`, which name no helper, and joins them into one automaton with at most `states` states,
+/// or says why not. The text's first fault comes before the states. Takes memory.
 pub fn read_patterns(alloc: Global, text: &[u8], states: u32) -> Result<Patterns, PatternFault>
     ensures ok { IfOk result (λ patterns. AreRead text.now states patterns.list.items patterns.automaton) }
     ensures err { IfErr result (IsRefused text.now states) }

@@ -10,7 +10,7 @@ use board_doors::DoorFault;
 use board_doors::replies::status_of;
 use match_engine::Match;
 
-/// The status of a handle that holds nothing.
+/// The status of an empty handle.
 pub const CLOSED: u8 = 17;
 
 /// The status of a call for which there was no memory.
@@ -26,11 +26,11 @@ const TOO_MANY_STATES: u8 = 20;
 #[repr(C)]
 #[derive(Clone, Copy, Debug, PartialEq, Eq)]
 pub struct MatchBytes {
-    /// The place of its pattern in the text, counted from 0.
+    /// The place of the pattern in the text, counted from 0.
     pub pattern: u16,
-    /// The point of its move.
+    /// The point of the move.
     pub at: u16,
-    /// Its transformation, 0 to 7.
+    /// The transformation, 0 to 7.
     pub transform: u8,
 }
 
@@ -115,7 +115,7 @@ pub(crate) fn unanswered() -> MatchReply
     }
 }
 
-/// The reply to a question to a handle that holds nothing.
+/// The reply to a question to an empty handle.
 pub fn closed_reply() -> MatchReply
     ensures { result ≡ closed_reply }
 {
@@ -125,7 +125,7 @@ pub fn closed_reply() -> MatchReply
     }
 }
 
-/// The reply to a text that gave so many patterns.
+/// The reply to a text that gave this many patterns.
 pub fn opened_reply(patterns: usize) -> OpenReply
     ensures { result ≡ opened_reply patterns }
 {

@@ -9,15 +9,15 @@ use Rattle.helpers.specs.Agreement.{raised}
 use Rattle.helpers.specs.Totals.{asks_over}
 use Rattle.match_rules.specs.declared.found.Match.{Match}
 
--- the helpers that a pattern names, if there is one
+-- the helpers that a pattern names; none, if there is no pattern
 abbrev pub names_of : Option Pattern → List (List ℕ)
 names_of None = []
 names_of (Some p) = helper_names p.items
 
--- the plays that helpers are asked about for matches of these patterns: the helpers of the pattern, and the point
+-- what helpers are asked about for each match: the helpers that its pattern names, and the point of its move
 abbrev pub plays_of : List Pattern → List Match → List (List (List ℕ) × ℕ)
 plays_of patterns zs = map (λ z. (names_of (slice_get patterns z.pattern), z.at)) zs
 
--- a list of helpers after each was asked about these matches, as often as the rule of asking says
+-- the list of helpers after they were asked about the matches zs, as often as the rule of asking says
 abbrev pub after_matches : List SlotState → List Pattern → List Match → BoardState → Colour → List SlotState
 after_matches slots patterns zs board friend = raised (asks_over slots (plays_of patterns zs) board friend) slots

@@ -1,4 +1,4 @@
--- Questions as they are kept.
+-- The keys under which the answers of readings are cached.
 use Rattle.std.specs.Prelude.{◌≡◌, ℕ, ◌+◌, ◌*◌, ◌<◌, ◌≤◌, true, Bool}
 use Rattle.std.proofs.Common.{ap, rules}
 use Rattle.go_rules.specs.Position.{BoardState, stone_of}
@@ -13,11 +13,11 @@ use Rattle.read_cache.specs.Digits.{point_values, ply_values}
 use Rattle.match_engine.specs.declared.keys.Key.{Key}
 use Rattle.match_engine.specs.contracts.keys.KeyPartialEq.TheImpl.{ghosts}
 
--- the test of equality of the code
+-- the equality test of the code
 abbrev pub same_key : Key → Key → Bool
 same_key = ghosts.eq
 
--- equal questions are one
+-- keys that pass the equality test are the same
 pub same_key-is : (p q : Key) → same_key p q ≡ true → p ≡ q
 same_key-is p q e = search rules
 
@@ -44,6 +44,6 @@ abbrev pub number_of : ReadingQuestion → ℕ
 number_of q =
     (((q.size * point_values + q.target) * 2 + number_of_kind q.kind) * ply_values + q.plies) * ply_values + q.wide
 
--- equal questions have one number
+-- keys that pass the equality test have the same number
 pub same_number : (p q : Key) → same_key p q ≡ true → number_of p.question ≡ number_of q.question
 same_number p q e = ap (λ (key : Key). number_of key.question) (same_key-is p q e)

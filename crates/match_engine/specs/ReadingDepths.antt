@@ -8,14 +8,14 @@ use Rattle.read_rules.specs.declared.question.Kind.{Kind}
 use Rattle.read_rules.specs.declared.question.ReadingQuestion.{ReadingQuestion}
 use Rattle.read_rules.specs.Answer.{asked_in}
 
--- which tree is read, how many plies deep, and in how many of the first plies more is tried than the liberties of the
--- strings
+-- which tree is read, how many plies deep, and in how many of the first plies other candidates than the liberties of
+-- the strings are tried
 pub record ReadingDepths : Type 0 where
   pub tree : Tree
   pub plies : ℕ
   pub wide : ℕ
 
--- the depths that a call is handed
+-- the depths of a call
 abbrev pub depths_of : Depths → ReadingDepths
 depths_of d = record { tree = d.tree; plies = d.plies; wide = d.wide }
 
@@ -24,7 +24,7 @@ abbrev pub number_of_tree : Tree → ℕ
 number_of_tree Stated = 0
 number_of_tree Wider = 1
 
--- the numbers of depths, which tell them
+-- the numbers of depths, which determine them
 abbrev pub numbers_of : ReadingDepths → List ℕ
 numbers_of d = number_of_tree d.tree ∷ d.plies ∷ d.wide ∷ []
 

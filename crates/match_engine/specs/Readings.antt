@@ -1,4 +1,4 @@
--- What contracts see of readings, and how calls change it.
+-- The view of readings that contracts use, and how calls change it.
 use Rattle.std.specs.Prelude.{◌≡◌, ℕ, Bool, ◌≤◌, ◌⊎◌, IsTrue, Option, Some, None, IfSome}
 use Rattle.go_rules.specs.Position.{BoardState, stone_of}
 use Rattle.go_base.specs.Facts.{Fact, Agrees, CellIs}
@@ -17,20 +17,20 @@ use Rattle.match_engine.specs.Keys.{same_key}
 use Rattle.match_engine.specs.ReadingDepths.{ReadingDepths, asked_at}
 use Rattle.cons_eval.specs.Readings.{Codes}
 
--- the depths of the present readings, the trial plays of all that were fresh, those of the last one, if it was fresh,
--- and the answers that are kept, with the counts of those that were fresh and of those that could not be kept
+-- the present depths; the trial plays of all fresh readings; those of the last reading, if it was fresh; and the cached
+-- answers, with the counts of fresh readings and of answers that could not be cached
 pub record ReadingsView : Type 0 where
   pub depths : ReadingDepths
   pub trials : ℕ
   pub last : Option ℕ
   pub answers : Keeping Key Answer
 
--- new readings of these depths, of which so many questions may be kept
+-- new readings at these depths, which cache at most capacity questions
 abbrev pub first_readings : ReadingDepths → ℕ → ReadingsView
 first_readings depths capacity =
     record { depths = depths; trials = 0; last = None; answers = first_keeping capacity }
 
--- the readings with other depths
+-- the same readings with other depths
 abbrev pub with_depths : ReadingsView → ReadingDepths → ReadingsView
 with_depths r depths = record r { depths = depths }
 
@@ -58,7 +58,7 @@ pub record IsAnswerTo (key : Key) (pos : BoardState) (answer : Answer) : Type 0 
   pub code : answer.code ≤ 3
   pub on_board : IfSome answer.at (IsOnBoard key.question.size)
 
--- a count that is raised by the trial plays of a reading, if it was fresh
+-- the count after a reading: it is raised by the reading's trial plays, if the reading was fresh
 abbrev pub after_trials : ℕ → Option ℕ → ℕ
 after_trials count None = count
 after_trials count (Some n) = raised count n
@@ -67,12 +67,12 @@ after_trials count (Some n) = raised count n
 abbrev pub is_untried : ReadingQuestion → BoardState → Bool
 is_untried q pos = outlasts q.tree (is_attack q.kind) q.plies q.wide (liberties pos.size pos.cells q.target)
 
--- a reading of the question may make so many trial plays: none if its target has too many liberties
+-- a reading of the question may make this many trial plays: none, if its target has too many liberties
 abbrev pub MayTry : Key → BoardState → ℕ → Type 0
 MayTry key pos trials = IsTrue (is_untried key.question pos) → trials ≡ 0
 
--- New is old after one reading at the same depths. Its answer was kept, and the last reading tells no trial plays; or
--- it was fresh, and the trial plays that it tells were counted.
+-- New is old after one reading at the same depths. Its answer was cached, and the last reading has no trial plays; or
+-- it was fresh, and its trial plays were counted.
 pub record HasRead (key : Key) (pos : BoardState) (answer : Answer) (old new : ReadingsView) : Type 0 where
   pub depths : new.depths ≡ old.depths
   pub read : WasAnswered same_key key Rests (MayTry key pos) pos answer new.last old.answers new.answers

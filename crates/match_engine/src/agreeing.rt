@@ -1,4 +1,4 @@
-//! Whether the helpers that a pattern names say yes to a match. They are asked last of all.
+//! Whether the helpers that a pattern names say yes to a match. Helpers are asked last of all.
 ghost use Rattle.std.specs.Prelude.{◌≡◌, filter, Contains, slice_get};
 ghost use Rattle.helpers.specs.HelperStates.{says_yes};
 ghost use Rattle.helpers.specs.Slots.{states_of};
@@ -12,7 +12,8 @@ use helpers::{Helpers, all_agree};
 use match_rules::Match;
 use pat_types::Pattern;
 
-/// Keeps those matches to which every helper that their pattern names says yes, in their order. Takes no memory.
+/// Keeps the matches in `found` to which every helper that their pattern names says yes, in their order. Takes no
+/// memory.
 pub(crate) fn keep_agreed(
     patterns: &[Pattern],
     position: &Position,

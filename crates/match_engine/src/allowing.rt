@@ -1,4 +1,4 @@
-//! Whether the classes and the constraint of a pattern allow a move. What costs nothing is asked first.
+//! Whether the classes and the constraint of a pattern allow a move. What needs no reading is asked first.
 ghost use Rattle.std.specs.Prelude.{◌≡◌, ◌*◌, ◌<◌, true, false};
 ghost use Rattle.go_rules.specs.Position.{other};
 ghost use Rattle.match_rules.specs.Conditions.{has_class, is_safe, is_enemy_safe, is_allowed as is_allowed_by};
@@ -20,14 +20,14 @@ const UNSAFE_CLASS: u8 = b's';
 /// The class letter of a move that the enemy could make safely too.
 const ENEMY_CLASS: u8 = b'n';
 
-/// Whether a pattern has a class letter.
+/// Whether the pattern `p` has the class letter `letter`.
 fn has_class(p: &Pattern, letter: u8) -> bool
     ensures { result ≡ has_class p.now letter }
 {
     p.classes.as_slice().contains(&letter)
 }
 
-/// Whether the friend's stone is safe at a point, if it has to be.
+/// Whether the friend's stone at `at` is safe after the play, or class `s` says that it need not be.
 fn is_safe(
     p: &Pattern,
     position: &Position,
@@ -49,7 +49,7 @@ fn is_safe(
     plays.is_safe(readings, position, friend, at)
 }
 
-/// Whether the enemy could play at a point and be safe, if that is asked for.
+/// Whether the enemy could play at `at` and be safe, or the pattern does not ask for this with class `n`.
 fn is_enemy_safe(
     p: &Pattern,
     position: &Position,
@@ -71,7 +71,8 @@ fn is_enemy_safe(
     plays.is_safe(readings, position, friend.other(), at)
 }
 
-/// Whether the classes and the constraint of a pattern allow the friend's move, which is legal.
+/// Whether the classes and the constraint of the pattern `p` allow the friend's move of the match `z`. It must be
+/// legal.
 pub fn is_allowed(
     p: &Pattern,
     position: &Position,

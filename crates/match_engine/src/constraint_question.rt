@@ -1,4 +1,4 @@
-//! What the constraint of a pattern is valued by: the position before the move, the moved labels, and readings.
+//! What the value of a constraint rests on: the position before the move, the moved labels, and readings.
 ghost use Rattle.std.specs.Prelude.{◌≡◌, ◌*◌, ◌<◌, true, Some, None};
 ghost use Rattle.cons_eval.specs.Values.{is_so as is_so_value, value_of};
 ghost use Rattle.match_rules.specs.Conditions.{label_with as first_label, place_of_label, meanings_at};
@@ -13,7 +13,7 @@ use match_rules::Match;
 use pat_types::{Arg, Expr, LabelAt, Pattern};
 use read_rules::Kind;
 
-/// What the constraint of a match's pattern is valued by. It borrows the readings as long as it lives.
+/// What the value of the constraint of a match's pattern rests on. It borrows the readings as long as it lives.
 #[derive(Drop)]
 pub struct ConstraintQuestion<'a> {
     /// The position before the move.
@@ -22,18 +22,18 @@ pub struct ConstraintQuestion<'a> {
     pub friend: Colour,
     /// The pattern.
     pub pattern: &'a Pattern,
-    /// The transformation under which it is tried.
+    /// The transformation under which the pattern is tried.
     pub transform: Transform,
-    /// The point of its star.
+    /// The point of the pattern's star.
     pub star: Point,
-    /// The readings that it asks.
+    /// The readings that the constraint asks.
     pub readings: &'a mut Readings,
-    /// How often it asked them, as far as a `u64` counts.
+    /// How often the constraint asked the readings, as far as a `u64` counts.
     pub asked: u64,
     ghost on_board: { star < position.now.size * position.now.size },
 }
 
-/// The first label with a letter, if there is one.
+/// The first of `labels` with this `letter`, if there is one.
 fn label_with(labels: &[LabelAt], letter: u8) -> Option<LabelAt>
     ensures { result ≡ first_label letter labels.now }
 {
@@ -45,7 +45,7 @@ fn label_with(labels: &[LabelAt], letter: u8) -> Option<LabelAt>
     None
 }
 
-/// The point of a label of a pattern, with the star at a point under a transformation.
+/// The point of the label `letter` of the pattern `p`, with its star at `star` under the transformation `t`.
 fn label_place(
     p: &Pattern,
     t: Transform,
@@ -97,7 +97,7 @@ impl<'a> Env for ConstraintQuestion<'a> {
     }
 }
 
-/// Whether the value of a pattern's constraint is not 0.
+/// Whether the constraint of the pattern `p` has a value other than 0 for the match `z`.
 fn is_so(
     p: &Pattern,
     constraint: &Expr,
@@ -124,7 +124,7 @@ fn is_so(
     eval(constraint, &mut question) != 0
 }
 
-/// Whether the constraint of a pattern, if it has one, has a value other than 0.
+/// Whether the pattern `p` has no constraint, or one with a value other than 0 for the match `z`.
 pub fn is_constraint_true(
     p: &Pattern,
     position: &Position,

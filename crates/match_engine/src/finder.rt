@@ -35,8 +35,8 @@ use match_rules::Match;
 use pat_types::{Pattern, mark_count};
 use std::alloc::Global;
 
-/// The match that a hit of this pattern is: if its transformation is one of the mark's, the diagram lies on the
-/// board, and the friend's play at the star is legal.
+/// The match of the pattern `p` that `hit` is, or `None` if it is none: its transformation must be one of the mark's,
+/// the diagram must lie on the board, and the friend's play at the star must be legal.
 fn match_of(
     p: &Pattern,
     position: &Position,
@@ -64,8 +64,8 @@ fn match_of(
     }
 }
 
-/// The ranks of the matches that these hits are, in the order of the hits. The friend's play at a point is tried once.
-/// Takes memory.
+/// The ranks of the matches among `hits`, in the order of the hits. The friend's play at a point is tried once. Takes
+/// memory.
 fn ranks_among(
     alloc: Global,
     patterns: &[Pattern],
@@ -90,8 +90,8 @@ fn ranks_among(
     Ok(ranks)
 }
 
-/// What an automaton finds on a position, with a legal move: sorted by the pattern's place in the list, the
-/// transformation and the point.
+/// The matches that the automaton finds on a position, with a legal move, before classes, constraints and helpers are
+/// asked: sorted by the pattern's place in the list, the transformation and the point.
 fn found_by(
     alloc: Global,
     patterns: &[Pattern],
@@ -110,7 +110,7 @@ fn found_by(
     matches_with(alloc, &ranks)
 }
 
-/// The pattern at a place of the list.
+/// The pattern at the place `number` of the list.
 pub(crate) fn pattern_with(patterns: &[Pattern], number: u16) -> &Pattern
     requires { number < length patterns.now }
     ensures { slice_get patterns.now number ≡ Some result.now }
@@ -118,7 +118,7 @@ pub(crate) fn pattern_with(patterns: &[Pattern], number: u16) -> &Pattern
     &patterns[number as usize]
 }
 
-/// Puts a match behind those that are kept, if it is allowed, and says how many are kept then.
+/// Puts `z` behind the first `kept` matches if it is `allowed`, and answers how many are kept then.
 pub(crate) fn keep(found: &mut Vec<Match>, kept: usize, z: Match, allowed: bool) -> usize
     requires { kept < length found.old.items }
     ensures found { found.new.items ≡ (if allowed then set found.old.items kept z else found.old.items) }
@@ -131,7 +131,8 @@ pub(crate) fn keep(found: &mut Vec<Match>, kept: usize, z: Match, allowed: bool)
     kept
 }
 
-/// Keeps those matches that the classes and the constraints of their patterns allow, in their order. Takes no memory.
+/// Keeps the matches in `found` that the classes and the constraint of their pattern allow, in their order. Takes no
+/// memory.
 fn keep_allowed(
     patterns: &[Pattern],
     position: &Position,
@@ -170,10 +171,10 @@ fn keep_allowed(
 /// point.
 ///
 /// Diagrams are found by the automaton alone: none is compared with the board again. With the automaton of the patterns
-/// the list is exactly that of the matches. Patterns with class `s`, without class `n` and without a constraint ask for
-/// no reading. Helpers are asked last: each once about a match that has all else, if every helper that the pattern
-/// names before it said yes. Takes all its memory before its first reading and its first call of a helper, and answers
-/// `NoMemory` if there is none.
+/// the list has exactly their matches. Patterns with class `s`, without class `n` and without a constraint ask for no
+/// reading. Helpers are asked last, and only about a match that has all else; a helper is asked once, if every helper
+/// that the pattern names before it said yes. Takes all its memory before its first reading and its first call of a
+/// helper, and answers `NoMemory` if there is none.
 ///
 /// After GNU Go Manual, "The Pattern Code" and "The DFA pattern matcher".
 pub fn matches(
@@ -186,11 +187,11 @@ pub fn matches(
     helpers: &mut Helpers,
 ) -> Result<Vec<Match>, NoMemory>
     requires numbers { (w : Word) (n : ℕ) → Contains (accepted scanner.now w) n → n < length patterns.now }
-    // For every automaton.
+    // For every automaton, the list has exactly the matches that this automaton finds.
     ensures automaton { IfOk result (λ v. v.items
         ≡ automaton_matches (codes_of readings.old) (says_yes (states_of state helpers.old))
         scanner.now patterns.now position.now friend) }
-    // For that of the patterns.
+    // For the automaton of the patterns, the list has exactly the matches of the patterns.
     ensures patterns { IfOk result (λ v. IsAutomatonOf patterns.now scanner.now → v.items
         ≡ matches_of (codes_of readings.old) (says_yes (states_of state helpers.old)) patterns.now position.now
         friend) }
@@ -203,9 +204,9 @@ pub fn matches(
         (matches_of (codes_of readings.old) all_yes patterns.now position.now friend) position.now friend) }
     // The depths of the readings are as before, and no count has fallen.
     ensures follows { OnOk result (Follows readings.old readings.new) }
-    // Where each pattern has class s, but not class n, and no constraint, nothing was read.
+    // If each pattern has class s, but not class n, and no constraint, nothing was read.
     ensures unneeded { NoneAsksReading patterns.now → readings.new ≡ readings.old }
-    // Without memory nothing was read, and no helper was asked.
+    // If there was no memory, nothing was read, and no helper was asked.
     ensures unread { OnErr result (readings.new ≡ readings.old) }
     ensures unasked { OnErr result (helpers.new ≡ helpers.old) }
 {

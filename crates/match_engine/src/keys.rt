@@ -1,4 +1,4 @@
-//! Questions as they are kept, and how one is read.
+//! The keys under which the answers of readings are cached, and how a question is read.
 
 ghost use Rattle.std.specs.Prelude.{◌≡◌, ◌≢◌, ◌*◌, ◌<◌};
 ghost use Rattle.go_rules.specs.Strings.{cell_at};
@@ -11,7 +11,7 @@ use read_rules::{Answer, Depths, Kind, ReadingQuestion};
 use read_tree::read;
 use std::hash::{Hash, Hasher};
 
-/// A question as it is kept: its size, kind, target, colour, tree and depths.
+/// A question as the key of its cached answers: its size, kind, target, colour, tree and depths.
 #[derive(Clone, Copy, Debug, PartialEq, Eq)]
 pub struct Key {
     /// The question.
@@ -52,7 +52,7 @@ impl Readable for Key {
     ghost right = { λ key variant rests. record { right = rests.answers } };
 }
 
-/// A question is hashed as one number, so that its place is found by one step of the hasher.
+/// A question is hashed as one number, so that the hasher takes one step.
 impl Hash for Key {
     ghost use Rattle.std.proofs.Common.{ap};
     ghost use Rattle.std.specs.Hash as fed;
@@ -67,7 +67,7 @@ impl Hash for Key {
     }
 }
 
-/// The number of a kind.
+/// The number of `kind`.
 fn number_of_kind(kind: Kind) -> u64
     ensures value { result ≡ number_of_kind kind }
     ensures small { result < 2 }
@@ -79,8 +79,8 @@ fn number_of_kind(kind: Kind) -> u64
 }
 
 /// The number that a question is hashed as. Its digits are, from the highest to the lowest, the size, the target, the
-/// kind, the plies and the wide plies. Two questions that differ in one of these have two numbers; the tree is left
-/// out, as a session reads one tree.
+/// kind, the plies and the wide plies. Two questions that differ in one of these have different numbers. The tree is
+/// left out, as a session reads one tree.
 fn number_of(question: &ReadingQuestion) -> u64
     ensures { result ≡ number_of question.now }
 {
@@ -89,7 +89,7 @@ fn number_of(question: &ReadingQuestion) -> u64
     (about * PLY_VALUES + question.plies as u64) * PLY_VALUES + question.wide as u64
 }
 
-/// The question of this kind about a stone of the position.
+/// The question of this `kind` about the string at `target`, where a stone of `position` stands.
 pub(crate) fn key_of(kind: Kind, position: &Position, target: Point, depths: Depths) -> Key
     requires on_board { target < position.now.size * position.now.size }
     requires stone { cell_at position.now.cells target ≢ Cell.Empty }

@@ -1,5 +1,4 @@
-//! What the matches by an automaton mean. Each function here is a law: its contract is what is proved, and it does
-//! nothing.
+//! What the matches by an automaton mean. Each function is a law: its contract states it, and its body is empty.
 ghost use Rattle.std.specs.Prelude.{◌≡◌, List};
 ghost use Rattle.go_rules.specs.declared.Colour.{Colour};
 ghost use Rattle.go_rules.specs.Position.{BoardState};
@@ -11,7 +10,7 @@ ghost use Rattle.match_rules.specs.Conditions.{Advice};
 ghost use Rattle.match_rules.specs.Match.{matches_of};
 ghost use Rattle.match_engine.specs.AutomatonMatches.{automaton_matches};
 
-/// The matches by the automaton of the patterns are the matches.
+/// The matches by the automaton of the patterns are exactly the matches of the patterns.
 pub fn automaton_of_the_patterns_finds_their_matches()
     ensures { (code : Codes) (advice : Advice) (patterns : List Pattern) (automaton : List Row) (board : BoardState)
         (friend : Colour) → IsAutomatonOf patterns automaton

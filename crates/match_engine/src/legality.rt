@@ -1,4 +1,4 @@
-//! Where a colour may play on a position, each point asked once.
+//! At which points of a position a colour may play; each point is asked about once.
 ghost use Rattle.std.specs.Prelude.{◌≡◌, ℕ, Bool, true, ◌*◌, ◌<◌, if◌then◌else◌};
 ghost use Rattle.std.specs.FinSet as set;
 ghost use Rattle.go_rules.specs.Board.{largest_points};
@@ -9,17 +9,17 @@ ghost use Rattle.match_engine.specs.Open.{IsEmptyBeside};
 use go_base::sides::neighbour;
 use go_base::{Cell, Colour, Point, PointSet, Position};
 
-/// The points that a question was asked about, and those of them where the answer is yes.
+/// The points that a question was asked about, and those among them for which the answer is yes.
 #[derive(Drop)]
 pub struct PointAnswers {
-    /// Where it was asked.
+    /// The points that the question was asked about.
     pub asked: PointSet,
-    /// Where the answer is yes.
+    /// The points among them for which the answer is yes.
     pub holds: PointSet,
 }
 
 impl PointAnswers {
-    /// Nothing was asked.
+    /// No point was asked about yet.
     pub fn new() -> PointAnswers
         ensures { (test : ℕ → Bool) → Knows test result }
     {
@@ -29,7 +29,7 @@ impl PointAnswers {
         }
     }
 
-    /// Whether a colour's play at a point is legal, where these are the answers to that question. A play that was asked
+    /// Whether the play of `colour` at `at` is legal; `self` must hold answers to this question. A play that was asked
     /// about before is not tried again.
     pub fn is_legal(&mut self, position: &Position, colour: Colour, at: Point) -> bool
         requires on_board { at < position.now.size * position.now.size }
@@ -46,7 +46,7 @@ impl PointAnswers {
         legal
     }
 
-    /// Keeps the answer for a point.
+    /// Keeps the answer `holds` for the point `at`.
     fn note(&mut self, at: Point, holds: bool)
         requires on_board { at < largest_points }
         ensures asked { self.new.asked ≡ set.insert self.old.asked at }
@@ -59,7 +59,7 @@ impl PointAnswers {
     }
 }
 
-/// Whether the point on one side of a point lies on the board and is empty.
+/// Whether the neighbour of `p` on this `side` lies on the board and is empty.
 fn is_empty_beside(position: &Position, p: Point, side: u8) -> bool
     requires on_board { p < position.now.size * position.now.size }
     requires side { side < 4 }
@@ -71,7 +71,7 @@ fn is_empty_beside(position: &Position, p: Point, side: u8) -> bool
     }
 }
 
-/// Whether a neighbour of a point is empty.
+/// Whether a neighbour of `p` is empty.
 fn has_empty_neighbour(position: &Position, p: Point) -> bool
     requires { p < position.now.size * position.now.size }
     ensures { result ≡ true → (q : ℕ) × IsEmptyBeside position.now p q }
@@ -84,7 +84,7 @@ fn has_empty_neighbour(position: &Position, p: Point) -> bool
     false
 }
 
-/// Whether a play is legal. A stone that has an empty neighbour needs no trial.
+/// Whether the play of `colour` at `at` is legal. A stone that has an empty neighbour needs no trial.
 fn is_legal(position: &Position, colour: Colour, at: Point) -> bool
     requires { at < position.now.size * position.now.size }
     ensures { result ≡ is_legal_on position.now colour at }

@@ -7,8 +7,8 @@ use go_base::{Point, Size, Transform};
 use pat_types::{Pattern, anchor};
 use spiral::{place_beside, place_from};
 
-/// The star's point, if the anchor's cell lies at a point under a transformation, and every letter lies on the
-/// board; None exactly if one does not. Two opposite corners tell whether all letters do.
+/// The star's point, if the anchor's cell of `p` lies at `from` under the transformation `t`; `None` if some letter of
+/// the diagram lies off the board then. Two opposite corners tell whether all letters lie on the board.
 pub fn star_place(p: &Pattern, t: Transform, from: Point, size: Size) -> Option<Point>
     requires { from < size * size }
     ensures value { result ≡ star_if_whole p.now size t (place_of_star p.now size t from) }
@@ -27,7 +27,8 @@ pub fn star_place(p: &Pattern, t: Transform, from: Point, size: Size) -> Option<
     place_beside(row, column, t, star, size)
 }
 
-/// The point of a letter's cell, with the star at a point under a transformation; None exactly off the board.
+/// The point of a letter's cell, with the star at `star` under the transformation `t`, or `None` if it is off the
+/// board.
 pub fn cell_place(
     p: &Pattern,
     t: Transform,

@@ -1,4 +1,4 @@
-//! The plays of one colour on a position. What was asked before is remembered, and not read again.
+//! The plays of one colour on a position. The answer for a play is remembered, so that it is read once.
 ghost use Rattle.std.specs.Prelude.{◌≡◌, ◌*◌, ◌<◌, true, if◌then◌else◌};
 ghost use Rattle.std.specs.FinSet as set;
 ghost use Rattle.go_rules.specs.Board.{largest_points};
@@ -13,17 +13,17 @@ use crate::readings::Readings;
 use go_base::{Cell, Colour, Point, PointSet, Position};
 use read_rules::Kind;
 
-/// The points where a colour's play was asked about, and those of them where it is legal and its stone cannot be
-/// captured.
+/// The points at which a colour's play was asked about, and those among them at which the play is legal and its stone
+/// cannot be captured.
 #[derive(Drop)]
 pub struct Plays {
-    /// Where it was asked about.
+    /// The points at which a play was asked about.
     pub asked: PointSet,
-    /// Where it is legal and safe.
+    /// The points among them at which the play is legal and its stone is safe.
     pub safe: PointSet,
 }
 
-/// The code of an attack on the string at a point, 0 if it is empty.
+/// The code of an attack on the string at the point `at`, or 0 if the point is empty.
 fn attack_code(readings: &mut Readings, position: &Position, at: Point) -> u8
     requires { at < position.now.size * position.now.size }
     ensures value { result ≡ code_at (codes_of readings.old) Kind.Attack position.now at }
@@ -35,7 +35,7 @@ fn attack_code(readings: &mut Readings, position: &Position, at: Point) -> u8
     }
 }
 
-/// Whether a colour's play at a point is legal, and its stone cannot be captured afterwards.
+/// Whether the play of `colour` at `at` is legal, and its stone cannot be captured afterwards.
 fn is_safe_play(readings: &mut Readings, position: &Position, colour: Colour, at: Point) -> bool
     requires { at < position.now.size * position.now.size }
     ensures value { result ≡ is_safe_move (codes_of readings.old) position.now colour at }
@@ -48,7 +48,7 @@ fn is_safe_play(readings: &mut Readings, position: &Position, colour: Colour, at
 }
 
 impl Plays {
-    /// No play was asked about.
+    /// No play was asked about yet.
     pub fn new() -> Plays
         ensures { (code : Codes) (board : BoardState) (c : ColourSeen) → Remembers code board c result }
     {
@@ -58,8 +58,8 @@ impl Plays {
         }
     }
 
-    /// Whether the colour's play at a point is legal, and its stone cannot be captured afterwards. A play that was
-    /// asked about before is not read again.
+    /// Whether the play of `colour` at `at` is legal, and its stone cannot be captured afterwards. If this play was
+    /// asked about before, it is not read again.
     pub fn is_safe(
         &mut self,
         readings: &mut Readings,
@@ -83,7 +83,7 @@ impl Plays {
         safe
     }
 
-    /// Remembers whether the colour's play at a point is legal and safe.
+    /// Remembers whether the colour's play at `at` is legal and its stone safe.
     fn note(&mut self, at: Point, safe: bool)
         requires on_board { at < largest_points }
         ensures asked { self.new.asked ≡ set.insert self.old.asked at }

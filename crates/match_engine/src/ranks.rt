@@ -16,8 +16,8 @@ const TRANSFORMS: u64 = 8;
 /// How many numbers there are for a pattern.
 const PATTERNS: u64 = 65_536;
 
-/// The rank of a match: its place among all matches of patterns, by the pattern's place in the list, the transformation
-/// and the point. Numbers are sorted faster than matches.
+/// The rank of the match `z` among all matches of patterns, by the pattern's place in the list, the transformation and
+/// the point. Numbers are sorted faster than matches.
 pub fn rank_of(z: &Match) -> u64
     ensures value { result ≡ rank z.now }
     ensures back { match_with_rank result ≡ z.now }
@@ -25,7 +25,7 @@ pub fn rank_of(z: &Match) -> u64
     (z.pattern as u64 * TRANSFORMS + z.transform.get() as u64) * POINTS + z.at as u64
 }
 
-/// The transformation with a number below their count.
+/// The transformation with this `number`, which is below the count of transformations.
 fn transform_with(number: u8) -> Transform
     requires { number < transformations }
     ensures { result ≡ number }
@@ -36,7 +36,7 @@ fn transform_with(number: u8) -> Transform
     }
 }
 
-/// The match with a rank.
+/// The match with this `rank`.
 fn match_with(rank: u64) -> Match
     ensures { result ≡ match_with_rank rank }
 {
@@ -47,7 +47,7 @@ fn match_with(rank: u64) -> Match
     }
 }
 
-/// The matches with these ranks, in their order. Takes memory.
+/// The matches with these `ranks`, in the same order. Takes memory.
 pub fn matches_with(alloc: Global, ranks: &[u64]) -> Result<Vec<Match>, NoMemory>
     ensures { IfOk result (λ v. v.items ≡ map match_with_rank ranks.now) }
 {

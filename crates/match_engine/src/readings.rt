@@ -1,4 +1,4 @@
-//! Readings, counted and kept.
+//! The readings of a session: they are counted, and their answers are cached.
 ghost use Rattle.std.specs.Prelude.{◌≡◌, ◌≢◌, ◌*◌, ◌<◌, ◌≤◌, None, IfOk, IfSome, IfNone};
 ghost use Rattle.go_rules.specs.Strings.{cell_at};
 ghost use Rattle.read_rules.specs.Answer.{answer_of};
@@ -16,10 +16,11 @@ use read_rules::{Answer, Depths, Kind};
 use std::alloc::Global;
 use std::marker::Model;
 
-/// The readings of a session, all in the same tree and at the same depths, how many of them were made, and those that
-/// are kept. Seen as these.
+/// The readings of a session, all in the same tree and at the same depths: how many were made, how many trial plays
+/// they made, and the cached answers. Seen as the depths, the counts and the cached answers.
 ///
-/// Each answer is that of a fresh reading. It is kept with the facts that it rests on, and is used again if these hold.
+/// Each answer is that of a fresh reading. It is cached with the facts that it rests on, and is used again if they
+/// hold.
 #[derive(Drop)]
 pub struct Readings {
     depths: Depths,
@@ -43,8 +44,8 @@ impl Model for Readings {
 }
 
 impl Readings {
-    /// Keeps nothing yet, and at most `capacity` questions, from 8 to 65,536. Readings are made at these depths. All
-    /// counts are 0. Takes memory.
+    /// Readings at these `depths`, with nothing cached yet and room for at most `capacity` questions, from 8 to 65,536.
+    /// All counts are 0. Takes memory.
     pub fn new(alloc: Global, depths: Depths, capacity: u32) -> Result<Readings, NoMemory>
         requires some { 8 ≤ capacity }
         requires few { capacity ≤ 65536 }
@@ -58,9 +59,9 @@ impl Readings {
         })
     }
 
-    /// Answers a question about a stone of the position, at the present depths. The answer is that of a fresh reading.
-    /// It is a kept one exactly if a kept variant of the question stands on the position; else the question is read and
-    /// its answer is kept.
+    /// Answers a question about the string at `target`, where a stone stands, at the present depths. The answer is that
+    /// of a fresh reading. It comes from the cache exactly if the facts of a cached variant of the question hold on the
+    /// position; else the question is read and its answer is cached.
     ///
     /// After GNU Go Manual, "Tactical reading".
     pub fn read(&mut self, kind: Kind, position: &Position, target: Point) -> Answer
@@ -70,11 +71,11 @@ impl Readings {
             position.now }
         ensures code { result.code ≤ 3 }
         ensures on_board { IfSome result.at (IsOnBoard position.now.size) }
-        // The answer was kept, and no count has changed; or it was fresh, is counted with its trial plays, and was kept
-        // or refused. No trial play is made if the target has too many liberties.
+        // The answer was cached, and no count has changed; or it was fresh, is counted with its trial plays, and was
+        // cached or refused. No trial play is made if the target has too many liberties.
         ensures read { HasRead (record { question = asked_at self.old.depths position.now kind target })
             position.now result self.old self.new }
-        // Each kept variant rests on its facts.
+        // Each cached variant rests on its facts.
         ensures rest { HoldsOfEach Rests self.new.answers.kept }
         // The depths are as before, and no count has fallen.
         ensures follows { Follows self.old self.new }
@@ -82,8 +83,8 @@ impl Readings {
         self.ask(kind, position, target).answer
     }
 
-    /// Answers a question about a stone of the position as `read` does, and tells how many trial plays the reading
-    /// made, or `None` if the answer was kept.
+    /// Answers a question about the string at `target` as `read` does, and tells how many trial plays the reading made,
+    /// or `None` if the answer was cached.
     pub fn ask(&mut self, kind: Kind, position: &Position, target: Point) -> Asked<Answer, u64>
         requires on_board { target < position.now.size * position.now.size }
         requires stone { cell_at position.now.cells target ≢ Cell.Empty }
@@ -101,7 +102,7 @@ impl Readings {
         asked
     }
 
-    /// Remembers the trial plays of a reading as those of the last one, and counts them if it was fresh.
+    /// Notes `trials`, the trial plays of the last reading, and counts them if the reading was fresh.
     fn count_trials(&mut self, trials: Option<u64>)
         ensures counted { self.new ≡ record self.old { last = trials; trials = after_trials self.old.trials trials } }
         ensures more { self.old.trials ≤ self.new.trials }
@@ -112,8 +113,8 @@ impl Readings {
         }
     }
 
-    /// Answers a question about a stone of the position if a kept variant of the question stands on the position. Else
-    /// nothing changes.
+    /// Answers a question about the string at `target` if the facts of a cached variant of the question hold on the
+    /// position. Else nothing changes.
     #[inline(always)]
     pub fn find_kept(&mut self, kind: Kind, position: &Position, target: Point) -> Option<Answer>
         requires on_board { target < position.now.size * position.now.size }
@@ -137,7 +138,7 @@ impl Readings {
         Some(answer)
     }
 
-    /// Changes the tree and the depths alone.
+    /// Changes the tree and the depths of the readings, and nothing else.
     pub fn set(&mut self, depths: Depths)
         ensures { self.new ≡ with_depths self.old (depths_of depths) }
     {
@@ -165,14 +166,14 @@ impl Readings {
         self.trials
     }
 
-    /// How many readings could not be kept for want of memory, as far as a `u64` counts.
+    /// How many answers could not be cached because there was no memory, as far as a `u64` counts.
     pub fn refused(&self) -> u64
         ensures { result ≡ self.now.answers.refused }
     {
         self.answers.refused()
     }
 
-    /// The trial plays of the last reading, or `None` if it was kept or if there was none.
+    /// The trial plays of the last reading, or `None` if its answer was cached or if there was no reading.
     pub fn last(&self) -> Option<u64>
         ensures { result ≡ self.now.last }
     {

@@ -1,4 +1,4 @@
--- The first cell of a diagram that does not fit on a position, and what is told of it.
+-- The first cell of a diagram that does not fit on a position, and the report on it.
 use Rattle.std.specs.Prelude.{◌≡◌, ℕ, Bool, false, not, ℤ, pos, ◌-ℤ◌, List, map, find, Option, Some, None}
 use Rattle.std.specs.Prelude.{option_map}
 use Rattle.go_rules.specs.declared.Cell.{Cell}
@@ -14,11 +14,11 @@ use Rattle.pat_types.specs.Cells.{drawn_at}
 use Rattle.match_rules.specs.Fits.{place_of_cell, strip_cells, cells_of, cell_fits}
 use Rattle.match_misfit.specs.declared.diagram.Misfit.{Misfit}
 
--- the cell in row i and column j, counted from the edges, which are one before the first letter
+-- the cell in row i and column j, if these are counted from the edges, one before the first letter
 abbrev pub cell_with : ℕ → ℕ → ℤ × ℤ
 cell_with i j = (pos i -ℤ pos 1, pos j -ℤ pos 1)
 
--- the cells of row r, with those of the edges beside it
+-- the cells of row r, with the cells of the edges beside it
 abbrev pub cells_of_row : Pattern → ℤ → List (ℤ × ℤ)
 cells_of_row p r = map (λ c. (r, c)) (strip_cells p.cols)
 
@@ -30,13 +30,13 @@ is_misfit p board friend t m cell = not (cell_fits p board friend t m cell)
 unfoldable pub first_cell : Pattern → BoardState → Colour → ℕ → ℕ → Option (ℤ × ℤ)
 first_cell p board friend t m = find (is_misfit p board friend t m) (cells_of p)
 
--- a point, and what stands there
+-- the point, if there is one, and what stands there
 abbrev pub what_stands : BoardState → Option ℕ → Option (ℕ × Cell)
 what_stands board None = None
 what_stands board (Some q) = Some (q, cell_at board.cells q)
 
--- what is told of a cell of the drawing, with the star at m under t: where it is drawn, what is drawn there, where it
--- lies and what stands there
+-- the report on a cell of the drawing, with the star at m under t: its row and column, what is drawn there, the point
+-- at which it lies and what stands there
 abbrev pub misfit_of : Pattern → BoardState → ℕ → ℕ → ℤ × ℤ → Misfit
 misfit_of p board t m cell = record {
   row = cell.0;
@@ -45,7 +45,7 @@ misfit_of p board t m cell = record {
   there = what_stands board (place_of_cell p board.size t m cell.0 cell.1);
 }
 
--- what is told of the first cell that does not fit, if there is one
+-- the report on the first cell that does not fit, if there is one
 abbrev pub first_misfit : Pattern → BoardState → Colour → ℕ → ℕ → Option Misfit
 first_misfit p board friend t m = option_map (misfit_of p board t m) (first_cell p board friend t m)
 
@@ -57,8 +57,8 @@ pub data FailsToFit (friend : Colour) : Drawn → Option (ℕ × Cell) → Type 
       → FailsToFit friend (Shows l) (Some (q, cell))
   edge_on_board : (q : ℕ) (cell : Cell) → FailsToFit friend OffBoard (Some (q, cell))
 
--- z tells of a cell of the drawing that does not fit, with the star at m under t: what is drawn there, the point to
--- which the transformation moves it, and what stands at that point
+-- z is a true report on a cell of the drawing that does not fit, with the star at m under t: what is drawn there, the
+-- point to which the transformation moves it, and what stands at that point
 pub record IsMisfit (p : Pattern) (board : BoardState) (friend : Colour) (t m : ℕ) (z : Misfit) : Type 0 where
   pub drawn : z.drawn ≡ drawn_at p z.row z.column
   pub there : z.there ≡ what_stands board (place_of_cell p board.size t m z.row z.column)

@@ -14,18 +14,18 @@ use spiral::place_from;
 /// on the board.
 #[derive(Clone, Copy, Debug, PartialEq, Eq)]
 pub struct Misfit {
-    /// Its row in the drawing. The first row of letters is 0, and an edge above it is -1.
+    /// The cell's row in the drawing. The first row of letters is 0, and an edge above it is -1.
     pub row: i8,
-    /// Its column in the drawing. The first column of letters is 0, and an edge on the left is -1.
+    /// The cell's column in the drawing. The first column of letters is 0, and an edge on the left is -1.
     pub column: i8,
-    /// What is drawn there: a letter or an edge.
+    /// What is drawn in the cell: a letter or an edge.
     pub drawn: Drawn,
-    /// The point where it lies and what stands there; `None` off the board.
+    /// The point at which the cell lies and what stands there; `None` off the board.
     pub there: Option<(Point, Cell)>,
 }
 
-/// Where a drawn cell lies, with the star at a point under a transformation; `None` exactly off the board. Its row and
-/// its column are counted from the edges, one before the letters.
+/// The point at which the drawn cell in row `i` and column `j` lies, with the star at `at` under the transformation
+/// `t`, or `None` off the board. `i` and `j` are counted from the edges, one before the letters.
 fn place_of(p: &Pattern, t: Transform, at: Point, size: Size, i: u8, j: u8) -> Option<Point>
     requires on_board { at < size * size }
     requires row { i < p.now.rows + 2 }
@@ -39,14 +39,14 @@ fn place_of(p: &Pattern, t: Transform, at: Point, size: Size, i: u8, j: u8) -> O
     place_from(at, t, dr, dc, size)
 }
 
-/// What is drawn in the cell of this row and column, counted from the edges.
+/// What is drawn in the cell in row `i` and column `j`, counted from the edges.
 fn drawn_there(p: &Pattern, i: u8, j: u8) -> Drawn
     ensures { result ≡ drawn_at p.now (pos i -ℤ pos 1) (pos j -ℤ pos 1) }
 {
     drawn_in(p, i as i16 - 1, j as i16 - 1)
 }
 
-/// Whether the cell of this row and column fits, counted from the edges.
+/// Whether the cell in row `i` and column `j`, counted from the edges, fits with the star at `at` under `t`.
 fn does_fit(
     p: &Pattern,
     position: &Position,
@@ -71,7 +71,7 @@ fn does_fit(
     }
 }
 
-/// The column of the first cell of a row that does not fit; both are counted from the edges.
+/// The column of the first cell of row `i` that does not fit, if there is one; both are counted from the edges.
 fn misfit_in_row(
     p: &Pattern,
     position: &Position,
@@ -95,7 +95,8 @@ fn misfit_in_row(
     None
 }
 
-/// The row and the column of the first cell that does not fit, in reading order, counted from the edges.
+/// The row and the column of the first cell that does not fit, in reading order and counted from the edges, if there is
+/// one.
 fn first_cell(
     p: &Pattern,
     position: &Position,
@@ -116,7 +117,7 @@ fn first_cell(
     None
 }
 
-/// What is told of the cell of this row and column, counted from the edges.
+/// The report on the cell in row `i` and column `j`, counted from the edges, which has something drawn in it.
 fn told_of(p: &Pattern, position: &Position, t: Transform, at: Point, i: u8, j: u8) -> Misfit
     requires on_board { at < position.now.size * position.now.size }
     requires row { i < p.now.rows + 2 }
@@ -136,8 +137,8 @@ fn told_of(p: &Pattern, position: &Position, t: Transform, at: Point, i: u8, j: 
     }
 }
 
-/// The first cell of a pattern's diagram, in reading order, that does not fit with the star at a point under a
-/// transformation; `None` exactly if the diagram fits there. Takes no memory.
+/// The first cell of the diagram of `p`, in reading order, that does not fit with the star at `at` under the
+/// transformation `t`, or `None` if the diagram fits there. Takes no memory.
 ///
 /// After GNU Go Manual, "The Pattern Code".
 pub fn first_misfit(

@@ -1,4 +1,4 @@
--- What a constraint asks, as its evaluation sees it.
+-- The view of a constraint question that its evaluation uses.
 use Rattle.std.specs.Prelude.{◌≡◌, [], IsSome, None, refl}
 use Rattle.pat_types.specs.declared.expr.Arg.TheVariants.{Star, Nowhere}
 use Rattle.cons_eval.specs.Meanings.{EnvView}
@@ -6,7 +6,7 @@ use Rattle.match_rules.specs.Conditions.{meanings_at}
 use Rattle.match_reasons.specs.declared.constraint.FreshQuestion.{FreshQuestion}
 use Rattle.match_reasons.specs.FreshReadings.{fresh_codes}
 
--- the meanings of the pattern at the star, by the codes of fresh readings, and how often these were asked for
+-- the meanings of the pattern at the star, by the codes of fresh readings, and how often readings were asked for
 abbrev pub view_of : FreshQuestion → EnvView
 view_of e = record {
   meanings = meanings_at (fresh_codes e.depths) e.pattern.now e.position.now e.friend e.transform e.star;
@@ -15,10 +15,10 @@ view_of e = record {
   counts = [];
 }
 
--- a pass has no point
+-- the argument for a pass has no point
 pub nowhere_none : (e : FreshQuestion) → (view_of e).meanings.point Nowhere ≡ None
 nowhere_none e = refl
 
--- the star has one
+-- the argument for the star has a point
 pub star_some : (e : FreshQuestion) → IsSome ((view_of e).meanings.point Star)
 star_some e = refl

@@ -22,25 +22,25 @@ use Rattle.match_reasons.specs.declared.reason.Reason.{Reason}
 use Rattle.match_reasons.specs.declared.reason.Reason.TheVariants as reason
 use Rattle.match_reasons.specs.FreshReadings.{fresh_answer, fresh_codes}
 
--- c may play at m, and this attack captures the stone afterwards: its code is not 0
+-- c may play at m, and the attack a captures the stone afterwards: its code is not 0
 pub record IsCaptured (d : Depths) (board : BoardState) (c : Colour) (m : ℕ) (a : Answer) : Type 0 where
   pub next : BoardState
   pub legal : play board c m ≡ Ok next
   pub attack : a ≡ fresh_answer d Attack next m
   pub succeeds : code_at (fresh_codes d) Attack next m ≢ 0
 
--- the diagram fits at m under t, and the friend's move there is legal and, unless class s is there, safe
+-- the diagram fits at m under t, and the friend's move there is legal and, unless the pattern has class s, safe
 pub record MayMove (d : Depths) (p : Pattern) (board : BoardState) (friend : Colour) (t m : ℕ) : Type 0 where
   pub fits : IsTrue (fits p board friend t m)
   pub legal : IsTrue (is_legal board friend m)
   pub safe : IsTrue (is_safe (fresh_codes d) p board friend m)
 
--- the helper that this field names says no to the friend's move at m
+-- the item names a helper, and this helper says no to the friend's move at m
 pub record SaysNo (advice : Advice) (board : BoardState) (friend : Colour) (m : ℕ) (item : Item) : Type 0 where
   pub names : IsTrue (names_helper item)
   pub says_no : advice item.name board m friend ≡ false
 
--- the parts before the one that the reason names hold, and that one fails as it tells
+-- the parts before the one that the reason names hold, and that part fails as the reason says
 pub data IsFirst (d : Depths) (advice : Advice) (p : Pattern) (board : BoardState) (friend : Colour)
     (t m : ℕ) : Reason → Type 0 where
   -- a cell of the diagram does not fit
@@ -48,13 +48,13 @@ pub data IsFirst (d : Depths) (advice : Advice) (p : Pattern) (board : BoardStat
   -- the friend's play is refused
   move_refused : (why : Illegal) → IsTrue (fits p board friend t m) → play board friend m ≡ Err why
       → IsFirst d advice p board friend t m (reason.Illegal why)
-  -- class s is not there, and the friend's stone is captured
+  -- the pattern lacks class s, and the friend's stone is captured
   stone_captured : (a : Answer) → IsTrue (fits p board friend t m) → has_class p unsafe_class ≡ false
       → IsCaptured d board friend m a → IsFirst d advice p board friend t m (reason.Unsafe a)
-  -- class n is there, and the enemy's play is refused
+  -- the pattern has class n, and the enemy's play is refused
   enemy_refused : (why : Illegal) → MayMove d p board friend t m → IsTrue (has_class p enemy_class)
       → play board (other friend) m ≡ Err why → IsFirst d advice p board friend t m (reason.EnemyIllegal why)
-  -- class n is there, and the enemy's stone is captured
+  -- the pattern has class n, and the enemy's stone is captured
   enemy_captured : (a : Answer) → MayMove d p board friend t m → IsTrue (has_class p enemy_class)
       → IsCaptured d board (other friend) m a → IsFirst d advice p board friend t m (reason.EnemyUnsafe a)
   -- the value of the constraint is 0
@@ -62,7 +62,7 @@ pub data IsFirst (d : Depths) (advice : Advice) (p : Pattern) (board : BoardStat
       → IsTrue (is_enemy_safe (fresh_codes d) p board friend m) → p.constraint ≡ Some e
       → value_of (meanings_at (fresh_codes d) p board friend t m) e ≡ pos 0
       → IsFirst d advice p board friend t m reason.Constraint
-  -- a helper says no, and no field before its own names one that does
+  -- a helper says no, and no field before this helper's field names one that says no
   helper_says_no : (i : ℕ) (item : Item) → MayMove d p board friend t m
       → IsTrue (is_enemy_safe (fresh_codes d) p board friend m && is_constraint_true (fresh_codes d) p board friend t m)
       → slice_get p.items i ≡ Some item → SaysNo advice board friend m item

@@ -15,19 +15,20 @@ use Rattle.match_reasons.specs.declared.reason.Reason.{Reason}
 use Rattle.match_reasons.specs.declared.reason.Reason.TheVariants as reason
 use Rattle.match_reasons.specs.FreshReadings.{fresh_codes, capture_of}
 
--- the reason after a play: why it is not legal, or what is said of the position after it
+-- the reason after a play: why it is not legal, or the reason that the position after it gives
 abbrev pub after_play : (Illegal → Reason) → (BoardState → Option Reason) → Result BoardState Illegal → Option Reason
 after_play illegal next_reason (Ok next) = next_reason next
 after_play illegal next_reason (Err why) = Some (illegal why)
 
--- the reason against the friend's move at m: it is not legal, or without class s its stone can be captured
+-- the reason against the friend's move at m: it is not legal, or its stone can be captured and the pattern lacks class
+-- s
 unfoldable pub move_reason : Depths → Pattern → BoardState → Colour → ℕ → Option Reason
 move_reason d p board friend m =
     after_play reason.Illegal
     (λ next. if has_class p unsafe_class then None else option_map reason.Unsafe (capture_of d next m))
     (play board friend m)
 
--- the reason of class n, if it is there: the enemy's play at m is not legal, or its stone can be captured
+-- the reason of class n, if the pattern has it: the enemy's play at m is not legal, or its stone can be captured
 unfoldable pub enemy_reason : Depths → Pattern → BoardState → Colour → ℕ → Option Reason
 enemy_reason d p board friend m =
     if has_class p enemy_class
@@ -35,7 +36,7 @@ enemy_reason d p board friend m =
     (play board (other friend) m)
     else None
 
--- the reason of the constraint, if there is one: its value is 0 at m under t
+-- the reason of the constraint, if the pattern has one: its value is 0 at m under t
 abbrev pub constraint_reason : Depths → Pattern → BoardState → Colour → ℕ → ℕ → Option Reason
 constraint_reason d p board friend t m =
     if is_constraint_true (fresh_codes d) p board friend t m then None else Some reason.Constraint
@@ -45,7 +46,7 @@ abbrev pub helper_reason : Advice → Pattern → BoardState → Colour → ℕ 
 helper_reason advice p board friend m =
     option_map reason.Helper (position_from (refuses (λ name. advice name board m friend)) 0 p.items)
 
--- the first part before the helpers that fails: the diagram, the friend's move, class n, the constraint
+-- the first part of a match before the helpers that fails: the diagram, the friend's move, class n, or the constraint
 unfoldable pub reason_before_helpers : Depths → Pattern → BoardState → Colour → ℕ → ℕ → Option Reason
 reason_before_helpers d p board friend t m =
     option_or (option_map reason.Misfit (first_misfit p board friend t m))

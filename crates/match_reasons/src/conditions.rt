@@ -1,4 +1,4 @@
-//! The conditions of a match beside its diagram, one by one: the reason of each, if it fails.
+//! The conditions of a match beside its diagram, one by one: each gives the reason if it fails.
 ghost use Rattle.std.specs.Prelude.{◌≡◌, ◌*◌, ◌<◌};
 ghost use Rattle.helpers.specs.Agreement.{asks_of, raised};
 ghost use Rattle.helpers.specs.Fields.{helper_names};
@@ -23,14 +23,15 @@ const UNSAFE_CLASS: u8 = b's';
 /// The class letter of a move that the enemy could make safely too.
 const ENEMY_CLASS: u8 = b'n';
 
-/// Whether a pattern has a class letter.
+/// Whether the pattern `p` has the class letter `letter`.
 fn has_class(p: &Pattern, letter: u8) -> bool
     ensures { result ≡ has_class p.now letter }
 {
     p.classes.as_slice().contains(&letter)
 }
 
-/// The reason against the friend's move: it is not legal, or its stone can be captured and class `s` is not there.
+/// The reason against the friend's move, if there is one: it is not legal, or its stone can be captured and `p` lacks
+/// class `s`.
 #[tactic(auto, unfolding(crate::specs::Reasons::move_reason))]
 pub(crate) fn move_reason(
     p: &Pattern,
@@ -55,7 +56,7 @@ pub(crate) fn move_reason(
     }
 }
 
-/// The reason of class `n`, if it is there: the enemy's play at the same point is not legal, or its stone can be
+/// The reason of class `n`, if `p` has it: the enemy's play at the same point is not legal, or its stone can be
 /// captured.
 #[tactic(auto, unfolding(crate::specs::Reasons::enemy_reason))]
 pub(crate) fn enemy_reason(
@@ -81,7 +82,7 @@ pub(crate) fn enemy_reason(
     }
 }
 
-/// The reason of the constraint, if there is one: its value is 0.
+/// The reason of the constraint, if `p` has one: its value is 0.
 pub(crate) fn constraint_reason(
     p: &Pattern,
     position: &Position,
@@ -100,7 +101,7 @@ pub(crate) fn constraint_reason(
     }
 }
 
-/// The reason of the helpers: the first field whose helper says no. Each is asked as for a match.
+/// The reason of the helpers: the first field whose helper says no. Each helper is asked as for a match.
 pub(crate) fn helper_reason(
     p: &Pattern,
     position: &Position,

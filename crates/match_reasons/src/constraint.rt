@@ -1,4 +1,4 @@
-//! What the constraint of a pattern is valued by: the position before the move, the moved labels, and fresh readings.
+//! What the value of a constraint rests on: the position before the move, the moved labels, and fresh readings.
 ghost use Rattle.std.specs.Prelude.{◌≡◌, ◌*◌, ◌<◌, pos, true, Some, IfOk, option_map};
 ghost use Rattle.cons_eval.specs.Values.{is_so as is_so_value, value_of};
 ghost use Rattle.match_rules.specs.Fits.{place_of_cell};
@@ -16,8 +16,8 @@ use read_rules::{Depths, Kind};
 use spiral::place_from;
 use std::alloc::Global;
 
-/// What the constraint of a pattern is valued by, with the star at a point under a transformation. Each reading that it
-/// asks for is made afresh.
+/// What the value of the constraint of a pattern rests on, with the star at a point under a transformation. Each
+/// reading that the constraint asks for is fresh.
 #[derive(Drop)]
 pub struct FreshQuestion<'a> {
     /// The position before the move.
@@ -26,18 +26,18 @@ pub struct FreshQuestion<'a> {
     pub friend: Colour,
     /// The pattern.
     pub pattern: &'a Pattern,
-    /// The transformation under which it is tried.
+    /// The transformation under which the pattern is tried.
     pub transform: Transform,
-    /// The point of its star.
+    /// The point of the pattern's star.
     pub star: Point,
-    /// How deep its readings go.
+    /// How deep the readings go.
     pub depths: Depths,
-    /// How many readings it asked for, as far as a `u64` counts.
+    /// How many readings the constraint asked for, as far as a `u64` counts.
     pub asked: u64,
     ghost on_board: { star < position.now.size * position.now.size },
 }
 
-/// The first label with a letter, if there is one.
+/// The first of `labels` with this `letter`, if there is one.
 fn label_with(labels: &[LabelAt], letter: u8) -> Option<LabelAt>
     ensures { result ≡ first_label letter labels.now }
 {
@@ -49,7 +49,8 @@ fn label_with(labels: &[LabelAt], letter: u8) -> Option<LabelAt>
     None
 }
 
-/// The point of a letter's cell, with the star at a point under a transformation; `None` exactly off the board.
+/// The point of a letter's cell, with the star at `star` under the transformation `t`, or `None` if it is off the
+/// board.
 fn cell_place(
     p: &Pattern,
     t: Transform,
@@ -68,7 +69,7 @@ fn cell_place(
     place_from(star, t, dr, dc, size)
 }
 
-/// The point of a label of a pattern, with the star at a point under a transformation.
+/// The point of the label `letter` of the pattern `p`, with its star at `star` under the transformation `t`.
 fn label_place(
     p: &Pattern,
     t: Transform,
@@ -120,7 +121,7 @@ impl<'a> Env for FreshQuestion<'a> {
     }
 }
 
-/// Whether the value of a pattern's constraint is not 0, with the star at a point under a transformation.
+/// Whether the constraint of `p` has a value other than 0, with the star at `at` under the transformation `t`.
 fn is_so(
     p: &Pattern,
     constraint: &Expr,
@@ -147,7 +148,7 @@ fn is_so(
     eval(constraint, &mut question) != 0
 }
 
-/// Whether the constraint of a pattern, if it has one, has a value other than 0.
+/// Whether `p` has no constraint, or one with a value other than 0, with the star at `at` under the transformation `t`.
 pub(crate) fn is_constraint_true(
     p: &Pattern,
     position: &Position,
@@ -165,7 +166,7 @@ pub(crate) fn is_constraint_true(
     }
 }
 
-/// The value of each part of an expression that a pattern has as its constraint, or none for a part that is not needed.
+/// The value of each part of `constraint`, which is that of the pattern `p`; `None` for a part that is not needed.
 fn values_of(
     alloc: Global,
     p: &Pattern,
@@ -193,9 +194,9 @@ fn values_of(
     values(alloc, constraint, &mut question)
 }
 
-/// The value of each part of a pattern's constraint, if it has one, with the star at a point under a transformation; a
-/// part that is not needed has none. The parts below a part come before it, those of a left side first, so the value of
-/// the whole is the last. Each reading is made afresh at `depths`; no helper is asked. Takes memory.
+/// The value of each part of the constraint of `p`, if it has one, with the star at `at` under the transformation `t`;
+/// `None` for a part that is not needed. The parts below a part come before it, and those of a left side first, so the
+/// value of the whole constraint is the last. Each reading is fresh, at `depths`; no helper is asked. Takes memory.
 pub fn constraint_values(
     alloc: Global,
     p: &Pattern,

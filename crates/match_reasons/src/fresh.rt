@@ -1,4 +1,4 @@
-//! Readings that are made afresh for one question.
+//! Fresh readings, each made for one question.
 ghost use Rattle.std.specs.Prelude.{◌≡◌, ◌≢◌, ◌*◌, ◌<◌};
 ghost use Rattle.go_rules.specs.Strings.{cell_at};
 ghost use Rattle.match_reasons.specs.FreshReadings.{fresh_answer, fresh_codes, capture_of};
@@ -7,7 +7,7 @@ use go_base::{Cell, Point, Position, Watch};
 use read_rules::{Answer, Depths, Kind};
 use read_tree::{attack, defend};
 
-/// The answer to a question about the string at a stone.
+/// The answer to a question of this `kind` about the string at `target`, where a stone stands.
 pub(crate) fn answer(kind: Kind, on: &Position, target: Point, depths: Depths) -> Answer
     requires on_board { target < on.now.size * on.now.size }
     requires stone { cell_at on.now.cells target ≢ Cell.Empty }
@@ -19,7 +19,7 @@ pub(crate) fn answer(kind: Kind, on: &Position, target: Point, depths: Depths) -
     }
 }
 
-/// The code of the answer to a question about the string at a stone.
+/// The code of the answer to a question of this `kind` about the string at `target`, where a stone stands.
 pub(crate) fn code(kind: Kind, on: &Position, target: Point, depths: Depths) -> u8
     requires on_board { target < on.now.size * on.now.size }
     requires stone { cell_at on.now.cells target ≢ Cell.Empty }
@@ -28,7 +28,7 @@ pub(crate) fn code(kind: Kind, on: &Position, target: Point, depths: Depths) -> 
     answer(kind, on, target, depths).code
 }
 
-/// The attack by which the stone at a point is captured; `None` exactly if it cannot be captured.
+/// The attack that captures the stone at `at`, or `None` if no attack captures it.
 pub(crate) fn capture(on: &Position, at: Point, depths: Depths) -> Option<Answer>
     requires { at < on.now.size * on.now.size }
     ensures { result ≡ capture_of depths on.now at }

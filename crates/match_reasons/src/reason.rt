@@ -22,11 +22,11 @@ pub enum Reason {
     Misfit(Misfit),
     /// The friend may not play at the star's point.
     Illegal(Illegal),
-    /// The stone that is played can be captured, by this attack, and class `s` is not there.
+    /// The stone that is played can be captured, by this attack, and the pattern lacks class `s`.
     Unsafe(Answer),
-    /// With class `n`: the enemy may not play at the star's point.
+    /// The pattern has class `n`, and the enemy may not play at the star's point.
     EnemyIllegal(Illegal),
-    /// With class `n`: the enemy's stone at the star's point could be captured, by this attack.
+    /// The pattern has class `n`, and the enemy's stone at the star's point could be captured, by this attack.
     EnemyUnsafe(Answer),
     /// The value of the constraint is 0.
     Constraint,
@@ -34,7 +34,7 @@ pub enum Reason {
     Helper(usize),
 }
 
-/// The first part before the helpers that fails.
+/// The first part of the definition of a match that fails, if one before the helpers fails.
 #[tactic(auto, unfolding(crate::specs::Reasons::reason_before_helpers))]
 fn before_helpers(
     p: &Pattern,
@@ -59,10 +59,10 @@ fn before_helpers(
     constraint_reason(p, position, friend, t, at, depths)
 }
 
-/// Why a pattern does not match with its star at a point under a transformation: the first part of the definition that
-/// fails; `None` exactly if it matches there.
+/// Why the pattern `p` does not match with its star at `at` under the transformation `t`: the first part of the
+/// definition that fails, or `None` if it matches there.
 ///
-/// Each reading is made afresh at `depths`. The helpers are asked only if all else holds, each as for a match. Takes no
+/// Each reading is fresh, at `depths`. The helpers are asked only if all else holds, each as for a match. Takes no
 /// memory.
 #[tactic(auto, unfolding(crate::specs::Reasons::first_reason))]
 pub fn first_reason(

@@ -1,6 +1,6 @@
--- What a match asks beside its diagram and a legal move: its classes, its constraint and its helpers. After "The
--- Pattern Code" of the GNU Go Manual; the exact tests are this project's own. Codes are those of readings on the
--- position after the play that is asked about.
+-- What a match needs beside its diagram and a legal move: the consent of its classes, its constraint and its helpers.
+-- After "The Pattern Code" of the GNU Go Manual; the exact tests are this project's own. A class letter asks for the
+-- code of a reading on the position after the play that it is about.
 use Rattle.std.specs.Prelude.{◌≡◌, ℕ, ◌==◌, ◌&&◌, ◌||◌, not, Bool, true, List, [], ◌∷◌, Option, Some, None, Ok, pos}
 use Rattle.std.specs.Prelude.{if◌then◌else◌}
 use Rattle.std.specs.List.{list_all, list_any}
@@ -38,20 +38,20 @@ pub record IsSafePlay (code : Codes) (board : BoardState) (c : Colour) (m : ℕ)
   pub legal : play board c m ≡ Ok next
   pub safe : code_at code Attack next m ≡ 0
 
--- whether the friend's stone is safe at m if it has to be: it need not with class s
+-- whether the friend's stone at m is safe after the play, or class s says that it need not be
 abbrev pub is_safe : Codes → Pattern → BoardState → Colour → ℕ → Bool
 is_safe code p board friend m = has_class p unsafe_class || is_safe_move code board friend m
 
--- whether the enemy could play at m and be safe, if that is asked for: it is with class n
+-- whether the enemy could play at m and be safe, or the pattern does not ask for it with class n
 abbrev pub is_enemy_safe : Codes → Pattern → BoardState → Colour → ℕ → Bool
 is_enemy_safe code p board friend m = not (has_class p enemy_class) || is_safe_move code board (other friend) m
 
--- the first label with the letter, if there is one
+-- the first label with the letter, or None
 abbrev pub label_with : ℕ → List LabelAt → Option LabelAt
 label_with letter [] = None
 label_with letter (l ∷ labels) = if l.letter == letter then Some l else label_with letter labels
 
--- the point of a label of the pattern, with the star at m under t, on a board of size s: it is moved like all cells
+-- the point of a label of the pattern, with the star at m under t, on a board of size s
 abbrev pub place_of_label : Pattern → ℕ → ℕ → ℕ → Option LabelAt → Option ℕ
 place_of_label p s t m None = None
 place_of_label p s t m (Some l) = place_of_cell p s t m (pos l.row) (pos l.col)
@@ -62,17 +62,17 @@ place_of_argument p s t m (Label letter) = place_of_label p s t m (label_with le
 place_of_argument p s t m Star = Some m
 place_of_argument p s t m Nowhere = None
 
--- what the pattern's constraint is valued by at m under t: the position before the move, and the moved labels
+-- what the value of the pattern's constraint at m under t rests on: the position before the move, and the moved labels
 abbrev pub meanings_at : Codes → Pattern → BoardState → Colour → ℕ → ℕ → Meanings
 meanings_at code p board friend t m =
     record { position = board; friend = friend; point = place_of_argument p board.size t m; code = code }
 
--- whether the constraint has a value other than 0, if there is one
+-- whether the expression has a value other than 0; true if there is none
 abbrev pub is_so_valued : Meanings → Option Expr → Bool
 is_so_valued meanings None = true
 is_so_valued meanings (Some e) = is_so (value_of meanings e)
 
--- whether the pattern's constraint, if it has one, has a value other than 0 at m under t
+-- whether the pattern has no constraint, or one with a value other than 0 at m under t
 abbrev pub is_constraint_true : Codes → Pattern → BoardState → Colour → ℕ → ℕ → Bool
 is_constraint_true code p board friend t m = is_so_valued (meanings_at code p board friend t m) p.constraint
 
@@ -81,11 +81,11 @@ unfoldable pub is_allowed : Codes → Pattern → BoardState → Colour → ℕ 
 is_allowed code p board friend t m =
     is_safe code p board friend m && (is_enemy_safe code p board friend m && is_constraint_true code p board friend t m)
 
--- what the helper of each name says of a position, a point and a colour; a name without a helper that is on has a no
+-- what the helper of each name says about a position, a point and a colour; no, if no helper of this name is on
 abbrev pub Advice : Type 0
 Advice = List ℕ → BoardState → ℕ → Colour → Bool
 
--- every helper says yes to everything
+-- the advice of helpers that say yes to everything
 abbrev pub all_yes : Advice
 all_yes name board m friend = true
 

@@ -1,5 +1,5 @@
 -- The matches of patterns on a position, in order: by the pattern's number, the transformation, and the point of the
--- move. A pattern asks for its diagram, for a legal move, and for what its classes, its constraint and its helpers say.
+-- move. A match needs a diagram that fits, a legal move, and the consent of classes, constraint and helpers.
 use Rattle.std.specs.Prelude.{◌≡◌, ◌≢◌, pos, true, ℕ, ◌*◌, ◌<◌, ◌&&◌, ◌⊎◌, Bool, List, map, filter, Some, Ok, slice_get}
 use Rattle.std.specs.Prelude.{Contains}
 use Rattle.std.specs.List.{flat_map, enumerate_from, range_with_len, AllPairs}
@@ -22,16 +22,16 @@ abbrev pub is_match : Codes → Advice → Pattern → BoardState → Colour →
 is_match code advice p board friend t m =
     fits p board friend t m && (is_legal board friend m && is_agreed code advice p board friend t m)
 
--- the matches of the pattern with this number under t, by a test of the points of a board of size s
+-- the matches of the pattern with this number under t: the points of a board of size s that pass the test
 abbrev pub matches_under : (ℕ → Bool) → ℕ → ℕ → ℕ → List Match
 matches_under test number t s =
     map (λ m. record { pattern = number; transform = t; at = m }) (filter test (range_with_len 0 (s * s)))
 
--- the matches of the pattern with this number, by a test of the transformations of its mark and of the points
+-- the matches of the pattern with this number: the transformations of its mark and the points that pass the test
 abbrev pub matches_of_one : (ℕ → ℕ → Bool) → ℕ → Pattern → ℕ → List Match
 matches_of_one test number p s = flat_map (λ t. matches_under (test t) number t s) (range_with_len 0 (count_of p.mark))
 
--- the matches of all patterns, by a test of numbers, patterns, transformations and points
+-- the matches of all patterns: the patterns with their numbers, the transformations and the points that pass the test
 abbrev pub matches_by : (ℕ → Pattern → ℕ → ℕ → Bool) → List Pattern → ℕ → List Match
 matches_by test patterns s =
     flat_map (λ numbered. matches_of_one (test numbered.0 numbered.1) numbered.0 numbered.1 s)
@@ -43,7 +43,7 @@ unfoldable pub matches_of : Codes → Advice → List Pattern → BoardState →
 matches_of code advice patterns board friend =
     matches_by (λ number p t m. is_match code advice p board friend t m) patterns board.size
 
--- z is a match of the patterns for a friend, if this is the code of each reading, and this what each helper says
+-- z is a match of the patterns for a friend, if code gives the code of each reading and advice what each helper says
 pub record IsMatch (code : Codes) (advice : Advice) (patterns : List Pattern) (board : BoardState) (friend : Colour)
     (z : Match) : Type 0 where
   pub pattern : Pattern

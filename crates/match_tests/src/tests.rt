@@ -1,4 +1,4 @@
-//! Rows worked by hand. A point is its number in reading order: of a board of 3, B3 is 1, A2 is 3, C2 is 5 and B1 is 7.
+//! Rows worked by hand. A point is its number in reading order: on a board of 3, B3 is 1, A2 is 3, C2 is 5 and B1 is 7.
 mod automata;
 mod choices;
 mod conditions;
@@ -22,7 +22,7 @@ use std::alloc::{AllocError, Global};
 /// The smallest pattern: a friend's stone, and the move beside it.
 const SMALLEST: &[u8] = b"Pattern P\nO*\n:8,s";
 
-/// The smallest pattern with an edge at its right.
+/// The smallest pattern with an edge on its right.
 const AT_THE_EDGE: &[u8] = b"Pattern R\nO*|\n:8,s";
 
 /// The smallest pattern in the lower right corner.
@@ -34,21 +34,21 @@ const UNDER_THE_TOP: &[u8] = b"Pattern T\n--\nO*\n:O,s";
 /// The smallest pattern with an edge below it.
 const OVER_THE_BOTTOM: &[u8] = b"Pattern B\nO*\n--\n:O,s";
 
-/// The smallest pattern with an edge at its left.
+/// The smallest pattern with an edge on its left.
 const FROM_THE_LEFT: &[u8] = b"Pattern L\n|O*\n:O,s";
 
-/// The greatest number of rows that an automaton may have here.
+/// The greatest number of rows that an automaton of these tests may have.
 const MOST_ROWS: u32 = 10_000;
 
 /// A match: the pattern's place in its list, the number of the transformation, and the point of the move.
 type Found = (u16, u8, Point);
 
-/// What is asked beside diagrams.
+/// What a search for matches asks beside diagrams.
 #[derive(Drop)]
 struct Asked {
     /// Readings, three plies deep, two of them wide.
     readings: Readings,
-    /// `near_edge` and `no_ban`.
+    /// The helpers `near_edge` and `no_ban`.
     helpers: Helpers,
 }
 
@@ -65,7 +65,7 @@ fn new_helpers(alloc: Global) -> Result<Helpers, NoMemory> {
     Helpers::new(alloc, list)
 }
 
-/// Readings and helpers that were not asked yet.
+/// New readings and new helpers, which were not asked yet.
 fn new_asked(alloc: Global) -> Option<Asked> {
     Some(Asked {
         readings: new_readings(alloc)?,
@@ -73,13 +73,13 @@ fn new_asked(alloc: Global) -> Option<Asked> {
     })
 }
 
-/// The patterns that a text spells.
+/// The patterns that `text` spells.
 fn patterns_of(alloc: Global, text: &[u8]) -> Option<Vec<Pattern>> {
     let names = new_helpers(alloc).ok()?.names(alloc).ok()?;
     read(alloc, text, names.as_slice(), Vec::new(alloc)).ok()
 }
 
-/// A position with one stone more.
+/// The position with one more stone, of this colour at the point `p`.
 fn with_stone(position: &Position, colour: Colour, p: Point) -> Option<Position> {
     if p >= position.size().points() {
         return None;
@@ -87,7 +87,7 @@ fn with_stone(position: &Position, colour: Colour, p: Point) -> Option<Position>
     position.play(colour, p).ok()
 }
 
-/// A position with stones of one colour more.
+/// The position with more stones of one colour.
 fn with_more(position: Position, colour: Colour, stones: &[Point]) -> Option<Position> {
     let mut position = position;
     for p in stones {
@@ -106,7 +106,7 @@ fn with_both(side: u8, black: &[Point], white: &[Point]) -> Option<Position> {
     )
 }
 
-/// These matches as they stand in a row.
+/// The matches in `found`, in the form that rows have.
 fn listed(alloc: Global, found: &[Match]) -> Result<Vec<Found>, AllocError> {
     let mut list = Vec::new(alloc);
     for z in found {
@@ -115,8 +115,8 @@ fn listed(alloc: Global, found: &[Match]) -> Result<Vec<Found>, AllocError> {
     Ok(list)
 }
 
-/// The matches of a list of patterns for a friend, in their order, by the automaton of another list. Of a longer list
-/// no automaton is made.
+/// The matches of `patterns` for a friend, in their order, by the automaton of `others`. If `others` is longer than
+/// `patterns`, no automaton is made.
 fn matches_reading(
     alloc: Global,
     patterns: &[Pattern],
@@ -142,7 +142,7 @@ fn matches_reading(
     Ok(listed(alloc, &found)?)
 }
 
-/// The matches of a list of patterns for a friend, by its own automaton.
+/// The matches of `patterns` for a friend, by the automaton of `patterns`.
 fn matches_in(
     alloc: Global,
     patterns: &[Pattern],

@@ -1,8 +1,9 @@
-//! A program that finds the matches of patterns on drawn boards again and again and tells only how many they are, so
-//! that what one call takes can be measured. `tools/time_matches.py` starts it.
+//! A program that finds the matches of patterns on drawn boards again and again and prints only how many there are, so
+//! that the time of one call can be measured. `tools/time_matches.py` starts it.
 //!
-//! Its words are a file of patterns, a file of boards and how often each board is asked for each colour. A board is a
-//! line with a mark for each point in reading order: `X` for black, `O` for white, and any other one for no stone.
+//! Its arguments are a file of patterns, a file of boards, and how often each board is asked for each colour. A board
+//! is a line with a mark for each point in reading order: `X` for black, `O` for white, and any other mark for an empty
+//! point.
 #![tactic(auto)]
 
 ghost use Rattle.std.specs.Prelude.{ℕ, ◌<◌, ◌≤◌, length, Contains};
@@ -26,13 +27,13 @@ use std::{env, fs};
 /// The longest list of patterns that has an automaton.
 const MOST_PATTERNS: usize = 4096;
 
-/// The most states of its automaton.
+/// The most states that the automaton of the patterns may have.
 const MOST_STATES: u32 = 1_000_000;
 
 /// The greatest number of rows of a board.
 const LARGEST_SIZE: u8 = 25;
 
-/// The size of a board with so many points.
+/// The size of a board with this many `points`, if there is one.
 fn size_with(points: usize) -> Option<Size> {
     'sides: for side in 0..=LARGEST_SIZE {
         if side as usize * side as usize == points {
@@ -42,7 +43,7 @@ fn size_with(points: usize) -> Option<Size> {
     None
 }
 
-/// The position of a drawing. None if no board has so many points, or a stone cannot be played if it is drawn.
+/// The position that `marks` draw, or `None` if no board has that many points or a drawn stone cannot be played.
 fn drawn(marks: &[u8]) -> Option<Position> {
     let mut position = Position::new(size_with(marks.len())?);
     'marks: for at in 0..marks.len() {
@@ -59,7 +60,8 @@ fn drawn(marks: &[u8]) -> Option<Position> {
     Some(position)
 }
 
-/// The positions of the lines of a text, but for those that draw none. Takes memory.
+/// The positions that the lines of `text` draw, without the lines that draw none. Each line ends in a line feed. Takes
+/// memory.
 fn all_drawn(alloc: Global, text: &[u8]) -> Result<Vec<Position>, NoMemory> {
     let mut all = Vec::new(alloc);
     let mut line = Vec::new(alloc);
@@ -76,20 +78,20 @@ fn all_drawn(alloc: Global, text: &[u8]) -> Result<Vec<Position>, NoMemory> {
     Ok(all)
 }
 
-/// What each question has to be given.
+/// What each search for matches needs.
 #[derive(Drop)]
 struct Asking<'a> {
-    /// Where memory is taken.
+    /// The allocator that memory is taken from.
     alloc: Global,
     /// The patterns.
     patterns: &'a [Pattern],
     /// The positions.
     positions: &'a [Position],
-    /// How often each of them is asked for each colour.
+    /// How often each position is asked for each colour.
     times: u32,
 }
 
-/// How many matches all questions have.
+/// How many matches all searches find together, by the automaton of `scanner`.
 fn count_matches(
     asking: &Asking,
     scanner: &Scanner,
@@ -118,7 +120,7 @@ fn count_matches(
     Ok(count)
 }
 
-/// The same with the automaton of the patterns.
+/// How many matches all searches find together, by the automaton of the patterns.
 fn matches_by_their_automaton(
     asking: &Asking,
     readings: &mut Readings,
@@ -131,7 +133,7 @@ fn matches_by_their_automaton(
     Ok(count_matches(asking, &scanner, readings, helpers)?)
 }
 
-/// What the words of the command line say.
+/// What the arguments of the command line say.
 #[derive(Drop)]
 struct Words {
     /// The file of patterns.
@@ -142,7 +144,7 @@ struct Words {
     times: u32,
 }
 
-/// The words of the command line. None where they are not two files and a number.
+/// The arguments of the command line, or `None` if they are not two files and a number.
 fn words_of<R: Env + AllocGlobal>(rt: &R) -> Option<Words> {
     let mut words = env::args(rt).ok()?.skip(1);
     let patterns = words.next()?;
@@ -158,18 +160,18 @@ fn words_of<R: Env + AllocGlobal>(rt: &R) -> Option<Words> {
     }
 }
 
-/// How many there are of each.
+/// How many patterns, positions and matches there are.
 #[derive(Drop)]
 struct Counts {
-    /// Patterns that were read.
+    /// How many patterns were read.
     patterns: usize,
-    /// Positions that were drawn.
+    /// How many positions were drawn.
     positions: usize,
-    /// Matches, over all questions.
+    /// How many matches all searches found together.
     matches: u64,
 }
 
-/// Reads the files and asks all questions. Where it cannot it says why.
+/// Reads the files and makes all searches, or answers why it cannot.
 fn count_all<R: Files + AllocGlobal>(rt: &R, words: &Words) -> Result<Counts, &'static str> {
     let alloc = rt.alloc();
     let (Ok(text), Ok(boards)) = (

@@ -1,4 +1,4 @@
--- The match whose move is played: of those of the greatest worth the first one in the order of matches.
+-- The match whose move is played: the first, in the order of matches, of the matches of the greatest worth.
 use Rattle.std.specs.Prelude.{◌≡◌, ℕ, ◌≤◌, ◌==◌, ◌&&◌, ◌||◌, not, Bool, nat_lt, List, Option, slice_get, find, Contains}
 use Rattle.std.specs.List.{list_all}
 use Rattle.std.specs.Option.{option_map_or}
@@ -20,7 +20,7 @@ comes_before y z = nat_lt y.pattern z.pattern || ((y.pattern == z.pattern)
 abbrev pub is_preferred : (Match → ℕ) → Match → Match → Bool
 is_preferred worth y z = nat_lt (worth z) (worth y) || ((worth y == worth z) && comes_before y z)
 
--- the match of the list to which no match of the list is preferred
+-- the match of the list to which no match of the list is preferred, if there is one
 abbrev pub choice_by : (Match → ℕ) → List Match → Option Match
 choice_by worth zs = find (λ z. list_all (λ y. not (is_preferred worth y z)) zs) zs
 
@@ -28,7 +28,7 @@ choice_by worth zs = find (λ z. list_all (λ y. not (is_preferred worth y z)) z
 unfoldable pub choice_of : List Pattern → List Match → Option Match
 choice_of patterns zs = choice_by (worth_at patterns) zs
 
--- z is the choice by these worths: it stands in the list, no match of the list is worth more, and none that is worth as
+-- z is the choice by these worths: it is in the list, no match of the list is worth more, and none that is worth as
 -- much comes before it
 pub record IsChoice (worth : Match → ℕ) (zs : List Match) (z : Match) : Type 0 where
   pub there : Contains zs z

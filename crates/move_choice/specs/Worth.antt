@@ -1,4 +1,4 @@
--- The worth of a pattern, which its author says by an item of the colon line, as `value(20)`.
+-- The worth of a pattern, which its author gives by an item of the colon line, as `value(20)`.
 use Rattle.std.specs.Prelude.{◌≡◌, ℕ, ◌<◌, ◌≤◌, Bool, ◌&&◌, nat_lt, nat_le, List, ◌∷◌, ◌++◌, length, Option, Some, None}
 use Rattle.std.specs.Prelude.{codes, slice_get, unwrap_or, All, if◌then◌else◌}
 use Rattle.std.specs.List.{list_all, filter_map, AllPass}
@@ -12,17 +12,17 @@ use Rattle.pat_types.specs.declared.pattern.Pattern.{Pattern}
 abbrev pub most_digits : ℕ
 most_digits = 6
 
--- the text is one to six digits
+-- whether the text is one to six digits
 abbrev pub is_short_number : List ℕ → Bool
 is_short_number text = nat_lt 0 (length text) && (nat_le (length text) most_digits && list_all is_ascii_digit text)
 
--- the number that a name and a text in parentheses say: the name is `value`, and the text is one to six digits
+-- the number that a name and a text in parentheses say, if the name is `value` and the text is one to six digits
 abbrev pub number_said : List ℕ → Option (List ℕ) → Option ℕ
 number_said name None = None
 number_said name (Some text) =
     if bytes_eq name (codes "value") && is_short_number text then Some (digits_value 10 text) else None
 
--- the number that an item says
+-- the number that an item says, if it says one
 abbrev pub worth_said : Item → Option ℕ
 worth_said item = number_said item.name item.text
 
@@ -45,7 +45,7 @@ pub record SaysWorth (item : Item) (n : ℕ) : Type 0 where
 abbrev pub SaysNothing : Item → Type 0
 SaysNothing item = (n : ℕ) → ¬ SaysWorth item n
 
--- n is what the first of the items says that says a number, or 0 if none does
+-- n is the number of the first of the items that says a number, or 0 if no item does
 pub data IsWorth (items : List Item) (n : ℕ) : Type 0 where
   said : (before : List Item) (item : Item) (after : List Item) → items ≡ before ++ item ∷ after
       → All SaysNothing before → SaysWorth item n → IsWorth items n

@@ -8,7 +8,7 @@ use crate::worth::worth_of;
 use match_rules::Match;
 use pat_types::Pattern;
 
-/// The worth of a match, which is that of its pattern.
+/// The worth of the match `found`: the worth of its pattern.
 fn worth_at(patterns: &[Pattern], found: &Match) -> u32
     requires { found.now.pattern < length patterns.now }
     ensures { result ≡ worth_at patterns.now found.now }
@@ -37,10 +37,10 @@ fn is_preferred(patterns: &[Pattern], y: &Match, z: &Match) -> bool
     other < worth || worth == other && comes_before(y, z)
 }
 
-/// The match that is chosen: of those of the greatest worth the first one in the order of matches (by the pattern's
-/// number, then by the transformation, then by the point), wherever it stands in `found`. The worth of a match is that
-/// of its pattern; `patterns` is the list in which matches name theirs. `None` exactly if `found` is empty. It takes no
-/// memory.
+/// The match that is chosen: of the matches of the greatest worth, the first in the order of matches (by the pattern's
+/// number, then by the transformation, then by the point), at whatever place of `found` it stands. The worth of a match
+/// is that of its pattern; `patterns` is the list that the matches number. `None` exactly if `found` is empty. It takes
+/// no memory.
 pub fn choose(patterns: &[Pattern], found: &[Match]) -> Option<Match>
     requires { (z : Match) → Contains found.now z → z.pattern < length patterns.now }
     ensures choice { result ≡ choice_of patterns.now found.now }

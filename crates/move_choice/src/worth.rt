@@ -12,21 +12,21 @@ use pat_types::{Item, Pattern};
 /// The most digits that a worth may have.
 const MOST_DIGITS: usize = 6;
 
-/// Whether each byte of a text is a digit.
+/// Whether each byte of `text` is a digit.
 fn are_digits(text: &[u8]) -> bool
     ensures { result ≡ list_all is_ascii_digit text.now }
 {
     text.iter().all(|b| b.is_ascii_digit())
 }
 
-/// Whether a text is one to six digits.
+/// Whether `text` is one to six digits.
 fn is_short_number(text: &[u8]) -> bool
     ensures { result ≡ are_few_digits text.now }
 {
     !text.is_empty() && text.len() <= MOST_DIGITS && are_digits(text)
 }
 
-/// The number that digits write, of which there are few enough.
+/// The number that `digits` write. There must be no more than six.
 fn number(digits: &[u8]) -> u32
     requires few { length digits.now ≤ most_digits }
     requires digits { (i : ℕ) → i < length digits.now → is_ascii_digit (slice_index digits.now i) ≡ true }
@@ -39,7 +39,7 @@ fn number(digits: &[u8]) -> u32
     n
 }
 
-/// The worth that an item says, None if it says none.
+/// The worth that `item` says, or `None` if it says none.
 fn worth_said(item: &Item) -> Option<u32>
     ensures { result ≡ worth_in item.now }
 {
@@ -54,8 +54,8 @@ fn worth_said(item: &Item) -> Option<u32>
     }
 }
 
-/// The worth of a pattern: the number that the first of its items `value(N)` says, where N is one to six digits, and 0
-/// if no item says one. It takes no memory.
+/// The worth of `pattern`: the number of its first item `value(N)` in which N is one to six digits, and 0 if it has no
+/// such item. It takes no memory.
 #[tactic(auto, unfolding(crate::specs::Worth::worth_of))]
 pub fn worth_of(pattern: &Pattern) -> u32
     ensures { result ≡ worth_of pattern.now }

@@ -16,7 +16,7 @@ is_star FriendOrEmpty = false
 is_star EnemyOrEmpty = false
 is_star Any = false
 
--- one more row or column where an edge is drawn
+-- how many rows or columns an edge takes: 1 if it is drawn, else 0
 abbrev pub drawn_strip : Bool → ℕ
 drawn_strip true = 1
 drawn_strip false = 0

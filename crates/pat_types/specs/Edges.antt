@@ -12,11 +12,11 @@ use Rattle.pat_types.specs.Cells.{drawn_at}
 abbrev pub IsStripOf : ℕ → ℤ → Type 0
 IsStripOf n z = (k : ℕ) × (k < n) × (z ≡ pos k)
 
--- the strip z is the one before the first
+-- z is the strip before the first letter
 abbrev pub IsBefore : ℤ → Type 0
 IsBefore z = z ≡ negsuc 0
 
--- the strip z is the one behind the last of n
+-- z is the strip behind the last of n strips of letters
 abbrev pub IsBehind : ℕ → ℤ → Type 0
 IsBehind n z = z ≡ pos n
 
@@ -26,8 +26,8 @@ pub record IsLetterCell (p : Pattern) (l : Letter) (r c : ℤ) : Type 0 where
   pub in_column : IsStripOf p.cols c
   pub there : l ≡ slice_index_or p.letters (in_row.0 * p.cols + in_column.0) Friend
 
--- the cell in row r and column c lies on a drawn edge: over the columns or beside the rows of the diagram, or in the
--- corner between two drawn edges
+-- the cell in row r and column c lies on a drawn edge: above, below or beside the letters, or in the corner between two
+-- drawn edges
 pub data IsEdgeCell (p : Pattern) (r c : ℤ) : Type 0 where
   on_top : IsTrue p.top → IsBefore r → IsStripOf p.cols c → IsEdgeCell p r c
   at_bottom : IsTrue p.bottom → IsBehind p.rows r → IsStripOf p.cols c → IsEdgeCell p r c
@@ -38,8 +38,8 @@ pub data IsEdgeCell (p : Pattern) (r c : ℤ) : Type 0 where
   bottom_left : IsTrue p.bottom → IsTrue p.left → IsBehind p.rows r → IsBefore c → IsEdgeCell p r c
   bottom_right : IsTrue p.bottom → IsTrue p.right → IsBehind p.rows r → IsBehind p.cols c → IsEdgeCell p r c
 
--- what is drawn in the cells of the pattern is what its reader sees: each letter in its cell alone, and off the board
--- exactly the edge cells
+-- the pattern draws what its reader sees: a letter in exactly the cells where the letter stands, and the outside of the
+-- board in exactly the edge cells
 pub record IsDrawnAsSeen (p : Pattern) : Type 0 where
   pub letters : (l : Letter) (r c : ℤ) → drawn_at p r c ≡ Shows l ↔ IsLetterCell p l r c
   pub edges : (r c : ℤ) → drawn_at p r c ≡ OffBoard ↔ IsEdgeCell p r c

@@ -9,7 +9,7 @@ use Rattle.pat_types.specs.declared.letter.Letter.{Letter}
 use Rattle.pat_types.specs.declared.letter.Letter.TheVariants.{Friend, Enemy, Empty, FriendOrEmpty, EnemyOrEmpty, Any}
 use Rattle.pat_types.specs.declared.letter.Letter.TheVariants.{Star}
 
--- the letter admits the cell, for this friend
+-- the letter admits the cell, if friend is the colour for which the pattern is asked
 abbrev pub admits : Letter → Cell → Colour → Bool
 admits Friend cell friend = same_cell cell (stone_of friend)
 admits Enemy cell friend = same_cell cell (stone_of (other friend))

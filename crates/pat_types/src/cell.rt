@@ -8,18 +8,18 @@ use crate::pattern::Pattern;
 /// A row or a column: it crosses the letters, is an edge, or neither.
 #[derive(Clone, Copy, Debug, PartialEq, Eq)]
 pub enum Strip {
-    /// It crosses the letters, as this row or column of theirs.
+    /// The strip crosses the letters, in this row or column of the rectangle.
     Crosses(u8),
-    /// It is an edge that is drawn.
+    /// The strip is an edge that is drawn.
     Edge,
-    /// It lies outside the letters and the edges that are drawn.
+    /// The strip lies outside the letters and the drawn edges.
     Beyond,
 }
 
 /// What a pattern draws in a cell.
 #[derive(Clone, Copy, Debug, PartialEq, Eq)]
 pub enum Drawn {
-    /// Nothing: the cell is none of the pattern's.
+    /// Nothing: the cell is not part of the pattern.
     Nothing,
     /// An edge: the cell lies off the board.
     OffBoard,
@@ -27,7 +27,8 @@ pub enum Drawn {
     Shows(Letter),
 }
 
-/// What a strip is, where n strips cross the letters and an edge is drawn before them and after them.
+/// What strip `z` is, if `n` strips cross the letters; `before` and `after` tell whether an edge is drawn before and
+/// after them.
 fn strip_with(n: u8, before: bool, after: bool, z: i16) -> Strip
     ensures value { result ≡ strip_at n before after z }
     ensures within { IsWithin n result }
@@ -47,7 +48,7 @@ fn strip_with(n: u8, before: bool, after: bool, z: i16) -> Strip
     }
 }
 
-/// What is drawn where two strips meet.
+/// What pattern `p` draws in the cell where a row and a column meet.
 fn meet(p: &Pattern, row: Strip, column: Strip) -> Drawn
     requires row { IsWithin p.now.rows row }
     requires column { IsWithin p.now.cols column }
@@ -70,7 +71,7 @@ fn meet(p: &Pattern, row: Strip, column: Strip) -> Drawn
     }
 }
 
-/// What a pattern draws in row r and column c, both counted from its first letter.
+/// What a pattern draws in row `r` and column `c`, both counted from its first letter.
 #[tactic(auto, unfolding(crate::specs::Cells::drawn_at))]
 pub fn drawn_in(p: &Pattern, r: i16, c: i16) -> Drawn
     ensures { result ≡ drawn_at p.now r c }

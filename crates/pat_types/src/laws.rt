@@ -1,4 +1,4 @@
-//! What the definitions come to, in the words of a diagram's reader.
+//! The main law of the definitions: a pattern draws what the reader of its diagram sees.
 
 ghost use Rattle.pat_types.specs.declared.pattern.Pattern.{Pattern};
 ghost use Rattle.pat_types.specs.Edges.{IsDrawnAsSeen};

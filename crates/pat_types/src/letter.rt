@@ -24,7 +24,7 @@ pub enum Letter {
     Star,
 }
 
-/// Whether a letter admits a cell, where `friend` is the colour for which the pattern is asked.
+/// Whether a letter admits a cell. `friend` is the colour for which the pattern is asked.
 pub fn letter_fits(letter: Letter, cell: Cell, friend: Colour) -> bool
     ensures { result ≡ admits letter cell friend }
 {

@@ -1,10 +1,10 @@
 //! Patterns as the matcher takes them: a diagram of letters with its edges, a mark, class letters, labels and a
 //! constraint.
 //!
-//! A diagram is a rectangle of letters in reading order. A cell of it is given by its row from the top and its column
-//! from the left of the rectangle, both counted from 0, so that an edge cell stands in row or column -1 or just past
-//! the last. The type `Pattern` keeps what every pattern of the database meets; no call but the `push` of the lists
-//! takes memory.
+//! A diagram is a rectangle of letters in reading order. A cell is given by its row from the top and its column from
+//! the left of the rectangle, both counted from 0, so an edge cell stands in row or column -1 or just past the last.
+//! The type `Pattern` guarantees what every pattern of the database must satisfy. Only `push`, on the lists, takes
+//! memory.
 #![tactic(auto)]
 
 mod cell;

@@ -54,7 +54,7 @@ impl<T> ListOf<T> {
 }
 
 impl<T: Drop> ListOf<T> {
-    /// Puts an element at the end. After an `Err` the list is as before.
+    /// Puts an element at the end. After an `Err` the list is unchanged.
     pub fn push(&mut self, x: T) -> Result<(), NoMemory>
         ensures ok { OnOk result (self.new ≡ self.old ++ x ∷ []) }
         ensures err { OnErr result (self.new ≡ self.old) }

@@ -22,21 +22,21 @@ pub struct Item {
 /// A label of a constraint diagram, and the cell of the diagram that it names.
 #[derive(Clone, Copy, Debug, PartialEq, Eq)]
 pub struct LabelAt {
-    /// The label, an ASCII letter.
+    /// The label's letter, an ASCII letter.
     pub letter: u8,
-    /// The row of its cell.
+    /// The row of the label's cell.
     pub row: u8,
-    /// The column of its cell.
+    /// The column of the label's cell.
     pub col: u8,
 }
 
 /// A pattern of the database, after GNU Go Manual, "The Pattern Code".
 ///
-/// The type keeps that the diagram is a whole rectangle with one star and lies with its edges within the largest board,
-/// that the labels lie in it and differ, and that the constraint can be evaluated.
+/// The type guarantees that the diagram is a whole rectangle with one star and lies with its edges within the largest
+/// board, that the labels lie in the diagram and differ, and that the constraint can be evaluated.
 #[derive(Debug, Drop)]
 pub struct Pattern {
-    /// The name, as the Pattern line has it. Two patterns may have one name.
+    /// The name, as the Pattern line has it. Two patterns may have the same name.
     pub name: Bytes,
     /// How many rows of letters the diagram has.
     pub rows: u8,

@@ -19,26 +19,26 @@ use std::alloc::Global;
 /// Whether a match went or came.
 #[derive(Clone, Copy, Debug, PartialEq, Eq)]
 pub enum Way {
-    /// The old patterns have it, the new ones have not.
+    /// The old patterns have the match, and the new ones do not.
     Went,
-    /// The new patterns have it, the old ones had not.
+    /// The new patterns have the match, and the old ones do not.
     Came,
 }
 
 /// A match that went or came on a position of a game.
 #[derive(Clone, Copy, Debug, PartialEq, Eq)]
 pub struct Change {
-    /// After how many moves the position stands.
+    /// The number of moves before the position.
     pub moves: u64,
     /// The friend, who plays the move of the pattern.
     pub friend: Colour,
     /// Whether the match went or came.
     pub way: Way,
-    /// The match. Its pattern is one of the old list if it went, and one of the new list if it came.
+    /// The match. Its pattern is in the old list if the match went, and in the new list if it came.
     pub found: Match,
 }
 
-/// Whether the patterns at these places of two lists are there and have the same name.
+/// Whether the lists have patterns at the indices `z` and `y`, and these have the same name.
 fn have_same_name(patterns: &[Pattern], z: u16, others: &[Pattern], y: u16) -> bool
     ensures { result ≡ same_name_there (slice_get patterns.now z) (slice_get others.now y) }
 {
@@ -48,7 +48,7 @@ fn have_same_name(patterns: &[Pattern], z: u16, others: &[Pattern], y: u16) -> b
     }
 }
 
-/// Whether a match of the other patterns is where a match of the patterns is.
+/// Whether `y`, a match of `others`, is the same match as `z`: point, transformation and pattern name are equal.
 fn is_same_match(patterns: &[Pattern], others: &[Pattern], z: Match, y: Match) -> bool
     ensures { result ≡ is_same patterns.now others.now z y }
 {
@@ -57,7 +57,7 @@ fn is_same_match(patterns: &[Pattern], others: &[Pattern], z: Match, y: Match) -
         && have_same_name(patterns, z.pattern, others, y.pattern)
 }
 
-/// Whether one of the matches of the other patterns is where a match of the patterns is.
+/// Whether one of `theirs`, the matches of `others`, is the same match as `z`.
 fn has_same_match(patterns: &[Pattern], others: &[Pattern], z: Match, theirs: &[Match]) -> bool
     ensures { result ≡ list_any (is_same patterns.now others.now z) theirs.now }
 {
@@ -66,7 +66,7 @@ fn has_same_match(patterns: &[Pattern], others: &[Pattern], z: Match, theirs: &[
         .any(|y| is_same_match(patterns, others, z, *y))
 }
 
-/// Of the matches of some patterns those that the matches of the others do not have, in their order.
+/// The matches `found` of the patterns that are not among `theirs`, the matches of `others`, in their order.
 #[tactic(auto, unfolding(crate::specs::Changes::lacking))]
 fn lacking(
     alloc: Global,
@@ -86,7 +86,7 @@ fn lacking(
     Ok(lacked)
 }
 
-/// Puts these matches behind the changes, as those that went or came.
+/// Appends these matches to the changes, as matches that went or came.
 fn put(
     changes: &mut Vec<Change>,
     moves: u64,
@@ -107,7 +107,7 @@ fn put(
     Ok(())
 }
 
-/// Puts what changes for a friend on the position after so many moves behind the other changes.
+/// Appends what changes for a friend on the position after this number of `moves`.
 #[tactic(auto, unfolding(crate::specs::Changes::changes_for))]
 fn put_for(
     alloc: Global,
@@ -134,7 +134,7 @@ fn put_for(
     put(changes, moves, friend, Way::Came, came.as_slice())
 }
 
-/// Puts what changes for these friends on the position after so many moves behind the other changes.
+/// Appends what changes for these `friends` on the position after this number of `moves`.
 #[tactic(auto, unfolding(crate::specs::Changes::changes_at))]
 fn put_at(
     alloc: Global,
@@ -160,11 +160,11 @@ fn put_at(
     Ok(())
 }
 
-/// What changes for these friends from the old patterns to the new ones over the positions of a game: the one before
+/// What changes for these `friends` from the old patterns to the new ones, over the positions of a game: the one before
 /// its first move, the one after it, and so on.
 ///
-/// Changes stand in the order of the positions, for each in that of the friends, for each those that went before those
-/// that came, and these in the order of matches. The readings keep their depths. Takes memory.
+/// Changes are ordered by position, then by friend; for each friend the matches that went come first, then those that
+/// came, each in the order of matches. The readings keep their depths. Takes memory.
 #[tactic(auto, unfolding(crate::specs::Changes::changes_over))]
 pub fn changes_over(
     alloc: Global,

@@ -1,8 +1,8 @@
 //! What a change of a list of patterns changes over the positions of games: the matches that went, and those that came.
 //!
-//! Patterns of the old list and of the new one belong together by their names. A match of the one list is there in the
-//! other one as well if some pattern of the same name matches at the same point under the same transformation. So the
-//! order of the patterns does not count, and patterns of one name in a list count as one.
+//! Patterns of the old list and of the new list are compared by their names. Both lists have a match if each has a
+//! pattern of the same name that matches at the same point under the same transformation. So the order of the patterns
+//! does not count, and patterns with the same name in a list count as one.
 #![tactic(auto)]
 
 mod change;

@@ -1,4 +1,4 @@
-//! Patterns that are ready to be found.
+//! Patterns that are ready to be matched.
 ghost use Rattle.std.specs.Prelude.{◌≡◌, ◌≤◌, length, IfOk, OnOk};
 ghost use Rattle.helpers.specs.HelperStates.{says_yes};
 ghost use Rattle.helpers.specs.Slots.{states_of};
@@ -14,7 +14,7 @@ use pat_types::Pattern;
 use std::alloc::Global;
 use std::marker::Model;
 
-/// A list of patterns and their automaton. Seen as the patterns.
+/// A list of patterns and their automaton. Clauses see it as the list of patterns.
 #[derive(Drop)]
 pub struct Matcher {
     patterns: Vec<Pattern>,
@@ -42,8 +42,8 @@ impl Model for Matcher {
 }
 
 impl Matcher {
-    /// Makes patterns ready to be found. It is an error if their automaton has more than `limit` states, or there is no
-    /// memory. Takes memory.
+    /// Makes patterns ready to be matched. Fails if their automaton has more than `limit` states, or memory runs out.
+    /// Takes memory.
     pub fn new(alloc: Global, patterns: Vec<Pattern>, limit: u32) -> Result<Matcher, JoinError>
         requires { length patterns.items ≤ 4096 }
         ensures { IfOk result (λ matcher. matcher ≡ patterns.items) }
@@ -60,8 +60,8 @@ impl Matcher {
         self.patterns.as_slice()
     }
 
-    /// The matches for a friend on a position. The readings keep their depths, and the helpers say afterwards what they
-    /// said before. Takes memory.
+    /// The matches for a friend on a position. The readings keep their depths; the helpers answer afterwards as before.
+    /// Takes memory.
     pub(crate) fn find(
         &self,
         alloc: Global,

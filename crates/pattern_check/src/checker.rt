@@ -1,4 +1,4 @@
-//! The check of the files in their order.
+//! Checks the files in their order.
 
 use crate::counts::Counts;
 use crate::list::List;
@@ -13,20 +13,20 @@ use pattern_report::{
 use pattern_states::states_of;
 use std::alloc::Global;
 
-/// The exit status where a file has a fault.
+/// The exit status if a file has a fault.
 const FAULTY: u8 = 1;
 
-/// The exit status if nothing can be said.
+/// The exit status if nothing can be checked.
 pub(crate) const NOT_CHECKED: u8 = 2;
 
-/// What the files so far came to.
+/// The results of the files so far.
 #[derive(Drop)]
 pub(crate) struct Checker {
     /// The names of the helpers that an entry may name.
     helpers: Vec<Bytes>,
-    /// What was counted in all files.
+    /// The counts of all files.
     all: Counts,
-    /// The entries of all files, where their states are asked for.
+    /// The entries of all files, if their states are asked for.
     list: List,
     /// Whether a file could not be read.
     missed: bool,
@@ -43,7 +43,7 @@ fn helper_names(alloc: Global) -> Result<Vec<Bytes>, NoMemory> {
     Ok(names)
 }
 
-/// Prints a fault, and what of GNU Go's own it comes from where this is asked for.
+/// Prints a fault, and what in GNU Go it comes from if `is_asked`.
 fn print_fault_and_port(
     page: &mut String,
     is_asked: bool,
@@ -72,7 +72,7 @@ fn print_faults(
     Ok(())
 }
 
-/// Prints where the values of an entry differ from GNU Go's.
+/// Prints the values in an entry that differ from GNU Go's.
 fn print_notes(
     page: &mut String,
     alloc: Global,
@@ -85,7 +85,7 @@ fn print_notes(
     Ok(())
 }
 
-/// Prints where the values of the entries that are taken differ from GNU Go's.
+/// Prints the values in all accepted entries that differ from GNU Go's.
 fn print_all_notes(
     page: &mut String,
     alloc: Global,
@@ -98,7 +98,7 @@ fn print_all_notes(
     Ok(())
 }
 
-/// The warnings of a text that has this report.
+/// The warnings about a text with this `report`.
 fn warnings_of<'a>(
     alloc: Global,
     text: &'a [u8],
@@ -108,7 +108,7 @@ fn warnings_of<'a>(
     warnings(alloc, text, parts.as_slice(), report)
 }
 
-/// Prints the warnings of a text that has this report, and counts them.
+/// Prints the warnings about a text with this `report`, and counts them.
 fn print_warnings<'a>(
     page: &mut String,
     alloc: Global,
@@ -124,7 +124,7 @@ fn print_warnings<'a>(
     Ok(())
 }
 
-/// Prints what is told of a text that has this report, and counts it.
+/// Prints the `report` on a text with its warnings, and counts the entries and faults.
 fn print_report<'a>(
     page: &mut String,
     alloc: Global,
@@ -147,7 +147,7 @@ fn print_report<'a>(
 }
 
 impl Checker {
-    /// Nothing is checked yet.
+    /// A checker before the first file.
     pub(crate) fn new(alloc: Global) -> Result<Checker, NoMemory> {
         Ok(Checker {
             helpers: helper_names(alloc)?,
@@ -157,12 +157,13 @@ impl Checker {
         })
     }
 
-    /// Takes note that a file could not be read.
+    /// Notes that a file could not be read.
     pub(crate) fn miss(&mut self) {
         self.missed = true;
     }
 
-    /// Prints what is told of the text of a file, which has this index, and keeps what the list needs.
+    /// Prints the report on the text of the file with this `index`, and keeps its entries if their states are asked
+    /// for.
     pub(crate) fn check(
         &mut self,
         alloc: Global,
@@ -181,7 +182,7 @@ impl Checker {
         Ok(())
     }
 
-    /// Prints what all files come to.
+    /// Prints the results of all files together.
     pub(crate) fn finish(
         &self,
         alloc: Global,

@@ -1,21 +1,21 @@
-//! How many entries are taken and refused.
+//! The numbers of accepted entries, of faults and of warnings.
 
 /// One more than the greatest kind of fault.
 pub(crate) const KINDS: usize = 19;
 
-/// How many entries are taken, how many faults of each kind are told, and how many warnings.
+/// The number of accepted entries, of faults of each kind, and of warnings.
 #[derive(Clone, Copy)]
 pub(crate) struct Counts {
-    /// The entries that are taken.
+    /// The accepted entries.
     pub(crate) taken: u64,
-    /// The faults of each kind, at its number.
+    /// The faults of each kind; the number of the kind is the index.
     pub(crate) kinds: [u64; 19],
     /// The warnings.
     pub(crate) warnings: u64,
 }
 
 impl Counts {
-    /// Nothing was counted.
+    /// The counts before any file.
     pub(crate) fn new() -> Counts {
         Counts {
             taken: 0,
@@ -24,7 +24,7 @@ impl Counts {
         }
     }
 
-    /// Counts entries that are taken.
+    /// Counts `entries` as accepted.
     pub(crate) fn take(&mut self, entries: usize) {
         self.taken = self.taken.saturating_add(entries as u64);
     }
@@ -41,7 +41,7 @@ impl Counts {
         self.warnings = self.warnings.saturating_add(1);
     }
 
-    /// Adds what was counted elsewhere.
+    /// Adds the counts of `other`.
     pub(crate) fn add(&mut self, other: &Counts) {
         self.taken = self.taken.saturating_add(other.taken);
         self.warnings = self.warnings.saturating_add(other.warnings);
@@ -50,7 +50,7 @@ impl Counts {
         }
     }
 
-    /// How many faults there are.
+    /// The number of all faults.
     pub(crate) fn refused(&self) -> u64 {
         let mut all: u64 = 0;
         for count in &self.kinds {

@@ -4,26 +4,26 @@ use pat_types::{NoMemory, Pattern};
 use pattern_report::Report;
 use std::alloc::Global;
 
-/// Where an entry of the list stands.
+/// The place of an entry of the list.
 #[derive(Clone, Copy)]
 pub(crate) struct Origin {
-    /// The index of its file.
+    /// The index of the file of the entry.
     pub(crate) file: usize,
     /// The number of its Pattern line in the file.
     pub(crate) line: u64,
 }
 
-/// The entries of all files that are taken, in order.
+/// The accepted entries of all files, in order.
 #[derive(Drop)]
 pub(crate) struct List {
-    /// Their patterns.
+    /// The patterns of the entries.
     pub(crate) patterns: Vec<Pattern>,
-    /// Where each stands.
+    /// The place of each entry.
     pub(crate) origins: Vec<Origin>,
 }
 
 impl List {
-    /// No entry.
+    /// The empty list.
     pub(crate) fn new(alloc: Global) -> List {
         List {
             patterns: Vec::new(alloc),
@@ -31,7 +31,7 @@ impl List {
         }
     }
 
-    /// Puts the entries of a file behind those of the files before.
+    /// Appends the entries of a file.
     pub(crate) fn extend(&mut self, file: usize, report: Report<'_>) -> Result<(), NoMemory> {
         for part in &report.entries {
             self.origins.push(Origin {

@@ -1,9 +1,8 @@
-//! A checker for authors of pattern files: tells every entry's first fault with its place and its cause, what the
-//! author may not have meant, and how many states the automaton of the entries takes.
+//! A checker for authors of pattern files. It prints the first fault of every entry with its place and cause, what the
+//! author may not have meant, and how many states the automaton of the entries has.
 //!
-//! `pattern_check [--quiet] [--port] [--states N] FILE...`, where `-` is standard input. The exit status is 0 where no
-//! file has a fault, 1 where one has, and 2 where the words are no command line, a file cannot be read or there is no
-//! memory.
+//! `pattern_check [--quiet] [--port] [--states N] FILE...`; `-` is standard input. The exit status is 0 if no file has
+//! a fault, 1 if some file has one, and 2 if the command line is faulty, a file cannot be read, or memory runs out.
 #![tactic(auto)]
 
 mod checker;
@@ -24,11 +23,11 @@ use std::rt::Env;
 use std::time::Clock;
 use std::{env, fs, io};
 
-/// The note of a faulty command line.
+/// The message for a faulty command line.
 const USAGE: &str =
     "usage: pattern_check [--quiet] [--port] [--states N] FILE... ('-' is standard input)";
 
-/// How many bytes a text has whose check may take longer.
+/// The size in bytes from which the check of a text may take longer.
 const LONG_TEXT: usize = 1 << 19;
 
 /// The text of a file, or of standard input.
@@ -41,18 +40,18 @@ fn text_of<R: Files + Input + AllocGlobal>(rt: &R, file: &str) -> io::Result<Vec
     Ok(text)
 }
 
-/// Want of memory as an error of the program.
+/// Out of memory, as an error of the program.
 fn no_memory(_error: NoMemory) -> io::Error {
     io::Error::from(io::ErrorKind::OutOfMemory)
 }
 
-/// Prints a page in the place of what is told of the progress.
+/// Prints a page, and erases the line of progress first.
 fn print_page<R: Print + Eprint>(rt: &R, progress: &mut Progress, page: &str) -> io::Result<()> {
     progress.clear(rt)?;
     io::writer(rt).write_all(page.as_bytes())
 }
 
-/// Checks the text of the file at this index and prints what is told of it.
+/// Checks the text of the file with this `index`, and prints the results.
 fn check_text<R: Print + Eprint + Clock + AllocGlobal>(
     rt: &R,
     options: &Options,
@@ -70,7 +69,7 @@ fn check_text<R: Print + Eprint + Clock + AllocGlobal>(
     print_page(rt, progress, page.as_str())
 }
 
-/// Checks the file at this index and prints what is told of it, or that it cannot be read.
+/// Checks the file with this `index`, and prints the results, or that the file cannot be read.
 fn check_file<R: Files + Input + Print + Eprint + Clock + AllocGlobal>(
     rt: &R,
     options: &Options,
@@ -89,7 +88,7 @@ fn check_file<R: Files + Input + Print + Eprint + Clock + AllocGlobal>(
     }
 }
 
-/// Prints what all files come to.
+/// Prints the results of all files together.
 fn finish<R: Print + Eprint + Clock + AllocGlobal>(
     rt: &R,
     options: &Options,
@@ -106,7 +105,7 @@ fn finish<R: Print + Eprint + Clock + AllocGlobal>(
     print_page(rt, progress, page.as_str())
 }
 
-/// Checks the files in their order: the exit status.
+/// Checks the files in their order, and says the exit status.
 fn check_files<R: Files + Input + Print + Eprint + Clock + AllocGlobal>(
     rt: &R,
     options: &Options,
@@ -137,7 +136,7 @@ fn words_of<R: Env + AllocGlobal>(rt: &R) -> io::Result<Vec<String>> {
     Ok(words)
 }
 
-/// What the command line asks for. None where its words are no command line, or cannot be had.
+/// What the command line asks for; `None` if it is faulty, or cannot be read.
 fn options_asked<R: Env + AllocGlobal>(rt: &R) -> Option<Options> {
     let words = words_of(rt).ok()?;
     options_of(rt.alloc(), words.as_slice())

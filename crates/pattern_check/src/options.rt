@@ -1,21 +1,21 @@
-//! What the words of the command line ask for.
+//! What the command line asks for.
 
 use clap::{Arg, ArgAction, ArgMatches, Command};
 use std::alloc::{AllocError, Global};
 
-/// The most states that can be asked for.
+/// The greatest limit of states that can be asked for.
 const MOST_STATES: u32 = 1_000_000;
 
-/// What the words of the command line ask for.
+/// What the command line asks for.
 #[derive(Drop)]
 pub(crate) struct Options {
     /// Whether warnings are left out.
     pub(crate) quiet: bool,
-    /// Whether notes are told for entries of GNU Go's.
+    /// Whether there are notes for entries of GNU Go.
     pub(crate) port: bool,
-    /// The most states to which the entries of a file are compiled, where their states are asked for.
+    /// The limit of the states of the automaton; `None` if the states are not asked for.
     pub(crate) states: Option<u32>,
-    /// The names of the files, one at least.
+    /// The names of the files, at least one.
     pub(crate) files: Vec<String>,
 }
 
@@ -24,14 +24,14 @@ fn flag<'a>(alloc: Global, name: &'a str) -> Arg<'a> {
     Arg::new(alloc, name).long(name).action(ArgAction::SetTrue)
 }
 
-/// The limit of the states.
+/// The option for the limit of states.
 fn states<'a>(alloc: Global) -> Arg<'a> {
     Arg::new(alloc, "states")
         .long("states")
         .action(ArgAction::Set)
 }
 
-/// The names of the files.
+/// The argument for the names of the files.
 fn files<'a>(alloc: Global) -> Arg<'a> {
     Arg::new(alloc, "files")
         .action(ArgAction::Append)
@@ -64,7 +64,7 @@ fn files_in(alloc: Global, matches: &ArgMatches<'_>) -> Option<Vec<String>> {
     Some(files)
 }
 
-/// The limit of the states, if there is one. None if it is no number from 1 to the greatest.
+/// The limit of states: `Some(None)` if there is none, and `None` if it is not a number from 1 to `MOST_STATES`.
 fn states_in(matches: &ArgMatches<'_>) -> Option<Option<u32>> {
     let Some(text) = matches.get_str("states") else {
         return Some(None);
@@ -75,7 +75,7 @@ fn states_in(matches: &ArgMatches<'_>) -> Option<Option<u32>> {
     }
 }
 
-/// What the matches of a command line ask for. None if it has no file.
+/// What a parsed command line asks for; `None` if it has no file.
 fn options_in(alloc: Global, matches: &ArgMatches<'_>) -> Option<Options> {
     let states = states_in(matches)?;
     let files = files_in(alloc, matches)?;
@@ -90,8 +90,8 @@ fn options_in(alloc: Global, matches: &ArgMatches<'_>) -> Option<Options> {
     })
 }
 
-/// The options that the words of a command line give, which are without the program's name. None where they are no
-/// command line with a file.
+/// What the words of a command line ask for; the program's name is not one of them. `None` if they are no command line
+/// with a file.
 pub(crate) fn options_of(alloc: Global, words: &[String]) -> Option<Options> {
     let matches = command(alloc).ok()?.try_get_matches_from(words).ok()?;
     options_in(alloc, &matches)

@@ -1,4 +1,4 @@
-//! What is printed, in the form that compilers use.
+//! Prints the results in the form that compilers use.
 
 use crate::counts::Counts;
 use crate::list::List;
@@ -7,7 +7,7 @@ use pattern_states::{Added, States};
 use std::alloc::AllocError;
 use std::fmt::Display;
 
-/// How many letters the first bytes of a line are shown by.
+/// The number of letters that show the first `bytes` bytes of a line.
 fn shown_width(text: &[u8], bytes: usize) -> usize {
     let mut width: usize = 0;
     for byte in text.iter().take(bytes) {
@@ -40,7 +40,7 @@ fn print_line(page: &mut String, place: &Place<'_>) -> Result<(), AllocError> {
     page.push_str("^\n")
 }
 
-/// Prints where something is told, of which kind it is, and its words.
+/// Prints the place of a message, its kind, and its words.
 fn print_words<D: Display>(
     page: &mut String,
     file: &str,
@@ -52,7 +52,7 @@ fn print_words<D: Display>(
     write!(page, "{file}:{line}:{column}: {kind}: {words}")
 }
 
-/// Ends the first line of a fault: its kind, and the name of its entry, if it has one.
+/// Ends the first line of a fault with its kind, and the name of its entry if it has one.
 fn end_fault(page: &mut String, kind: u8, entry: &[u8]) -> Result<(), AllocError> {
     if entry.is_empty() {
         writeln!(page, " [kind {kind}]")
@@ -61,7 +61,7 @@ fn end_fault(page: &mut String, kind: u8, entry: &[u8]) -> Result<(), AllocError
     }
 }
 
-/// Ends the first line of a warning: the name of its entry, if it has one.
+/// Ends the first line of a warning with the name of its entry, if it has one.
 fn end_warning(page: &mut String, entry: &[u8]) -> Result<(), AllocError> {
     if entry.is_empty() {
         page.push_str("\n")
@@ -98,7 +98,7 @@ pub(crate) fn print_warning(
     print_line(page, &warning.place)
 }
 
-/// Prints what of GNU Go's own a fault comes from.
+/// Prints what in GNU Go a fault comes from.
 pub(crate) fn print_port(
     page: &mut String,
     file: &str,
@@ -108,7 +108,7 @@ pub(crate) fn print_port(
     writeln!(page, "{file}:{line}: note: {port}")
 }
 
-/// Prints a note on an entry that is taken.
+/// Prints a note on an accepted entry.
 pub(crate) fn print_port_note(
     page: &mut String,
     file: &str,
@@ -120,7 +120,7 @@ pub(crate) fn print_port_note(
     print_line(page, &note.place)
 }
 
-/// Prints how many faults of each kind there are, if there is one.
+/// Prints the number of faults of each kind that has some.
 fn print_kinds(page: &mut String, kinds: &[u64]) -> Result<(), AllocError> {
     for (kind, count) in kinds.iter().enumerate() {
         if *count > 0 {
@@ -130,7 +130,7 @@ fn print_kinds(page: &mut String, kinds: &[u64]) -> Result<(), AllocError> {
     page.push_str("\n")
 }
 
-/// Prints how many entries were taken and refused.
+/// Prints the number of accepted entries, of faults and of warnings, and the faults of each kind.
 pub(crate) fn print_counts(
     page: &mut String,
     file: &str,
@@ -144,7 +144,7 @@ pub(crate) fn print_counts(
     print_kinds(page, counts.kinds.as_slice())
 }
 
-/// How the files are named whose entries are one list.
+/// The name for the files that share one list of entries.
 fn list_name(files: &[String]) -> &str {
     match files {
         [file] => file.as_str(),
@@ -152,7 +152,7 @@ fn list_name(files: &[String]) -> &str {
     }
 }
 
-/// Prints the states of the entries of all files, up to so many, and the entries that add most.
+/// Prints the number of states of the entries of all files, up to `limit`, and the entries that add most.
 pub(crate) fn print_states(
     page: &mut String,
     files: &[String],
@@ -179,7 +179,7 @@ pub(crate) fn print_states(
     }
 }
 
-/// Prints how many states each of these entries adds.
+/// Prints the number of states that each of these entries adds.
 fn print_most(
     page: &mut String,
     files: &[String],
@@ -192,7 +192,7 @@ fn print_most(
     Ok(())
 }
 
-/// Prints how many states an entry adds.
+/// Prints the number of states that an entry adds.
 fn print_added(
     page: &mut String,
     files: &[String],

@@ -1,4 +1,4 @@
--- Bare patterns: the diagrams of patterns, which ask for nothing beside a legal move.
+-- Bare patterns: they have only the diagram of a pattern, and ask for nothing else but a legal move.
 use Rattle.std.specs.Prelude.{◌≡◌, ℕ, ◌<◌, List, [], ◌∷◌, length, Some, None, Contains, slice_get}
 use Rattle.pat_types.specs.declared.pattern.Pattern.{Pattern}
 use Rattle.dfa_core.specs.Automata.{accepted}
@@ -22,13 +22,13 @@ pub record IsBare (p b : Pattern) : Type 0 where
   pub items : b.items ≡ []
   pub constraint : b.constraint ≡ None
 
--- the second list has the bare pattern of each pattern of the first, at the same place
+-- the second list has the bare pattern of each pattern of the first list, in the same order
 pub record AreBare (patterns bare : List Pattern) : Type 0 where
   pub same_length : length bare ≡ length patterns
   pub each : (n : ℕ) (p : Pattern) → slice_get patterns n ≡ Some p
       → (b : Pattern) × (slice_get bare n ≡ Some b) × IsBare p b
 
--- d has the bare patterns of the list, and their automaton
+-- d has the bare patterns of the list, and their automaton, which accepts only their numbers
 pub record AreDiagramsOf (patterns : List Pattern) (d : Diagrams) : Type 0 where
   pub bare : AreBare patterns d.bare.items
   pub automaton : IsAutomatonOf d.bare.items d.scanner

@@ -1,4 +1,4 @@
-//! Bare patterns: the diagrams of patterns, which ask for nothing beside a legal move.
+//! Bare patterns: they have only the diagram of a pattern, and ask for nothing else but a legal move.
 ghost use Rattle.std.specs.Prelude.{◌≡◌, [], ◌∷◌, ◌≤◌, length, IfOk};
 ghost use Rattle.match_rules.specs.Conditions.{unsafe_class};
 ghost use Rattle.pattern_coverage.specs.Bare.{IsBare, AreBare, AreDiagramsOf};
@@ -9,7 +9,7 @@ use go_base::{Bytes, NoMemory};
 use pat_types::{Items, Labels, Letter, Letters, Pattern};
 use std::alloc::Global;
 
-/// The class letter of a move whose stone need not be safe.
+/// The class letter for a move whose stone need not be safe.
 const UNSAFE_CLASS: u8 = b's';
 
 /// A copy of the letters of a diagram.
@@ -32,7 +32,7 @@ fn bare_classes(alloc: Global) -> Result<Bytes, NoMemory>
     Ok(classes)
 }
 
-/// The bare pattern of a pattern.
+/// The bare pattern of `p`.
 fn bare_of(alloc: Global, p: &Pattern) -> Result<Pattern, NoMemory>
     ensures { IfOk result (IsBare p.now) }
 {
@@ -70,15 +70,15 @@ fn bare_list(alloc: Global, patterns: &[Pattern]) -> Result<Vec<Pattern>, NoMemo
 /// The diagrams of a list of patterns, ready to be found on positions.
 #[derive(Drop)]
 pub struct Diagrams {
-    /// Their bare patterns, in the order of the list.
+    /// The bare patterns, in the order of the list.
     pub bare: Vec<Pattern>,
-    /// The automaton of these.
+    /// The automaton of the bare patterns.
     pub scanner: Scanner,
 }
 
 impl Diagrams {
-    /// Makes the diagrams of a list ready. It is an error if their automaton has more than `limit` states, or there is
-    /// no memory. Takes memory.
+    /// Makes the diagrams of a list ready. Fails if their automaton has more than `limit` states, or memory runs out.
+    /// Takes memory.
     pub fn new(alloc: Global, patterns: &[Pattern], limit: u32) -> Result<Diagrams, JoinError>
         requires { length patterns.now ≤ 4096 }
         ensures { IfOk result (AreDiagramsOf patterns.now) }

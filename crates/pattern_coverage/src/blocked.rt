@@ -1,4 +1,4 @@
-//! The tries that end at the move: the diagram fits, and the move is not legal.
+//! The tries that end at the move: the diagram fits, but the move is not legal.
 ghost use Rattle.std.specs.Prelude.{◌≡◌, ℕ, ◌*◌, ◌<◌, ◌≤◌, length, filter, count_by, All, IfOk};
 ghost use Rattle.std.specs.List.{range_with_len};
 ghost use Rattle.go_rules.specs.Board.{largest_points};
@@ -11,7 +11,7 @@ use match_misfit::first_misfit;
 use pat_types::{Pattern, mark_count};
 use std::alloc::Global;
 
-/// Whether a point is empty, and the friend may not play there.
+/// Whether the point `at` is empty, and the friend may not play there.
 fn is_blocked(position: &Position, friend: Colour, at: Point) -> bool
     requires { at < position.now.size * position.now.size }
     ensures { result ≡ is_blocked_there position.now friend at }
@@ -37,7 +37,7 @@ pub(crate) fn blocked_points(
     Ok(points)
 }
 
-/// At how many of these points a pattern's diagram fits under one transformation.
+/// The number of `points` at which the diagram of `p` fits under the transformation `t`.
 fn fits_under(
     p: &Pattern,
     position: &Position,
@@ -57,7 +57,7 @@ fn fits_under(
     count
 }
 
-/// How many tries of a pattern at these points have its diagram fit.
+/// The number of tries of `p` at these `points` in which its diagram fits.
 pub(crate) fn fits_among(p: &Pattern, position: &Position, friend: Colour, points: &[Point]) -> u64
     requires on_board { All (λ m. m < position.now.size * position.now.size) points.now }
     requires few { length points.now ≤ largest_points }

@@ -1,32 +1,32 @@
-//! How many tries of a pattern end at each part.
+//! The number of tries of a pattern that end at each part.
 ghost use Rattle.std.specs.Prelude.{◌≡◌, ℕ, ◌+◌, ◌-◌, ◌<◌, ◌^◌, ◌==◌, if◌then◌else◌, min, slice_index};
 
-/// How many ends a try may have: the six parts, and a match.
+/// The number of ends that a try can have: the six parts, and a match.
 pub const ENDS: usize = 7;
 
-/// How many tries of a pattern end at each part, and how many are matches.
+/// The number of tries of a pattern that end at each part, and of those that are matches.
 #[derive(Clone, Copy, Debug, PartialEq, Eq)]
 pub struct PartCounts {
-    /// The counts, by the number of the part; the last is that of the matches.
+    /// The counts, indexed by the number of the part; the last one counts the matches.
     pub counts: [u64; ENDS],
 }
 
 impl PartCounts {
-    /// No try.
+    /// The counts of no tries.
     pub fn new() -> PartCounts
         ensures { (part : ℕ) → part < 7 → slice_index result.counts part ≡ 0 }
     {
         PartCounts { counts: [0; ENDS] }
     }
 
-    /// How many tries end at a part.
+    /// The number of tries that end at `part`.
     pub fn at(&self, part: usize) -> u64
         ensures { part < 7 → result ≡ slice_index self.now.counts part }
     {
         self.counts.get(part).copied().unwrap_or(0)
     }
 
-    /// How many tries there are, as far as a `u64` goes.
+    /// The number of all tries, capped at the largest `u64`.
     pub fn all(&self) -> u64
         ensures { result ≡ min (slice_index self.now.counts 0 + (slice_index self.now.counts 1
             + (slice_index self.now.counts 2 + (slice_index self.now.counts 3 + (slice_index self.now.counts 4
@@ -42,7 +42,7 @@ impl PartCounts {
             .saturating_add(counts[6])
     }
 
-    /// Counts one try that ends at a part, as far as a `u64` goes.
+    /// Counts one try that ends at `part`; the count is capped at the largest `u64`.
     pub fn count(&mut self, part: usize)
         ensures { (other : ℕ) → other < 7 → slice_index self.new.counts other
             ≡ (if other == part then min (slice_index self.old.counts other + 1) (2 ^ 64 - 1)
@@ -53,7 +53,7 @@ impl PartCounts {
         }
     }
 
-    /// Adds the tries of another position, each count as far as a `u64` goes.
+    /// Adds the tries of another position; each count is capped at the largest `u64`.
     pub fn add(&mut self, more: &PartCounts)
         ensures { (part : ℕ) → part < 7 → slice_index self.new.counts part
             ≡ min (slice_index self.old.counts part + slice_index more.now.counts part) (2 ^ 64 - 1) }

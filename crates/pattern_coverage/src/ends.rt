@@ -1,4 +1,4 @@
-//! Where the tries end whose diagram fits with a legal move.
+//! The ends of the tries in which the diagram fits and the move is legal.
 ghost use Rattle.std.specs.Prelude.{◌≡◌, ◌*◌, ◌<◌, length, map, Contains, IfOk, OnOk, slice_get};
 ghost use Rattle.helpers.specs.HelperStates.{says_yes};
 ghost use Rattle.helpers.specs.Slots.{states_of};
@@ -14,12 +14,12 @@ use pat_types::Pattern;
 use read_rules::Depths;
 use std::alloc::Global;
 
-/// Where a try ends.
+/// The end of a try.
 #[derive(Clone, Copy)]
 pub struct End {
-    /// The place of its pattern in the list.
+    /// The index of the pattern in the list.
     pub pattern: u16,
-    /// The number of the part.
+    /// The number of the part at which the try ends.
     pub part: u8,
 }
 
@@ -39,7 +39,7 @@ fn part_of(reason: Option<Reason>) -> u8
     }
 }
 
-/// Where a try ends.
+/// The end of the try at the place of the match `z`.
 fn end_of(
     patterns: &[Pattern],
     position: &Position,
@@ -62,7 +62,7 @@ fn end_of(
     }
 }
 
-/// Where these tries end, in their order.
+/// The ends of the tries at the places of the matches `found`, in their order.
 pub(crate) fn ends_of(
     alloc: Global,
     patterns: &[Pattern],

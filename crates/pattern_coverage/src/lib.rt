@@ -4,9 +4,9 @@
 //! Parts are numbered in the order of the definition: 0 the diagram, 1 the move, 2 the stone, 3 class `n`, 4 the
 //! constraint, 5 the helpers; a try that is a match ends at 6.
 //!
-//! Diagrams are found by an automaton, by way of bare patterns: a bare pattern has the diagram of a pattern, and asks
-//! for nothing beside it but a legal move. At the few empty points where the move is not legal, each diagram is
-//! compared with the board. All other tries end at the diagram.
+//! An automaton finds the diagrams, by means of bare patterns: a bare pattern has the diagram of a pattern, and asks
+//! for nothing else but a legal move. At the few empty points where the move is not legal, each diagram is compared
+//! with the board. All other tries end at the diagram.
 #![tactic(auto)]
 
 mod bare;

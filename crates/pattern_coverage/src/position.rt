@@ -23,18 +23,18 @@ use pat_types::{Pattern, mark_count};
 use read_rules::Depths;
 use std::alloc::Global;
 
-/// How many readings are kept for bare patterns, which ask for none.
+/// The number of readings that are cached for bare patterns; these need none.
 const KEPT_READINGS: u32 = 8;
 
-/// How many tries a pattern has on a position.
+/// The number of tries of a pattern on a position.
 fn tries_of(p: &Pattern, position: &Position) -> u64
     ensures { result ≡ count_of p.now.mark * (position.now.size * position.now.size) }
 {
     mark_count(p.mark) as u64 * position.size().points() as u64
 }
 
-/// The ends of a pattern's tries, from those behind a legal move and from the empty points where the friend may not
-/// play.
+/// The ends of a pattern's tries: `later` counts those after a legal move, and `blocked` are the empty points where the
+/// friend may not play.
 fn ends_of_one(
     p: &Pattern,
     later: &PartCounts,
@@ -66,7 +66,7 @@ fn ends_of_one(
     }
 }
 
-/// The ends of the tries of each pattern, in the order of the list, from the counts of those behind a legal move.
+/// The ends of the tries of each pattern, in the order of the list; `later` counts those after a legal move.
 fn ends_of_all(
     alloc: Global,
     patterns: &[Pattern],
@@ -91,10 +91,10 @@ fn ends_of_all(
     Ok(counts)
 }
 
-/// How many tries of each pattern of a list end at each part on a position for a friend, in the order of the list.
+/// For each pattern of a list, in order, the number of tries that end at each part on a position for a friend.
 ///
-/// Each reading is made afresh at `depths`. The helpers are asked about each try that comes to them, and say afterwards
-/// what they said before. Takes memory.
+/// Each reading is made anew at `depths`. The helpers are asked about each try that reaches their part; afterwards they
+/// answer as before. Takes memory.
 pub fn ends_on(
     alloc: Global,
     patterns: &[Pattern],

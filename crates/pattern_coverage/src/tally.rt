@@ -1,4 +1,4 @@
-//! How many tries of each pattern of a list end at each part, from the ends of single tries.
+//! Counts the ends of single tries, for each pattern of a list and each part.
 ghost use Rattle.std.specs.Prelude.{◌≡◌, [], ◌∷◌, ◌++◌, List, length, IfOk};
 ghost use Rattle.pattern_coverage.specs.declared.ends.End.{End as EndSeen};
 ghost use Rattle.pattern_coverage.specs.Tally.{IsTallyOf};
@@ -8,7 +8,7 @@ use crate::ends::End;
 use go_base::NoMemory;
 use std::alloc::Global;
 
-/// Counts a try by its end, at the place of its pattern.
+/// Counts the `end` of a try, for its pattern.
 fn add_end(counts: &mut Vec<PartCounts>, end: End)
     ensures length { length counts.new.items ≡ length counts.old.items }
     ensures more { (ends : List EndSeen) → IsTallyOf ends counts.old.items
@@ -22,7 +22,7 @@ fn add_end(counts: &mut Vec<PartCounts>, end: End)
     }
 }
 
-/// How many tries of each of so many patterns end at each part, of the tries with these ends.
+/// The number of these `ends` at each part, for each of this number of `patterns`.
 pub(crate) fn tally(
     alloc: Global,
     patterns: usize,

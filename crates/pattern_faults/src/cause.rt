@@ -1,4 +1,4 @@
-//! The cause of a fault, in words.
+//! The causes of faults, in words.
 
 use crate::words::Value::{self, Between, Byte, Bytes, Nothing, Number};
 use crate::words::write_words;
@@ -7,161 +7,161 @@ use std::fmt::{self, Display, Formatter, Write};
 /// The cause of a fault.
 #[derive(Clone, Copy)]
 pub enum Cause<'a> {
-    /// A byte that no line may have.
+    /// A byte that may not stand in any line.
     BadByte(u8),
     /// A line before the first entry that does not begin with a letter.
     BeforeEntries,
     /// A byte order mark before the first line.
     ByteOrderMark,
-    /// A colon line behind the colon line of its entry.
+    /// A second colon line in an entry.
     SecondColonLine,
-    /// An expression behind the action lines.
+    /// An expression line behind the action lines.
     LateExpression,
-    /// A line behind the expression or the action lines that is neither.
+    /// A line behind the expression or the actions that is neither an expression line nor an action line.
     AfterEntry,
-    /// No name.
+    /// A Pattern line without a name.
     NoName,
-    /// A name of so many bytes.
+    /// A name that is too long, with its number of bytes.
     LongName(usize),
-    /// A byte that no name has.
+    /// A byte that may not stand in a name.
     NameByte(u8),
-    /// No row above the colon line.
+    /// A diagram without a row above the colon line.
     NoRow,
-    /// A line of so many points under one of another number.
+    /// A line of a diagram that is not as wide as the first line.
     Width {
-        /// The points of the line.
+        /// The points of this line.
         points: usize,
-        /// The points of the first line.
+        /// The points of the first line of the diagram.
         first: usize,
     },
-    /// A byte that is no letter of a diagram.
+    /// A byte that is not a letter of a diagram.
     Letter(u8),
-    /// The same where a constraint diagram seems to begin.
+    /// A byte that is not a letter of a diagram, in a line that seems to begin a constraint diagram.
     LabelInDiagram(u8),
     /// A line that is neither an edge line nor a row.
     NoLine,
     /// A part of an edge within a row.
     EdgeWithin(u8),
-    /// So many stars.
+    /// A diagram with this number of stars; it needs one star.
     Stars(usize),
-    /// An edge line between rows.
+    /// A second edge line above the rows.
     EdgeBetween,
-    /// A row below the bottom edge.
+    /// A line below the bottom edge.
     BelowEdge,
-    /// Edges at the sides that the lines above do not have.
+    /// Edges at the sides that are not those of the lines above.
     Sides,
-    /// A line of so many bytes.
+    /// A line of a diagram that is too long, with its number of bytes.
     LongLine(usize),
-    /// A line more than a diagram may have.
+    /// One line more than a diagram may have.
     ManyLines,
-    /// No colon line.
+    /// An entry without a colon line.
     NoColonLine,
-    /// A first field that is no mark.
+    /// A first field of a colon line that is not a mark.
     Mark(&'a [u8]),
-    /// A byte that is no class letter.
+    /// A byte that is not a class letter.
     ClassLetter(u8),
-    /// An item where the class letters stand.
+    /// An item in the place of the class letters.
     NoClasses {
         /// The item.
         item: &'a [u8],
-        /// The mark before it.
+        /// The mark in the field before the item.
         mark: &'a [u8],
     },
-    /// So many class letters.
+    /// Too many class letters, with their number.
     ManyClassLetters(usize),
-    /// A field that is no item.
+    /// A field of a colon line that is not an item.
     Item(&'a [u8]),
-    /// So many items.
+    /// Too many items, with their number.
     ManyItems(usize),
-    /// A line behind the last of the constraint diagram, which has so many.
+    /// A line behind the last line of the constraint diagram, which has this number of lines.
     ConstraintEnds(usize),
-    /// The same, if the line seems to be an expression.
+    /// A line behind the last line of the constraint diagram that seems to be an expression.
     NoSemicolon,
-    /// A line of the constraint diagram of another length than its line of the diagram.
+    /// A line of the constraint diagram that is not as long as its line of the diagram.
     ConstraintWidth {
         /// The bytes of the line.
         bytes: usize,
-        /// The bytes of the diagram's line.
+        /// The bytes of the line in the diagram.
         diagram: usize,
     },
-    /// A byte of the constraint diagram that is neither the diagram's nor a label.
+    /// A byte of the constraint diagram that is neither the byte of the diagram nor a label.
     NoLabel {
-        /// The byte.
+        /// The byte of the constraint diagram.
         byte: u8,
-        /// The diagram's.
+        /// The byte of the diagram.
         diagram: u8,
     },
     /// A label in the place of an edge.
     LabelOnEdge(u8),
-    /// A label that stands above already.
+    /// A label that stands twice in a constraint diagram.
     LabelAgain(u8),
-    /// A constraint diagram of too few lines.
+    /// A constraint diagram with too few lines.
     ConstraintShort {
-        /// Its lines.
+        /// The lines of the constraint diagram.
         lines: usize,
-        /// The diagram's.
+        /// The lines of the diagram.
         diagram: usize,
     },
-    /// A byte that no expression has.
+    /// A byte that may not stand in an expression.
     ExpressionByte(u8),
-    /// Bytes that seem to be an operator.
+    /// Bytes that look like an operator, but are none.
     NoSuchOperator {
-        /// The bytes.
+        /// These bytes.
         bytes: &'a [u8],
         /// The operator that may be meant.
         meant: &'static [u8],
     },
     /// A number of more than six digits.
     LongNumber,
-    /// An expression of more bytes than it may have.
+    /// An expression that is too long.
     LongExpression,
-    /// A word where a number, a call, a sign or a parenthesis is wanted.
+    /// A word in a place that needs a number, a call, a sign or a parenthesis.
     NoOperand(&'a [u8]),
-    /// A word where an operator or the end is wanted.
+    /// A word in a place that needs an operator or the end of the expression.
     NoOperator(&'a [u8]),
     /// A name without arguments.
     NoArguments(&'a [u8]),
-    /// A word where an argument is wanted.
+    /// A word in a place that needs an argument.
     NoArgument(&'a [u8]),
-    /// A word where a comma or the end of the arguments is wanted.
+    /// A word in a place that needs a comma or the end of the arguments.
     NoComma(&'a [u8]),
-    /// A parenthesis that none opens.
+    /// A closing parenthesis without an opening one.
     Unopened,
-    /// An expression that ends where an operand is wanted.
+    /// An expression that ends in a place that needs an operand.
     EndsEarly,
     /// An expression in which a parenthesis is not closed.
     Unclosed,
-    /// An expression with more levels than it may have.
+    /// An expression that is nested too deep.
     Deep,
-    /// A name that is no function's.
+    /// A name that is not the name of a function.
     Function(&'a [u8]),
-    /// A call with another number of arguments than the function takes.
+    /// A call with a number of arguments that the function does not take.
     Arity {
-        /// The function's name.
+        /// The name of the function.
         name: &'a [u8],
         /// The arguments of the call.
         arguments: usize,
         /// The least number that the function takes.
         least: usize,
-        /// The greatest.
+        /// The greatest number that the function takes.
         most: usize,
     },
-    /// A pass if no move may stand.
+    /// A pass in a call that takes none.
     Pass(&'a [u8]),
-    /// An argument that is no label.
+    /// An argument that is not a label of the constraint diagram.
     Label(u8),
     /// An argument that is the letter of a stone.
     StoneLabel(u8),
     /// A field that names no helper.
     Helper(&'a [u8]),
-    /// An entry more than a text may have.
+    /// One entry more than a text may have.
     ManyEntries,
-    /// The kind alone.
+    /// A fault of which only the kind is known.
     Kind(u8),
 }
 
 impl<'a> Cause<'a> {
-    /// The words of a cause, which have a `{}` in the place of each value.
+    /// The words for a cause, with a `{}` in the place of each value.
     fn words(&self) -> &'static str {
         match self {
             Cause::BadByte(_) => "byte {} may stand in no line",
@@ -187,7 +187,7 @@ impl<'a> Cause<'a> {
         }
     }
 
-    /// The words of a cause of the diagram, and of those of what stands below it.
+    /// The words for a cause in the diagram or in the lines below it.
     fn words_of_diagram(&self) -> &'static str {
         match self {
             Cause::NoRow => "no row of letters stands above the colon line",
@@ -217,7 +217,7 @@ impl<'a> Cause<'a> {
         }
     }
 
-    /// The words of a cause of the colon line or the constraint diagram, and of those of an expression.
+    /// The words for a cause in the colon line, the constraint diagram or the expression.
     fn words_of_constraint(&self) -> &'static str {
         match self {
             Cause::Mark(_) => "'{}' is no mark (8 | - / \\ + X O)",
@@ -252,7 +252,7 @@ impl<'a> Cause<'a> {
         }
     }
 
-    /// The words of a cause of an expression.
+    /// The words for a cause in an expression.
     fn words_of_expression(&self) -> &'static str {
         match self {
             Cause::ExpressionByte(_) => "'{}' may not stand in an expression",
@@ -289,7 +289,7 @@ impl<'a> Cause<'a> {
         }
     }
 
-    /// The values that stand in the words, in their order, and nothing behind them.
+    /// The values for the places in the words, in order, followed by `Nothing`.
     fn values(&self) -> [Value<'a>; 4] {
         let (first, second, third) = match *self {
             Cause::BadByte(number) | Cause::Kind(number) => {

@@ -1,4 +1,4 @@
-//! A fault as an author is told it.
+//! A fault as an author sees it.
 
 use crate::cause::Cause;
 use pattern_lines::Place;
@@ -6,14 +6,14 @@ use pattern_lines::Place;
 /// A fault of an entry.
 #[derive(Clone, Copy)]
 pub struct Fault<'a> {
-    /// The number of its line, as `db_read` tells it.
+    /// The number of the line that `db_read` reports.
     pub line: u64,
-    /// The number of its kind, from 1 to 18.
+    /// The number of the kind, from 1 to 18.
     pub kind: u8,
-    /// The name of its entry, which is empty before the first Pattern line and where the entry has none.
+    /// The name of the entry; empty before the first Pattern line, or if the entry has no name.
     pub entry: &'a [u8],
-    /// Where it is best seen. An expression of several lines may be at fault below the line that is told, and a line
-    /// that is missing is seen above it.
+    /// The place where the fault is best seen. In an expression of several lines it can be below the reported line; for
+    /// a missing line it is above.
     pub place: Place<'a>,
     /// The cause.
     pub cause: Cause<'a>,

@@ -1,8 +1,8 @@
-//! Why an entry of a pattern file is refused, in words: the cause of a fault of which the line and the kind are known.
+//! Explains why an entry of a pattern file is refused: the cause, in words, of a fault with a known line and kind.
 //!
-//! `db_read` tells the first fault of a text by a line and a number. `explain` looks at the entry again and finds where
-//! in the line the fault is seen, and what it is. A fault keeps the line and the kind that were told; no clause speaks
-//! of the words and the place.
+//! `db_read` reports the first fault of a text as a line and a number. `explain` looks at the entry again, and finds
+//! the place in the line and the cause. The line and the kind stay as reported; no clause speaks of the words and the
+//! place.
 #![tactic(auto)]
 
 mod cause;

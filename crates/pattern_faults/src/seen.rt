@@ -1,4 +1,4 @@
-//! Why a line is refused, found by looking at its entry again.
+//! Finds out why a line is refused, by looking at its entry again.
 
 ghost use Rattle.std.specs.Prelude.{◌≡◌, IfOk};
 
@@ -16,16 +16,16 @@ use pattern_lines::{Part, Place, Role, Written, is_bad, lines_in, name_in};
 use std::alloc::Global;
 use std::ops::Range;
 
-/// A cause and where it is seen.
+/// A cause, and the place where it is seen.
 #[derive(Clone, Copy)]
 pub(crate) struct Seen<'a> {
-    /// Where it is seen.
+    /// The place where the cause is seen.
     pub(crate) place: Place<'a>,
     /// The cause.
     pub(crate) cause: Cause<'a>,
 }
 
-/// The cause that is seen at this byte of a line.
+/// A cause seen at the byte at index `at` of a line.
 fn seen_at<'a>(line: &Written<'a>, at: usize, cause: Cause<'a>) -> Seen<'a> {
     Seen {
         place: line.place(at),
@@ -33,7 +33,7 @@ fn seen_at<'a>(line: &Written<'a>, at: usize, cause: Cause<'a>) -> Seen<'a> {
     }
 }
 
-/// Where the lines of an entry that are this stand, above the line of this number: one below the other.
+/// The indices of the lines with this `role` above the line `number`; these lines follow each other.
 fn places_above(lines: &[Written<'_>], role: Role, number: u64) -> Range<usize> {
     let mut from: usize = 0;
     let mut to: usize = 0;
@@ -46,12 +46,12 @@ fn places_above(lines: &[Written<'_>], role: Role, number: u64) -> Range<usize> 
     from..to
 }
 
-/// Where the lines of an entry that are this stand.
+/// The indices of the lines with this `role`.
 fn places_of(lines: &[Written<'_>], role: Role) -> Range<usize> {
     places_above(lines, role, u64::MAX)
 }
 
-/// The line of this number, if it is one of these.
+/// The line with this `number`, if it is one of `lines`.
 fn line_of<'l, 'a: 'l>(lines: &'l [Written<'a>], number: u64) -> Option<&'l Written<'a>> {
     for line in lines {
         if line.number == number {
@@ -61,7 +61,7 @@ fn line_of<'l, 'a: 'l>(lines: &'l [Written<'a>], number: u64) -> Option<&'l Writ
     None
 }
 
-/// A fault of which nothing more is seen than its kind.
+/// A fault of which only the kind is known.
 fn unseen<'a>(part: Part<'a>, line: u64, kind: u8) -> Seen<'a> {
     Seen {
         place: Place {
@@ -73,7 +73,7 @@ fn unseen<'a>(part: Part<'a>, line: u64, kind: u8) -> Seen<'a> {
     }
 }
 
-/// A byte that no line may have.
+/// The first byte of a line that may not stand in any line, if there is one.
 fn bad_byte<'a>(part: Part<'a>, line: u64) -> Option<Seen<'a>> {
     let text = part.line(line);
     let at = text.iter().position(is_bad)?;
@@ -88,7 +88,7 @@ fn bad_byte<'a>(part: Part<'a>, line: u64) -> Option<Seen<'a>> {
     })
 }
 
-/// What is seen of a fault of this line and kind.
+/// The cause of a fault with this line and kind, if it is found.
 fn look<'a>(
     alloc: Global,
     helpers: &[Bytes],
@@ -112,11 +112,10 @@ fn look<'a>(
     }
 }
 
-/// The fault of this line and kind, which this part of a text has, with what is seen of it.
+/// The fault with this `line` and `kind`, which `part` has, with its cause.
 ///
-/// The line is counted from 1 in the text, and the kind is that of `db_read`, with helpers of these names. Where
-/// nothing is seen, as of a fault that the part does not have, the cause is the kind alone. Takes memory, and may
-/// answer that there is none.
+/// The line is counted from 1 in the text; the kind is that of `db_read` with `helpers` of these names. If no cause is
+/// found, as for a fault that the part does not have, the cause is the kind alone. Takes memory.
 pub fn explain<'a>(
     alloc: Global,
     helpers: &[Bytes],

@@ -1,12 +1,12 @@
-//! Bytes of a text as they are shown in a message.
+//! Bytes of a text, as messages show them.
 
 use std::fmt::{self, Display, Formatter, Write};
 
-/// Bytes of a text, in which each that is no letter, digit, sign or blank of ASCII is shown by its number.
+/// Bytes of a text. A byte that is neither printable ASCII nor a blank is shown by its number.
 #[derive(Clone, Copy)]
 pub struct Shown<'a>(pub &'a [u8]);
 
-/// A byte of a text, shown in the same way.
+/// A byte of a text, shown by its number if it is neither printable ASCII nor a blank.
 #[derive(Clone, Copy)]
 pub struct ShownByte(pub u8);
 

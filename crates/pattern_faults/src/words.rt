@@ -6,11 +6,11 @@ use std::fmt::{self, Display, Formatter, Write};
 /// A value that stands in words.
 #[derive(Clone, Copy)]
 pub enum Value<'a> {
-    /// No value, which is shown by nothing.
+    /// No value: it prints as nothing.
     Nothing,
-    /// A number of what a text has.
+    /// A number of things in a text.
     Number(usize),
-    /// The least and the greatest of the numbers that may stand, shown once where they are the same.
+    /// The least and the greatest of the allowed numbers; printed as one number if they are equal.
     Between(usize, usize),
     /// The number of a line.
     Line(u64),
@@ -34,7 +34,8 @@ impl Display for Value<'_> {
     }
 }
 
-/// Writes words with the values in the places of their `{}`. There is a value more than places, which is nothing.
+/// Writes `words` with the `values` in the places of their `{}`. There must be one more value than places; the last is
+/// `Nothing`.
 pub fn write_words<W: Write>(
     f: &mut Formatter<W>,
     words: &str,

@@ -1,10 +1,10 @@
-//! Entries that match only where another matches at the same point.
+//! Finds entries that match only if another entry matches at the same point.
 
 use go_base::{Cell, Colour};
 use pat_types::{Drawn, Letter, Mark, Pattern, drawn_in, letter_fits, mark_count};
 
-/// The eight transformations, each by how often the offsets down and right of a cell count in its new offset down, and
-/// in its new offset right.
+/// The eight transformations. Each has four factors: those of the old offsets down and right in the new offset down,
+/// then those in the new offset right.
 pub(crate) const TURNS: [[i16; 4]; 8] = [
     [1, 0, 0, 1],
     [0, 1, -1, 0],
@@ -16,7 +16,7 @@ pub(crate) const TURNS: [[i16; 4]; 8] = [
     [0, 1, 1, 0],
 ];
 
-/// The offset of a cell from the star, turned and mirrored by a transformation.
+/// The offset of a cell from the star, turned or mirrored by a transformation.
 pub(crate) fn turned(turn: &[i16; 4], down: i16, right: i16) -> (i16, i16) {
     let [down_down, right_down, down_right, right_right] = *turn;
     (
@@ -27,7 +27,7 @@ pub(crate) fn turned(turn: &[i16; 4], down: i16, right: i16) -> (i16, i16) {
     )
 }
 
-/// Whether a letter admits a cell only where another admits it.
+/// Whether `letter` fits a cell only if `other` fits it.
 fn letter_implies(letter: Letter, other: Letter) -> bool {
     for cell in [Cell::Empty, Cell::Black, Cell::White] {
         if letter_fits(letter, cell, Colour::Black) && !letter_fits(other, cell, Colour::Black) {
@@ -37,7 +37,7 @@ fn letter_implies(letter: Letter, other: Letter) -> bool {
     true
 }
 
-/// Whether what is drawn in a cell holds only where what another pattern draws there holds.
+/// Whether `drawn` fits a cell only if `other` fits it.
 fn cell_implies(drawn: Drawn, other: Drawn) -> bool {
     match (drawn, other) {
         (_, Drawn::Nothing) => true,
@@ -47,7 +47,8 @@ fn cell_implies(drawn: Drawn, other: Drawn) -> bool {
     }
 }
 
-/// Whether a diagram fits only where another, turned in this way, fits with its star at the same point.
+/// Whether the diagram of `pattern` fits only if that of `other`, turned by `turn`, fits with its star at the same
+/// point.
 pub(crate) fn diagram_implies(pattern: &Pattern, other: &Pattern, turn: &[i16; 4]) -> bool {
     let (star_row, star_column) = (other.star.0 as i16, other.star.1 as i16);
     let (down, right) = (pattern.star.0 as i16, pattern.star.1 as i16);
@@ -76,7 +77,7 @@ fn has_class(pattern: &Pattern, letter: u8) -> bool {
     pattern.classes.as_slice().contains(&letter)
 }
 
-/// Whether a pattern names a helper that is asked.
+/// Whether a pattern names a helper that has to be asked.
 fn asks_helper(pattern: &Pattern) -> bool {
     for item in pattern.items.as_slice() {
         if item.text.is_none() && item.name.as_slice() != b"NULL".as_slice() {
@@ -86,14 +87,14 @@ fn asks_helper(pattern: &Pattern) -> bool {
     false
 }
 
-/// Whether a pattern asks nothing that another does not ask too, but for its diagram.
+/// Whether `other`, apart from its diagram, asks nothing that `pattern` does not ask too.
 fn asks_no_more(other: &Pattern, pattern: &Pattern) -> bool {
     let is_safe = has_class(other, b's') || !has_class(pattern, b's');
     let is_open = !has_class(other, b'n') || has_class(pattern, b'n');
     other.constraint.is_none() && !asks_helper(other) && is_safe && is_open
 }
 
-/// How many of the transformations may turn a pattern so that it is tried wherever another is, the first ones.
+/// How many of the first `TURNS` may turn `other` so that it is tried whenever `pattern` is tried.
 fn tried_turns(pattern: &Pattern, other: &Pattern) -> usize {
     if other.mark == Mark::Eight {
         TURNS.len()
@@ -104,7 +105,7 @@ fn tried_turns(pattern: &Pattern, other: &Pattern) -> usize {
     }
 }
 
-/// Whether a pattern matches only where another matches at the same point. If this is not seen it may still be so.
+/// Whether `pattern` matches only if `other` matches at the same point. The answer no is not certain.
 pub(crate) fn never_alone(pattern: &Pattern, other: &Pattern) -> bool {
     if !asks_no_more(other, pattern) {
         return false;

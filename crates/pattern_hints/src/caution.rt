@@ -1,21 +1,21 @@
-//! What is told of a text that is no fault, in words.
+//! The warnings about a text, in words.
 
 use pattern_faults::Value::{self, Byte, Bytes, Line, Nothing, Number};
 use pattern_faults::write_words;
 use std::fmt::{self, Display, Formatter, Write};
 
-/// What an author may not have meant.
+/// Something that an author may not have meant.
 #[derive(Clone, Copy)]
 pub enum Caution<'a> {
     /// Letters of a diagram behind the blank that ends a row.
     BehindRow(&'a [u8]),
     /// Words behind the blank that ends a name.
     BehindName(&'a [u8]),
-    /// A word before the first entry that nearly is `Pattern`.
+    /// A word before the first entry that is nearly `Pattern`.
     NearPattern(&'a [u8]),
     /// A label that no expression names.
     UnusedLabel(u8),
-    /// A class letter that tests nothing in this case.
+    /// A class letter that tests nothing in this case, but does in the other.
     ClassCase {
         /// The letter.
         letter: u8,
@@ -24,7 +24,7 @@ pub enum Caution<'a> {
     },
     /// A mark that tries images of the diagram more than once.
     OwnImage {
-        /// How often each match comes.
+        /// How often each match is found.
         times: usize,
         /// The mark that tries each image once.
         mark: u8,
@@ -33,35 +33,35 @@ pub enum Caution<'a> {
     ImagesLeftOut {
         /// The mark.
         mark: u8,
-        /// The mark that tries all.
+        /// The mark that tries all images.
         meant: u8,
     },
-    /// An item that says no value, and whose name nearly is `value`.
+    /// An item that gives no value, though its name is nearly `value`.
     NearValue(&'a [u8]),
-    /// An item of the name `value` that says none.
+    /// An item called `value` that gives no value.
     NoValue(&'a [u8]),
-    /// An item that says a value behind another that does.
+    /// A second item that gives a value.
     SecondValue(&'a [u8]),
-    /// An expression that is 0 wherever the diagram fits.
+    /// An expression that is 0 whenever the diagram fits.
     NeverMet,
-    /// A name that an entry above has too.
+    /// A name that an earlier entry has too.
     SameName {
-        /// The line of the entry above.
+        /// The line of the earlier entry.
         line: u64,
     },
-    /// An entry that matches only where another does, at the same point.
+    /// An entry that matches only if another entry matches at the same point.
     NeverAlone {
         /// The line of the other entry.
         line: u64,
     },
-    /// A line whose end differs from the first line's.
+    /// A line that does not end as the first line does.
     LineEnds,
     /// A text without an entry.
     NoEntry,
 }
 
 impl<'a> Caution<'a> {
-    /// The words of a caution, which have a `{}` in the place of each value.
+    /// The words for a caution, with a `{}` in the place of each value.
     fn words(&self) -> &'static str {
         match self {
             Caution::BehindRow(_) => "a row ends at its first blank; '{}' is passed over",
@@ -93,7 +93,7 @@ impl<'a> Caution<'a> {
         }
     }
 
-    /// The values that stand in the words, in their order, and nothing behind them.
+    /// The values for the places in the words, in order, followed by `Nothing`.
     fn values(&self) -> [Value<'a>; 3] {
         let (first, second) = match *self {
             Caution::BehindRow(word)

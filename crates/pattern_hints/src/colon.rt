@@ -1,4 +1,4 @@
-//! What is told of the colon line of an entry.
+//! Warnings about the colon line of an entry.
 
 use crate::caution::Caution;
 use crate::images;
@@ -8,10 +8,10 @@ use pat_types::{NoMemory, Pattern};
 use pattern_lines::{Field, Written, fields};
 use std::alloc::Global;
 
-/// The letters by which the matcher and GNU Go sort patterns.
+/// The class letters by which the matcher and GNU Go sort patterns.
 const CLASSES: &[u8] = b"sOoXxDCcnBAbeEadIJjtTUWFNY";
 
-/// The letter in the other case.
+/// The same letter in the other case.
 fn other_case(letter: u8) -> u8 {
     if letter.is_ascii_lowercase() {
         letter.to_ascii_uppercase()
@@ -20,14 +20,14 @@ fn other_case(letter: u8) -> u8 {
     }
 }
 
-/// Whether a field has class letters alone.
+/// Whether a field has only letters and `-`.
 fn are_classes(field: &[u8]) -> bool {
     field
         .iter()
         .all(|byte| byte.is_ascii_alphabetic() || *byte == b'-')
 }
 
-/// The first class letter of a field that tests nothing and would in the other case.
+/// A warning about the first class letter of a field that tests nothing, but would in the other case.
 fn of_case<'a>(entry: &'a [u8], line: &Written<'a>, field: Field<'a>) -> Option<Warning<'a>> {
     for (at, byte) in field.bytes.iter().enumerate() {
         let letter = *byte;
@@ -40,7 +40,7 @@ fn of_case<'a>(entry: &'a [u8], line: &Written<'a>, field: Field<'a>) -> Option<
     None
 }
 
-/// What is told of the class letters of a colon line. Of a field that is at fault nothing is told.
+/// A warning about the class letters of a colon line. A faulty field gets no warning.
 pub(crate) fn of_classes<'a>(
     alloc: Global,
     entry: &'a [u8],
@@ -52,7 +52,7 @@ pub(crate) fn of_classes<'a>(
     }
 }
 
-/// Puts what is told of the items of an entry that is taken, each of which stands in a field of its colon line.
+/// Appends the warnings about the items of an accepted entry, each in a field of the colon line.
 fn push_items<'a>(
     all: &mut Vec<Warning<'a>>,
     entry: &'a [u8],
@@ -70,7 +70,7 @@ fn push_items<'a>(
     Ok(())
 }
 
-/// Puts what is told of the mark and the items of an entry that is taken.
+/// Appends the warnings about the mark and the items of an accepted entry.
 pub(crate) fn push_mark_and_items<'a>(
     alloc: Global,
     all: &mut Vec<Warning<'a>>,

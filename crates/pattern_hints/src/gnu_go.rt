@@ -1,12 +1,12 @@
-//! What GNU Go's pattern files have and gopat's do not have.
+//! What GNU Go's pattern files have, and those of gopat do not.
 
-/// The letters of GNU Go's diagrams that gopat's do not have.
+/// The letters of GNU Go's diagrams that gopat does not have.
 pub(crate) const LETTERS: &[u8] = b",a!QY";
 
-/// The letters of GNU Go's eye shapes that no diagram has.
+/// The letters of GNU Go's eye shapes that no diagram of gopat has.
 pub(crate) const EYE_LETTERS: &[u8] = b"@$<>()";
 
-/// The functions of GNU Go's constraints that gopat's do not have.
+/// The functions of GNU Go's constraints that gopat does not have.
 pub(crate) const FUNCTIONS: &[&[u8]] = &[
     b"lib2",
     b"lib3",

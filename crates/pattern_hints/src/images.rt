@@ -1,10 +1,10 @@
-//! The images of a diagram under the transformations, beside those that its mark tries.
+//! Compares the images of a diagram with those that its mark tries.
 
 use crate::alone::{TURNS, diagram_implies, turned};
 use crate::caution::Caution;
 use pat_types::{Mark, Pattern, mark_count};
 
-/// Whether a transformation leaves the points of all labels where they are.
+/// Whether a transformation leaves all labels at their points.
 fn keeps_labels(pattern: &Pattern, turn: &[i16; 4]) -> bool {
     let (star_row, star_column) = (pattern.star.0 as i16, pattern.star.1 as i16);
     for label in pattern.labels.as_slice() {
@@ -17,7 +17,7 @@ fn keeps_labels(pattern: &Pattern, turn: &[i16; 4]) -> bool {
     true
 }
 
-/// For each transformation whether it leaves a diagram as it is.
+/// For each transformation, whether it leaves the diagram as it is.
 fn own_images(pattern: &Pattern) -> [bool; 8] {
     let mut own = [false; 8];
     for (is_own, turn) in own.iter_mut().zip(TURNS.iter()) {
@@ -26,7 +26,7 @@ fn own_images(pattern: &Pattern) -> [bool; 8] {
     own
 }
 
-/// For each transformation whether it leaves a diagram and the points of its labels as they are.
+/// For each transformation, whether it leaves the diagram and the points of its labels as they are.
 fn own_images_with_labels(pattern: &Pattern) -> [bool; 8] {
     let mut own = own_images(pattern);
     for (is_own, turn) in own.iter_mut().zip(TURNS.iter()) {
@@ -35,8 +35,8 @@ fn own_images_with_labels(pattern: &Pattern) -> [bool; 8] {
     own
 }
 
-/// The mark of the fewest transformations that tries each image of a diagram, which these transformations leave as it
-/// is.
+/// The mark with the fewest transformations that tries each image of a diagram. `own` says which transformations leave
+/// the diagram as it is.
 fn mark_of_images(own: &[bool; 8]) -> Mark {
     let [_, quarter, half, _, left_right, rising, top_bottom, falling] = *own;
     if !left_right && !rising && !top_bottom && !falling {
@@ -58,7 +58,7 @@ fn mark_of_images(own: &[bool; 8]) -> Mark {
     }
 }
 
-/// The letter of a mark on a colon line.
+/// The letter for a mark on a colon line.
 fn letter_of(mark: Mark) -> u8 {
     match mark {
         Mark::Eight => b'8',
@@ -72,7 +72,7 @@ fn letter_of(mark: Mark) -> u8 {
     }
 }
 
-/// How often each match comes under a mark that tries so many transformations, where so many try each image.
+/// How often a mark finds each match, if it has `tried` transformations, and `needed` of them try each image once.
 fn times(tried: u8, needed: u8) -> usize {
     match needed {
         1 => tried as usize,
@@ -81,7 +81,7 @@ fn times(tried: u8, needed: u8) -> usize {
     }
 }
 
-/// What is told of the mark of a pattern: that each match comes more than once, or that images are not tried.
+/// A warning about the mark of a pattern: it finds each match more than once, or does not try all images.
 pub(crate) fn of_mark<'a>(pattern: &Pattern) -> Option<Caution<'a>> {
     let tried = mark_count(pattern.mark);
     let once = mark_of_images(&own_images_with_labels(pattern));

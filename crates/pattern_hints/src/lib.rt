@@ -1,7 +1,7 @@
-//! What an author of pattern files is told beside the faults: what may not have been meant, and what of GNU Go's
-//! entries gopat does not have or values otherwise.
+//! Hints for authors of pattern files, beside the faults: what may not have been meant, and what in GNU Go's entries
+//! gopat does not have or gives another value.
 //!
-//! No clause speaks of them; they are tested, in `report_tests`.
+//! No clause speaks of hints; `report_tests` tests them.
 #![tactic(auto)]
 
 mod alone;

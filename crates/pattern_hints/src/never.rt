@@ -1,7 +1,8 @@
-//! Constraints that are 0 wherever the diagram fits.
+//! Finds constraints that are 0 whenever the diagram fits.
 //!
-//! The letters of the diagram say what may stand at the points that a constraint names, and so between which values
-//! each of its parts lies. Of two parts that belong together nothing is seen, as in `lib(A)==1 && lib(A)==2`.
+//! The letters of the diagram say what may stand at the points that a constraint names. From this follow the least and
+//! the greatest value of each part of the constraint. A contradiction between two parts is not found, such as
+//! `lib(A)==1 && lib(A)==2`.
 
 use go_base::{Cell, Colour};
 use pat_types::{
@@ -9,28 +10,28 @@ use pat_types::{
     drawn_in, letter_fits,
 };
 
-/// The colour for which the pattern is asked, if it does not matter which.
+/// The colour of the pattern's friend; the other colour would give the same answers.
 const FRIEND: Colour = Colour::Black;
 
 /// More liberties than a string can have.
 const MANY: i64 = 625;
 
-/// The values between which one lies.
+/// The values from a least to a greatest one.
 #[derive(Clone, Copy)]
 struct Span {
-    /// The least.
+    /// The least value.
     least: i64,
-    /// The greatest.
+    /// The greatest value.
     greatest: i64,
 }
 
 impl Span {
-    /// The values from 0 up to this one.
+    /// The values from 0 up to `greatest`.
     fn up_to(greatest: i64) -> Span {
         Span { least: 0, greatest }
     }
 
-    /// This value alone.
+    /// Only this value.
     fn only(value: i64) -> Span {
         Span {
             least: value,
@@ -38,17 +39,17 @@ impl Span {
         }
     }
 
-    /// Whether it is 0 alone.
+    /// Whether 0 is the only value.
     fn is_false(self) -> bool {
         self.least == 0 && self.greatest == 0
     }
 
-    /// Whether 0 is none of the values.
+    /// Whether 0 is not one of the values.
     fn is_true(self) -> bool {
         self.least > 0 || self.greatest < 0
     }
 
-    /// The values with the other sign.
+    /// The same values with the other sign.
     fn negated(self) -> Span {
         Span {
             least: self.greatest.saturating_neg(),
@@ -56,7 +57,7 @@ impl Span {
         }
     }
 
-    /// The sums of one of these values and one of others.
+    /// The sums of a value of this span and a value of `other`.
     fn plus(self, other: Span) -> Span {
         Span {
             least: self.least.saturating_add(other.least),
@@ -65,7 +66,7 @@ impl Span {
     }
 }
 
-/// The values of a test that is always so, never so, or one of both.
+/// The values of a test: 1 if it always holds, 0 if it never holds, else both.
 fn worth_of(always: bool, never: bool) -> Span {
     if always {
         Span::only(1)
@@ -76,12 +77,12 @@ fn worth_of(always: bool, never: bool) -> Span {
     }
 }
 
-/// Whether one of these values is always less than one of those, or never.
+/// The values of the test that a value of `left` is less than a value of `right`.
 fn less(left: Span, right: Span) -> Span {
     worth_of(left.greatest < right.least, left.least >= right.greatest)
 }
 
-/// Whether one of these values is always one of those, or never.
+/// The values of the test that a value of `left` equals a value of `right`.
 fn equal(left: Span, right: Span) -> Span {
     let is_single = left.least == left.greatest && right.least == right.greatest;
     worth_of(
@@ -90,12 +91,12 @@ fn equal(left: Span, right: Span) -> Span {
     )
 }
 
-/// The values of `!`.
+/// The values of `!` before an operand with these values.
 fn not(span: Span) -> Span {
     worth_of(span.is_false(), span.is_true())
 }
 
-/// The values of two values with an operator between them.
+/// The values of an operator between operands with these values.
 fn joined(op: Op, left: Span, right: Span) -> Span {
     match op {
         Op::Or => worth_of(
@@ -117,7 +118,7 @@ fn joined(op: Op, left: Span, right: Span) -> Span {
     }
 }
 
-/// The letter that the diagram has at an argument.
+/// The letter of the diagram at the point of an argument.
 fn letter_at(pattern: &Pattern, arg: Arg) -> Letter {
     let Arg::Label(letter) = arg else {
         return match arg {
@@ -135,22 +136,22 @@ fn letter_at(pattern: &Pattern, arg: Arg) -> Letter {
     Letter::Any
 }
 
-/// Whether a stone of this colour may stand at an argument.
+/// Whether a stone of this `colour` may stand at the point of an argument.
 fn may_hold(pattern: &Pattern, arg: Arg, colour: Colour) -> bool {
     letter_fits(letter_at(pattern, arg), colour.cell(), FRIEND)
 }
 
-/// Whether an argument holds no stone wherever the diagram fits.
+/// Whether no stone stands at the point of an argument whenever the diagram fits.
 fn is_empty(pattern: &Pattern, arg: Arg) -> bool {
     !may_hold(pattern, arg, FRIEND) && !may_hold(pattern, arg, FRIEND.other())
 }
 
-/// Whether an argument holds a stone wherever the diagram fits.
+/// Whether a stone stands at the point of an argument whenever the diagram fits.
 fn is_stone(pattern: &Pattern, arg: Arg) -> bool {
     !letter_fits(letter_at(pattern, arg), Cell::Empty, FRIEND)
 }
 
-/// The values up to this one, or 0 alone if this is so.
+/// Only 0 if `is_nothing`, else the values up to `greatest`.
 fn unless(is_nothing: bool, greatest: i64) -> Span {
     if is_nothing {
         Span::only(0)
@@ -159,7 +160,7 @@ fn unless(is_nothing: bool, greatest: i64) -> Span {
     }
 }
 
-/// The values of a function of a point.
+/// The values of a function of one point.
 fn of_point(pattern: &Pattern, function: PointFunction, a: Arg) -> Span {
     match function {
         PointFunction::Lib if is_stone(pattern, a) => Span {
@@ -177,7 +178,7 @@ fn of_point(pattern: &Pattern, function: PointFunction, a: Arg) -> Span {
     }
 }
 
-/// Whether two arguments never hold stones of one colour.
+/// Whether the points of two arguments never hold stones of the same colour.
 fn are_never_alike(pattern: &Pattern, a: Arg, b: Arg) -> bool {
     let friends = may_hold(pattern, a, FRIEND) && may_hold(pattern, b, FRIEND);
     let enemies = may_hold(pattern, a, FRIEND.other()) && may_hold(pattern, b, FRIEND.other());
@@ -197,7 +198,7 @@ fn of_pair(pattern: &Pattern, function: PairFunction, a: Arg, b: Arg) -> Span {
     }
 }
 
-/// The values of a function of points.
+/// The values of a function of several points.
 fn of_points(pattern: &Pattern, function: PointsFunction, args: &[Arg]) -> Span {
     let colour = match function {
         PointsFunction::OSomewhere => FRIEND,
@@ -214,8 +215,8 @@ fn of_points(pattern: &Pattern, function: PointsFunction, args: &[Arg]) -> Span 
     worth_of(always, never)
 }
 
-/// The values of a function of moves and then a point. A point that no stone stands at, and at which no move is, is
-/// empty behind the moves.
+/// The values of a function of moves and then a point. If no stone stands at the point and no move is played there, the
+/// point is empty behind the moves, and the value is 0.
 fn of_moves(pattern: &Pattern, args: &[Arg]) -> Span {
     let Some((at, moves)) = args.split_last() else {
         return Span::up_to(3);
@@ -245,7 +246,7 @@ fn values_of(pattern: &Pattern, expr: &Expr) -> Span {
     }
 }
 
-/// Whether the constraint of a pattern is 0 wherever its diagram fits. If this is not seen it may still be so.
+/// Whether the constraint of a pattern is 0 whenever its diagram fits. The answer no is not certain.
 pub(crate) fn is_never_met(pattern: &Pattern) -> bool {
     match &pattern.constraint {
         Some(expr) => values_of(pattern, expr).is_false(),

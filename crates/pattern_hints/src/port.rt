@@ -1,4 +1,4 @@
-//! What an entry of GNU Go's has that gopat does not have, and where a value differs.
+//! What an entry of GNU Go has that gopat does not, and which functions have another value.
 
 use crate::gnu_go::{EYE_LETTERS, FUNCTIONS, LETTERS};
 use db_lex::trim;
@@ -8,39 +8,39 @@ use pattern_lines::{Part, Place, Sort, lines_in, tokens};
 use std::alloc::Global;
 use std::fmt::{self, Display, Formatter, Write};
 
-/// What is told to an author who brings entries of GNU Go's.
+/// A note for an author who brings entries from GNU Go.
 #[derive(Clone, Copy)]
 pub enum Port<'a> {
-    /// A letter of GNU Go's own.
+    /// A letter that only GNU Go has.
     Letter(u8),
     /// A letter of GNU Go's eye shapes.
     EyeLetter(u8),
-    /// An eye shape, in which '*' is no move.
+    /// An eye shape, in which `*` is not a move.
     EyeStars,
-    /// The number of eyes of an eye shape in place of a mark.
+    /// The number of eyes of an eye shape, in place of a mark.
     EyeValue(&'a [u8]),
-    /// A weight of GNU Go's playouts in place of a mark.
+    /// A weight for GNU Go's playouts, in place of a mark.
     Weight(&'a [u8]),
     /// A diagram without a move.
     NoMove,
     /// A label that stands at several points.
     LabelAgain(u8),
-    /// A function of GNU Go's own.
+    /// A function that only GNU Go has.
     Function(&'a [u8]),
-    /// A word of GNU Go's in a comparison, as DEAD.
+    /// A word in a comparison, such as DEAD.
     Word(&'a [u8]),
-    /// A function in C that the entry names.
+    /// A C function that the entry names.
     Helper(&'a [u8]),
-    /// The attack of a target that the moves before have taken.
+    /// The function `oplay_attack` or `xplay_attack`, if its moves capture the target.
     TakenTarget(&'a [u8]),
-    /// A play that attacks.
+    /// The function `does_attack`.
     DoesAttack,
-    /// A ko at a stone.
+    /// The function `ko` at a stone.
     Ko,
 }
 
 impl<'a> Port<'a> {
-    /// The words of what is told, which have a `{}` in the place of its value.
+    /// The words for a note, with a `{}` in the place of its value.
     fn words(&self) -> &'static str {
         match self {
             Port::Letter(_) => "GNU Go has the letter '{}' in diagrams; gopat has not",
@@ -79,7 +79,7 @@ impl<'a> Port<'a> {
         }
     }
 
-    /// The value that stands in the words.
+    /// The value for the place in the words.
     fn value(&self) -> Value<'a> {
         match *self {
             Port::Letter(letter) | Port::EyeLetter(letter) | Port::LabelAgain(letter) => {
@@ -102,16 +102,16 @@ impl Display for Port<'_> {
     }
 }
 
-/// A note on an entry that gopat takes.
+/// A note on an entry that gopat accepts.
 #[derive(Clone, Copy)]
 pub struct PortNote<'a> {
-    /// Where it is seen.
+    /// The place that the note is about.
     pub place: Place<'a>,
-    /// What is told.
+    /// The note.
     pub port: Port<'a>,
 }
 
-/// Whether a name is one of these.
+/// Whether `name` is one of `names`.
 fn is_among(name: &[u8], names: &[&[u8]]) -> bool {
     for other in names {
         if *other == name {
@@ -121,7 +121,7 @@ fn is_among(name: &[u8], names: &[&[u8]]) -> bool {
     false
 }
 
-/// Whether all bytes of a field are digits up to this.
+/// Whether all bytes of a field are digits from 0 to `most`.
 fn are_digits(field: &[u8], most: u8) -> bool {
     for digit in field {
         if *digit < b'0' || most < *digit {
@@ -131,12 +131,12 @@ fn are_digits(field: &[u8], most: u8) -> bool {
     true
 }
 
-/// Whether a first field is the value of an eye shape: a digit from 0 to 2 for each of four cases.
+/// Whether a first field is the value of an eye shape: four digits from 0 to 2.
 fn is_eye_value(field: &[u8]) -> bool {
     field.len() == 4 && are_digits(field, b'2')
 }
 
-/// What a first field is that is no mark, where GNU Go has such fields.
+/// What GNU Go means by a first field that is not a mark.
 fn of_mark<'a>(field: &'a [u8]) -> Option<Port<'a>> {
     if is_eye_value(field) {
         Some(Port::EyeValue(field))
@@ -147,7 +147,7 @@ fn of_mark<'a>(field: &'a [u8]) -> Option<Port<'a>> {
     }
 }
 
-/// What of GNU Go's own a letter of no diagram is.
+/// What GNU Go means by a letter that no diagram of gopat has.
 fn of_letter<'a>(letter: u8) -> Option<Port<'a>> {
     if LETTERS.contains(&letter) {
         Some(Port::Letter(letter))
@@ -158,7 +158,7 @@ fn of_letter<'a>(letter: u8) -> Option<Port<'a>> {
     }
 }
 
-/// What of GNU Go's own a fault comes from, if it does.
+/// What in GNU Go a fault comes from, if it comes from GNU Go.
 pub fn port_of<'a>(fault: &Fault<'a>) -> Option<Port<'a>> {
     match &fault.cause {
         Cause::Letter(letter) | Cause::LabelInDiagram(letter) => of_letter(*letter),
@@ -184,7 +184,7 @@ fn first_field(line: &[u8]) -> &[u8] {
     trim(fields)
 }
 
-/// What a function of this name values otherwise than GNU Go's.
+/// The difference from GNU Go in the value of the function called `name`, if there is one.
 fn differing<'a>(name: &'a [u8]) -> Option<Port<'a>> {
     match name {
         b"oplay_attack" | b"xplay_attack" => Some(Port::TakenTarget(name)),
@@ -194,7 +194,7 @@ fn differing<'a>(name: &'a [u8]) -> Option<Port<'a>> {
     }
 }
 
-/// The functions in the expression of an entry whose value differs from GNU Go's.
+/// The functions in the expression of an entry with values that differ from GNU Go's. Takes memory.
 pub fn port_notes<'a>(alloc: Global, part: Part<'a>) -> Result<Vec<PortNote<'a>>, NoMemory> {
     let mut all = Vec::new(alloc);
     let lines = lines_in(alloc, part)?;

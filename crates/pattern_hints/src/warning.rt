@@ -1,4 +1,4 @@
-//! What an author may not have meant, though it is no fault.
+//! What an author may not have meant, though it is not a fault.
 
 use crate::alone::never_alone;
 use crate::caution::Caution;
@@ -15,18 +15,18 @@ use std::alloc::Global;
 /// A warning.
 #[derive(Clone, Copy)]
 pub struct Warning<'a> {
-    /// The name of its entry, or nothing.
+    /// The name of the entry; empty if the warning is not about an entry with a name.
     pub entry: &'a [u8],
-    /// Where it is seen.
+    /// The place that the warning is about.
     pub place: Place<'a>,
-    /// What is told.
+    /// What may not have been meant.
     pub caution: Caution<'a>,
 }
 
 /// The word that begins an entry, in small letters.
 const PATTERN: &[u8] = b"pattern";
 
-/// The warning that is told at this byte of a line.
+/// A warning about the byte at index `at` of a line.
 pub(crate) fn warning_at<'a>(
     entry: &'a [u8],
     line: &Written<'a>,
@@ -40,7 +40,7 @@ pub(crate) fn warning_at<'a>(
     }
 }
 
-/// The warning that is told of the whole text at this line.
+/// A warning about the whole text, placed at this line.
 fn warning_of_text<'a>(line: u64, caution: Caution<'a>) -> Warning<'a> {
     Warning {
         entry: &[],
@@ -53,13 +53,13 @@ fn warning_of_text<'a>(line: u64, caution: Caution<'a>) -> Warning<'a> {
     }
 }
 
-/// Whether a word is `Pattern` but for the case, or but for a letter or two next to each other.
+/// Whether a word is `Pattern`, apart from the case or from a letter or two next to each other.
 fn is_near_pattern(word: &[u8]) -> bool {
     let alike = same_front(word, PATTERN).saturating_add(same_end(word, PATTERN));
     6 <= word.len() && word.len() <= 8 && alike >= 5
 }
 
-/// What is told of a line before the first entry.
+/// A warning about a line before the first entry.
 fn of_front<'a>(line: &Written<'a>) -> Option<Warning<'a>> {
     if is_near_pattern(line.word()) {
         return Some(warning_at(&[], line, 0, Caution::NearPattern(line.word())));
@@ -67,7 +67,7 @@ fn of_front<'a>(line: &Written<'a>) -> Option<Warning<'a>> {
     None
 }
 
-/// Whether all bytes are letters of a diagram, blanks or parts of an edge.
+/// Whether all bytes are letters of a diagram, blanks, or parts of an edge.
 fn are_drawn(bytes: &[u8]) -> bool {
     for byte in bytes {
         if !is_letter(*byte) && !is_blank(*byte) && !b"|+-".contains(byte) {
@@ -77,7 +77,7 @@ fn are_drawn(bytes: &[u8]) -> bool {
     true
 }
 
-/// What is told of a row.
+/// A warning about a row.
 fn of_row<'a>(entry: &'a [u8], line: &Written<'a>) -> Option<Warning<'a>> {
     let rest = line.behind_word();
     if rest.is_empty() || !are_drawn(rest) {
@@ -87,7 +87,7 @@ fn of_row<'a>(entry: &'a [u8], line: &Written<'a>) -> Option<Warning<'a>> {
     Some(warning_at(entry, line, at, Caution::BehindRow(rest)))
 }
 
-/// What is told of a Pattern line, whose name ends at a blank. A remark behind `#` is none.
+/// A warning about a Pattern line with words behind the name. A remark behind `#` is allowed.
 fn of_head<'a>(line: &Written<'a>) -> Option<Warning<'a>> {
     let named = line.behind_word();
     let rest = trim(&named[word_len(named)..]);
@@ -98,7 +98,7 @@ fn of_head<'a>(line: &Written<'a>) -> Option<Warning<'a>> {
     Some(warning_at(line.name(), line, at, Caution::BehindName(rest)))
 }
 
-/// What is told of a line.
+/// A warning about a line.
 fn of_line<'a>(
     alloc: Global,
     entry: &'a [u8],
@@ -113,7 +113,7 @@ fn of_line<'a>(
     }
 }
 
-/// Puts what is told of the lines of a part.
+/// Appends the warnings about the lines of a part.
 fn push_lines<'a>(
     alloc: Global,
     all: &mut Vec<Warning<'a>>,
@@ -144,7 +144,7 @@ fn label_place<'a>(lines: &[Written<'a>], label: u8) -> Option<Place<'a>> {
     None
 }
 
-/// Whether one of the words of an expression is this label.
+/// Whether one of the words of an expression is `label`.
 fn is_named(words: &[Token<'_>], label: u8) -> bool {
     for word in words {
         if word.sort == Sort::Name && word.bytes == [label].as_slice() {
@@ -154,7 +154,7 @@ fn is_named(words: &[Token<'_>], label: u8) -> bool {
     false
 }
 
-/// Puts the labels of an entry that its expression, which has these words, does not name.
+/// Appends a warning for each label of an entry that its expression, which has these `words`, does not name.
 fn push_labels<'a>(
     all: &mut Vec<Warning<'a>>,
     lines: &[Written<'a>],
@@ -175,7 +175,7 @@ fn push_labels<'a>(
     Ok(())
 }
 
-/// Puts that the expression of an entry, which has these words, is 0 wherever the diagram fits.
+/// Appends a warning if the expression of an entry, which has these `words`, is 0 whenever the diagram fits.
 fn push_never_met<'a>(
     all: &mut Vec<Warning<'a>>,
     entry: &'a [u8],
@@ -194,7 +194,7 @@ fn push_never_met<'a>(
     Ok(())
 }
 
-/// Puts what is told of an entry that is taken.
+/// Appends the warnings about an accepted entry.
 fn push_entry<'a>(
     alloc: Global,
     all: &mut Vec<Warning<'a>>,
@@ -213,7 +213,7 @@ fn push_entry<'a>(
     push_never_met(all, name, words.as_slice(), pattern)
 }
 
-/// The line of the first of these Pattern lines that has this name.
+/// The line of the first of these Pattern lines with this `name`.
 fn line_of_name(heads: &[Written<'_>], name: &[u8]) -> Option<u64> {
     for head in heads {
         if head.name() == name {
@@ -223,7 +223,7 @@ fn line_of_name(heads: &[Written<'_>], name: &[u8]) -> Option<u64> {
     None
 }
 
-/// Puts the entries that have the name of one above.
+/// Appends a warning for each entry with the name of an earlier entry.
 fn push_names<'a>(
     alloc: Global,
     all: &mut Vec<Warning<'a>>,
@@ -244,8 +244,8 @@ fn push_names<'a>(
     Ok(())
 }
 
-/// The first of some entries but this one without which it never matches. Of two that match at the same points the
-/// later one is told.
+/// The first other entry that always matches when the entry at index `at` does. If two entries match at the same
+/// points, only the later one gets a warning.
 fn other_of(patterns: &[Pattern], at: usize) -> Option<usize> {
     let pattern = patterns.get(at)?;
     for (place, other) in patterns.iter().enumerate() {
@@ -259,7 +259,7 @@ fn other_of(patterns: &[Pattern], at: usize) -> Option<usize> {
     None
 }
 
-/// Puts the entries that never match alone.
+/// Appends a warning for each entry that never matches alone.
 fn push_never_alone<'a>(
     all: &mut Vec<Warning<'a>>,
     entries: &[Part<'a>],
@@ -277,7 +277,7 @@ fn push_never_alone<'a>(
     Ok(())
 }
 
-/// Puts the first line whose end differs from that of the first line.
+/// Appends a warning about the first line that does not end as the first line of the text does.
 fn push_ends<'a>(all: &mut Vec<Warning<'a>>, text: &'a [u8]) -> Result<(), NoMemory> {
     let mut first = None;
     let mut number: u64 = 1;
@@ -293,11 +293,10 @@ fn push_ends<'a>(all: &mut Vec<Warning<'a>>, text: &'a [u8]) -> Result<(), NoMem
     Ok(())
 }
 
-/// All warnings of a text of which these are the parts, the entries without a fault and their patterns, in the order of
-/// their lines.
+/// All warnings about a text, in the order of their lines. `parts` are the parts of the text; `entries` are those
+/// without a fault, and `patterns` their patterns.
 ///
-/// Entries and patterns stand in the order of the text, one pattern for each entry. Takes memory, and may answer that
-/// there is none.
+/// `entries` and `patterns` stand in the order of the text, one pattern for each entry. Takes memory.
 pub fn warnings<'a>(
     alloc: Global,
     text: &'a [u8],

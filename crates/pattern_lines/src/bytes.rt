@@ -1,4 +1,4 @@
-//! What single bytes of a pattern file are.
+//! The kinds of single bytes in a pattern file.
 
 use db_lex::is_blank;
 
@@ -7,12 +7,12 @@ pub fn is_feed(byte: &u8) -> bool {
     *byte == b'\n'
 }
 
-/// Whether a byte is one that no line may have.
+/// Whether a byte is forbidden in every line.
 pub fn is_bad(byte: &u8) -> bool {
     matches!(*byte, 0..=8 | 11 | 14..=31 | 127)
 }
 
-/// Whether a byte is none that counts as a blank.
+/// Whether a byte does not count as a blank.
 pub fn is_no_blank(byte: &u8) -> bool {
     !is_blank(*byte)
 }

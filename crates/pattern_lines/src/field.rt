@@ -1,4 +1,4 @@
-//! The fields of a colon line with their places.
+//! The fields of a colon line, each with its place.
 
 use crate::bytes::is_no_blank;
 use db_lex::trim;
@@ -8,13 +8,13 @@ use std::alloc::Global;
 /// A field of a colon line.
 #[derive(Clone, Copy)]
 pub struct Field<'a> {
-    /// The index in the line of its first byte that is no blank.
+    /// The index in the line of the first byte of the field that is not a blank.
     pub at: usize,
     /// The field without the blanks at its ends.
     pub bytes: &'a [u8],
 }
 
-/// The field that stands from one index of a line up to another.
+/// The field between the indices `from` and `to` of a line.
 fn field_from(line: &[u8], from: usize, to: usize) -> Field<'_> {
     let whole = line.get(from..to).unwrap_or(&[]);
     let blanks = whole.iter().position(is_no_blank).unwrap_or(0);
@@ -24,7 +24,7 @@ fn field_from(line: &[u8], from: usize, to: usize) -> Field<'_> {
     }
 }
 
-/// The fields of a colon line, which are cut at the commas outside parentheses. There is one at least.
+/// The fields of a colon line, which is cut at the commas outside parentheses. There is at least one field.
 pub fn fields(alloc: Global, line: &[u8]) -> Result<Vec<Field<'_>>, NoMemory> {
     let mut all = Vec::new(alloc);
     let mut from: usize = 1;

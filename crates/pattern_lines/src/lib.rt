@@ -1,9 +1,9 @@
-//! What a pattern file consists of, as its author sees it: entries, their lines by what they are, and the words of an
-//! expression, each with the place where it stands.
+//! The parts of a pattern file as its author sees them: entries, their lines by kind, and the words of an expression,
+//! each with the place where it stands.
 //!
-//! A text is cut at its Pattern lines into parts. The lines of a text are counted from 1, and the bytes of a line too.
-//! Nothing is refused here: a line that may not stand where it stands is a line, and a byte that no expression has is a
-//! word. Which texts are taken is told by `db_read`.
+//! A text is cut into parts at its Pattern lines. The lines of a text are counted from 1, and so are the bytes of a
+//! line. Nothing is refused here: a line in a wrong place is still a line, and a byte that no expression has is still a
+//! word. Which texts are accepted is decided by `db_read`.
 #![tactic(auto)]
 
 mod bytes;

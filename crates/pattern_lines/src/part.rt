@@ -5,17 +5,17 @@ use db_lex::{trim, word_len};
 use pat_types::NoMemory;
 use std::alloc::Global;
 
-/// The lines from one Pattern line up to the next, or those before the first.
+/// The lines from one Pattern line up to the next, or the lines before the first Pattern line.
 #[derive(Clone, Copy)]
 pub struct Part<'a> {
-    /// The number of its first line in the text, counted from 1.
+    /// The number in the text of the first line of this part, counted from 1.
     pub number: u64,
-    /// Its lines.
+    /// The bytes of these lines.
     pub bytes: &'a [u8],
 }
 
 impl<'a> Part<'a> {
-    /// The line of this number of the text. It is empty where the part has no such line.
+    /// The line with this `number` of the text; empty if the part has no such line.
     pub fn line(&self, number: u64) -> &'a [u8] {
         let mut at = self.number;
         for line in self.bytes.split(is_feed) {
@@ -28,14 +28,14 @@ impl<'a> Part<'a> {
     }
 }
 
-/// Whether a line is a Pattern line. A line with a byte that no line may have is none.
+/// Whether a line is a Pattern line. A line with a forbidden byte is not one.
 pub(crate) fn is_pattern_line(line: &[u8]) -> bool {
     let bytes = trim(line);
     &bytes[..word_len(bytes)] == b"Pattern".as_slice() && !line.iter().any(is_bad)
 }
 
-/// The parts of a text in order. The first holds what stands before the first Pattern line, and may be empty; each
-/// other one begins with a Pattern line.
+/// The parts of a text in order. The first part has the lines before the first Pattern line, and may be empty; each
+/// other part begins with a Pattern line.
 pub fn parts(alloc: Global, text: &[u8]) -> Result<Vec<Part<'_>>, NoMemory> {
     let mut all = Vec::new(alloc);
     let mut number: u64 = 1;

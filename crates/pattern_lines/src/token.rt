@@ -1,4 +1,4 @@
-//! The words of an expression with their places.
+//! The words of an expression, each with its place.
 
 use crate::place::Place;
 use crate::written::{Role, Written};
@@ -6,14 +6,14 @@ use db_lex::is_blank;
 use pat_types::NoMemory;
 use std::alloc::Global;
 
-/// What a word of an expression is.
+/// The kind of a word of an expression.
 #[derive(Clone, Copy, PartialEq, Eq)]
 pub enum Sort {
     /// A number.
     Number,
     /// A name, or an argument's letter.
     Name,
-    /// An operator that stands between two operands alone.
+    /// An operator that can only stand between two operands.
     Operator,
     /// `-`, which may also stand before an operand.
     Minus,
@@ -34,15 +34,15 @@ pub enum Sort {
 /// A word of an expression.
 #[derive(Clone, Copy)]
 pub struct Token<'a> {
-    /// What it is.
+    /// The kind of the word.
     pub sort: Sort,
-    /// Its bytes.
+    /// The bytes of the word.
     pub bytes: &'a [u8],
-    /// Where it begins.
+    /// The place where the word begins.
     pub place: Place<'a>,
 }
 
-/// How many bytes at the front pass a test.
+/// The number of bytes at the front that pass `test`.
 fn front_len<F: Fn(u8) -> bool>(bytes: &[u8], test: F) -> usize
     requires { F.IsAlwaysCallable test }
 {
@@ -52,7 +52,7 @@ fn front_len<F: Fn(u8) -> bool>(bytes: &[u8], test: F) -> usize
         .unwrap_or(bytes.len())
 }
 
-/// What the word at the front is, and how many bytes it has. There has to be a byte.
+/// The kind of the word at the front of `bytes`, and its length. There has to be a byte.
 fn front_word(bytes: &[u8]) -> (Sort, usize) {
     match bytes {
         [b'0'..=b'9', ..] => (Sort::Number, front_len(bytes, |byte| byte.is_ascii_digit())),
@@ -74,7 +74,7 @@ fn front_word(bytes: &[u8]) -> (Sort, usize) {
     }
 }
 
-/// Puts the words of an expression line behind these.
+/// Appends the words of an expression line to `all`.
 fn push_line<'a>(all: &mut Vec<Token<'a>>, line: Written<'a>) -> Result<(), NoMemory> {
     let mut ends = 1;
     for at in 1..line.bytes.len() {
@@ -93,7 +93,7 @@ fn push_line<'a>(all: &mut Vec<Token<'a>>, line: Written<'a>) -> Result<(), NoMe
     Ok(())
 }
 
-/// The words of the expression of an entry with these lines, in order, or that there is no memory for them.
+/// The words of the expression of an entry with these `lines`, in order. Takes memory.
 pub fn tokens<'a>(alloc: Global, lines: &[Written<'a>]) -> Result<Vec<Token<'a>>, NoMemory> {
     let mut all = Vec::new(alloc);
     for line in lines {

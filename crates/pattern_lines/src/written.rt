@@ -1,4 +1,4 @@
-//! The lines of one part of a text, sorted by what they are.
+//! The lines of one part of a text, sorted by their roles.
 
 use crate::bytes::{is_feed, is_no_blank};
 use crate::part::{Part, is_pattern_line};
@@ -7,7 +7,7 @@ use db_lex::{trim, word_len};
 use pat_types::NoMemory;
 use std::alloc::Global;
 
-/// What a line of an entry is.
+/// The role of a line in an entry.
 #[derive(Clone, Copy, PartialEq, Eq)]
 pub enum Role {
     /// A line before the first entry.
@@ -24,16 +24,16 @@ pub enum Role {
     Expression,
     /// An action line.
     Action,
-    /// A line that may not stand where it stands, or one behind it.
+    /// A line in a wrong place, or a line behind such a line.
     Stray,
 }
 
-/// A line that is not passed over: one that has more than blanks, and no comment.
+/// A line that counts: it has more than blanks, and is not a comment.
 #[derive(Clone, Copy)]
 pub struct Written<'a> {
-    /// What it is.
+    /// The role of the line.
     pub role: Role,
-    /// Its number in the text.
+    /// The number of the line in the text.
     pub number: u64,
     /// The line as it stands in the text.
     pub whole: &'a [u8],
@@ -42,23 +42,23 @@ pub struct Written<'a> {
 }
 
 impl<'a> Written<'a> {
-    /// The front of the line up to the first blank. On a row it is what is drawn.
+    /// The front of the line up to the first blank. In a row of a diagram this is what is drawn.
     pub fn word(&self) -> &'a [u8] {
         &self.bytes[..word_len(self.bytes)]
     }
 
-    /// What stands behind the word, without blanks before it.
+    /// The text behind the word, without blanks around it.
     pub fn behind_word(&self) -> &'a [u8] {
         trim(&self.bytes[word_len(self.bytes)..])
     }
 
-    /// The word behind the first, which is the name on a Pattern line.
+    /// The second word of the line; on a Pattern line this is the name.
     pub fn name(&self) -> &'a [u8] {
         let rest = self.behind_word();
         &rest[..word_len(rest)]
     }
 
-    /// The place of the byte at this index of `bytes`, counted from 0. An index behind the last byte is taken too.
+    /// The place of the byte at the index `at` of `bytes`, counted from 0. The index may lie behind the last byte.
     pub fn place(&self, at: usize) -> Place<'a> {
         let blanks = self.whole.iter().position(is_no_blank).unwrap_or(0);
         Place {
@@ -69,7 +69,7 @@ impl<'a> Written<'a> {
     }
 }
 
-/// What a line is, behind one that is this.
+/// The role of `line`, which begins with the byte `first` and follows a line of the role `before`.
 fn role_after(before: Role, line: &[u8], first: u8) -> Role {
     if is_pattern_line(line) {
         return Role::Head;
@@ -87,7 +87,7 @@ fn role_after(before: Role, line: &[u8], first: u8) -> Role {
     }
 }
 
-/// The lines of a part that are not passed over, in order, or that there is no memory for them.
+/// The lines of a part that count, in order. Takes memory.
 pub fn lines_in<'a>(alloc: Global, part: Part<'a>) -> Result<Vec<Written<'a>>, NoMemory> {
     let mut all = Vec::new(alloc);
     let mut number = part.number;
@@ -110,7 +110,7 @@ pub fn lines_in<'a>(alloc: Global, part: Part<'a>) -> Result<Vec<Written<'a>>, N
     Ok(all)
 }
 
-/// The name on the Pattern line of these lines of a part. It is empty where they do not begin with one.
+/// The name on the Pattern line of a part with these `lines`; empty if they do not begin with a Pattern line.
 pub fn name_in<'a>(lines: &[Written<'a>]) -> &'a [u8] {
     match lines.first() {
         Some(line) if line.role == Role::Head => line.name(),
@@ -132,7 +132,7 @@ pub fn head_of<'a>(part: &Part<'a>) -> Option<Written<'a>> {
     })
 }
 
-/// The name of the entry of a part. It is empty where the part has no Pattern line. Takes no memory.
+/// The name of the entry of a part; empty if the part has no Pattern line. Takes no memory.
 pub fn name_of<'a>(part: &Part<'a>) -> &'a [u8] {
     match head_of(part) {
         Some(head) => head.name(),

@@ -1,4 +1,4 @@
-//! The warnings of a text of which there is a report.
+//! The warnings about a text that has a report.
 
 use crate::report::Report;
 use pat_types::NoMemory;
@@ -6,7 +6,7 @@ use pattern_hints::Warning;
 use pattern_lines::Part;
 use std::alloc::Global;
 
-/// All warnings of a text, whose parts and report these are, in the order of their lines.
+/// All warnings about a text with these `parts` and this `report`, in the order of their lines. Takes memory.
 pub fn warnings<'a>(
     alloc: Global,
     text: &'a [u8],

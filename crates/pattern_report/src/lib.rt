@@ -1,11 +1,11 @@
-//! What the author of a pattern file is told: every fault of a text, where it stands and why, entry by entry.
+//! The report for the author of a pattern file: every fault of a text, its place and its cause, entry by entry.
 //!
-//! `db_read` tells the first fault of a text by a line and a number. Here a fault has its place in the line, its cause
-//! in words and the name of its entry, and after a fault the reading goes on at the next Pattern line. The first fault
-//! told is the first fault of the text.
+//! `db_read` reports the first fault of a text as a line and a number. Here a fault has its place in the line, its
+//! cause in words, and the name of its entry; after a fault, reading continues at the next Pattern line. The first
+//! fault of the report is the first fault of the text.
 //!
-//! What a text consists of stands in `pattern_lines`, the words of a fault in `pattern_faults`, and what is told beside
-//! faults in `pattern_hints`; no clause speaks of these words.
+//! `pattern_lines` has the parts of a text, `pattern_faults` the words of a fault, and `pattern_hints` the hints beside
+//! the faults. No clause speaks of these words.
 #![tactic(auto)]
 
 mod hints;

@@ -1,4 +1,4 @@
-//! All faults of a text.
+//! Finds all faults of a text.
 
 ghost use Rattle.std.specs.Prelude.{◌≡◌, [], None, IfOk, map};
 ghost use Rattle.std.specs.Option.{option_map};
@@ -13,33 +13,33 @@ use pattern_faults::{Fault, explain};
 use pattern_lines::{Part, parts};
 use std::alloc::Global;
 
-/// The most entries of a text.
+/// The most entries that a text may have.
 const MOST_ENTRIES: usize = 4096;
 
-/// The kind of the fault of a text that has more.
+/// The kind of the fault of a text with more entries.
 const TOO_MANY: u8 = 18;
 
-/// What the author of a text is told.
+/// The report on a text, for its author.
 #[derive(Drop)]
 pub struct Report<'a> {
     /// The first fault of the text.
     pub first: Option<Fault<'a>>,
-    /// The first faults of the entries behind, in order.
+    /// The first fault of each later entry that has one, in order.
     pub others: Vec<Fault<'a>>,
-    /// The entries without a fault for which the text has room, in order.
+    /// The entries without a fault, in order; at most 4,096.
     pub entries: Vec<Part<'a>>,
-    /// Their patterns.
+    /// The patterns of these entries.
     pub patterns: Vec<Pattern>,
 }
 
-/// Whether a fault of this line and kind is one of a part that begins at this line, or of one behind it.
+/// Whether a fault with this `line` and `kind` belongs to `part`, or to a part behind it.
 fn is_at_or_behind(part: &Part<'_>, line: u64, kind: u8) -> bool {
-    // An entry that ends too early is told at the Pattern line of the next.
+    // An entry that ends too early has its fault at the Pattern line of the next entry.
     let told_at_end = kind == 10 || kind == 14;
     part.number < line || (part.number == line && !told_at_end)
 }
 
-/// The number of parts up to the one that has a fault of this line and kind.
+/// The number of parts up to the one with a fault of this `line` and `kind`.
 fn parts_to(parts: &[Part<'_>], line: u64, kind: u8) -> usize {
     parts
         .iter()
@@ -47,7 +47,7 @@ fn parts_to(parts: &[Part<'_>], line: u64, kind: u8) -> usize {
         .count()
 }
 
-/// The first fault of a text, explained by the part that has it.
+/// The first fault of a text, explained by means of the part that has it.
 fn first_explained<'a>(
     alloc: Global,
     helpers: &[Bytes],
@@ -68,24 +68,24 @@ fn first_explained<'a>(
     explain(alloc, helpers, part, line, kind)
 }
 
-/// The line of a text at which a line of a part stands.
+/// The line of the text that is the line number `line` of `part`.
 fn line_in_text(part: &Part<'_>, line: u64) -> u64 {
     part.number.saturating_add(line.saturating_sub(1))
 }
 
-/// What a part comes to that is read alone.
+/// The result of reading a part alone.
 #[derive(Drop)]
 enum PartReading {
-    /// An entry that is taken.
+    /// The part is an entry without a fault.
     Taken(Pattern),
-    /// No fault and no entry, or an entry for which the text has no room.
+    /// The part has no fault, but is not an entry, or is an entry for which the text has no room.
     Nothing,
-    /// A fault, by its line in the text and its kind.
+    /// The part has a fault: the line in the text, and the kind.
     Refused(u64, u8),
 }
 
-/// Reads a part alone, which is the entry of this number of its text. The first entry for which a text has no room is
-/// refused for this, and those behind it for their own faults.
+/// Reads a part alone; as an entry it has this `number`. The first entry for which a text has no room is refused for
+/// that reason, and later entries only for their own faults.
 fn read_part(
     alloc: Global,
     helpers: &[Bytes],
@@ -108,7 +108,7 @@ fn read_part(
     }
 }
 
-/// What the parts come to, each read alone.
+/// The results of reading the parts, each alone.
 #[derive(Drop)]
 struct Readings<'a> {
     entries: Vec<Part<'a>>,
@@ -116,8 +116,8 @@ struct Readings<'a> {
     faults: Vec<Fault<'a>>,
 }
 
-/// Reads the parts each alone: the entries without a fault, of which a text has room for 4,096, and the faults of the
-/// parts from this one on.
+/// Reads each part alone. The result has the entries without a fault, at most 4,096, and the faults of the parts from
+/// the index `from` on.
 fn read_parts<'a>(
     alloc: Global,
     helpers: &[Bytes],
@@ -146,19 +146,20 @@ fn read_parts<'a>(
     })
 }
 
-/// What the author of a text is told, in which helpers of these names may be named.
+/// The report on a text, in which the helpers with these names may be named. Takes memory.
 ///
-/// After a fault the reading goes on at the next Pattern line, so that each entry tells its first fault.
+/// After a fault, reading continues at the next Pattern line, so that the report has the first fault of each entry.
 pub fn report_on<'a>(
     alloc: Global,
     text: &'a [u8],
     helpers: &[Bytes],
 ) -> Result<Report<'a>, NoMemory>
-    // The first fault told is the text's first fault, its line and its kind; none is told exactly if there is none.
+    // The first fault of the report has the line and the kind of the text's first fault; there is none exactly if the
+    // text has none.
     ensures first { IfOk result (λ r. option_map line_and_kind r.first ≡ first_fault helpers.now text.now) }
-    // Nothing else is told of a text without a fault.
+    // The report on a text without a fault has no other faults.
     ensures clean { IfOk result (λ r. first_fault helpers.now text.now ≡ None → r.others.items ≡ []) }
-    // The patterns of a text without a fault are its entries.
+    // The patterns of the report on a text without a fault are the entries of the text.
     ensures patterns { IfOk result (λ r. first_fault helpers.now text.now ≡ None
         → map entry_of r.patterns.items ≡ entries text.now) }
 {

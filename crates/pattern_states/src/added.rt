@@ -1,8 +1,8 @@
-//! How many states fewer a list of patterns has without each of them.
+//! How many states a list of patterns loses without each of its patterns.
 //!
-//! A state of a list is a depth with the patterns that are still live there, and where none is live it is the sink. So
-//! without a pattern the list lacks exactly the states that differ by this pattern alone from another state of the same
-//! depth, or in which no other pattern is live.
+//! A state of a list is a depth and the patterns that are still live there; if none is live, it is the sink. So a list
+//! without a pattern lacks exactly these states: those that differ by this pattern alone from another state of the same
+//! depth, and those in which no other pattern is live.
 
 ghost use Rattle.std.specs.Prelude.{◌<◌, length};
 
@@ -10,17 +10,17 @@ use dfa_core::{Automaton, RowKind, Seen};
 use pat_types::NoMemory;
 use std::alloc::Global;
 
-/// The rows of one depth, the last first, with the numbers of the patterns that are live at each.
+/// The rows of one depth, the last row first, with the numbers of the patterns that are live at each row.
 #[derive(Drop)]
 struct Layer {
-    /// The number of the last row.
+    /// The number of the last row of the layer.
     last: u32,
-    /// The live patterns of the rows, each in ascending order.
+    /// The live patterns of each row, in ascending order.
     live: Vec<Vec<u16>>,
 }
 
 impl Layer {
-    /// A layer that has no row yet, and whose last row will be this.
+    /// A layer that has no row yet. Its last row will be `last`.
     fn up_to(alloc: Global, last: u32) -> Layer {
         Layer {
             last,
@@ -28,7 +28,7 @@ impl Layer {
         }
     }
 
-    /// The patterns that are live at a row of the layer. At any other row it is none.
+    /// The patterns that are live at `row`; none, if the row is not in the layer.
     fn live_at(&self, row: u32) -> &[u16] {
         let Some(at) = self.last.checked_sub(row) else {
             return &[];
@@ -40,7 +40,7 @@ impl Layer {
     }
 }
 
-/// The numbers in ascending order, each once.
+/// The `numbers` in ascending order, each once.
 fn each_once(alloc: Global, mut numbers: Vec<u16>) -> Result<Vec<u16>, NoMemory> {
     numbers.sort_unstable();
     let mut all: Vec<u16> = Vec::new(alloc);
@@ -52,7 +52,7 @@ fn each_once(alloc: Global, mut numbers: Vec<u16>) -> Result<Vec<u16>, NoMemory>
     Ok(all)
 }
 
-/// The patterns that are live at a row: those that it accepts, and those that are live at a row to which it leads.
+/// The patterns that are live at `row`: those that it accepts, and those that are live at a row that it leads to.
 fn live_at(
     alloc: Global,
     automaton: &Automaton,
@@ -70,7 +70,7 @@ fn live_at(
     each_once(alloc, numbers)
 }
 
-/// A number in place of a pattern's, of which no two small sums are likely to be the same.
+/// A code for the pattern `number`. Two small sets of patterns are unlikely to have the same sum of codes.
 fn code_of(number: u16) -> u64 {
     let mut code = (u64::from(number))
         .wrapping_add(1)
@@ -80,7 +80,7 @@ fn code_of(number: u16) -> u64 {
     code ^ (code >> 31)
 }
 
-/// The sum of the codes of some patterns.
+/// The sum of the codes of the patterns in `live`.
 fn sum_of(live: &[u16]) -> u64 {
     let mut sum: u64 = 0;
     for number in live {
@@ -89,13 +89,13 @@ fn sum_of(live: &[u16]) -> u64 {
     sum
 }
 
-/// Whether the live patterns of one row are those of another and this one.
+/// Whether `live` has the patterns in `fewer` and the pattern `number`, and no others.
 fn differ_by(live: &[u16], fewer: &[u16], number: u16) -> bool {
     let mut others = live.iter().filter(|other| **other != number);
     live.len() == fewer.len().saturating_add(1) && others.eq(fewer.iter())
 }
 
-/// Counts for each pattern the rows of a layer that a list without it lacks.
+/// For each pattern, adds to `added` how many rows of the layer the list without the pattern lacks.
 fn count_layer(alloc: Global, layer: &Layer, added: &mut [u32]) -> Result<(), NoMemory> {
     let mut sums = Vec::new(alloc);
     for (at, live) in layer.live.iter().enumerate() {
@@ -115,7 +115,8 @@ fn count_layer(alloc: Global, layer: &Layer, added: &mut [u32]) -> Result<(), No
     Ok(())
 }
 
-/// Whether a list without this pattern lacks a row of the layer, by the sums of the rows in ascending order.
+/// Whether the list without the pattern `number` lacks the row of the layer with the patterns `live`. `sum` is the sum
+/// of their codes, and `sums` has the sums of all rows in ascending order.
 fn is_lacking(layer: &Layer, sums: &[(u64, usize)], live: &[u16], sum: u64, number: u16) -> bool {
     if live.len() == 1 {
         return true;
@@ -135,10 +136,10 @@ fn is_lacking(layer: &Layer, sums: &[(u64, usize)], live: &[u16], sum: u64, numb
     false
 }
 
-/// For each of so many patterns, how many states fewer than this automaton that of the list without it has.
+/// For each of the first `patterns` patterns of a list, how many states fewer the list has without it.
 ///
-/// The automaton is that of a list of as many patterns, as `dfa_join::compile` makes it, and what is told of a pattern
-/// stands at its index in the list. Takes memory, and may answer that there is none.
+/// `automaton` is the one that `dfa_join::compile` makes of a list with this many patterns. The count of a pattern
+/// stands at its index in the list. Takes memory, and answers `NoMemory` if there is none.
 pub fn added_by_each(
     alloc: Global,
     automaton: &Automaton,

@@ -1,7 +1,8 @@
 //! How many states the automaton of a list of patterns takes, and how many of them each pattern adds.
 //!
-//! A pattern adds as many states as the list has more than the list without it. They are found in the one automaton of
-//! the list, without another for each pattern; that they are these is tested, in `report_tests`, and no clause says it.
+//! A pattern adds as many states as the list has beyond the same list without this pattern. All these counts come from
+//! the one automaton of the list, without another automaton for each pattern. Tests in `report_tests` compare both ways
+//! of counting; no clause says that they agree.
 #![tactic(auto)]
 
 mod added;

@@ -1,4 +1,4 @@
-//! The states that a list of patterns takes, and the patterns that add most.
+//! The states of a list of patterns, and the patterns that add most states.
 
 ghost use Rattle.std.specs.Prelude.{◌≤◌, length};
 
@@ -10,10 +10,10 @@ use std::alloc::Global;
 /// The longest list of patterns that has an automaton.
 const MOST_PATTERNS: usize = 4096;
 
-/// How many patterns are named.
+/// How many patterns an answer names at most.
 const NAMED: usize = 10;
 
-/// A pattern of a list and the states that it adds.
+/// A pattern of a list, and how many states it adds.
 #[derive(Clone, Copy)]
 pub struct Added {
     /// How many states fewer the list has without the pattern.
@@ -22,23 +22,24 @@ pub struct Added {
     pub pattern: usize,
 }
 
-/// The states of a list of patterns.
+/// How many states a list of patterns has, or why they are not counted.
 #[derive(Drop)]
 pub enum States {
-    /// The list has more than 4096 patterns, and no automaton takes so many.
+    /// The list has more than 4096 patterns, for which there is no automaton.
     TooManyPatterns,
-    /// They are more than were asked for.
+    /// The list has more states than the limit of the call.
     More,
-    /// So many, and the patterns that add most.
+    /// The list has this many states, and these patterns add most.
     Counted {
-        /// The states of all patterns.
+        /// How many states the list has.
         all: u32,
-        /// At most ten of the patterns, those that add most first.
+        /// At most ten of the patterns, those that add most states first.
         most: Vec<Added>,
     },
 }
 
-/// The patterns that add most, those that add most first. Of those that add as many the first in the list are taken.
+/// The ten patterns that add most states, those that add most first. Of patterns that add as many the first in the list
+/// come first.
 fn most_of(alloc: Global, added: &[u32]) -> Result<Vec<Added>, NoMemory> {
     let mut most = Vec::new(alloc);
     for (pattern, states) in added.iter().enumerate() {
@@ -52,10 +53,10 @@ fn most_of(alloc: Global, added: &[u32]) -> Result<Vec<Added>, NoMemory> {
     Ok(most)
 }
 
-/// The states of the automaton of these patterns, up to so many, and the ten patterns that add most.
+/// How many states the automaton of `patterns` has, up to `limit`, and the ten patterns that add most.
 ///
-/// A list that is too long is told first, then more states than the limit. Takes memory, and may answer that there is
-/// none.
+/// A list that is too long is reported first, then more states than the limit. Takes memory, and answers `NoMemory` if
+/// there is none.
 pub fn states_of(alloc: Global, patterns: &[Pattern], limit: u32) -> Result<States, NoMemory> {
     if patterns.len() > MOST_PATTERNS {
         return Ok(States::TooManyPatterns);

@@ -1,4 +1,4 @@
-//! Which entries almost match at a point.
+//! Finds the entries that almost match at a point.
 
 use crate::fault::Fault;
 use crate::task::Task;
@@ -9,10 +9,10 @@ use match_reasons::Reason;
 use pat_types::mark_count;
 use why_report::{Entry, PARTS, Try, parts_held, put_json, put_line, tried};
 
-/// A try that is kept without its entry.
+/// A try, kept without its entry.
 #[derive(Clone, Copy)]
 struct Kept {
-    /// The place of the entry in its list.
+    /// The index of the entry in its list.
     place: usize,
     /// The friend, who plays the move.
     colour: Colour,
@@ -25,7 +25,7 @@ struct Kept {
 }
 
 impl Kept {
-    /// Keeps a try of the entry at this place.
+    /// Keeps a try of the entry at index `place`.
     fn new(place: usize, one: &Try<'_>) -> Kept {
         Kept {
             place,
@@ -36,7 +36,7 @@ impl Kept {
         }
     }
 
-    /// The try, of this entry.
+    /// The try again, with its `entry`.
     fn of<'a>(&self, entry: Entry<'a>) -> Try<'a> {
         Try {
             entry,
@@ -48,8 +48,8 @@ impl Kept {
     }
 }
 
-/// The try of the entry at a place for a colour, at the first point that is asked for, in which most parts hold. Of
-/// several it is the one under the first transformation.
+/// The try of an entry for a colour, at the first point that is asked for, in which most parts hold. If several tries
+/// are equally good, it is the one under the first transformation.
 fn farthest(
     task: &Task<'_>,
     helpers: &mut Helpers,
@@ -76,7 +76,7 @@ fn farthest(
     best
 }
 
-/// The farthest tries of these entries at the first point that is asked for, in their order, for each colour.
+/// The farthest try of each of `entries` for each colour, at the first point that is asked for, in their order.
 fn all_farthest(
     task: &Task<'_>,
     helpers: &mut Helpers,
@@ -93,7 +93,7 @@ fn all_farthest(
     Ok(all)
 }
 
-/// Tells of the farthest try of an entry: by an object of JSON, or by a line for a person.
+/// Reports the farthest try of an entry, as an object of JSON or as a line of text.
 fn tell_farthest(task: &Task<'_>, telling: &mut Telling, one: &Try<'_>) -> Result<(), Fault> {
     telling.note(one);
     if task.options.json {
@@ -105,8 +105,8 @@ fn tell_farthest(task: &Task<'_>, telling: &mut Telling, one: &Try<'_>) -> Resul
     Ok(())
 }
 
-/// Tells which entries almost match at a point: of each entry and colour the try in which most parts hold, those with
-/// most of them first.
+/// Reports which entries almost match at a point: for each entry and colour the try in which most parts hold. The tries
+/// in which most parts hold come first.
 pub(crate) fn tell_almost(
     task: &Task<'_>,
     helpers: &mut Helpers,

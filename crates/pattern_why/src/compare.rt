@@ -1,4 +1,4 @@
-//! What a change of a pattern file changes over the records of a folder.
+//! Shows what a change of a pattern file changes over the records of a folder.
 
 ghost use Rattle.std.specs.Prelude.{⊤};
 
@@ -23,20 +23,20 @@ use std::io::Write;
 use std::time::Clock;
 use why_report::{Entry, colour_name, put_entry, put_name, put_text, put_vertex};
 
-/// How many readings are kept, as the program `gopat` without the option `cache`.
+/// The number of readings that are cached: that of the program `gopat` without its option `cache`.
 const KEPT_READINGS: u32 = 4096;
 
-/// The entries of a file, ready to be found.
+/// The entries of a file, ready to be matched.
 #[derive(Drop)]
 struct Side {
-    /// Their patterns.
+    /// The patterns of the entries.
     matcher: Matcher,
-    /// The numbers of their Pattern lines.
+    /// The line numbers of their Pattern lines.
     lines: Vec<u64>,
 }
 
 impl Side {
-    /// Makes the entries of a file ready.
+    /// Makes the entries of a file ready to be matched.
     fn new(alloc: Global, file: &str, entries: Entries) -> Result<Side, Fault> {
         let (patterns, lines) = entries.into_parts();
         if patterns.len() > MOST_ENTRIES {
@@ -48,7 +48,7 @@ impl Side {
         }
     }
 
-    /// The entry at a place of the file.
+    /// The entry at index `place` of the file.
     fn entry(&self, place: u16) -> Option<Entry<'_>> {
         let pattern = self.matcher.patterns().get(place as usize)?;
         let line = *self.lines.get(place as usize)?;
@@ -66,7 +66,7 @@ struct Both {
 }
 
 impl Both {
-    /// The entry of a change: of the old file if the match went, of the new one if it came.
+    /// The entry of a change: in the old file if the match went, in the new file if it came.
     fn entry(&self, change: &Change) -> Option<Entry<'_>> {
         match change.way {
             Way::Went => self.old.entry(change.found.pattern),
@@ -75,23 +75,23 @@ impl Both {
     }
 }
 
-/// What is counted over records.
+/// The counts over all records.
 #[derive(Clone, Copy)]
 struct Totals {
-    /// How many records were looked at.
+    /// The number of records.
     records: u64,
-    /// How many positions.
+    /// The number of positions.
     positions: u64,
-    /// How many matches came.
+    /// The number of matches that came.
     came: u64,
-    /// How many matches went.
+    /// The number of matches that went.
     went: u64,
     /// Whether a record could not be read to its end.
     missed: bool,
 }
 
 impl Totals {
-    /// Nothing is counted yet.
+    /// The counts before any record.
     fn new() -> Totals {
         Totals {
             records: 0,
@@ -102,7 +102,7 @@ impl Totals {
         }
     }
 
-    /// Counts a record with so many positions, and its changes.
+    /// Counts a record with this number of `positions`, and its `changes`.
     fn add(&mut self, positions: usize, changes: &[Change]) {
         self.records = self.records.saturating_add(1);
         self.positions = self.positions.saturating_add(positions as u64);
@@ -114,7 +114,7 @@ impl Totals {
         }
     }
 
-    /// What the exit status tells.
+    /// The outcome for the exit status.
     fn outcome(&self) -> Outcome {
         if self.missed {
             Outcome::Trouble
@@ -126,7 +126,7 @@ impl Totals {
     }
 }
 
-/// How a change is called.
+/// The word for a change.
 fn way_name(way: Way) -> &'static str {
     match way {
         Way::Went => "went",
@@ -134,8 +134,8 @@ fn way_name(way: Way) -> &'static str {
     }
 }
 
-/// Puts a line for a person: the record and the move, the entry, the colour, the vertex, the transformation, and
-/// whether the match went or came.
+/// Prints a line of text: the record and the move, the entry, the colour, the vertex, the transformation, and whether
+/// the match went or came.
 fn put_line(
     page: &mut String,
     record: &str,
@@ -152,7 +152,7 @@ fn put_line(
     write!(page, ", transformation {transform}: {way}\n")
 }
 
-/// Puts an object of JSON on a line of its own.
+/// Prints an object of JSON on a line of its own.
 fn put_object(
     page: &mut String,
     record: &str,
@@ -172,7 +172,7 @@ fn put_object(
     write!(page, "\",\"transformation\":{transform}}}\n")
 }
 
-/// The lines of a record's changes.
+/// The lines for the changes in a record.
 fn page_of(
     alloc: Global,
     json: bool,
@@ -202,14 +202,14 @@ fn page_of(
 struct Search<'a> {
     /// The entries of both files.
     both: &'a Both,
-    /// The colours for which they are compared.
+    /// The colours for which the files are compared.
     colours: &'static [Colour],
     /// Whether objects of JSON are printed.
     json: bool,
 }
 
-/// Compares the entries on each position of a record's main line, and prints what changes. A fault of the record is
-/// told on standard error, and the positions before it are compared.
+/// Compares the files on each position of a record's main line, and prints the changes. If the record has a fault, it
+/// is reported on standard error, and only the positions before it are compared.
 fn compare_record<R: Files + Print + Eprint + Clock + AllocGlobal>(
     rt: &R,
     search: Search<'_>,
@@ -249,7 +249,7 @@ fn compare_record<R: Files + Print + Eprint + Clock + AllocGlobal>(
     Ok(())
 }
 
-/// Compares the entries over the records with these names.
+/// Compares the files over the records with these `names`.
 fn compare_records<R: Files + Print + Eprint + Clock + AllocGlobal>(
     rt: &R,
     search: Search<'_>,
@@ -279,8 +279,8 @@ fn compare_records<R: Files + Print + Eprint + Clock + AllocGlobal>(
     Ok(totals)
 }
 
-/// Prints which matches went and which came from an old pattern file to a new one, over the records of a folder. How
-/// many they are is told on standard error.
+/// Prints which matches went and which came from an old pattern file to a new one, over the records of a folder. Their
+/// numbers go to standard error.
 pub(crate) fn tell_changes<R: Files + Print + Eprint + Clock + AllocGlobal + Clone + Drop>(
     rt: &R,
     options: &Options,

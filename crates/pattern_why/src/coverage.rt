@@ -1,4 +1,4 @@
-//! How often the entries of a file fit and match over the records of a folder.
+//! Counts how often the entries of a file fit and match over the records of a folder.
 
 ghost use Rattle.std.specs.Prelude.{◌≤◌, length, IfOk};
 ghost use Rattle.pattern_coverage.specs.Bare.{AreDiagramsOf};
@@ -25,20 +25,20 @@ use std::io::Write;
 use std::time::Clock;
 use why_report::{PARTS, part_name, put_name};
 
-/// What is counted over records.
+/// The counts over all records.
 #[derive(Drop)]
 pub(crate) struct Coverage {
-    /// Where the tries of each entry end, in the order of the file.
+    /// For each entry, in the order of the file, where its tries end.
     counts: Vec<PartCounts>,
-    /// How many records were looked at.
+    /// The number of records.
     records: u64,
-    /// How many positions.
+    /// The number of positions.
     positions: u64,
     /// Whether a record could not be read to its end.
     missed: bool,
 }
 
-/// How often an entry's diagram fits.
+/// The number of tries of an entry whose diagram fits.
 fn fits_of(counts: &PartCounts) -> u64 {
     let mut fits: u64 = 0;
     for part in 1..ENDS {
@@ -48,7 +48,7 @@ fn fits_of(counts: &PartCounts) -> u64 {
 }
 
 impl Coverage {
-    /// Nothing is counted yet, for so many entries.
+    /// The counts before any record, for this number of `entries`.
     fn new(alloc: Global, entries: usize) -> Result<Coverage, Fault> {
         let mut counts = Vec::new(alloc);
         for _ in 0..entries {
@@ -69,7 +69,7 @@ impl Coverage {
         }
     }
 
-    /// How many entries never fit.
+    /// The number of entries whose diagram never fits.
     fn never_fit(&self) -> usize {
         let mut never: usize = 0;
         for counts in &self.counts {
@@ -81,18 +81,18 @@ impl Coverage {
     }
 }
 
-/// What is looked for on each position.
+/// What is counted on each position.
 #[derive(Clone, Copy)]
 struct Search<'a> {
-    /// Where memory is taken.
+    /// The allocator.
     alloc: Global,
     /// The colours for which entries are tried.
     colours: &'static [Colour],
     /// The patterns of the entries, in the order of the file.
     patterns: &'a [Pattern],
-    /// Their diagrams.
+    /// The diagrams of the patterns.
     diagrams: &'a Diagrams,
-    /// How deep readings go.
+    /// The depths of readings.
     depths: Depths,
 }
 
@@ -122,8 +122,8 @@ fn cover_position(
     Ok(())
 }
 
-/// Counts the tries on each position of a record's main line. A fault of the record is told on standard error, and the
-/// positions before it are counted.
+/// Counts the tries on each position of a record's main line. If the record has a fault, it is reported on standard
+/// error, and only the positions before it are counted.
 fn cover_record<R: Files + Eprint + AllocGlobal>(
     rt: &R,
     search: Search<'_>,
@@ -149,7 +149,7 @@ fn cover_record<R: Files + Eprint + AllocGlobal>(
     Ok(())
 }
 
-/// Counts the tries on each position of the records with these names.
+/// Counts the tries on each position of the records with these `names`.
 fn cover_records<R: Files + Eprint + Clock + AllocGlobal>(
     rt: &R,
     search: Search<'_>,
@@ -170,7 +170,7 @@ fn cover_records<R: Files + Eprint + Clock + AllocGlobal>(
     Ok(())
 }
 
-/// Puts the first line of the table: the names of its columns.
+/// Prints the first line of the table: the names of its columns.
 fn put_names(page: &mut String) -> Result<(), AllocError> {
     page.push_str("entry\tline\tfits")?;
     for part in 1..PARTS + 1 {
@@ -179,7 +179,7 @@ fn put_names(page: &mut String) -> Result<(), AllocError> {
     page.push_str("\n")
 }
 
-/// Puts the line of an entry.
+/// Prints the line of an entry.
 fn put_row(
     page: &mut String,
     name: &[u8],
@@ -194,7 +194,7 @@ fn put_row(
     page.push_str("\n")
 }
 
-/// The table: a line for each entry of the file.
+/// The table, with a line for each entry of the file.
 fn table_of(alloc: Global, entries: &Entries, coverage: &Coverage) -> Result<String, Fault> {
     let mut page = String::new(alloc);
     put_names(&mut page)?;
@@ -215,8 +215,8 @@ fn diagrams_of(alloc: Global, file: &str, patterns: &[Pattern]) -> Result<Diagra
     }
 }
 
-/// Prints how often the entries of a file fit and match over the records of a folder. The outcome is whether each fits
-/// once at least and no record has a fault. The counts of all are told on standard error.
+/// Prints how often the entries of a file fit and match over the records of a folder. The outcome is yes if each entry
+/// fits at least once and no record has a fault. The counts over all records go to standard error.
 pub(crate) fn tell_coverage<R: Files + Print + Eprint + Clock + AllocGlobal + Clone + Drop>(
     rt: &R,
     options: &Options,

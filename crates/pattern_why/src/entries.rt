@@ -1,4 +1,4 @@
-//! The entries of the pattern file.
+//! The entries of a pattern file.
 
 use crate::fault::{Fault, noted};
 use db_read::{DbError, read};
@@ -11,13 +11,13 @@ use why_report::Entry;
 /// The entries of a text.
 #[derive(Drop)]
 pub(crate) struct Entries {
-    /// Their patterns, in order.
+    /// The patterns of the entries, in order.
     patterns: Vec<Pattern>,
-    /// The numbers of their Pattern lines.
+    /// The line numbers of their Pattern lines.
     lines: Vec<u64>,
 }
 
-/// The entries of the text of a file, which may name helpers of these names.
+/// The entries of the text of a file, in which the `helpers` with these names may be named.
 pub(crate) fn entries_of(
     alloc: Global,
     file: &str,
@@ -40,7 +40,7 @@ pub(crate) fn entries_of(
     Ok(Entries { patterns, lines })
 }
 
-/// The name and the line of a word such as `Hane@12`; the line is missing if no number stands behind the last `@`.
+/// The name and the line of a word such as `Hane@12`; the line is missing if no number follows the last `@`.
 fn name_and_line(word: &str) -> (&str, Option<u64>) {
     match word.rsplit_once('@') {
         Some((name, number)) => match number.parse::<u64>() {
@@ -64,12 +64,12 @@ impl Entries {
         self.patterns.as_slice()
     }
 
-    /// The patterns of all entries, and the numbers of their Pattern lines, in the order of the file.
+    /// The patterns of all entries, and the line numbers of their Pattern lines, in the order of the file.
     pub(crate) fn into_parts(self) -> (Vec<Pattern>, Vec<u64>) {
         (self.patterns, self.lines)
     }
 
-    /// The entry at a place of the file, which has this pattern.
+    /// The entry at index `place` of the file, with this `pattern`.
     fn at<'a>(&self, place: usize, pattern: &'a Pattern) -> Entry<'a> {
         let line = self.lines.get(place).copied().unwrap_or(0);
         Entry { pattern, line }

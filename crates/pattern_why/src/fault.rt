@@ -1,17 +1,17 @@
-//! Why nothing can be told.
+//! The faults that stop the program.
 
 use go_base::NoMemory;
 use std::alloc::{AllocError, AllocFailed};
 use std::io;
 
-/// Why nothing can be told.
+/// The reason why the program has no answer.
 #[derive(Debug, Drop)]
 pub(crate) enum Fault {
-    /// There is no memory.
+    /// Memory ran out.
     NoMemory,
-    /// What is told cannot be written, or the input cannot be read.
+    /// The output cannot be written, or the input cannot be read.
     Io(io::Error),
-    /// What this note says.
+    /// Another fault, in words.
     Note(String),
 }
 
@@ -39,7 +39,7 @@ impl From<io::Error> for Fault {
     }
 }
 
-/// The fault that this note tells.
+/// The fault with the words of this note; out of memory if the note could not be made.
 pub(crate) fn noted(text: Result<String, AllocError>) -> Fault {
     match text {
         Ok(text) => Fault::Note(text),

@@ -1,4 +1,4 @@
-//! Files, as the program reads them.
+//! Reads files.
 
 use crate::fault::{Fault, noted};
 use std::fs;

@@ -1,4 +1,4 @@
-//! The game whose position is looked at.
+//! Sets up the game whose position is looked at.
 
 use crate::fault::{Fault, noted};
 use crate::files::text_of;
@@ -12,7 +12,7 @@ use std::fs::Files;
 use std::io::Read;
 use why_report::put_name;
 
-/// A game on an empty board.
+/// A new game on an empty board.
 fn new_game(alloc: Global) -> Result<Game, Fault> {
     match Game::new(alloc) {
         Some(game) => Ok(game),
@@ -20,14 +20,15 @@ fn new_game(alloc: Global) -> Result<Game, Fault> {
     }
 }
 
-/// The words of a note on the line of standard input with this number.
+/// The words of a note on the line of standard input with this `number`.
 fn line_words(alloc: Global, number: u64, words: &[u8]) -> Result<String, AllocError> {
     let mut note = format!(in alloc; "input line {number}: ")?;
     put_name(&mut note, words)?;
     Ok(note)
 }
 
-/// The note on a line that `gopat` refuses: the words of its refusal, which stand between `? ` and two line feeds.
+/// The note on a line that `gopat` refuses: the words of its refusal, without the `? ` before and the two line feeds
+/// behind.
 fn refused(alloc: Global, number: u64, text: RefuseText) -> Fault {
     let reply = refusal(None, text);
     let reply = reply.as_slice();
@@ -38,7 +39,7 @@ fn refused(alloc: Global, number: u64, text: RefuseText) -> Fault {
     }
 }
 
-/// The note on a line that is not taken.
+/// The note on a line that is refused.
 fn line_note(alloc: Global, number: u64, fault: LineFault) -> Fault {
     match fault {
         LineFault::Refused(text) => refused(alloc, number, text),
@@ -81,7 +82,7 @@ fn record_note(alloc: Global, file: &str, fault: LineFault) -> Fault {
     }
 }
 
-/// The game after `moves` moves of the main line of a record, or at its end if that is `None`.
+/// The game after `moves` moves of the main line of a record; at its end if `moves` is `None`.
 pub(crate) fn game_after(
     alloc: Global,
     file: &str,
@@ -102,17 +103,17 @@ pub(crate) fn game_after(
     }
 }
 
-/// How deep readings go before any line says so, and over records.
+/// The depths of readings in a new game. Searches over records use them too.
 pub(crate) fn depths_at_first(alloc: Global) -> Result<Depths, Fault> {
     Ok(new_game(alloc)?.depths())
 }
 
-/// How many moves the main line of a record has.
+/// The number of moves in the main line of a record.
 pub(crate) fn move_count(alloc: Global, record: &[u8]) -> Result<u64, Fault> {
     Ok(cut_record(alloc, record, u64::MAX)?.moves)
 }
 
-/// The game that a record or the lines of standard input lead to, as the options say.
+/// The game that the record of the options, or the lines of standard input, lead to.
 pub(crate) fn game_of<R: Files + Input + AllocGlobal>(
     rt: &R,
     options: &Options,

@@ -1,11 +1,11 @@
-//! Why a pattern does not match: tells its author, for a position that protocol lines set up or that a game record
-//! leads to, which part of the definition of a match fails first; or how often each part fails over game records; or
-//! which matches go and come over game records if a pattern file is changed.
+//! Shows why a pattern does not match. For a position that protocol lines set up or that a game record leads to, it
+//! prints which part of the definition of a match fails first. Over game records it counts how often each part fails,
+//! or prints which matches go and come if a pattern file is changed.
 //!
 //! `pattern_why [options] FILE [PATTERN[@LINE]]`. The exit status is 0 if something matches, 1 if nothing does, and 2
-//! if the words are no command line, a file has a fault or cannot be read, a line is not taken, or there is no memory.
-//! With `--coverage` it is 0 if each entry fits somewhere and no record has a fault, and 1 if not. With `--compare` it
-//! is 0 if no match went or came, 1 if one did, and also 2 if a record has a fault.
+//! if the command line is faulty, a file has a fault or cannot be read, a line is refused, or memory runs out. With
+//! `--coverage` it is 0 if each entry fits somewhere and no record has a fault, and 1 if not. With `--compare` it is 0
+//! if no match went or came, 1 if one did, and also 2 if a record has a fault.
 #![tactic(auto)]
 
 mod almost;
@@ -36,7 +36,7 @@ use std::process::ExitCode;
 use std::rt::Env;
 use std::{env, io};
 
-/// The note of a faulty command line.
+/// The message for a faulty command line.
 const USAGE: &str =
     "usage: pattern_why [--colour b|w] [--at VERTEX] [--all] [--json] [--sgf RECORD [--move N]] FILE [PATTERN[@LINE]], \
 or pattern_why [--colour b|w] --coverage FOLDER FILE, \
@@ -51,13 +51,13 @@ fn words_of<R: Env + AllocGlobal>(rt: &R) -> io::Result<Vec<String>> {
     Ok(words)
 }
 
-/// What the command line asks for. None if its words are no command line, or cannot be had.
+/// What the command line asks for; `None` if it is faulty, or cannot be read.
 fn options_asked<R: Env + AllocGlobal>(rt: &R) -> Option<Options> {
     let words = words_of(rt).ok()?;
     options_of(rt.alloc(), words.as_slice())
 }
 
-/// Prints why nothing can be told: the exit status.
+/// Prints why there is no answer, and says the exit status.
 fn give_up<R: Eprint>(rt: &R, fault: &Fault) -> ExitCode {
     let _ = match fault {
         Fault::NoMemory => eprintln!(rt; "out of memory"),

@@ -8,13 +8,13 @@ use std::alloc::Global;
 /// The positions of a record's main line, up to its first fault.
 #[derive(Drop)]
 pub(crate) struct MainLine {
-    /// The position before the first move, the one after it, and so on.
+    /// The position before the first move, the position after it, and so on.
     pub(crate) positions: Vec<Position>,
-    /// The note on the fault, if there is one.
+    /// The note on the fault of the record, if it has one.
     pub(crate) fault: Option<String>,
 }
 
-/// The positions of the main line of a record with this name.
+/// The positions of the main line of the record called `name`.
 pub(crate) fn main_line(alloc: Global, name: &str, record: &[u8]) -> Result<MainLine, Fault> {
     let last = move_count(alloc, record)?;
     let mut positions = Vec::new(alloc);

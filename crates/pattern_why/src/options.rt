@@ -1,40 +1,40 @@
-//! What the words of the command line ask for.
+//! What the command line asks for.
 
 use clap::{Arg, ArgAction, ArgMatches, Command};
 use go_base::Colour;
 use std::alloc::{AllocError, Global};
 
-/// What the entries of the file are compared with.
+/// The files that the entries of the pattern file are compared with, and over.
 #[derive(Drop)]
 pub(crate) struct Comparison {
     /// The file with the new entries.
     pub(crate) new: String,
-    /// The folder of the records over which they are compared.
+    /// The folder of the records over which the files are compared.
     pub(crate) folder: String,
 }
 
-/// What the words of the command line ask for.
+/// What the command line asks for.
 #[derive(Drop)]
 pub(crate) struct Options {
-    /// The colour for which entries are tried; both if there is none.
+    /// The colour for which entries are tried; both colours if `None`.
     pub(crate) colour: Option<Colour>,
-    /// The vertex at which they are tried; each point if there is none.
+    /// The vertex at which entries are tried; every point if `None`.
     pub(crate) at: Option<String>,
-    /// The folder of the records over which entries are counted, if they are.
+    /// The folder of the records over which tries are counted; `None` if they are not counted.
     pub(crate) coverage: Option<String>,
-    /// What the entries are compared with, if they are.
+    /// The comparison with a new file; `None` if there is none.
     pub(crate) compare: Option<Comparison>,
-    /// Whether of each entry one line is told, those of which most parts hold first.
+    /// Whether to print one line for each entry and colour, the tries in which most parts hold first.
     pub(crate) all: bool,
-    /// Whether objects of JSON are printed.
+    /// Whether to print objects of JSON.
     pub(crate) json: bool,
-    /// The game record whose position is looked at; else lines on standard input set it up.
+    /// The game record that leads to the position; lines of standard input set it up if `None`.
     pub(crate) record: Option<String>,
-    /// How many moves of the record are played; all if there is none.
+    /// The number of moves of the record that are played; all moves if `None`.
     pub(crate) moves: Option<u64>,
-    /// The pattern file; with a comparison the old one.
+    /// The pattern file; in a comparison the old file.
     pub(crate) file: String,
-    /// The name of the entries that are tried, or one's name and line; all of the file if there is none.
+    /// The name of the entries that are tried, or the name and line of one; all entries of the file if `None`.
     pub(crate) entry: Option<String>,
 }
 
@@ -59,7 +59,7 @@ fn value<'a>(alloc: Global, name: &'a str) -> Arg<'a> {
     Arg::new(alloc, name).long(name).action(ArgAction::Set)
 }
 
-/// The words that are no options.
+/// The words that are not options.
 fn plain_words<'a>(alloc: Global) -> Arg<'a> {
     Arg::new(alloc, "names")
         .action(ArgAction::Append)
@@ -88,7 +88,7 @@ fn is_set(matches: &ArgMatches<'_>, flag: &str) -> bool {
     matches.get_str(flag) == Some("true")
 }
 
-/// A copy of the value of an option, if one is given. None if there is no memory.
+/// A copy of the value of an option: `Some(None)` if the option is not given, and `None` if memory runs out.
 fn text_in(alloc: Global, matches: &ArgMatches<'_>, name: &str) -> Option<Option<String>> {
     match matches.get_str(name) {
         Some(text) => match String::from_str(alloc, text) {
@@ -99,7 +99,7 @@ fn text_in(alloc: Global, matches: &ArgMatches<'_>, name: &str) -> Option<Option
     }
 }
 
-/// The colour, if one is given. None if the word is neither `b` nor `w`.
+/// The colour: `Some(None)` if none is given, and `None` if the word is neither `b` nor `w`.
 fn colour_in(matches: &ArgMatches<'_>) -> Option<Option<Colour>> {
     match matches.get_str("colour") {
         None => Some(None),
@@ -109,7 +109,7 @@ fn colour_in(matches: &ArgMatches<'_>) -> Option<Option<Colour>> {
     }
 }
 
-/// The number of moves, if one is given. None if the word is no number.
+/// The number of moves: `Some(None)` if none is given, and `None` if the word is not a number.
 fn moves_in(matches: &ArgMatches<'_>) -> Option<Option<u64>> {
     match matches.get_str("move") {
         None => Some(None),
@@ -120,18 +120,18 @@ fn moves_in(matches: &ArgMatches<'_>) -> Option<Option<u64>> {
     }
 }
 
-/// The names of the command line.
+/// The names on the command line.
 #[derive(Drop)]
 struct Names {
     /// The pattern file.
     file: String,
     /// The entry, if one is named.
     entry: Option<String>,
-    /// What the file is compared with, if it is.
+    /// The comparison with a new file, if one is asked for.
     compare: Option<Comparison>,
 }
 
-/// The names behind `--compare`: the old file, the new one and the folder. None if they are fewer or more.
+/// The names for `--compare`: the old file, the new file and the folder. `None` if there are fewer or more names.
 fn compared_names(alloc: Global, names: &[&str]) -> Option<Names> {
     let [old, new, folder] = names else {
         return None;
@@ -146,7 +146,7 @@ fn compared_names(alloc: Global, names: &[&str]) -> Option<Names> {
     })
 }
 
-/// The pattern file and the entry, if one is named. None if there is no file, or a word more.
+/// The pattern file, and the entry if one is named. `None` if there is no file, or one word too many.
 fn tried_names(alloc: Global, names: &[&str]) -> Option<Names> {
     let (file, entry) = match names {
         [file] => (file, None),
@@ -160,7 +160,7 @@ fn tried_names(alloc: Global, names: &[&str]) -> Option<Names> {
     })
 }
 
-/// The names of the command line. None if they are too few or too many.
+/// The names on the command line; `None` if there are too few or too many.
 fn names_in(alloc: Global, matches: &ArgMatches<'_>) -> Option<Names> {
     let names = matches.get_strs("names")?;
     if is_set(matches, "compare") {
@@ -170,13 +170,13 @@ fn names_in(alloc: Global, matches: &ArgMatches<'_>) -> Option<Names> {
     }
 }
 
-/// Whether the options ask for a position or for something on it.
+/// Whether the options ask for a position, or for something that needs one.
 fn has_position(options: &Options) -> bool {
     options.at.is_some() || options.record.is_some() || options.entry.is_some() || options.all
 }
 
-/// Whether the options go with each other: `--move` needs `--sgf`, and `--all` needs `--at` and takes no entry. With
-/// `--coverage` only `--colour` goes, and no entry; with `--compare` only `--colour` and `--json`.
+/// Whether the options can be combined. `--move` needs `--sgf`; `--all` needs `--at` and excludes an entry.
+/// `--coverage` allows only `--colour`, and no entry; `--compare` allows only `--colour` and `--json`.
 fn are_together(options: &Options) -> bool {
     let has_record = options.record.is_some() || options.moves.is_none();
     let has_point = !options.all || (options.at.is_some() && options.entry.is_none());
@@ -186,7 +186,7 @@ fn are_together(options: &Options) -> bool {
     has_record && has_point && is_covered && is_compared
 }
 
-/// What the matches of a command line ask for. None if they do not go with each other.
+/// What a parsed command line asks for; `None` if its options cannot be combined.
 fn options_in(alloc: Global, matches: &ArgMatches<'_>) -> Option<Options> {
     let Names {
         file,
@@ -212,8 +212,8 @@ fn options_in(alloc: Global, matches: &ArgMatches<'_>) -> Option<Options> {
     }
 }
 
-/// The options that the words of a command line give, which are without the program's name. None if they are no command
-/// line with a file.
+/// What the words of a command line ask for; the program's name is not one of them. `None` if they are no command line
+/// with a file.
 pub(crate) fn options_of(alloc: Global, words: &[String]) -> Option<Options> {
     let matches = command(alloc).ok()?.try_get_matches_from(words).ok()?;
     options_in(alloc, &matches)

@@ -1,18 +1,18 @@
-//! What the exit status tells.
+//! The answer that the exit status gives.
 
-/// What the exit status tells of what was asked.
+/// The answer that the exit status gives.
 #[derive(Clone, Copy, PartialEq, Eq)]
 pub(crate) enum Outcome {
-    /// Something matches, or each entry fits somewhere, or nothing changed.
+    /// Something matches; or each entry fits somewhere and no record has a fault; or nothing changed.
     Yes,
-    /// Nothing matches, or an entry never fits, or something changed.
+    /// Nothing matches; or an entry never fits or a record has a fault; or something changed.
     No,
-    /// The answer could not be told to the end.
+    /// The answer is incomplete, or there is none.
     Trouble,
 }
 
 impl Outcome {
-    /// The outcome of a question.
+    /// Yes if `is_so`, else no.
     pub(crate) fn of(is_so: bool) -> Outcome {
         if is_so { Outcome::Yes } else { Outcome::No }
     }

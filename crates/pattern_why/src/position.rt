@@ -1,4 +1,4 @@
-//! The program's work: the entries of a file, a position, and what is told of them.
+//! Does the work of the program: reads the entries of a file, sets up a position, and prints the answer.
 
 use crate::almost::tell_almost;
 use crate::compare::tell_changes;
@@ -31,7 +31,7 @@ fn entries_in<R: Files + AllocGlobal>(
     entries_of(alloc, file, text.as_slice(), names.as_slice())
 }
 
-/// The entries that the command line names. It is an error if it names one that the file does not have.
+/// The entries that the command line names. Fails if the file has no entry of that name.
 fn entries_asked<'a>(
     alloc: Global,
     options: &Options,
@@ -54,7 +54,7 @@ fn print_page<R: Print>(rt: &R, page: &str) -> Result<(), Fault> {
     Ok(())
 }
 
-/// Prints why entries do not match on a position. The outcome is whether one does.
+/// Prints why entries do not match on a position. The outcome is yes if one of them matches.
 fn tell_position<R: Files + Input + Print + AllocGlobal>(
     rt: &R,
     options: &Options,
@@ -77,8 +77,8 @@ fn tell_position<R: Files + Input + Print + AllocGlobal>(
     Ok(Outcome::of(telling.matches))
 }
 
-/// Prints what the options ask for. The outcome is whether something matches, whether each entry fits once at least, or
-/// whether nothing changed.
+/// Prints what the options ask for. The outcome is yes if something matches; with `--coverage` if each entry fits at
+/// least once and no record has a fault; with `--compare` if nothing changed.
 pub(crate) fn tell<R: Files + Input + Print + Eprint + Clock + AllocGlobal + Clone + Drop>(
     rt: &R,
     options: &Options,

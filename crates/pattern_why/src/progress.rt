@@ -1,22 +1,22 @@
-//! How far the program is, told on a terminal if it takes longer.
+//! What the program is doing, shown on a terminal if the work takes longer.
 
 use std::io;
 use std::time::{Clock, Duration, Instant};
 
-/// How many seconds pass before anything is told of short work.
+/// The number of seconds before the progress is shown.
 const PATIENCE: u64 = 1;
 
-/// A line of standard error that says what is done now, and is taken away before anything else is printed.
+/// A line of standard error that says what is done now. It is erased before anything else is printed.
 #[derive(Drop)]
 pub(crate) struct Progress {
     /// When the program began, if standard error is a terminal.
     begun: Option<Instant>,
-    /// Whether the line stands there now.
+    /// Whether the line is on the terminal now.
     stands: bool,
 }
 
 impl Progress {
-    /// Nothing is told yet. Nothing ever is if standard error is no terminal.
+    /// No progress is shown yet, and none ever is if standard error is not a terminal.
     pub(crate) fn begin<R: Clock>(rt: &R, is_terminal: bool) -> io::Result<Progress> {
         let begun = if is_terminal {
             Some(Instant::now(rt)?)
@@ -29,7 +29,7 @@ impl Progress {
         })
     }
 
-    /// Says what is done now, if the program has run for a while.
+    /// Shows what is done now, if the program has run for a while.
     pub(crate) fn tell<R: Clock + Eprint>(
         &mut self,
         rt: &R,
@@ -46,7 +46,7 @@ impl Progress {
         Ok(())
     }
 
-    /// Takes the line away.
+    /// Erases the line.
     pub(crate) fn clear<R: Eprint>(&mut self, rt: &R) -> io::Result<()> {
         if self.stands {
             eprint!(rt; "\r\x1b[K")?;

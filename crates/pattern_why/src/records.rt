@@ -4,7 +4,7 @@ use crate::fault::{Fault, noted};
 use std::fs::{self, Files};
 use std::io;
 
-/// The end of a record's name.
+/// The ending of a record's file name.
 const RECORD: &str = ".sgf";
 
 /// The names of the records of a folder, in order.
@@ -23,8 +23,8 @@ fn names_in<R: Files + AllocGlobal + Clone + Drop>(
     Ok(names)
 }
 
-/// The names of the records of a folder, in order: the files whose names end in `.sgf`. It is an error if there is
-/// none, or the folder cannot be listed.
+/// The names of the records of a folder, in order: the files whose names end in `.sgf`. Fails if there is no record, or
+/// the folder cannot be listed.
 pub(crate) fn records_of<R: Files + AllocGlobal + Clone + Drop>(
     rt: &R,
     folder: &str,

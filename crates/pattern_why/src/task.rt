@@ -1,4 +1,4 @@
-//! What is asked of a position.
+//! What is asked about a position.
 
 use crate::fault::{Fault, noted};
 use crate::options::Options;
@@ -7,23 +7,23 @@ use std::alloc::Global;
 use vertices::vertex_named;
 use why_report::Setting;
 
-/// What is asked of a position.
+/// What is asked about a position.
 #[derive(Clone, Copy)]
 pub(crate) struct Task<'a> {
-    /// Where memory is taken.
+    /// The allocator.
     pub(crate) alloc: Global,
     /// What the command line asks for.
     pub(crate) options: &'a Options,
-    /// The position, and how deep readings go.
+    /// The position, and the depths of readings.
     pub(crate) setting: Setting<'a>,
     /// The first point at which entries are tried.
     pub(crate) from: Point,
-    /// The point behind the last one.
+    /// The point after the last one at which entries are tried.
     pub(crate) to: Point,
 }
 
-/// The points at which entries are tried: the one that is named, or all of the board. The second stands behind the
-/// last.
+/// The points at which entries are tried: the named vertex, or all points of the board. The second number is the point
+/// after the last one.
 fn points_asked(
     alloc: Global,
     options: &Options,
@@ -40,7 +40,7 @@ fn points_asked(
 }
 
 impl<'a> Task<'a> {
-    /// What the options ask of a position. It is an error if they name a vertex that the board does not have.
+    /// What the options ask about a position. Fails if they name a vertex that the board does not have.
     pub(crate) fn new(
         alloc: Global,
         options: &'a Options,

@@ -1,19 +1,19 @@
-//! What is told of a position.
+//! The answer about a position.
 
 use std::alloc::Global;
 use why_report::Try;
 
-/// What is told of a position.
+/// The answer about a position.
 #[derive(Drop)]
 pub(crate) struct Telling {
-    /// What is printed.
+    /// The text that is printed.
     pub(crate) page: String,
     /// Whether a try matched.
     pub(crate) matches: bool,
 }
 
 impl Telling {
-    /// Nothing is told yet.
+    /// The answer before any try.
     pub(crate) fn new(alloc: Global) -> Telling {
         Telling {
             page: String::new(alloc),
@@ -21,7 +21,7 @@ impl Telling {
         }
     }
 
-    /// Notes whether a try matched.
+    /// Notes whether the try `one` is a match.
     pub(crate) fn note(&mut self, one: &Try<'_>) {
         self.matches = self.matches || one.reason.is_none();
     }

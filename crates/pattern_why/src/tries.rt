@@ -1,4 +1,4 @@
-//! Each try that is asked for, in order.
+//! Reports each try that is asked for, in order.
 
 use crate::fault::Fault;
 use crate::task::Task;
@@ -9,7 +9,7 @@ use pat_types::mark_count;
 use pattern_coverage::{ENDS, PartCounts};
 use why_report::{Entry, Try, part_name, parts_held, put_block, put_entry, put_json, tried};
 
-/// Puts how many tries of an entry for a colour failed first in each part, and how many matched.
+/// Prints how many tries of an entry for a colour fail first in each part, and how many match.
 fn put_counts(
     page: &mut String,
     entry: Entry<'_>,
@@ -25,7 +25,7 @@ fn put_counts(
     Ok(())
 }
 
-/// Tells of a try: by an object of JSON, or by a block for a person if the point was named or the diagram fits.
+/// Reports a try: as an object of JSON, or as a block of text if the point was named or the diagram fits.
 fn tell_try(task: &Task<'_>, telling: &mut Telling, one: &Try<'_>) -> Result<(), Fault> {
     telling.note(one);
     if task.options.json {
@@ -36,7 +36,7 @@ fn tell_try(task: &Task<'_>, telling: &mut Telling, one: &Try<'_>) -> Result<(),
     Ok(())
 }
 
-/// Tells of the tries of an entry for a colour under one transformation, at each point that is asked for.
+/// Reports the tries of an entry for a colour under one transformation, at each point that is asked for.
 fn tell_points(
     task: &Task<'_>,
     helpers: &mut Helpers,
@@ -56,8 +56,8 @@ fn tell_points(
     Ok(())
 }
 
-/// Tells of the tries of an entry for a colour under each transformation of its mark. For a person their counts stand
-/// behind them, unless a point was named.
+/// Reports the tries of an entry for a colour under each transformation of its mark. In text their counts follow,
+/// unless a point was named.
 fn tell_entry(
     task: &Task<'_>,
     helpers: &mut Helpers,
@@ -85,7 +85,7 @@ fn tell_entry(
     Ok(())
 }
 
-/// Tells of each try of these entries: in their order, for each colour, under each transformation, at each point.
+/// Reports each try of `entries`: in their order, for each colour, under each transformation, at each point.
 pub(crate) fn tell_tries(
     task: &Task<'_>,
     helpers: &mut Helpers,

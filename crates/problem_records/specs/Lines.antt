@@ -17,16 +17,16 @@ use Rattle.problem_records.specs.declared.lack.Lack.TheVariants as lack
 abbrev pub ends_line : ℕ → Bool
 ends_line b = b == line_feed
 
--- the bytes behind the blanks at the front
+-- the bytes that are left if all blanks at the front are dropped
 abbrev pub behind_blanks : List ℕ → List ℕ
 behind_blanks bytes = drop (prefix_len is_blank bytes) bytes
 
--- what stands behind the word, if the bytes begin with it
+-- the bytes behind the word, if the bytes begin with this word
 abbrev pub behind_word : List ℕ → List ℕ → Option (List ℕ)
 behind_word word bytes =
     if bytes_eq (take (length word) bytes) word then Some (drop (length word) bytes) else None
 
--- what stands behind `gopat:`, if the line begins with it; blanks may stand before it
+-- the text behind `gopat:`, if the line begins with `gopat:` after its blanks
 abbrev pub text_behind : List ℕ → Option (List ℕ)
 text_behind line = behind_word (codes "gopat:") (behind_blanks line)
 
@@ -34,13 +34,13 @@ text_behind line = behind_word (codes "gopat:") (behind_blanks line)
 abbrev pub lines_of : List ℕ → List (List ℕ)
 lines_of comment = slice_split ends_line comment
 
--- the one of these, if there is one; more than one are a lack
+-- the only text of these; None if there is no text, and a lack if there is more than one
 abbrev pub only_one : List (List ℕ) → Result (Option (List ℕ)) Lack
 only_one [] = Ok None
 only_one (text ∷ []) = Ok (Some text)
 only_one (text ∷ (another ∷ more)) = Err lack.ManyLines
 
--- what the one of these lines says that begins with `gopat:`
+-- the text of the one line that begins with `gopat:`, among these lines
 abbrev pub told_line : List (List ℕ) → Result (Option (List ℕ)) Lack
 told_line lines = only_one (filter_map text_behind lines)
 
@@ -48,7 +48,7 @@ told_line lines = only_one (filter_map text_behind lines)
 abbrev pub is_word : List ℕ → Bool
 is_word word = not (length word == 0)
 
--- the words of a line: what stands between its blanks
+-- the words of a line: the longest parts of it without a blank
 abbrev pub words_of : List ℕ → List (List ℕ)
 words_of line = filter is_word (slice_split is_blank line)
 
@@ -69,7 +69,7 @@ abbrev pub target_in : ℕ → List (List ℕ) → Result ℕ Lack
 target_in s (kind ∷ (word ∷ words)) = ok_or (vertex_of s (kept word)) lack.NoTarget
 target_in s _ = Err lack.NoTarget
 
--- both, or what is lacking: first of the question, then of the point
+-- the question and the point, or what is lacking: the lack of the question comes first
 abbrev pub both_or_lack : Result Kind Lack → Result ℕ Lack → Result (Kind × ℕ) Lack
 both_or_lack (Ok kind) (Ok target) = Ok (kind, target)
 both_or_lack (Ok kind) (Err l) = Err l
@@ -79,7 +79,8 @@ both_or_lack (Err l) target = Err l
 abbrev pub asked_in_words : ℕ → List (List ℕ) → Result (Kind × ℕ) Lack
 asked_in_words s words = both_or_lack (kind_in words) (target_in s words)
 
--- it is a lack of what follows the question in its line: of the depths, the code or the moves
+-- this is a lack of what follows the question in its line: of the depths, the code or the moves, or a word without
+-- meaning
 abbrev pub IsOfParts : Lack → Type 0
 IsOfParts l =
     (l ≡ lack.NoDepths) ⊎ (l ≡ lack.NoCode) ⊎ (l ≡ lack.NoVertex) ⊎ (l ≡ lack.NoPass) ⊎ (l ≡ lack.NoOnly)

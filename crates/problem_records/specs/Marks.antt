@@ -1,4 +1,4 @@
--- The question of a record without a line: it is about the one marked stone, and the player to move says which it is.
+-- The question of a record without a line. It is about the only marked stone; the player to move attacks or defends it.
 use Rattle.std.specs.Prelude.{ℕ, ◌*◌, Bool, ◌&&◌, ◌||◌, List, [], ◌∷◌, Option, Some, None, Result, Ok, Err}
 use Rattle.std.specs.Prelude.{if◌then◌else◌, codes}
 use Rattle.std.specs.List.{filter, list_any, range_with_len}
@@ -56,13 +56,13 @@ abbrev pub player_of : List Named → Option Colour
 player_of [] = None
 player_of (v ∷ vs) = if has_name (codes "PL") v then colour_said v.1 else player_of vs
 
--- who is to move defends his own stone, and attacks one of the other side
+-- the player to move defends a stone of this player's colour, and attacks any other stone
 abbrev pub kind_for : Colour → Cell → Kind
 kind_for Black cell.Black = Defend
 kind_for White cell.White = Defend
 kind_for _ _ = Attack
 
--- the question about the one marked stone, or what is lacking: first one stone, then the player
+-- the question about the only marked stone, or what is lacking: the single stone comes first, then the player
 abbrev pub asked_by_marks : List Cell → List ℕ → Option Colour → Result (Kind × ℕ) Lack
 asked_by_marks cells [] player = Err lack.NoMark
 asked_by_marks cells (p ∷ []) None = Err lack.NoPlayer

@@ -20,7 +20,7 @@ first_node text = first_of (nodes_in (record_tokens text))
 abbrev pub Named : Type 0
 Named = List ℕ × List ℕ
 
--- each of the values with the name of their property
+-- each of the values with the name of its property
 abbrev pub under_name : List ℕ → List (List ℕ) → List Named
 under_name name values = map (λ v. (name, v)) values
 
@@ -36,7 +36,7 @@ has_name name v = bytes_eq v.0 name
 abbrev pub line_feed : ℕ
 line_feed = 10
 
--- the comment of a node with these values: what each value of C says, with a line feed behind it
+-- the comment of a node with these values: each value of C, with a line feed behind it
 abbrev pub comment_of : List Named → List ℕ
 comment_of [] = []
 comment_of (v ∷ vs) = if has_name (codes "C") v then v.1 ++ (line_feed ∷ comment_of vs) else comment_of vs

@@ -1,4 +1,4 @@
--- What a problem has.
+-- What the problem of a record has.
 use Rattle.std.specs.Prelude.{◌≢◌, ℕ, ◌*◌, ◌<◌, Option, IfSome}
 use Rattle.go_rules.specs.declared.Cell.TheVariants.{Empty}
 use Rattle.go_rules.specs.Position.{BoardState}

@@ -1,4 +1,4 @@
-//! The line in a comment that says the question and what is expected: `gopat: attack C2 depths 16 6 answer A1 only`.
+//! The line of a comment that says the question and what is expected: `gopat: attack C2 depths 16 6 answer A1 only`.
 
 ghost use Rattle.std.specs.Prelude.{◌≡◌, IfSome, IfOk, IfErr, MatchResult, Ok, Err, map};
 ghost use Rattle.std.specs.List.{slice_split};
@@ -21,46 +21,46 @@ use vertices::{target_named, vertex_named};
 /// The word with which the line begins.
 const LINE: &[u8] = b"gopat:";
 
-/// What the line says.
+/// What the line `gopat:` says.
 #[derive(Drop)]
 pub(crate) struct Line {
     /// Whether the target is attacked or defended.
     pub(crate) kind: Kind,
     /// The point that is asked about.
     pub(crate) target: Point,
-    /// The depths, if it tells them.
+    /// The depths, if the line says them.
     pub(crate) depths: Option<Depths>,
-    /// What is expected.
+    /// What the author expects.
     pub(crate) expected: Expected,
 }
 
 /// The part of the line to which the next word belongs.
 #[derive(Clone, Copy)]
 enum Part {
-    /// None: a part has ended.
+    /// No part: the last one has ended.
     Ended,
-    /// The plies are to come.
+    /// The next word is the plies.
     Plies,
-    /// The wide plies are to come, behind these plies.
+    /// The next word is the wide plies; the plies are these.
     Wide(u8),
-    /// The code is to come.
+    /// The next word is the code.
     Code,
-    /// Moves are to come, at least one.
+    /// The next word is a move: a list of moves has at least one.
     FirstMove,
-    /// Moves may come.
+    /// The next word may be a move.
     Moves,
 }
 
-/// The line as far as it is read.
+/// A line of which some words have been read.
 #[derive(Drop)]
 struct Draft {
-    /// What it says.
+    /// What these words say.
     line: Line,
     /// The part to which the next word belongs.
     part: Part,
-    /// The board.
+    /// The size of the board.
     size: Size,
-    /// The tree of its depths.
+    /// The tree that goes with the depths of the line.
     tree: Tree,
 }
 
@@ -77,7 +77,7 @@ fn kind_named(word: &[u8]) -> Option<Kind>
     }
 }
 
-/// The move that a word names.
+/// The move that a word names: a point or the pass.
 fn move_named(word: &[u8], size: Size) -> Option<Option<Point>>
     ensures { IfSome result (IsMoveBelow largest_points) }
 {
@@ -91,7 +91,7 @@ fn number_said(word: &[u8]) -> Option<u8> {
 }
 
 impl Draft {
-    /// Whether a part has stood before.
+    /// Whether the line has already had this part.
     fn has(&self, part: Part) -> bool {
         let expected = &self.line.expected;
         match part {
@@ -102,7 +102,7 @@ impl Draft {
         }
     }
 
-    /// Begins a part, if a part may begin here and has not stood before.
+    /// Begins a part, if a part may begin here and the line has not had this one.
     fn begin(&mut self, part: Part) -> Result<(), Lack>
         ensures same { AsksSame self.old.line self.new.line }
         ensures lack { IfErr result IsOfParts }
@@ -115,7 +115,7 @@ impl Draft {
         Ok(())
     }
 
-    /// Ends the part, if it may end here.
+    /// Checks that the current part may end here.
     fn end(&self) -> Result<(), Lack>
         ensures { IfErr result IsOfParts }
     {
@@ -127,7 +127,7 @@ impl Draft {
         }
     }
 
-    /// Takes in the number of plies.
+    /// Reads the number of plies.
     fn take_plies(&mut self, word: &[u8]) -> Result<(), Lack>
         ensures same { AsksSame self.old.line self.new.line }
         ensures lack { IfErr result IsOfParts }
@@ -137,7 +137,7 @@ impl Draft {
         Ok(())
     }
 
-    /// Takes in the number of wide plies behind that of plies.
+    /// Reads the number of wide plies, after the number of `plies`.
     fn take_wide(&mut self, plies: u8, word: &[u8]) -> Result<(), Lack>
         ensures same { AsksSame self.old.line self.new.line }
         ensures lack { IfErr result IsOfParts }
@@ -149,7 +149,7 @@ impl Draft {
         Ok(())
     }
 
-    /// Takes in the code.
+    /// Reads the code.
     fn take_code(&mut self, word: &[u8]) -> Result<(), Lack>
         ensures same { AsksSame self.old.line self.new.line }
         ensures lack { IfErr result IsOfParts }
@@ -163,7 +163,7 @@ impl Draft {
         Ok(())
     }
 
-    /// Takes in one of the moves.
+    /// Reads one of the moves.
     fn take_move(&mut self, word: &[u8]) -> Result<(), Lack>
         ensures same { AsksSame self.old.line self.new.line }
         ensures lack { IfErr result IsOfParts }
@@ -179,7 +179,7 @@ impl Draft {
         Ok(())
     }
 
-    /// Takes in a word that begins no part.
+    /// Reads a word that begins no part.
     fn take_word(&mut self, word: &[u8]) -> Result<(), Lack>
         ensures same { AsksSame self.old.line self.new.line }
         ensures lack { IfErr result IsOfParts }
@@ -193,7 +193,7 @@ impl Draft {
         }
     }
 
-    /// Begins the moves.
+    /// Begins the list of moves.
     fn begin_moves(&mut self) -> Result<(), Lack>
         ensures same { AsksSame self.old.line self.new.line }
         ensures lack { IfErr result IsOfParts }
@@ -203,7 +203,7 @@ impl Draft {
         Ok(())
     }
 
-    /// Rules other moves out.
+    /// Rules out all other moves.
     fn rule_others_out(&mut self) -> Result<(), Lack>
         ensures same { AsksSame self.old.line self.new.line }
         ensures lack { IfErr result IsOfParts }
@@ -213,7 +213,7 @@ impl Draft {
         Ok(())
     }
 
-    /// Takes in the next word.
+    /// Reads the next word.
     fn take(&mut self, word: &[u8]) -> Result<(), Lack>
         ensures same { AsksSame self.old.line self.new.line }
         ensures lack { IfErr result IsOfParts }
@@ -231,7 +231,7 @@ impl Draft {
         }
     }
 
-    /// The line, if it is whole.
+    /// The whole line, if its last part may end here and its parts agree.
     fn finish(self) -> Result<Line, Lack>
         ensures same { IfOk result (AsksSame self.line) }
         ensures lack { IfErr result IsOfParts }
@@ -248,7 +248,7 @@ impl Draft {
     }
 }
 
-/// The question that the first of these words names.
+/// The question that the first of `words` names.
 fn kind_in(words: &[&[u8]]) -> Result<Kind, Lack>
     ensures { result ≡ kind_in (map (λ w. w.now) words.now) }
 {
@@ -258,7 +258,7 @@ fn kind_in(words: &[&[u8]]) -> Result<Kind, Lack>
     }
 }
 
-/// The point that the second of these words says.
+/// The point that the second of `words` says.
 fn target_in(words: &[&[u8]], size: Size) -> Result<Point, Lack>
     ensures { result ≡ target_in size (map (λ w. w.now) words.now) }
 {
@@ -268,7 +268,7 @@ fn target_in(words: &[&[u8]], size: Size) -> Result<Point, Lack>
     }
 }
 
-/// What these words say behind the question about a point.
+/// The line with the question `kind` about `target`, and with what these `words` behind it say.
 fn parts_in(
     words: &[&[u8]],
     kind: Kind,
@@ -300,7 +300,7 @@ fn parts_in(
     draft.finish()
 }
 
-/// What a line says by its words.
+/// The line that these words say.
 fn line_by_words(words: &[&[u8]], size: Size, tree: Tree) -> Result<Line, Lack>
     ensures { IsInWords size (map (λ w. w.now) words.now) result }
 {
@@ -326,7 +326,7 @@ fn words_of<'a>(alloc: Global, line: &'a [u8]) -> Result<Vec<&'a [u8]>, AllocErr
         .collect(alloc)
 }
 
-/// What a line says.
+/// The line that the text behind `gopat:` says.
 pub(crate) fn line_of(
     alloc: Global,
     line: &[u8],
@@ -339,7 +339,7 @@ pub(crate) fn line_of(
     Ok(line_by_words(words.as_slice(), size, tree)?)
 }
 
-/// The bytes behind the blanks at the front.
+/// The bytes that are left if all blanks at the front are dropped.
 fn behind_blanks(bytes: &[u8]) -> &[u8]
     ensures { result.now ≡ behind_blanks bytes.now }
 {
@@ -351,7 +351,7 @@ fn behind_blanks(bytes: &[u8]) -> &[u8]
     &[]
 }
 
-/// What stands behind `gopat:`, if the line begins with it.
+/// The text behind `gopat:`, if the line begins with `gopat:` after its blanks.
 fn text_behind(line: &[u8]) -> Option<&[u8]>
     ensures { option_map (λ text. text.now) result ≡ text_behind line.now }
 {
@@ -365,7 +365,7 @@ pub(crate) fn lines_of<'a>(alloc: Global, comment: &'a [u8]) -> Result<Vec<&'a [
     comment.split(|b| *b == b'\n').collect(alloc)
 }
 
-/// What the one of these lines says that begins with `gopat:`; `None` if none begins so.
+/// The text of the one line that begins with `gopat:`; `None` if no line begins so.
 pub(crate) fn told_line<'a>(lines: &[&'a [u8]]) -> Result<Option<&'a [u8]>, Lack>
     ensures { MatchResult result
         (λ found. told_line (map (λ line. line.now) lines.now) ≡ Ok (option_map (λ text. text.now) found))

@@ -1,4 +1,4 @@
-//! The question of a record without a line: about the one marked stone, by the player to move.
+//! The question of a record without a line: the player to move attacks or defends the only marked stone.
 
 ghost use Rattle.std.specs.Prelude.{◌≡◌, ◌&&◌, IfOk, false};
 ghost use Rattle.std.specs.List.{filter};
@@ -17,7 +17,7 @@ use sgf_read::area_of;
 use sgf_rules::Area;
 use std::alloc::{AllocError, Global};
 
-/// Whether a property with these letters marks points.
+/// Whether a property with these letters marks points: TR, SQ, CR or MA.
 fn is_mark(letters: &[u8]) -> bool
     ensures { result ≡ is_mark (filter is_capital letters.now) }
 {
@@ -27,7 +27,7 @@ fn is_mark(letters: &[u8]) -> bool
         || is_named(letters, b"MA")
 }
 
-/// Whether a point lies in a rectangle.
+/// Whether the point `p` lies in the rectangle `area`.
 fn is_in_area(size: Size, area: Area, p: Point) -> bool
     ensures { result ≡ is_in_area size area p }
 {
@@ -39,7 +39,7 @@ fn is_in_area(size: Size, area: Area, p: Point) -> bool
         && column <= u16::from(area.right)
 }
 
-/// Whether a value marks a point.
+/// Whether `value` marks the point `p`.
 fn marks(value: &NamedValue<'_>, size: Size, p: Point) -> bool
     ensures { result ≡ marks size p (shown value.now) }
 {
@@ -52,7 +52,7 @@ fn marks(value: &NamedValue<'_>, size: Size, p: Point) -> bool
     }
 }
 
-/// Whether one of these values marks a point.
+/// Whether one of `values` marks the point `p`.
 fn is_marked(values: &[NamedValue<'_>], size: Size, p: Point) -> bool
     ensures { result ≡ is_marked size p (all_shown values.now) }
 {
@@ -64,7 +64,7 @@ fn is_marked(values: &[NamedValue<'_>], size: Size, p: Point) -> bool
     false
 }
 
-/// What stands at a point, and nothing off the board.
+/// The cell at a point; empty off the board.
 fn cell_at(position: &Position, p: Point) -> Cell
     ensures { result ≡ cell_at position.now.cells p }
 {
@@ -75,7 +75,7 @@ fn cell_at(position: &Position, p: Point) -> Cell
     }
 }
 
-/// Whether a marked stone stands at a point.
+/// Whether a marked stone stands at the point `p`.
 fn is_marked_stone(position: &Position, values: &[NamedValue<'_>], p: Point) -> bool
     ensures { result ≡ (is_stone_at position.now.cells p && is_marked position.now.size p (all_shown values.now)) }
 {
@@ -120,7 +120,7 @@ fn colour_said(value: &[u8]) -> Option<Colour>
     }
 }
 
-/// The player to move, whom the first PL among these values says.
+/// The player to move: the colour that the first PL among `values` says.
 pub(crate) fn player(alloc: Global, values: &[NamedValue<'_>]) -> Result<Option<Colour>, NoMemory>
     ensures { IfOk result (λ player. player ≡ player_of (all_shown values.now)) }
 {
@@ -133,7 +133,7 @@ pub(crate) fn player(alloc: Global, values: &[NamedValue<'_>]) -> Result<Option<
     Ok(None)
 }
 
-/// The question of the player to move about a stone: his own is defended, and another one attacked.
+/// The question about a stone: `player` defends a stone of this colour, and attacks any other.
 fn kind_for(player: Colour, cell: Cell) -> Kind
     ensures { result ≡ kind_for player cell }
 {
@@ -143,7 +143,7 @@ fn kind_for(player: Colour, cell: Cell) -> Kind
     }
 }
 
-/// The question about the one of these stones, or what is lacking.
+/// The question about the only one of `stones`, or what is lacking.
 pub(crate) fn asked_by_marks(
     position: &Position,
     stones: &[Point],

@@ -13,16 +13,17 @@ use sgf_read::{takes, token_from, tree_start, write_capitals};
 use sgf_rules::TokenKind;
 use std::alloc::{AllocError, Global};
 
-/// A value of a node, and the letters of its property.
+/// A value of a node, with the letters of its property.
 #[derive(Clone, Copy)]
 pub(crate) struct NamedValue<'a> {
-    /// The letters of its property.
+    /// The letters of the property.
     pub(crate) name: &'a [u8],
-    /// The bytes between its brackets.
+    /// The bytes between the brackets.
     pub(crate) value: &'a [u8],
 }
 
-/// The index at which the properties of the first node begin; the length of a text without a node before its first `)`.
+/// The index at which the properties of the first node begin. If no node stands before the first `)` of the text, it is
+/// the length of the text.
 pub(crate) fn first_node_start(text: &[u8]) -> usize
     ensures within { result ≤ length text.now }
     ensures node { properties_in (tokens_from text.now result) ≡ first_node text.now }
@@ -38,7 +39,7 @@ pub(crate) fn first_node_start(text: &[u8]) -> usize
     text.len()
 }
 
-/// The values of the node whose properties begin at an index.
+/// The values of the node whose properties begin at the index `start`.
 pub(crate) fn values_at<'a>(
     alloc: Global,
     text: &'a [u8],
@@ -67,7 +68,7 @@ pub(crate) fn values_at<'a>(
     Ok(values)
 }
 
-/// The index behind the values of the node whose properties begin at an index.
+/// The index behind the values of the node whose properties begin at the index `start`.
 pub(crate) fn values_end(text: &[u8], start: usize) -> usize
     requires { start ≤ length text.now }
     ensures { result ≤ length text.now }
@@ -82,14 +83,14 @@ pub(crate) fn values_end(text: &[u8], start: usize) -> usize
     at
 }
 
-/// Whether the bytes are those that are wanted.
+/// Whether `bytes` and `wanted` are the same bytes.
 pub(crate) fn are_same(bytes: &[u8], wanted: &[u8]) -> bool
     ensures { result ≡ bytes_eq bytes.now wanted.now }
 {
     bytes == wanted
 }
 
-/// Whether a property with these letters has this name, of at most two capitals.
+/// Whether the capitals among `letters` are `name`, which has at most two.
 pub(crate) fn is_named(letters: &[u8], name: &[u8]) -> bool
     requires { length name.now ≤ 2 }
     ensures { result ≡ bytes_eq (filter is_capital letters.now) name.now }

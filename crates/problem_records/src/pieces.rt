@@ -16,11 +16,11 @@ pub(crate) enum Piece<'a> {
     Close,
     /// A node begins.
     Node,
-    /// A value of the node.
+    /// A value of a property.
     Value(NamedValue<'a>),
 }
 
-/// The pieces of a record from an index on.
+/// The pieces of a record, from the index `start` on.
 pub(crate) fn pieces_from<'a>(
     alloc: Global,
     text: &'a [u8],

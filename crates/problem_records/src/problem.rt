@@ -1,4 +1,4 @@
-//! What a record asks, and what its author expects.
+//! The problem of a record: what it asks, and what its author expects.
 
 ghost use Rattle.std.specs.Prelude.{◌≢◌, ◌*◌, ◌<◌};
 ghost use Rattle.go_rules.specs.declared.Cell.TheVariants.{Empty};
@@ -7,7 +7,7 @@ ghost use Rattle.go_rules.specs.Strings.{cell_at};
 use go_base::{Point, Position};
 use problem_verdicts::{Depths, Expected, Kind};
 
-/// What a record asks, and what its author expects.
+/// The problem of a record: what it asks, and what its author expects.
 #[derive(Drop)]
 pub struct Problem {
     /// The position after the first node.

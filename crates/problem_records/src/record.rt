@@ -1,4 +1,4 @@
-//! How the problem of a record is found: in the line `gopat:` of its first node, else at its marks.
+//! Finds the problem of a record: in the line `gopat:` of its first node, or by its marks if there is no such line.
 
 ghost use Rattle.std.specs.Prelude.{◌≡◌, ◌≤◌, ◌↔◌, IsTrue, IfOk, IfErr, Ok, Err, length};
 ghost use Rattle.sgf_rules.specs.FirstNode.{first_position_of};
@@ -22,14 +22,14 @@ use problem_verdicts::{Depths, Expected, Moves};
 use sgf_read::read_first_node;
 use std::alloc::{AllocError, Global};
 
-/// Whether p is a point of the board, and a stone stands there.
+/// Whether `p` is a point of the board, and a stone stands there.
 fn has_stone(position: &Position, p: Point) -> bool
     ensures { IsTrue result ↔ HasStone position.now p }
 {
     p < position.size().points() && position.cell(p) != Cell::Empty
 }
 
-/// The right moves of the player to move behind the first node, whose values end at an index; `None` if there is none.
+/// The right moves of `player` behind the first node, whose values end at the index `end`; `None` if there are none.
 fn right_moves_behind(
     alloc: Global,
     text: &[u8],
@@ -47,7 +47,8 @@ fn right_moves_behind(
     Ok(right_moves(variations.as_slice(), size, player))
 }
 
-/// The question at the marks of a node with these values, which end at an index, and the right moves behind it.
+/// The question that the marks of a node with these `values` ask, and the right moves behind `end`, where the values
+/// end.
 fn line_by_marks(
     alloc: Global,
     text: &[u8],
@@ -76,7 +77,7 @@ fn line_by_marks(
     })
 }
 
-/// The question of a node with these values, which end at an index, and what is expected of it.
+/// The question of a node with these `values`, which end at the index `end`, and what the author expects.
 fn line_by_values(
     alloc: Global,
     text: &[u8],
@@ -96,7 +97,7 @@ fn line_by_values(
     }
 }
 
-/// The question of the first node of a record, and what is expected of it.
+/// The question of the first node of a record, and what the author expects.
 fn line_by_record(
     alloc: Global,
     text: &[u8],
@@ -117,7 +118,7 @@ fn line_by_record(
     )
 }
 
-/// The problem of a line on this position, unless no stone stands at its point.
+/// The problem of a line on this position; it is refused if no stone stands at its point.
 fn problem_by_line(position: Position, line: Line, usual: Depths) -> Result<Problem, ProblemError>
     ensures { IsOfLine position line usual result }
 {
@@ -147,13 +148,13 @@ fn problem_on(
     problem_by_line(position, line, usual)
 }
 
-/// The problem of a record, with these depths if its line tells none, or what it lacks. Takes memory.
+/// The problem of a record, or what the record lacks. Its depths are `usual` if its line says none. Takes memory.
 pub fn problem_of(alloc: Global, text: &[u8], usual: Depths) -> Result<Problem, ProblemError>
     ensures position { IfOk result (λ problem. first_position_of text.now ≡ Ok problem.position) }
     ensures fault { IfErr (first_position_of text.now) (λ kind.
         result ≡ Err (ProblemError.Lacks (Lack.BadRecord (number_of kind)))) }
 
-    // What comes of a record whose first node leads to a position is what its line says, or what its marks do.
+    // If the first node leads to a position, the outcome is the question of its line, or of its marks without a line.
     ensures outcome { IfOk (first_position_of text.now) (λ pos.
         IsOutcome pos (named_values (first_node text.now)) usual result) }
 {

@@ -1,4 +1,4 @@
-//! The variations of the first node, and those of their first moves that are right.
+//! The variations of the first node, and the first moves of the right ones.
 
 ghost use Rattle.std.specs.Prelude.{IfSome};
 ghost use Rattle.go_rules.specs.Board.{largest_points};
@@ -11,7 +11,7 @@ use problem_verdicts::Moves;
 use sgf_read::move_of;
 use std::alloc::{AllocError, Global};
 
-/// How many of these pieces stand before the `)` that ends the tree in which they stand.
+/// The number of pieces before the `)` that ends the tree in which `pieces` begin.
 fn len_of_tree(pieces: &[Piece<'_>]) -> usize {
     let mut depth: usize = 0;
     for (i, piece) in pieces.iter().enumerate() {
@@ -25,7 +25,7 @@ fn len_of_tree(pieces: &[Piece<'_>]) -> usize {
     pieces.len()
 }
 
-/// The trees that stand side by side at the front of these pieces.
+/// The trees that stand side by side in these pieces, each without its `)`.
 fn subtrees<'a>(
     alloc: Global,
     pieces: &'a [Piece<'a>],
@@ -98,7 +98,7 @@ fn is_right(variation: &[Piece<'_>]) -> bool {
     false
 }
 
-/// The move that a value says: a point or a pass.
+/// The move that a value says: a point or the pass.
 fn move_in(size: Size, value: &[u8]) -> Option<Option<Point>>
     ensures { IfSome result (IsMoveBelow largest_points) }
 {
@@ -118,7 +118,8 @@ fn first_values<'a>(pieces: &'a [Piece<'a>]) -> &'a [Piece<'a>] {
     }
 }
 
-/// The first move of a variation, if its first node has one of this colour that is on the board: a point or a pass.
+/// The first move of a variation, a point or the pass, if its first node has a move of this `colour` that is on the
+/// board.
 fn first_move(variation: &[Piece<'_>], size: Size, colour: Colour) -> Option<Option<Point>>
     ensures { IfSome result (IsMoveBelow largest_points) }
 {
@@ -136,7 +137,7 @@ fn first_move(variation: &[Piece<'_>], size: Size, colour: Colour) -> Option<Opt
     None
 }
 
-/// Adds the first move of a variation, if it has one, and tells whether it has.
+/// Adds the first move of a variation to `moves`, and tells whether there is one.
 fn add_first_move(moves: &mut Moves, variation: &[Piece<'_>], size: Size, colour: Colour) -> bool {
     match first_move(variation, size, colour) {
         Some(at) => {
@@ -147,8 +148,8 @@ fn add_first_move(moves: &mut Moves, variation: &[Piece<'_>], size: Size, colour
     }
 }
 
-/// The right moves of this colour: the first moves of the variations that say that they are right, or of the first
-/// variation if none says it; `None` if there is no such move.
+/// The right moves of this `colour`: the first moves of all variations that say that they are right, or that of the
+/// first variation if none says so; `None` if there is no such move.
 pub(crate) fn right_moves(
     variations: &[&[Piece<'_>]],
     size: Size,

@@ -1,4 +1,4 @@
--- What a row tells of the text of a record.
+-- What a row says of the text of a record.
 use Rattle.std.specs.Prelude.{◌≡◌, ℕ, Bool, false, ◌==◌, List, Ok, MatchResult}
 use Rattle.sgf_rules.specs.FirstNode.{first_position_of}
 use Rattle.sgf_rules.specs.Kinds.{number_of}
@@ -19,8 +19,8 @@ use Rattle.problem_rows.specs.declared.row.Asked.{Asked}
 use Rattle.problem_rows.specs.declared.row.Row.{Row}
 use Rattle.problem_rows.specs.declared.row.Row.TheVariants as row
 
--- what is told of a problem is found of its question, against these replies and by the moves of this scope, with the
--- verdict on it
+-- the row is about the problem, against these replies and with the moves of this scope: it has what is found of the
+-- question, and the verdict on it
 pub record IsJudged (problem : Problem) (replies : Replies) (scope : Scope) (told : Asked) : Type 0 where
   pub asks : told.problem ≡ problem
   pub against : told.replies ≡ replies
@@ -28,25 +28,25 @@ pub record IsJudged (problem : Problem) (replies : Replies) (scope : Scope) (tol
   pub found : IsFoundAgainst replies scope problem.position problem.kind problem.target problem.depths told.judged.found
   pub verdict : told.judged.verdict ≡ verdict_on problem.expected told.judged.found
 
--- The record with this text asks the question of the problem, at these depths if it tells none: its first node leads to
--- the position, and the values of that node ask the question.
+-- The record with this text asks the question of the problem, with these depths if it says none: its first node leads
+-- to the position, and the values of that node ask the question.
 pub record IsProblemOf (text : List ℕ) (usual : Depths) (problem : Problem) : Type 0 where
   pub position : first_position_of text ≡ Ok problem.position
   pub asks : Asks problem.position (named_values (first_node text)) usual problem
 
--- the record with this text lacks this: its first node leads to no position, or on that position it lacks a question
+-- the record with this text lacks this: its first node leads to no position, or it lacks a question on that position
 abbrev pub IsLackOf : List ℕ → Lack → Type 0
 IsLackOf text l = MatchResult (first_position_of text) (λ pos. IsLack pos (named_values (first_node text)) l)
     (λ kind. l ≡ lack.BadRecord (number_of kind))
 
--- this is told of the record with this text: its question and what that comes to, or what it lacks
+-- this is the row of the record with this text: its question with what is found of it, or what it lacks
 abbrev pub IsRowOf : List ℕ → Depths → Replies → Scope → Row → Type 0
 IsRowOf text usual replies scope (row.Asked told) =
     IsProblemOf text usual told.problem × IsJudged told.problem replies scope told
 IsRowOf text usual replies scope (row.Lacks l) = IsLackOf text l
 IsRowOf text usual replies scope row.NotLoaded = ⊥
 
--- the verdict of a row: that on its question, or that nothing is told
+-- the verdict of a row: the verdict on its question, or NotTold if it has no question
 abbrev pub verdict_in : Row → Verdict
 verdict_in (row.Asked told) = told.judged.verdict
 verdict_in (row.Lacks l) = NotTold

@@ -1,10 +1,10 @@
-//! How many records there are of each kind.
+//! The number of records with each verdict.
 
 use crate::row::Row;
 use problem_verdicts::Verdict;
 use std::fmt::{self, Display, Formatter, Write};
 
-/// How many records were checked, how many of them came to each verdict, and how many have one answer.
+/// The number of records that were checked, of records with each verdict, and of records with exactly one answer.
 #[derive(Drop)]
 pub struct Counts {
     /// All records.
@@ -17,7 +17,7 @@ pub struct Counts {
     another_answer: u64,
     /// The records that need no move.
     needs_no_move: u64,
-    /// The records that are not solved.
+    /// The records that are not solved within the depths.
     not_solved: u64,
     /// The records that do not tell a question or an answer.
     not_told: u64,
@@ -26,7 +26,7 @@ pub struct Counts {
 }
 
 impl Counts {
-    /// Nothing was counted.
+    /// The counts before any record.
     pub fn new() -> Counts {
         Counts {
             all: 0,
@@ -40,7 +40,7 @@ impl Counts {
         }
     }
 
-    /// The count of a verdict.
+    /// The count for `verdict`.
     fn of(&mut self, verdict: Verdict) -> &mut u64 {
         match verdict {
             Verdict::AsExpected => &mut self.as_expected,
@@ -62,7 +62,7 @@ impl Counts {
         }
     }
 
-    /// Whether all records are as expected.
+    /// Whether every record counted is as expected.
     pub fn is_all_as_expected(&self) -> bool {
         self.as_expected == self.all
     }

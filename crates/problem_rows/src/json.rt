@@ -1,4 +1,4 @@
-//! The line of a record as an object of JSON.
+//! The row of a record as an object of JSON.
 
 use crate::page::{kind_word, print_bytes, print_moves, tree_word, verdict_words};
 use crate::row::{Asked, Row};
@@ -8,7 +8,7 @@ use std::alloc::AllocError;
 use std::fmt::Display;
 use vertices::vertex_text;
 
-/// Prints a text between quotes, with what JSON does not take in it as escapes.
+/// Prints a text between quotes, and escapes the characters that JSON does not allow in it.
 fn print_text(page: &mut String, text: &str) -> Result<(), AllocError> {
     page.push_str("\"")?;
     for letter in text.chars() {
@@ -22,7 +22,7 @@ fn print_text(page: &mut String, text: &str) -> Result<(), AllocError> {
     page.push_str("\"")
 }
 
-/// The word of a scope.
+/// The word for a scope.
 fn scope_word(scope: Scope) -> &'static str {
     match scope {
         Scope::Tried => "tried",
@@ -37,7 +37,7 @@ fn print_list(page: &mut String, moves: &Moves, size: Size) -> Result<(), AllocE
     page.push_str("]")
 }
 
-/// Prints a member whose value may be none.
+/// Prints a member that is a number, or null if there is no number.
 fn print_number(page: &mut String, name: &str, value: Option<u8>) -> Result<(), AllocError> {
     match value {
         Some(value) => write!(page, ",\"{name}\":{value}"),
@@ -88,7 +88,7 @@ fn print_verdict(page: &mut String, verdict: Verdict) -> Result<(), AllocError> 
     write!(page, ",\"verdict\":\"{}\"", verdict_words(verdict))
 }
 
-/// Prints the member of the proof, if it is asked for.
+/// Prints the member of the proof, if a proof is asked for.
 fn print_proof(page: &mut String, asked: &Asked) -> Result<(), AllocError> {
     match &asked.proof {
         Some(Some(text)) => {
@@ -123,7 +123,7 @@ fn print_unasked<D: Display>(page: &mut String, why: &D) -> Result<(), AllocErro
     write!(page, ",\"why\":\"{why}\"")
 }
 
-/// Prints the object of the record of this name.
+/// Prints the object of the record called `name`.
 pub fn print_object(page: &mut String, name: &str, row: &Row) -> Result<(), AllocError> {
     page.push_str("{\"record\":")?;
     print_text(page, name)?;

@@ -1,5 +1,5 @@
-//! What is told of the records of a problem set: a row of each, as columns or as an object of JSON, and how many there
-//! are of each kind.
+//! The results for the records of a problem set: a row for each record, as columns or as an object of JSON, and the
+//! number of records with each verdict.
 #![tactic(auto)]
 
 mod counts;

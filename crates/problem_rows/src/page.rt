@@ -1,4 +1,4 @@
-//! The line of a record: its columns with tabs between.
+//! The row of a record as one line: columns separated by tabs.
 
 use crate::row::{Asked, Row};
 use go_base::Size;
@@ -7,10 +7,10 @@ use std::alloc::AllocError;
 use std::fmt::Display;
 use vertices::vertex_text;
 
-/// What stands in a column of which nothing is known.
+/// The text of a column of which nothing is known.
 const NOTHING: &str = "-";
 
-/// The word of a question.
+/// The word for a question.
 pub(crate) fn kind_word(kind: Kind) -> &'static str {
     match kind {
         Kind::Attack => "attack",
@@ -18,8 +18,8 @@ pub(crate) fn kind_word(kind: Kind) -> &'static str {
     }
 }
 
-/// The word of a tree: of a sure answer that of its replies, with the tree of the attacker's candidates if it is the
-/// wider one.
+/// The word for a tree. For sure answers it is the word of the replies, with `wider` if the attacker's candidates are
+/// those of the wider tree.
 pub(crate) fn tree_word(replies: Replies, tree: Tree) -> &'static str {
     match (replies, tree) {
         (Replies::Tried, Tree::Stated) => "stated",
@@ -29,7 +29,7 @@ pub(crate) fn tree_word(replies: Replies, tree: Tree) -> &'static str {
     }
 }
 
-/// The words of a verdict.
+/// The words for a verdict.
 pub(crate) fn verdict_words(verdict: Verdict) -> &'static str {
     match verdict {
         Verdict::AsExpected => "as expected",
@@ -41,7 +41,7 @@ pub(crate) fn verdict_words(verdict: Verdict) -> &'static str {
     }
 }
 
-/// Prints ASCII letters, and nothing else of a text.
+/// Prints the ASCII bytes of a text, and leaves out all others.
 pub(crate) fn print_bytes(page: &mut String, bytes: &[u8]) -> Result<(), AllocError> {
     for b in bytes {
         if b.is_ascii() {
@@ -51,7 +51,7 @@ pub(crate) fn print_bytes(page: &mut String, bytes: &[u8]) -> Result<(), AllocEr
     Ok(())
 }
 
-/// Prints moves, the pass first, each but the first behind a separator and each between quotes.
+/// Prints moves, the pass first: each between quotes, with a separator between two of them.
 pub(crate) fn print_moves(
     page: &mut String,
     moves: &Moves,
@@ -115,7 +115,7 @@ fn print_column<T: Display>(page: &mut String, value: &Option<T>) -> Result<(), 
     }
 }
 
-/// Prints the verdict on a question.
+/// Prints the verdict on a question, with the reason if the author tells no answer.
 fn print_verdict(page: &mut String, verdict: Verdict) -> Result<(), AllocError> {
     page.push_str(verdict_words(verdict))?;
     if verdict == Verdict::NotTold {
@@ -124,7 +124,7 @@ fn print_verdict(page: &mut String, verdict: Verdict) -> Result<(), AllocError> 
     Ok(())
 }
 
-/// Prints the proof, if it is asked for.
+/// Prints the proof, if a proof is asked for.
 fn print_proof(page: &mut String, asked: &Asked) -> Result<(), AllocError> {
     match &asked.proof {
         Some(Some(text)) => {
@@ -149,12 +149,12 @@ fn print_asked(page: &mut String, asked: &Asked) -> Result<(), AllocError> {
     print_proof(page, asked)
 }
 
-/// Prints the columns of a record that asks no question.
+/// Prints the columns of a record that asks no question, with the reason.
 fn print_unasked<D: Display>(page: &mut String, why: &D) -> Result<(), AllocError> {
     write!(page, "-\t-\t-\t-\tnot told: {why}")
 }
 
-/// Prints the line of the record of this name.
+/// Prints the line of the record called `name`.
 pub fn print_row(page: &mut String, name: &str, row: &Row) -> Result<(), AllocError> {
     write!(page, "{name}\t")?;
     match row {

@@ -1,4 +1,4 @@
-//! What is told of a record.
+//! The row of a record.
 
 ghost use Rattle.std.specs.Prelude.{◌≡◌, IfOk};
 ghost use Rattle.problem_rows.specs.Rows.{IsJudged, IsRowOf, verdict_in, has_one_answer};
@@ -9,22 +9,23 @@ use problem_verdicts::{Depths, Judged, Replies, Scope, Verdict, judge};
 use std::alloc::Global;
 use write_proof::{ProofError, first_proof};
 
-/// What a record that asks a question comes to.
+/// What is found of a record that asks a question.
 #[derive(Drop)]
 pub struct Asked {
-    /// What it asks.
+    /// What the record asks.
     pub problem: Problem,
-    /// Against which replies the answer holds.
+    /// The defender's replies against which the answer holds.
     pub replies: Replies,
-    /// Which moves are judged.
+    /// The moves that are judged.
     pub scope: Scope,
     /// What is found, and the verdict.
     pub judged: Judged,
-    /// The first proof behind a code that is not a sure one, if it is asked for; `None` in it if the proof is too long.
+    /// The first proof of a code that is not a sure one, if a proof is asked for; `Some(None)` if that proof is too
+    /// long.
     pub proof: Option<Option<Bytes>>,
 }
 
-/// What is told of a record.
+/// The row of a record.
 #[derive(Drop)]
 pub enum Row {
     /// The record asks a question.
@@ -35,7 +36,7 @@ pub enum Row {
     NotLoaded,
 }
 
-/// The first proof behind the code of a problem's question; `None` if it is too long.
+/// The first proof of the code of a problem's question; `None` if it is too long.
 fn proof_of(alloc: Global, problem: &Problem) -> Result<Option<Bytes>, NoMemory> {
     match first_proof(
         alloc,
@@ -50,7 +51,7 @@ fn proof_of(alloc: Global, problem: &Problem) -> Result<Option<Bytes>, NoMemory>
     }
 }
 
-/// What a problem comes to against these replies and by the moves of the scope, with its proof if it is asked for.
+/// What is found of a problem against these `replies`, by the moves of `scope`, with its proof if `proves`.
 fn asked_of(
     alloc: Global,
     problem: Problem,
@@ -83,9 +84,9 @@ fn asked_of(
     })
 }
 
-/// What is told of the record with this text, whose question has these depths if the record tells none, and of which
-/// the moves of the scope are judged, against these replies; with the proof behind the code, if it is asked for. A sure
-/// code has none. Takes memory.
+/// The row of the record with this `text`. The question has these `depths` if the record says none; its answer holds
+/// against `replies`, and the moves of `scope` are judged. If `proves`, the row has the proof of the code; a sure code
+/// has no proof. Takes memory.
 pub fn row_of(
     alloc: Global,
     text: &[u8],

@@ -1,5 +1,5 @@
-//! Worked rows of problem sets: what a record asks, what it lacks, and what its author is told. There is no code here
-//! but tests, so that the crates below are not proved once more for them.
+//! Worked rows of problem sets: what a record asks, what it lacks, and the verdict for its author. This crate has only
+//! tests, so that the crates below it are not proved once more for them.
 #![tactic(auto)]
 
 #[cfg(test)]

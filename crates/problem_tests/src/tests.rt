@@ -1,4 +1,4 @@
-//! What authors of problem sets are told.
+//! The rows of problem sets, as their authors see them.
 
 mod anywhere;
 mod comments;
@@ -15,15 +15,15 @@ use problem_verdicts::{Depths, Replies, Scope, Tree};
 use std::alloc::{AllocError, Global};
 use std::process::Abort;
 
-/// What is special about a record, the record, and its columns behind the name.
+/// What is special about a record, the record itself, and the columns of its row behind the name.
 type Record = (&'static str, &'static str, &'static str);
 
 /// Why a test gives up.
 #[derive(Debug, Drop)]
 enum Fail {
-    /// The depths are out of their ranges.
+    /// The depths are out of range.
     Depths,
-    /// There was no memory.
+    /// Memory ran out.
     Memory,
 }
 
@@ -39,7 +39,7 @@ impl From<AllocError> for Fail {
     }
 }
 
-/// Three plies, two of them wide, in the stated tree: the depths of a record that tells none.
+/// The depths of a record that says none: three plies, two of them wide, in the stated tree.
 fn usual() -> Result<Depths, Fail> {
     match Depths::new(3, 2) {
         Some(depths) => Ok(depths.in_tree(Tree::Stated)),
@@ -47,7 +47,7 @@ fn usual() -> Result<Depths, Fail> {
     }
 }
 
-/// The line of a record of the name `r`, of which the moves of the scope are judged against these replies.
+/// The row of `record` under the name `r`, with the moves of `scope` judged against `replies`.
 fn line_of(alloc: Global, record: &str, replies: Replies, scope: Scope) -> Result<String, Fail> {
     let row = row_of(alloc, record.as_bytes(), usual()?, replies, scope, false)?;
     let mut line = String::new(alloc);
@@ -55,7 +55,7 @@ fn line_of(alloc: Global, record: &str, replies: Replies, scope: Scope) -> Resul
     Ok(line)
 }
 
-/// Compares the lines of records with what is expected, if the moves of this scope are judged against these replies.
+/// Compares the rows of records with the expected ones, with the moves of `scope` judged against `replies`.
 fn compare_against<R: Abort + AllocGlobal>(
     rt: &R,
     replies: Replies,
@@ -70,8 +70,8 @@ fn compare_against<R: Abort + AllocGlobal>(
     Ok(())
 }
 
-/// Compares the lines of records with what is expected, if the moves of this scope are judged against the replies that
-/// the tree tries.
+/// Compares the rows of records with the expected ones, with the moves of `scope` judged against the replies that the
+/// tree tries.
 fn compare_in<R: Abort + AllocGlobal>(
     rt: &R,
     scope: Scope,
@@ -80,7 +80,7 @@ fn compare_in<R: Abort + AllocGlobal>(
     compare_against(rt, Replies::Tried, scope, records)
 }
 
-/// Compares the lines of records with what is expected, if the moves that the tree tries are judged.
+/// Compares the rows of records with the expected ones, with the moves judged that the tree tries.
 fn compare<R: Abort + AllocGlobal>(rt: &R, records: &[Record]) -> Result<(), Fail> {
     compare_in(rt, Scope::Tried, records)
 }

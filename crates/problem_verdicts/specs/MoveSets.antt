@@ -3,15 +3,15 @@ use Rattle.std.specs.Prelude.{◌≡◌, ℕ, ◌+◌, Bool, true, false, ◌&&�
 use Rattle.std.specs.FinSet as set
 use Rattle.problem_verdicts.specs.declared.moves.Moves.{Moves}
 
--- each of these moves is one of those
+-- each move of `few` is a move of `many`
 abbrev pub are_among : Moves → Moves → Bool
 are_among few many = (not few.pass || many.pass) && set.is_subset few.points many.points
 
--- how many moves these are
+-- the number of these moves
 abbrev pub count_of : Moves → ℕ
 count_of m = set.len m.points + (if m.pass then 1 else 0)
 
--- the point is the one of the move, which is no pass
+-- p is the point of the move; the pass has no point
 abbrev pub is_some_of : Option ℕ → ℕ → Bool
 is_some_of None p = false
 is_some_of (Some q) p = p == q

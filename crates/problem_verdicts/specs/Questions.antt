@@ -26,24 +26,24 @@ abbrev pub code_of : BoardState → Kind → ℕ → Depths → ℕ
 code_of pos kind target depths =
     (answer_of (asked_in depths.tree pos kind target depths.plies depths.wide) pos).code
 
--- no move is needed: the question has a code, and the other side, asked with the same depths and playing first, has
--- none. A string that is attacked is captured already, and one that is defended is safe.
+-- no move is needed: the question has a code above 0, and the other side, asked with the same depths and playing first,
+-- has code 0. A string that is attacked is captured already, and a string that is defended is safe.
 abbrev pub is_needless : BoardState → Kind → ℕ → Depths → Bool
 is_needless pos kind target depths =
     nat_lt 0 (code_of pos kind target depths) && code_of pos (other_kind kind) target depths == 0
 
--- the points that are looked at: the candidates, or all points of the board
+-- the points that are judged: the candidates, or all points of the board
 abbrev pub looked_at : Scope → Among
 looked_at Tried = Candidates
 looked_at Anywhere = EveryPoint
 
 -- the question has this code on the position, and these are all moves of the scope that attain the code: the pass, and
--- the points among those that are looked at
+-- the points among the judged ones
 abbrev pub AreMovesOf : Scope → ReadingQuestion → BoardState → ℕ → Bool → set.FinSet nat_cmp → Type 0
 AreMovesOf scope = AreMovesAmong (looked_at scope)
 
--- this is found of the question: its code, all moves of the scope that attain it, the fewest plies with which they do,
--- and whether no move is needed
+-- this is found of the question: its code, all moves of the scope that attain the code, the fewest plies with which the
+-- question has it, and whether no move is needed
 pub record IsFound (scope : Scope) (pos : BoardState) (kind : Kind) (target : ℕ) (depths : Depths) (f : Found)
     : Type 0 where
   pub moves : AreMovesOf scope (asked_in depths.tree pos kind target depths.plies depths.wide) pos f.code f.moves.pass

@@ -8,9 +8,9 @@ use crate::moves::Moves;
 /// What the author of a problem expects.
 #[derive(Debug, Drop)]
 pub struct Expected {
-    /// The code, if he tells it.
+    /// The code, if the author tells it.
     pub code: Option<u8>,
-    /// The moves that attain the code, if he tells some.
+    /// The moves that attain the code, if the author tells some.
     pub answers: Option<Moves>,
     /// No other move may attain the code.
     pub only: bool,
@@ -24,7 +24,7 @@ impl Expected {
         self.code.is_some() || self.answers.is_some()
     }
 
-    /// Whether the pass is one of the moves that he tells.
+    /// Whether the pass is one of the moves that the author tells.
     pub fn expects_pass(&self) -> bool
         ensures { result ≡ expects_pass self.now }
     {

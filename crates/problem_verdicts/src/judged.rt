@@ -1,4 +1,4 @@
-//! What a reading finds of a problem's question.
+//! What a reading finds of a problem's question, and the verdict on it.
 
 ghost use Rattle.std.specs.Prelude.{◌≡◌, ◌≢◌, ◌*◌, ◌<◌, ◌==◌, not, None};
 ghost use Rattle.go_rules.specs.Strings.{cell_at};
@@ -25,20 +25,20 @@ use trial_board::Trial;
 pub struct Found {
     /// The code: 3, 2, 1 or 0.
     pub code: u8,
-    /// All moves that attain the code, of those that are judged; none for code 0.
+    /// All moves of the judged scope that attain the code; no move for code 0.
     pub moves: Moves,
     /// The fewest plies with which the question has this code; `None` for code 0.
     pub fewest: Option<u8>,
-    /// The question has its answer without a move.
+    /// The question has its answer without a move: the target is captured already, or safe.
     pub needless: bool,
 }
 
-/// What is found of a question, and what its author is told.
+/// What is found of a question, and the verdict for its author.
 #[derive(Debug, Drop)]
 pub struct Judged {
     /// What is found.
     pub found: Found,
-    /// What the author is told.
+    /// The verdict for the author.
     pub verdict: Verdict,
 }
 
@@ -52,7 +52,7 @@ pub(crate) fn other_kind(kind: Kind) -> Kind
     }
 }
 
-/// Whether the question attains this code.
+/// Whether the question attains `code`.
 fn attains(pos: &Position, kind: Kind, target: Point, depths: Depths, code: u8) -> bool
     requires on_board { target < pos.now.size * pos.now.size }
     ensures { result
@@ -80,7 +80,8 @@ fn attains(pos: &Position, kind: Kind, target: Point, depths: Depths, code: u8) 
     }
 }
 
-/// Whether the question has a code above 0. Code 1 is asked first: it lets the side that is asked about ignore the ban.
+/// Whether the question has a code above 0. Code 1 is asked first: it lets the side that is asked about ignore the ko
+/// ban.
 fn has_code(pos: &Position, kind: Kind, target: Point, depths: Depths) -> bool
     requires on_board { target < pos.now.size * pos.now.size }
     requires stone { cell_at pos.now.cells target ≢ Cell.Empty }
@@ -95,8 +96,8 @@ fn has_code(pos: &Position, kind: Kind, target: Point, depths: Depths) -> bool
     attains(pos, kind, target, depths, 3)
 }
 
-/// Whether no move is needed for a question with this code. Of the other side it is asked only whether it has its way,
-/// which takes less than its code and its first move.
+/// Whether no move is needed for a question with this `code`. For the other side it suffices to know whether it has any
+/// code above 0: this costs less than its exact code and its first move.
 fn is_needless(pos: &Position, kind: Kind, target: Point, depths: Depths, code: u8) -> bool
     requires on_board { target < pos.now.size * pos.now.size }
     requires stone { cell_at pos.now.cells target ≢ Cell.Empty }
@@ -106,7 +107,7 @@ fn is_needless(pos: &Position, kind: Kind, target: Point, depths: Depths, code: 
     code > 0 && !has_code(pos, other_kind(kind), target, depths)
 }
 
-/// The fewest plies with which a question has this code; `None` for code 0.
+/// The fewest plies with which a question has this `code`; `None` for code 0.
 fn fewest_of(pos: &Position, kind: Kind, target: Point, depths: Depths, code: u8) -> Option<u8>
     requires on_board { target < pos.now.size * pos.now.size }
     requires stone { cell_at pos.now.cells target ≢ Cell.Empty }
@@ -120,7 +121,7 @@ fn fewest_of(pos: &Position, kind: Kind, target: Point, depths: Depths, code: u8
     fewest_plies(Watch::new(pos), kind, target, depths, code).plies
 }
 
-/// The code of a question, and all moves of the scope that attain it.
+/// The code of a question, and all moves of `scope` that attain it.
 fn moves_of<L: Look>(
     look: L,
     kind: Kind,
@@ -139,7 +140,7 @@ fn moves_of<L: Look>(
     }
 }
 
-/// What is found of a question about the string at `target`, with the moves of the scope.
+/// What is found of a question about the string at `target`, with the moves of `scope`.
 fn find(pos: &Position, kind: Kind, target: Point, depths: Depths, scope: Scope) -> Found
     requires on_board { target < pos.now.size * pos.now.size }
     requires stone { cell_at pos.now.cells target ≢ Cell.Empty }
@@ -157,7 +158,7 @@ fn find(pos: &Position, kind: Kind, target: Point, depths: Depths, scope: Scope)
     }
 }
 
-/// What is found of a question by the answers that hold against these replies, with the moves of the scope.
+/// What is found of a question by the answers that hold against `replies`, with the moves of `scope`.
 fn find_against(
     pos: &Position,
     kind: Kind,
@@ -176,8 +177,8 @@ fn find_against(
     }
 }
 
-/// What is found of the question, whether the string at `target` can be captured or saved with these depths against
-/// these replies, and by which moves of the scope; and what its author is told, who expects this.
+/// Judges the question whether the string at `target` can be captured or saved with these `depths`. Finds its code
+/// against `replies` and the moves of `scope` that attain it, and compares them with what the author has `expected`.
 pub fn judge(
     pos: &Position,
     kind: Kind,

@@ -8,9 +8,9 @@ ghost use Rattle.problem_verdicts.specs.declared.verdict.Verdict.TheVariants.{As
 ghost use Rattle.problem_verdicts.specs.MoveSets.{AreSameMoves, AreAmong};
 ghost use Rattle.problem_verdicts.specs.Verdicts.{is_unsolved, needs_none, allows_code, verdict_on};
 
-/// Of a question that is solved, needs a move, and has the code that the author allows: with `only` it is as expected
-/// exactly if the moves that attain the code are exactly those that he tells, and without it exactly if each of those
-/// attains the code.
+/// The verdict on a question that is solved, needs a move, and has a code that the author allows. With `only` it is as
+/// expected exactly if the moves that attain the code are exactly those that the author tells; without `only`, exactly
+/// if each move that the author tells attains the code.
 pub fn answers_mean_moves()
     ensures only { (e : Expected) (f : Found) (m : Moves) → e.answers ≡ Some m → e.only ≡ true
         → is_unsolved e f ≡ false → needs_none e f ≡ false → allows_code e.code f.code ≡ true

@@ -1,9 +1,9 @@
-//! What a problem comes to: the code of its question, all moves that attain it, the fewest plies with which they do,
-//! and whether that is what the author expects.
+//! Judges a problem: the code of its question, all moves that attain it, the fewest plies with which the question has
+//! it, and whether that is what the author expects.
 //!
-//! `judge` reads the question; `verdict_of` is the rule by which what was found is compared with what is expected.
-//! Codes are those of a reading, or sure ones, as `Replies` says: of `sure_rules`, which hold against every reply. The
-//! moves are those of a `Scope`: the moves that the tree tries, or every legal move. Nothing takes memory.
+//! `judge` reads the question; `verdict_of` is the rule that compares what was found with what is expected. By
+//! `Replies`, the codes are those of a reading, or the sure ones of `sure_rules`, which hold against every reply. By
+//! `Scope`, the moves are those that the tree tries, or all legal moves. Nothing takes memory.
 #![tactic(auto)]
 
 mod expected;

@@ -10,9 +10,9 @@ use go_base::{Point, PointSet};
 /// Moves of one side.
 #[derive(Debug, Drop)]
 pub struct Moves {
-    /// The pass is one of them.
+    /// The pass is one of the moves.
     pub pass: bool,
-    /// The points at which a play is one of them.
+    /// The points at which a play is one of the moves.
     pub points: PointSet,
 }
 
@@ -34,7 +34,7 @@ impl Moves {
         }
     }
 
-    /// Adds a move: the play at a point, or the pass, which is no point.
+    /// Adds a move: the play at the point `at`, or the pass if `at` is `None`.
     pub fn add(&mut self, at: Option<Point>)
         requires { IfSome at (λ p. p < largest_points) }
         ensures pass { self.new.pass ≡ (self.old.pass || is_none at) }
@@ -54,7 +54,7 @@ impl Moves {
         (!self.pass || many.pass) && is_subset(&self.points, &many.points)
     }
 
-    /// How many moves these are.
+    /// The number of these moves.
     pub fn count(&self) -> u16
         ensures { result ≡ count_of self.now }
     {

@@ -1,6 +1,6 @@
-//! Which moves of a question are judged.
+//! The moves of a question that are judged.
 
-/// Which moves of a question are judged.
+/// The moves of a question that are judged.
 #[derive(Clone, Copy, Debug, PartialEq, Eq)]
 pub enum Scope {
     /// The moves that the tree tries at the first turn: the pass, and the candidates.

@@ -27,7 +27,7 @@ fn sure_code(position: &Position, kind: Kind, target: Point, depths: Depths) -> 
     }
 }
 
-/// Whether the question has this sure code, and that of the other side has none.
+/// Whether the question has a sure code above 0, and the question of the other side has none.
 fn is_surely_needless(
     position: &Position,
     kind: Kind,
@@ -43,7 +43,7 @@ fn is_surely_needless(
     code > 0 && sure_code(position, other_kind(kind), target, depths) == 0
 }
 
-/// These depths, with so many plies in place of theirs.
+/// These `depths` with `plies` in place of their own plies.
 fn with_plies(depths: Depths, plies: u8) -> Depths
     requires some { least_plies ≤ plies }
     requires few { plies ≤ most_plies }
@@ -55,7 +55,7 @@ fn with_plies(depths: Depths, plies: u8) -> Depths
         .in_tree(depths.tree)
 }
 
-/// The fewest plies, up to those of the depths, with which the question has at least this sure code.
+/// The fewest plies, up to `depths.plies`, with which the question has the sure code `code` or a greater one.
 fn fewest_surely(
     position: &Position,
     kind: Kind,
@@ -75,7 +75,7 @@ fn fewest_surely(
     None
 }
 
-/// The fewest plies with which a question has this sure code; `None` for code 0.
+/// The fewest plies with which a question has the sure code `code` or a greater one; `None` for code 0.
 fn fewest_of(position: &Position, kind: Kind, target: Point, depths: Depths, code: u8) -> Option<u8>
     requires on_board { target < position.now.size * position.now.size }
     requires stone { cell_at position.now.cells target ≢ Cell.Empty }
@@ -88,7 +88,7 @@ fn fewest_of(position: &Position, kind: Kind, target: Point, depths: Depths, cod
     fewest_surely(position, kind, target, depths, code)
 }
 
-/// What is found by sure answers of a question about the string at `target`, with the moves of the scope.
+/// What sure answers find of a question about the string at `target`, with the moves of `scope`.
 pub(crate) fn find_surely(
     position: &Position,
     kind: Kind,

@@ -28,8 +28,8 @@ fn surely_wins(position: &Position, node: Node, plies: u8) -> bool
     zone_of(position, node, plies).is_some()
 }
 
-/// Whether the mover's play at p can be made, and with `plies` plies left after it the target is surely captured if the
-/// attacker played, and is not if the defender did.
+/// Whether the mover can play at `p`, and this play succeeds: with `plies` plies left after it, an attacker's play
+/// leaves the target surely captured, and a defender's play leaves it not surely captured.
 fn succeeds(position: &Position, node: Node, p: Point, plies: u8) -> bool
     requires target { node.turn.target < position.now.size * position.now.size }
     requires on_board { p < position.now.size * position.now.size }
@@ -41,7 +41,7 @@ fn succeeds(position: &Position, node: Node, p: Point, plies: u8) -> bool
     }
 }
 
-/// Whether it is the defender's turn, and with `plies` plies left after his pass the target is not surely captured.
+/// Whether it is the defender's turn, and the target is not surely captured after the pass, with `plies` plies left.
 fn pass_holds(position: &Position, node: Node, plies: u8) -> bool
     requires target { node.turn.target < position.now.size * position.now.size }
     ensures { result ≡ pass_holds plies node position.now }
@@ -64,7 +64,7 @@ fn candidates_on(position: &Position, node: Node) -> PointSet
     points
 }
 
-/// The points that are tried; `None` stands for every point of the board.
+/// The points that the sure tree tries at a node; `None` stands for every point of the board.
 fn tried_points(position: &Position, node: Node) -> Option<PointSet>
     requires target { node.turn.target < position.now.size * position.now.size }
     ensures { (p : ℕ) → p < position.now.size * position.now.size → is_in result p ≡ is_tried node position.now p }
@@ -75,7 +75,7 @@ fn tried_points(position: &Position, node: Node) -> Option<PointSet>
     None
 }
 
-/// The points that are looked at; `None` stands for every point of the board.
+/// The points of `scope` at a node; `None` stands for every point of the board.
 fn seen_points(position: &Position, node: Node, scope: Scope) -> Option<PointSet>
     requires target { node.turn.target < position.now.size * position.now.size }
     ensures { (p : ℕ) → p < position.now.size * position.now.size
@@ -87,7 +87,7 @@ fn seen_points(position: &Position, node: Node, scope: Scope) -> Option<PointSet
     }
 }
 
-/// Whether p is one of the points, of which `None` stands for every point.
+/// Whether `p` is one of `points`; `None` stands for every point.
 fn is_in(points: &Option<PointSet>, p: Point) -> bool
     requires { p < largest_points }
     ensures { result ≡ is_in points.now p }
@@ -98,7 +98,7 @@ fn is_in(points: &Option<PointSet>, p: Point) -> bool
     }
 }
 
-/// Whether p is one of the points, and a play there succeeds with `plies` plies left after it.
+/// Whether `p` is one of `points`, and a play there succeeds with `plies` plies left after it.
 fn is_success(
     position: &Position,
     node: Node,
@@ -114,7 +114,7 @@ fn is_success(
     is_in(points, p) && succeeds(position, node, p, plies)
 }
 
-/// The points of the scope at which a play succeeds with `plies` plies left after it.
+/// The points of `scope` at which a play succeeds with `plies` plies left after it.
 fn successes(position: &Position, node: Node, scope: Scope, plies: u8) -> PointSet
     requires target { node.turn.target < position.now.size * position.now.size }
     ensures { (p : ℕ) → set.contains result p
@@ -130,7 +130,7 @@ fn successes(position: &Position, node: Node, scope: Scope, plies: u8) -> PointS
     found
 }
 
-/// The moves of the scope that attain the code of a sure answer.
+/// The moves of `scope` that attain the sure `code` of the question.
 pub(crate) fn sure_moves(
     position: &Position,
     question: &ReadingQuestion,

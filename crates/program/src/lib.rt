@@ -9,7 +9,7 @@ use std::io::ErrorKind;
 use std::rt::Env;
 use std::{env, io};
 
-// Why the words could not be had: for want of memory exactly if the error says so.
+// Why the words are missing: for want of memory exactly if `error` says so.
 fn cause(error: io::Error) -> WordsError
     ensures { (result ≡ WordsError.NoMemory) ↔ (error_kind error ≡ ErrorKind.OutOfMemory) }
 {
@@ -19,7 +19,7 @@ fn cause(error: io::Error) -> WordsError
     }
 }
 
-/// The words of the command line without the program's name, or why they could not be had. Takes memory.
+/// The words of the command line without the program's name, or why they are missing. Takes memory.
 pub fn words<R: Env + AllocGlobal>(rt: &R) -> Result<Vec<String>, WordsError> {
     let all = match env::args(rt) {
         Ok(all) => all,

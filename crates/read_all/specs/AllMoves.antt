@@ -12,7 +12,8 @@ use Rattle.read_all.specs.declared.moves.Among.{Among}
 use Rattle.read_all.specs.declared.moves.Among.TheVariants.{Candidates, EveryPoint}
 
 -- the play at p attains the code: the code is above 0, and under its ko allowances p can be played, and with one ply
--- less after that play the side that is asked about has its way: the target is captured, or it is not
+-- less after that play the side that is asked about has its way: in an attack the target is captured, in a defence it
+-- is not
 abbrev pub attains_at : ReadingQuestion → BoardState → ℕ → ℕ → Bool
 attains_at q pos code p = nat_lt 0 code && succeeds (q.plies - 1) (first_node q code) pos p
 
@@ -21,13 +22,13 @@ attains_at q pos code p = nat_lt 0 code && succeeds (q.plies - 1) (first_node q 
 abbrev pub attains_by_pass : ReadingQuestion → BoardState → ℕ → Bool
 attains_by_pass q pos code = nat_lt 0 code && pass_saves (q.plies - 1) (first_node q code) pos
 
--- p is one of the points that are looked at: of the candidates of the question, or of all points of the board
+-- p is one of the points that are tried: of the candidates of the question, or of all points of the board
 abbrev pub is_among : Among → ReadingQuestion → BoardState → ℕ → Bool
 is_among Candidates q pos p = is_candidate (first_turn q) pos p
 is_among EveryPoint q pos p = nat_lt p (pos.size * pos.size)
 
--- the code is the question's on the position, the pass is told as it attains the code or not, and the points are those
--- among the ones that are looked at whose plays attain it
+-- the code is that of the question on the position, pass says whether the pass attains it, and the points are all
+-- points that are tried at which a play attains it
 pub record AreMovesAmong (among : Among) (q : ReadingQuestion) (pos : BoardState) (code : ℕ) (pass : Bool)
     (points : set.FinSet nat_cmp) : Type 0 where
   pub greatest : code ≡ (answer_of q pos).code

@@ -4,7 +4,7 @@ use Rattle.go_rules.specs.Position.{BoardState}
 use Rattle.read_rules.specs.declared.question.ReadingQuestion.{ReadingQuestion}
 use Rattle.read_rules.specs.Answer.{answer_of}
 
--- the same question with n plies
+-- the question q with n plies in place of its own
 abbrev pub with_plies : ReadingQuestion → ℕ → ReadingQuestion
 with_plies q n = record {
   tree = q.tree;
@@ -20,12 +20,12 @@ with_plies q n = record {
 abbrev pub code_with : ReadingQuestion → BoardState → ℕ → ℕ
 code_with q pos n = (answer_of (with_plies q n) pos).code
 
--- with each number of plies from 1 on and below n the question has a smaller code
+-- with each number of plies from 1 to n - 1 the question has a smaller code
 abbrev pub HasLessBelow : ReadingQuestion → BoardState → ℕ → ℕ → Type 0
 HasLessBelow q pos code n = (m : ℕ) → 0 < m → m < n → code_with q pos m < code
 
--- these are the fewest plies, from 1 to those of the question, with which it has this code or a greater one; or none
--- are, since with each of these numbers it has a smaller code
+-- n is the smallest number of plies, from 1 to those of the question, with which it has this code or a greater one; or
+-- there is no such number, and with each of them it has a smaller code
 abbrev pub AreFewest : ReadingQuestion → BoardState → ℕ → Option ℕ → Type 0
 AreFewest q pos code (Some n) =
     (0 < n) × (n ≤ q.plies) × (code ≤ code_with q pos n) × HasLessBelow q pos code n

@@ -8,23 +8,23 @@ use Rattle.read_rules.specs.Answer.{first_node}
 use Rattle.read_rules.specs.GameTree.{attacker_wins, child_of, first_move}
 use Rattle.read_tree.specs.Steps.{has_way}
 
--- the first move that gives the side to play at the node its way, with n plies left there; none if no ply is left
+-- the first move that gives the side to play its way at a node with n plies left; none if no ply is left
 abbrev pub first_reply : ℕ → Node → BoardState → Option Spot
 first_reply zero node pos = None
 first_reply (suc n) node pos = first_move n node pos
 
--- the first reply at the node, with n plies left there, if the side that has moved there, the attacker or not, does not
--- have its way
+-- the first reply at a node with n plies left, if the side whose move led there does not have its way; that side is the
+-- attacker if the first argument is true
 abbrev pub reply_unless : Bool → ℕ → Node → BoardState → Option Spot
 reply_unless attacker n node pos = if has_way attacker (attacker_wins n node pos) then None else first_reply n node pos
 
--- the first reply at the child, if there is one, by the same rule
+-- the first reply at the child, as reply_unless says it; none if there is no child
 abbrev pub reply_at : Bool → ℕ → Option (Node × BoardState) → Option Spot
 reply_at attacker n None = None
 reply_at attacker n (Some child) = reply_unless attacker n child.0 child.1
 
 -- the refutation of the mover's play at p, with n plies left after it: the first reply with which the other side has
--- its way, if the play can be made and does not give the mover his
+-- its way, if the play can be made and does not give the mover his way
 abbrev pub reply_to : ℕ → Node → BoardState → ℕ → Option Spot
 reply_to n node pos p = reply_at node.turn.attacker_to_play n (child_of node pos p)
 

@@ -13,16 +13,16 @@ use go_base::{Cell, Look, Point};
 use read_rules::{Depths, Kind, ReadingQuestion};
 use read_tree::read;
 
-/// The fewest plies with which a question has a code, and the view of the position, handed back as it is then.
+/// The fewest plies with which a question has a code, and the view of the position, handed back after the reading.
 #[derive(Drop)]
 pub struct Fewest<L> {
-    /// The plies; `None` if the question has the code with none of those that were asked for.
+    /// The plies; `None` if no number of plies that was asked for gives the question the code.
     pub plies: Option<u8>,
-    /// The view that was handed in; what was looked at is among its facts.
+    /// The view that was handed in; its facts now include everything that was looked at.
     pub look: L,
 }
 
-/// The same question with these plies.
+/// The question `question` with `plies` plies in place of its own.
 fn with_plies(question: &ReadingQuestion, plies: u8) -> ReadingQuestion
     ensures { result ≡ with_plies question.now plies }
 {
@@ -37,7 +37,8 @@ fn with_plies(question: &ReadingQuestion, plies: u8) -> ReadingQuestion
     }
 }
 
-/// The fewest plies, up to those of a question that is about the position, with which it has at least this code.
+/// The fewest plies, from 1 to those of `question`, with which it has at least the code `code`. The question is about
+/// the position.
 fn fewest_of<L: Look>(look: L, question: ReadingQuestion, code: u8) -> Fewest<L>
     requires size { question.size ≡ (L.shows look).size }
     requires on_board { question.target < question.size * question.size }
@@ -65,8 +66,8 @@ fn fewest_of<L: Look>(look: L, question: ReadingQuestion, code: u8) -> Fewest<L>
     }
 }
 
-/// The fewest plies, from 1 to those of the depths, with which the attack on the string at `target`, or its defence,
-/// has at least this code; `None` exactly if it has the code with none of them. It tells how deep an attack has to be
+/// The fewest plies, from 1 to `depths.plies`, with which the attack on the string at `target`, or its defence, has at
+/// least the code `code`; `None` exactly if no number of plies gives it the code. It tells how deep an attack has to be
 /// read: a defence has code 3 with one ply, as the defender's own move captures nothing of his. Takes no memory.
 pub fn fewest_plies<L: Look>(
     look: L,
@@ -80,7 +81,8 @@ pub fn fewest_plies<L: Look>(
     ensures shown { L.shows result.look ≡ L.shows look }
     ensures grows { Grows (L.seen look) (L.seen result.look) }
 
-    // On every position that agrees with the facts seen afterwards they are these; the position shown is one of them.
+    // On every position that agrees with the facts seen afterwards the fewest plies are these; the position shown is
+    // one of those positions.
     ensures over { (pos : BoardState) → Agrees (L.seen result.look) pos
         → AreFewest (asked_in depths.tree (L.shows look) kind target depths.plies depths.wide) pos code result.plies }
     ensures fewest { AreFewest (asked_in depths.tree (L.shows look) kind target depths.plies depths.wide)

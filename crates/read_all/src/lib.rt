@@ -1,10 +1,11 @@
-//! What the author of a problem asks of a reading, which tells the first move alone: all moves by which a string is
-//! captured or saved, the fewest plies with which it is, and how another move fails.
+//! What the author of a problem asks beyond the first move, which is all that a reading tells: all moves by which a
+//! string is captured or saved, the fewest plies with which it is, and how another move fails.
 //!
-//! `all_moves` tells the code of a question and each move that attains it, of the moves that the reader tries;
-//! `moves_anywhere` tells those at all points of the board. `fewest_plies` tells with how many plies the code is
-//! attained first, and `refutation` the other side's reply to a play that fails. Each hands back the view of the
-//! position, and on every position that agrees with what was looked at the answer is the same. Nothing takes memory.
+//! `all_moves` answers the code of a question and each move that attains it, of the moves that the reader tries;
+//! `moves_anywhere` answers the moves at all points of the board. `fewest_plies` answers with how many plies the code
+//! is attained first, and `refutation` answers the other side's reply to a play that fails. Each function hands back
+//! the view of the position, and on every position that agrees with what was looked at its answer is the same. Nothing
+//! takes memory.
 #![tactic(auto)]
 
 mod fewest;

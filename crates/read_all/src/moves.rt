@@ -25,10 +25,10 @@ use read_tree::table::{Entry, empty_table};
 use read_tree::{Report, read};
 use trial_board::Trial;
 
-/// From how many plies on a table remembers the nodes of a call.
+/// With this many plies or more, a table remembers the nodes of a call.
 const PLIES_WITH_TABLE: u8 = 12;
 
-/// Which points are looked at.
+/// Which points are tried.
 #[derive(Clone, Copy, Debug, PartialEq, Eq)]
 pub enum Among {
     /// The candidates of the question.
@@ -37,20 +37,20 @@ pub enum Among {
     EveryPoint,
 }
 
-/// The code of a question, and all moves that attain it; there are none for code 0 alone.
+/// The code of a question, and all moves that attain it. There are no moves exactly if the code is 0.
 #[derive(Drop)]
 pub struct AllMoves<L> {
     /// The code: 3, 2, 1 or 0.
     pub code: u8,
-    /// The defender's pass attains it.
+    /// Whether the defender's pass attains the code.
     pub pass: bool,
-    /// The points at which a play attains it.
+    /// The points at which a play attains the code.
     pub points: PointSet,
-    /// The view that was handed in; what was looked at is among its facts.
+    /// The view that was handed in; its facts now include everything that was looked at.
     pub look: L,
 }
 
-/// Whether the play at p can be made and gives its mover his way, with `plies` plies left after it.
+/// Whether the play at `p` can be made and gives its mover his way, with `plies` plies left after it.
 fn is_success<L: Look>(
     board: &mut Trial<L>,
     node: Node,
@@ -103,7 +103,7 @@ fn successes<L: Look>(
     found
 }
 
-/// The same by a table that knows nothing yet.
+/// The points of `tried` at which a play gives its mover his way, read with a table that holds no node yet.
 fn successes_by<L: Look>(
     board: &mut Trial<L>,
     node: Node,
@@ -126,7 +126,8 @@ fn successes_by<L: Look>(
     successes(board, node, plies, tried, &mut memory)
 }
 
-/// The same with a table, which is made here: it is large, and a short reading is not to pay for it.
+/// The points of `tried` at which a play gives its mover his way, read with a table. The table is made here: it is
+/// large, and a short reading shall not pay for it.
 #[inline(never)]
 fn successes_with_table<L: Look>(
     board: &mut Trial<L>,
@@ -145,7 +146,8 @@ fn successes_with_table<L: Look>(
     successes_by(board, node, plies, tried, &mut table)
 }
 
-/// The same, with a table if there are plies enough for one to pay.
+/// The points of `tried` at which a play gives its mover his way, read with a table if there are enough plies for one
+/// to pay.
 fn successes_of<L: Look>(board: &mut Trial<L>, node: Node, plies: u8, tried: &PointSet) -> PointSet
     requires room { length board.old.moves + plies < most_moves }
     requires target { IsPointOf L.shows board.old node.turn.target }
@@ -171,7 +173,7 @@ fn every_point(size: Size) -> PointSet
     points
 }
 
-/// The points that are looked at.
+/// The points that `among` names: the candidates of the question, or all points of the board.
 fn points_among<L: Look>(board: &mut Trial<L>, question: &ReadingQuestion, among: Among) -> PointSet
     requires target { IsPointOf L.shows board.old question.now.target }
     ensures stays { Stays L.shows L.seen board.old board.new }
@@ -198,8 +200,8 @@ fn is_pass(first: Option<Spot>) -> bool
     }
 }
 
-/// The code of a question that is about the position, and the moves among these points that attain it. The first move
-/// tells whether the pass does, since the pass comes before all points.
+/// The code of a question that is about the position, and the moves that attain it: the pass, and the points that
+/// `among` names. The reader's first move tells whether the pass attains it, since the pass comes before all points.
 fn moves_among<L: Look>(look: L, question: ReadingQuestion, among: Among) -> AllMoves<L>
     requires size { question.size ≡ (L.shows look).size }
     requires on_board { question.target < question.size * question.size }
@@ -234,8 +236,8 @@ fn moves_among<L: Look>(look: L, question: ReadingQuestion, among: Among) -> All
 }
 
 /// The code of an attack on the string at `target`, or of its defence, and all its moves that attain the code: the
-/// pass, and the candidates. They are the moves that the reader tries, so a move elsewhere may attain the code too:
-/// `moves_anywhere` tells of each point. Takes no memory.
+/// pass, and the candidates. These are the moves that the reader tries, so a move elsewhere may attain the code too:
+/// `moves_anywhere` tries every point. Takes no memory.
 pub fn all_moves<L: Look>(look: L, kind: Kind, target: Point, depths: Depths) -> AllMoves<L>
     requires on_board { target < (L.shows look).size * (L.shows look).size }
     requires stone { cell_at (L.shows look).cells target ≢ Cell.Empty }
@@ -247,7 +249,7 @@ pub fn all_moves<L: Look>(look: L, kind: Kind, target: Point, depths: Depths) ->
         → p < (L.shows look).size * (L.shows look).size }
 
     // On every position that agrees with the facts seen afterwards the moves are these; the position shown is one of
-    // them.
+    // those positions.
     ensures over { (pos : BoardState) → Agrees (L.seen result.look) pos
         → AreAllMoves (asked_in depths.tree (L.shows look) kind target depths.plies depths.wide) pos
         result.code result.pass result.points }
@@ -260,8 +262,8 @@ pub fn all_moves<L: Look>(look: L, kind: Kind, target: Point, depths: Depths) ->
 }
 
 /// The code of an attack on the string at `target`, or of its defence, and all moves that attain the code: the pass,
-/// and the points of the board, candidates or not. A point that is no candidate is judged as one: after the play there
-/// the other side is to play, with one ply less. Takes no memory, and much longer than `all_moves`.
+/// and the points of the board, candidates or not. A point that is no candidate is judged like one: after the play
+/// there the other side is to play, with one ply less. Takes no memory, but much more time than `all_moves`.
 pub fn moves_anywhere<L: Look>(look: L, kind: Kind, target: Point, depths: Depths) -> AllMoves<L>
     requires on_board { target < (L.shows look).size * (L.shows look).size }
     requires stone { cell_at (L.shows look).cells target ≢ Cell.Empty }
@@ -273,7 +275,7 @@ pub fn moves_anywhere<L: Look>(look: L, kind: Kind, target: Point, depths: Depth
         → p < (L.shows look).size * (L.shows look).size }
 
     // On every position that agrees with the facts seen afterwards the moves are these; the position shown is one of
-    // them.
+    // those positions.
     ensures over { (pos : BoardState) → Agrees (L.seen result.look) pos
         → AreMovesAnywhere (asked_in depths.tree (L.shows look) kind target depths.plies depths.wide) pos
         result.code result.pass result.points }

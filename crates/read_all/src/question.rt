@@ -8,7 +8,7 @@ ghost use Rattle.read_rules.specs.Answer.{asked_in};
 use go_base::{Cell, Look, Point};
 use read_rules::{Depths, Kind, ReadingQuestion};
 
-/// The question of this kind about the stone at the target.
+/// The question of this kind about the stone at `target`.
 pub fn question_on<L: Look>(
     look: &mut L,
     kind: Kind,

@@ -19,20 +19,20 @@ use read_tree::nodes::{first_move, make_at, wins_at};
 use read_tree::table::{Entry, empty_table};
 use trial_board::Trial;
 
-/// From how many plies on a table remembers the nodes of a call.
+/// With this many plies or more, a table remembers the nodes of a call.
 const PLIES_WITH_TABLE: u8 = 12;
 
-/// The refutation of a play, and the view of the position, handed back as it is then.
+/// The refutation of a play, and the view of the position, handed back after the reading.
 #[derive(Drop)]
 pub struct Refuted<L> {
     /// The other side's first reply that refutes the play; `None` if the play attains the code or cannot be made, or if
     /// no ply is left after it.
     pub reply: Option<Spot>,
-    /// The view that was handed in; what was looked at is among its facts.
+    /// The view that was handed in; its facts now include everything that was looked at.
     pub look: L,
 }
 
-/// The first move that gives the side to play its way, with `plies` plies left at the node.
+/// The first move that gives the side to play its way, with `plies` plies left at the node; `None` if no ply is left.
 fn first_reply<L: Look>(
     board: &mut Trial<L>,
     node: Node,
@@ -51,7 +51,8 @@ fn first_reply<L: Look>(
     first_move(board, node, plies - 1, memory)
 }
 
-/// The first reply at the node, if the side that has moved there, the attacker or not, does not have its way.
+/// The first reply at the node, if the side whose move led there does not have its way; else `None`. That side is the
+/// attacker if `attacker`.
 fn reply_unless<L: Look>(
     board: &mut Trial<L>,
     attacker: bool,
@@ -71,7 +72,7 @@ fn reply_unless<L: Look>(
     first_reply(board, node, plies, memory)
 }
 
-/// The refutation of the mover's play at p, with `plies` plies left after it.
+/// The refutation of the mover's play at `p`, with `plies` plies left after the play.
 fn reply_to<L: Look>(
     board: &mut Trial<L>,
     node: Node,
@@ -96,7 +97,7 @@ fn reply_to<L: Look>(
     }
 }
 
-/// The same by a table that knows nothing yet.
+/// The refutation of the mover's play at `p`, read with a table that holds no node yet.
 fn reply_by<L: Look>(
     board: &mut Trial<L>,
     node: Node,
@@ -118,7 +119,8 @@ fn reply_by<L: Look>(
     reply_to(board, node, p, plies, &mut memory)
 }
 
-/// The same with a table, which is made here: it is large, and a short reading is not to pay for it.
+/// The refutation of the mover's play at `p`, read with a table. The table is made here: it is large, and a short
+/// reading shall not pay for it.
 #[inline(never)]
 fn reply_with_table<L: Look>(board: &mut Trial<L>, node: Node, p: Point, plies: u8) -> Option<Spot>
     requires room { length board.old.moves + plies < most_moves }
@@ -131,7 +133,7 @@ fn reply_with_table<L: Look>(board: &mut Trial<L>, node: Node, p: Point, plies: 
     reply_by(board, node, p, plies, &mut table)
 }
 
-/// The same, with a table if there are plies enough for one to pay.
+/// The refutation of the mover's play at `p`, read with a table if there are enough plies for one to pay.
 fn reply_of<L: Look>(board: &mut Trial<L>, node: Node, p: Point, plies: u8) -> Option<Spot>
     requires room { length board.old.moves + plies < most_moves }
     requires target { IsPointOf L.shows board.old node.turn.target }
@@ -145,9 +147,9 @@ fn reply_of<L: Look>(board: &mut Trial<L>, node: Node, p: Point, plies: u8) -> O
     reply_with_table(board, node, p, plies)
 }
 
-/// How the other side refutes the play at p by the side that is asked about: its first reply that has its way, in an
-/// attack on the string at `target` or in its defence, under the ko allowances of the code. The pass refutes an attack
-/// that needs no answer. Takes no memory.
+/// How the other side refutes the play at `p` by the side that is asked about: the other side's first reply that gives
+/// it its way, in an attack on the string at `target` or in its defence, under the ko allowances of `code`. The pass is
+/// the reply to an attack that needs no answer. Takes no memory.
 pub fn refutation<L: Look>(
     look: L,
     kind: Kind,
@@ -163,7 +165,7 @@ pub fn refutation<L: Look>(
     ensures grows { Grows (L.seen look) (L.seen result.look) }
 
     // On every position that agrees with the facts seen afterwards the reply is this one; the position shown is one of
-    // them.
+    // those positions.
     ensures over { (pos : BoardState) → Agrees (L.seen result.look) pos
         → result.reply
         ≡ refutation_of (asked_in depths.tree (L.shows look) kind target depths.plies depths.wide) pos code p }

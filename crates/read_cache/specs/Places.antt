@@ -1,4 +1,4 @@
--- Kept questions with a variant at a place.
+-- A cached question with a variant at a place.
 use Rattle.std.specs.Prelude.{◌≡◌, ℕ, ◌+◌, ◌<◌, Bool, List, ◌∷◌, ◌++◌, length, take, drop, Some}
 use Rattle.go_rules.specs.Position.{BoardState}
 use Rattle.read_cache.specs.Kept.{Kept, variants_of}
@@ -6,7 +6,7 @@ use Rattle.read_cache.specs.Variants.{IsFirstStanding}
 use Rattle.read_cache.specs.declared.variants.Variant.{Variant}
 
 module _ {Q A : Type 0} (eq : Q → Q → Bool) (q : Q) (kept : Kept Q A) (place : ℕ) where
-  -- the question is kept, and has a variant at this place
+  -- the question is cached, and has a variant at this place
   pub record HasAt : Type 0 where
     pub variants : List (Variant A)
     pub found : Variant A
@@ -14,7 +14,7 @@ module _ {Q A : Type 0} (eq : Q → Q → Bool) (q : Q) (kept : Kept Q A) (place
     pub within : place < length variants
     pub there : variants ≡ take place variants ++ found ∷ drop (place + 1) variants
 
-  -- its variants with the one at this place before the others
+  -- the question's variants, with the variant at this place before the others
   abbrev pub front_of : HasAt → List (Variant A)
   front_of at = at.found ∷ take place at.variants ++ drop (place + 1) at.variants
 

@@ -5,11 +5,11 @@ use Rattle.go_base.specs.Facts.{Agrees}
 use Rattle.go_base.specs.AmongFacts.{told}
 use Rattle.read_cache.specs.declared.variants.Variant.{Variant}
 
--- how many variants of one question are kept
+-- how many variants of one question are cached at most
 abbrev pub most_variants : ℕ
 most_variants = 4
 
--- the facts of the variant hold on the position
+-- the variant stands on the position: its facts hold there
 abbrev pub Stands : {A : Type 0} → BoardState → Variant A → Type 0
 Stands pos variant = Agrees (told variant.facts) pos
 

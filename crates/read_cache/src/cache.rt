@@ -1,4 +1,4 @@
-//! The cache: questions, the last used first, each with its variants.
+//! The cache: questions in order of use, the last used first, each with its variants.
 
 ghost use Rattle.std.specs.Prelude.{◌≡◌, ◌≤◌, Some, None, IfOk, OnOk, OnErr, IfSome, IfNone};
 ghost use Rattle.go_rules.specs.Position.{BoardState};
@@ -16,7 +16,8 @@ use std::alloc::Global;
 use std::marker::Model;
 use std::num::NonZeroUsize;
 
-/// Questions with their variants, at most as many as its capacity says. Seen as the list of these, the last used first.
+/// Questions with their variants, at most as many as the capacity. Seen as the list of the questions with their
+/// variants, the last used first, and the capacity.
 #[derive(Drop)]
 pub struct Cache<Q: Question> {
     alloc: Global,
@@ -36,7 +37,7 @@ impl<Q: Question> Model for Cache<Q> {
 }
 
 impl<Q: Question> Cache<Q> {
-    /// An empty cache for so many questions, from 8 to 65,536. Takes memory.
+    /// An empty cache for `capacity` questions, from 8 to 65,536. Takes memory.
     pub fn new(alloc: Global, capacity: u32) -> Result<Cache<Q>, NoMemory>
         requires some { 8 ≤ capacity }
         requires few { capacity ≤ 65536 }
@@ -49,14 +50,15 @@ impl<Q: Question> Cache<Q> {
         })
     }
 
-    /// The answer of the first kept variant of the question that stands on the position; it and its question then stand
-    /// first. None exactly where no kept variant of it stands, and then nothing changes. Takes no memory.
+    /// The answer of the first cached variant of the question whose facts hold on the position; that variant and the
+    /// question then move to the front. `None` exactly if the facts of no cached variant of the question hold there,
+    /// and then nothing changes. Takes no memory.
     pub fn find(&mut self, q: &Q, position: &Position) -> Option<Q::Answer>
         ensures found { IfSome result (IsFound Q.eq q.now position.now self.old self.new) }
         ensures missing { IfNone result (IsMissing Q.eq q.now position.now self.old) }
         ensures same { IfNone result (self.new ≡ self.old) }
 
-        // What is found is the question's answer on the position.
+        // The answer that is found is the question's answer on the position.
         ensures right { IfSome result (λ answer. answer ≡ Q.meaning q.now position.now) }
     {
         let (place, answer) = self.standing(q, position)?;
@@ -64,7 +66,7 @@ impl<Q: Question> Cache<Q> {
         Some(answer)
     }
 
-    /// The place of the first variant of the question that stands on the position, and its answer.
+    /// The place of the first variant of the question whose facts hold on the position, and its answer.
     fn standing(&self, q: &Q, position: &Position) -> Option<(usize, Q::Answer)>
         ensures some { IfSome result (λ found. StandsAt Q.eq q.now self.now found.0 position.now found.1) }
         ensures right { IfSome result (λ found. found.1 ≡ Q.meaning q.now position.now) }
@@ -79,7 +81,7 @@ impl<Q: Question> Cache<Q> {
         }
     }
 
-    /// Puts the question first, and its variant at a place before its others.
+    /// Moves the question to the front, and its variant at `place` before its other variants.
     fn bring(&mut self, q: &Q, place: usize)
         requires { HasAt Q.eq q.now self.old place }
         ensures { (at : HasAt Q.eq q.now self.old place)
@@ -92,8 +94,8 @@ impl<Q: Question> Cache<Q> {
         self.bring_from_behind(q, place);
     }
 
-    /// The same where the variant is not the first. It stands apart, so that what is found first does not pay for its
-    /// locals.
+    /// Moves the question to the front, and its variant at `place` before its other variants, if the variant is not the
+    /// first. It is kept out of `bring`, so that a variant that is first already does not pay for its locals.
     #[inline(never)]
     fn bring_from_behind(&mut self, q: &Q, place: usize)
         requires { HasAt Q.eq q.now self.old place }
@@ -106,10 +108,10 @@ impl<Q: Question> Cache<Q> {
         }
     }
 
-    /// Keeps an answer of the question with the facts that it rests on: it stands first among the question's variants,
-    /// and its question among the questions. A fifth variant and the last question past the capacity are dropped.
+    /// Caches an answer of the question with the facts that it rests on, as the first of the question's variants, and
+    /// moves the question to the front. A fifth variant and the last question past the capacity are dropped.
     ///
-    /// NoMemory comes only where the question was not kept, and leaves the cache as it was.
+    /// `NoMemory` comes only if the question was not cached, and leaves the cache as it was.
     pub fn keep(&mut self, q: Q, facts: Facts, answer: Q::Answer) -> Result<(), NoMemory>
         requires { (pos : BoardState) → Agrees (told facts) pos → answer ≡ Q.meaning q pos }
         ensures kept { OnOk result (self.new ≡ kept_first Q.eq q (record { facts = facts; answer = answer }) self.old) }
@@ -126,7 +128,7 @@ impl<Q: Question> Cache<Q> {
         }
     }
 
-    /// Keeps the first variant of a question.
+    /// Caches the first variant of a question that is not cached yet.
     fn keep_first(&mut self, q: Q, variant: Variant<Q::Answer>) -> Result<(), NoMemory>
         requires right { IsRight (Q.meaning q) variant }
         requires not_kept { variants_of Q.eq q self.old ≡ None }

@@ -1,4 +1,5 @@
-//! The key that was used last stands first in a cache, and is met there without a search of its map.
+//! Shortcuts for the key that was used last: it is the first of a cache, and is found there without a search of the
+//! map.
 
 ghost use Rattle.std.specs.Prelude.{◌≡◌, true, option_copied};
 ghost use Rattle.std.specs.Map.{lookup};
@@ -7,7 +8,7 @@ ghost use Rattle.lru.specs.LruCache.{lru_cache, promoted};
 use lru::LruCache;
 use std::hash::Hash;
 
-/// Whether the key is the one that was used last, so that it stands first already.
+/// Whether `key` was used last, so that it is the first of the cache already.
 fn is_first<K: Eq + Hash, V>(cache: &LruCache<K, V>, key: &K) -> bool
     ensures { result ≡ true → promoted (K.eq key.now) cache.now.entries ≡ cache.now.entries }
 {
@@ -17,7 +18,7 @@ fn is_first<K: Eq + Hash, V>(cache: &LruCache<K, V>, key: &K) -> bool
     }
 }
 
-/// The value of the key.
+/// The value of `key`, or `None` if the cache does not hold it. The order of the keys does not change.
 pub(crate) fn value_of<'a, K: Eq + Hash, V>(cache: &'a LruCache<K, V>, key: &K) -> Option<&'a V>
     ensures { option_copied result ≡ lookup (K.eq key.now) cache.now.entries }
 {
@@ -27,7 +28,7 @@ pub(crate) fn value_of<'a, K: Eq + Hash, V>(cache: &'a LruCache<K, V>, key: &K) 
     }
 }
 
-/// Puts the key before the others, if it is there.
+/// Moves `key` before the other keys, if the cache holds it.
 pub(crate) fn promote<K: Eq + Hash, V>(cache: &mut LruCache<K, V>, key: &K)
     ensures { cache.new ≡ lru_cache (promoted (K.eq key.now) cache.old.entries) cache.old.cap }
 {

@@ -1,4 +1,4 @@
-//! Kept answers, counted, to questions of any kind.
+//! Cached answers to questions of any kind, with counts.
 
 ghost use Rattle.std.specs.Prelude.{◌≡◌, ◌≤◌, IfOk, IfSome, IfNone, IsSome};
 ghost use Rattle.read_cache.specs.Kept.{IsMissing, HoldsOfEach};
@@ -15,13 +15,13 @@ use std::marker::Model;
 pub struct Asked<A, E> {
     /// The answer.
     pub answer: A,
-    /// What the fresh reading took, or `None` if the answer was kept.
+    /// The effort of the fresh reading, or `None` if the answer came from the cache.
     pub effort: Option<E>,
 }
 
-/// Kept answers, with counts of the answers that were fresh and of those that could not be kept for want of memory.
+/// Cached answers, with counts of the answers that were fresh and of those that could not be cached for want of memory.
 ///
-/// Each answer is kept with the facts that it rests on, and is used again if these hold.
+/// Each answer is cached with the facts that it rests on, and is used again if these facts hold.
 #[derive(Drop)]
 pub struct KeptAnswers<Q: Readable> {
     fresh: u64,
@@ -41,7 +41,7 @@ impl<Q: Readable> Model for KeptAnswers<Q> {
 }
 
 impl<Q: Readable> KeptAnswers<Q> {
-    /// Keeps nothing yet, and at most `capacity` questions, from 8 to 65,536. Both counts are 0. Takes memory.
+    /// An empty cache for at most `capacity` questions, from 8 to 65,536, with both counts 0. Takes memory.
     pub fn new(alloc: Global, capacity: u32) -> Result<KeptAnswers<Q>, NoMemory>
         requires some { 8 ≤ capacity }
         requires few { capacity ≤ 65536 }
@@ -54,8 +54,9 @@ impl<Q: Readable> KeptAnswers<Q> {
         })
     }
 
-    /// Answers a question about the position. The answer is a kept one exactly if a kept variant of the question stands
-    /// on the position; else the question is read and its answer is kept.
+    /// Answers a question about the position. The answer comes from the cache exactly if the facts of a cached variant
+    /// of the question hold on the position; else the question is read, and its answer is cached if there is memory for
+    /// it.
     #[inline(always)]
     pub fn ask(&mut self, q: Q, position: &Position) -> Asked<Q::Answer, Q::Effort>
         requires { Q.is_about q position.now }
@@ -63,7 +64,7 @@ impl<Q: Readable> KeptAnswers<Q> {
             result.effort self.old self.new }
         ensures asked { WasAsked Q.eq q Q.rests position.now result.answer self.old self.new }
         ensures rests { RestsOn Q.rests q position.now result.answer }
-        // Each kept variant rests on its facts.
+        // Each cached variant rests on its facts.
         ensures each { HoldsOfEach Q.rests self.new.kept }
         ensures follows { Follows self.old self.new }
     {
@@ -77,7 +78,8 @@ impl<Q: Readable> KeptAnswers<Q> {
         }
     }
 
-    /// The answer of a kept variant of the question that stands on the position. If there is none, nothing changes.
+    /// The answer of the first cached variant of the question whose facts hold on the position. If there is none,
+    /// nothing changes.
     #[inline(always)]
     pub fn find(&mut self, q: &Q, position: &Position) -> Option<Q::Answer>
         ensures kept { IfSome result (λ answer. WasKept Q.eq q.now position.now answer self.old self.new) }
@@ -89,9 +91,9 @@ impl<Q: Readable> KeptAnswers<Q> {
         self.cache.find(q, position)
     }
 
-    /// Reads a question, counts the reading, and keeps the answer or counts that there was no memory for it.
+    /// Reads a question, counts the reading, and caches the answer or counts that there was no memory for it.
     ///
-    /// It stands apart from its caller, so that a kept answer does not pay for its locals.
+    /// It is kept out of its caller, so that a cached answer does not pay for its locals.
     #[inline(never)]
     fn read_and_keep(&mut self, q: Q, position: &Position) -> Asked<Q::Answer, Q::Effort>
         requires about { Q.is_about q position.now }
@@ -120,7 +122,7 @@ impl<Q: Readable> KeptAnswers<Q> {
         self.fresh
     }
 
-    /// How many answers could not be kept for want of memory, as far as a `u64` counts.
+    /// How many answers could not be cached for want of memory, as far as a `u64` counts.
     pub fn refused(&self) -> u64
         ensures { result ≡ self.now.refused }
     {

@@ -1,4 +1,4 @@
-//! What may be kept: questions that have an answer on each position, and how a question is read.
+//! What may be cached: questions that have an answer on each position, and how a question is read.
 
 ghost use Rattle.go_base.specs.Facts.{Agrees};
 ghost use Rattle.go_base.specs.AmongFacts.{told};
@@ -12,13 +12,13 @@ pub trait Question: Copy + Eq + Hash {
     ghost use Rattle.go_rules.specs.Position.{BoardState};
     ghost use Rattle.std.specs.Prelude.{◌≡◌, IsTrue};
 
-    /// What answers it.
+    /// The type of the question's answers.
     type Answer: Copy;
 
-    /// The answer on a position.
+    /// The question's answer on a position.
     ghost meaning: { Self → BoardState → Self.Answer };
 
-    /// Equal questions are one, so they have the same answer on each position.
+    /// Questions that compare as equal are equal, so they have the same answer on each position.
     ghost same: { (p q : Self) → IsTrue (Self.eq p q) → p ≡ q };
 }
 
@@ -28,7 +28,7 @@ pub trait Readable: Question {
     ghost use Rattle.read_cache.specs.Kept.{IsRight};
     ghost use Rattle.read_cache.specs.declared.variants.Variant.{Variant as VariantSeen};
 
-    /// What a reading tells of itself beside its answer, such as a count of trial plays.
+    /// What a reading tells about itself beside its answer, for example a count of trial plays.
     type Effort: Copy;
 
     /// The question can be asked on the position.

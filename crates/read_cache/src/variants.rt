@@ -8,20 +8,20 @@ use go_base::{Facts, NoMemory, Position};
 use std::alloc::Global;
 use std::marker::Model;
 
-/// How many variants of one question are kept.
+/// How many variants of one question are cached at most.
 pub const MOST_VARIANTS: usize = 4;
 
 /// An answer, with the facts that it rests on.
 #[derive(Clone, Copy, Debug)]
 pub struct Variant<A> {
-    /// The facts.
+    /// The facts that the answer rests on.
     pub facts: Facts,
-    /// The answer on each position on which they hold.
+    /// The answer on each position on which the facts hold.
     pub answer: A,
 }
 
-/// The variants of a question, the last kept or found first, seen as their list. There is room for four from the start,
-/// so that only the first of them takes memory.
+/// The variants of a question, the last cached or found first, seen as their list. There is room for four from the
+/// start, so that only the first variant takes memory.
 #[derive(Drop)]
 pub struct Variants<A> {
     items: Vec<Variant<A>>,
@@ -40,7 +40,7 @@ impl<A> Model for Variants<A> {
 }
 
 impl<A: Copy> Variants<A> {
-    /// One variant, with room for three more. Takes memory.
+    /// A list of one variant, with room for three more. Takes memory.
     pub(crate) fn alone(alloc: Global, variant: Variant<A>) -> Result<Variants<A>, NoMemory>
         ensures { IfOk result (λ variants. variants ≡ variant ∷ []) }
     {
@@ -49,14 +49,14 @@ impl<A: Copy> Variants<A> {
         Ok(Variants { items })
     }
 
-    /// The variants.
+    /// The variants, as a slice.
     pub(crate) fn as_slice(&self) -> &[Variant<A>]
         ensures { result.now ≡ self.now }
     {
         self.items.as_slice()
     }
 
-    /// Brings the one at a place before the others, which keep their order. Takes no memory.
+    /// Moves the variant at `place` before the others, which keep their order. Takes no memory.
     pub(crate) fn bring(&mut self, place: usize)
         requires place { place < length self.old }
         requires few { length self.old ≤ most_variants }
@@ -67,7 +67,7 @@ impl<A: Copy> Variants<A> {
         self.put_first(found);
     }
 
-    /// Puts a variant before the others, of which a fifth is dropped. Takes no memory.
+    /// Puts a variant before the others; if there are then five, the last is dropped. Takes no memory.
     pub(crate) fn add(&mut self, variant: Variant<A>)
         ensures { self.new ≡ variant ∷ take 3 self.old }
     {
@@ -75,7 +75,7 @@ impl<A: Copy> Variants<A> {
         self.put_first(variant);
     }
 
-    /// Puts a variant before the others, for which there is room.
+    /// Puts a variant before the others; there must be room for it.
     fn put_first(&mut self, variant: Variant<A>)
         requires { length self.old < most_variants }
         ensures { self.new ≡ variant ∷ self.old }
@@ -87,7 +87,7 @@ impl<A: Copy> Variants<A> {
     }
 }
 
-/// The place of the first variant that stands on the position.
+/// The place of the first variant whose facts hold on the position.
 pub(crate) fn first_standing<A: Copy>(variants: &[Variant<A>], position: &Position) -> Option<usize>
     ensures some { IfSome result (IsFirstStanding position.now variants.now) }
     ensures none { IfNone result (NoneStands position.now variants.now) }

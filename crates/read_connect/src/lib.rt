@@ -1,9 +1,9 @@
 //! The reader of connections: whether two strings of one colour can be joined, and whether they can be kept apart, by a
 //! bounded tree.
 //!
-//! `connect` and `disconnect` read a view of a position and hand it back; what they looked at is then among its facts,
-//! and on every position that agrees with these facts the answer is the same. A ban is never dropped. Nothing takes
-//! memory.
+//! `connect` and `disconnect` read a view of a position and hand it back; its facts then include what they looked at,
+//! and on every position that agrees with these facts the answer is the same. No side may ignore the ko ban. Nothing
+//! takes memory.
 //!
 //! The tree is this project's own: GNU Go reads connections by trees of another kind.
 #![tactic(auto)]

@@ -53,7 +53,7 @@ fn first_point<L: Look>(
     None
 }
 
-/// The play at the point, if there is one.
+/// The play at the point that was found, if there is one.
 fn at_point(found: Option<Point>) -> Option<LinkSpot>
     ensures { result ≡ at_point found }
 {
@@ -63,7 +63,8 @@ fn at_point(found: Option<Point>) -> Option<LinkSpot>
     }
 }
 
-/// The first move that gives the side to play its way: the other colour's pass before all points.
+/// The first move that gives the side to play its way, with `plies` plies left after it: the other colour's pass before
+/// all points.
 fn first_move<L: Look>(
     board: &mut Trial<L>,
     link: Link,
@@ -88,7 +89,7 @@ fn first_move<L: Look>(
     at_point(first_point(board, link, own, plies, of_a, of_b))
 }
 
-/// The answer about strings that are one: connect needs no stone, and disconnect fails.
+/// The answer if the two strings are one already: connect is answered yes with a pass, and disconnect no.
 fn one_string(own: bool) -> Linkage
     ensures { result ≡ one_string own }
 {
@@ -98,7 +99,7 @@ fn one_string(own: bool) -> Linkage
     }
 }
 
-/// Whether the question asks whether the strings can be joined.
+/// Whether the question is `Connect`: whether the strings can be joined.
 fn is_connect(kind: LinkKind) -> bool
     ensures { result ≡ is_connect kind }
 {
@@ -108,7 +109,7 @@ fn is_connect(kind: LinkKind) -> bool
     }
 }
 
-/// The answer at the first node, whose position the question is about.
+/// The answer at the first node of `question`, which is about the position of `board`.
 fn first_node<L: Look>(board: &mut Trial<L>, question: &LinkQuestion) -> Linkage
     requires plies { 0 < question.now.plies }
     requires room { length board.old.moves + question.now.plies ≤ most_moves }
@@ -144,8 +145,8 @@ fn first_node<L: Look>(board: &mut Trial<L>, question: &LinkQuestion) -> Linkage
     }
 }
 
-/// Reads a question, which is about the position shown: whether the side that is asked about has its way, and the first
-/// move by which it does. Takes no memory.
+/// Reads a question about the position that `look` shows: whether the side that is asked about has its way, and the
+/// first move by which it does. Takes no memory.
 pub fn read<L: Look>(look: L, question: LinkQuestion) -> LinkTold<L>
     requires size { question.size ≡ (L.shows look).size }
     requires a_on { question.a < (L.shows look).size * (L.shows look).size }
@@ -162,11 +163,12 @@ pub fn read<L: Look>(look: L, question: LinkQuestion) -> LinkTold<L>
     ensures on_board { IfSome result.linkage.at (IsOnBoard (L.shows look).size) }
 
     // On every position that agrees with the facts seen afterwards the answer is this one; the position shown is one of
-    // them.
+    // those positions.
     ensures over { (pos : BoardState) → Agrees (L.seen result.look) pos → result.linkage ≡ linkage_of question pos }
     ensures answer { result.linkage ≡ linkage_of question (L.shows look) }
 
-    // On each of these positions the points looked at lie in the active area of the connection.
+    // On each position that agrees with the facts seen afterwards the points looked at lie in the active area of the
+    // connection.
     ensures near { (pos : BoardState) → Agrees (L.seen result.look) pos
         → AddsNear (L.seen look) (L.seen result.look) (InConnectionArea question pos) }
 {
@@ -181,7 +183,7 @@ pub fn read<L: Look>(look: L, question: LinkQuestion) -> LinkTold<L>
     }
 }
 
-/// Reads a question of this kind about two stones of the position shown.
+/// Reads a question of this kind about the stones at `a` and `b` on the position that `look` shows.
 fn answered<L: Look>(look: L, kind: LinkKind, a: Point, b: Point, plies: u8) -> LinkTold<L>
     requires a_on { a < (L.shows look).size * (L.shows look).size }
     requires b_on { b < (L.shows look).size * (L.shows look).size }
@@ -216,7 +218,7 @@ fn answered<L: Look>(look: L, kind: LinkKind, a: Point, b: Point, plies: u8) -> 
 /// Reads whether the strings of `a` and `b`, of one colour, can be joined when their own colour plays first, `plies`
 /// plies deep.
 ///
-/// The move is the pass if the two are one string already, else the first in reading order that attains it. Takes no
+/// The move is the pass if the two are one string already, else the first in reading order that joins them. Takes no
 /// memory.
 pub fn connect<L: Look>(look: L, a: Point, b: Point, plies: u8) -> LinkTold<L>
     requires a_on { a < (L.shows look).size * (L.shows look).size }
@@ -233,12 +235,13 @@ pub fn connect<L: Look>(look: L, a: Point, b: Point, plies: u8) -> LinkTold<L>
     ensures on_board { IfSome result.linkage.at (IsOnBoard (L.shows look).size) }
 
     // On every position that agrees with the facts seen afterwards the answer is this one; the position shown is one of
-    // them.
+    // those positions.
     ensures over { (pos : BoardState) → Agrees (L.seen result.look) pos
         → result.linkage ≡ linkage_of (asked_on (L.shows look) LinkKind.Connect a b plies) pos }
     ensures answer { result.linkage ≡ linkage_of (asked_on (L.shows look) LinkKind.Connect a b plies) (L.shows look) }
 
-    // On each of these positions the points looked at lie in the active area of the connection.
+    // On each position that agrees with the facts seen afterwards the points looked at lie in the active area of the
+    // connection.
     ensures near { (pos : BoardState) → Agrees (L.seen result.look) pos
         → AddsNear (L.seen look) (L.seen result.look)
         (InConnectionArea (asked_on (L.shows look) LinkKind.Connect a b plies) pos) }
@@ -249,7 +252,8 @@ pub fn connect<L: Look>(look: L, a: Point, b: Point, plies: u8) -> LinkTold<L>
 /// Reads whether the strings of `a` and `b`, of one colour, can be kept apart when the other colour plays first,
 /// `plies` plies deep.
 ///
-/// The move is the pass if no stone need be put, else the first in reading order that attains it. Takes no memory.
+/// The move is the pass if the strings stay apart without a stone, else the first in reading order that keeps them
+/// apart. Takes no memory.
 pub fn disconnect<L: Look>(look: L, a: Point, b: Point, plies: u8) -> LinkTold<L>
     requires a_on { a < (L.shows look).size * (L.shows look).size }
     requires b_on { b < (L.shows look).size * (L.shows look).size }
@@ -265,13 +269,14 @@ pub fn disconnect<L: Look>(look: L, a: Point, b: Point, plies: u8) -> LinkTold<L
     ensures on_board { IfSome result.linkage.at (IsOnBoard (L.shows look).size) }
 
     // On every position that agrees with the facts seen afterwards the answer is this one; the position shown is one of
-    // them.
+    // those positions.
     ensures over { (pos : BoardState) → Agrees (L.seen result.look) pos
         → result.linkage ≡ linkage_of (asked_on (L.shows look) LinkKind.Disconnect a b plies) pos }
     ensures answer { result.linkage ≡ linkage_of (asked_on (L.shows look) LinkKind.Disconnect a b plies)
         (L.shows look) }
 
-    // On each of these positions the points looked at lie in the active area of the connection.
+    // On each position that agrees with the facts seen afterwards the points looked at lie in the active area of the
+    // connection.
     ensures near { (pos : BoardState) → Agrees (L.seen result.look) pos
         → AddsNear (L.seen look) (L.seen result.look)
         (InConnectionArea (asked_on (L.shows look) LinkKind.Disconnect a b plies) pos) }

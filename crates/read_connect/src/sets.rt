@@ -1,4 +1,5 @@
-//! Sets of points made from the liberties of two strings. No point of the board is looked at, and nothing takes memory.
+//! Sets of points computed from the liberties of two strings. No point of the board is looked at, and nothing takes
+//! memory.
 
 ghost use Rattle.std.specs.Prelude.{◌≡◌, ℕ, ◌*◌, ◌<◌, ◌&&◌, ◌||◌, ◌==◌, not, IsTrue, true, false};
 ghost use Rattle.std.specs.FinSet as set;
@@ -8,7 +9,7 @@ use go_base::points::PointSet;
 use go_base::sides::neighbour;
 use go_base::{Point, Size};
 
-/// Whether p is a neighbour of a member.
+/// Whether `p` is a neighbour of a point of `points`.
 fn is_beside(size: Size, p: Point, points: &PointSet) -> bool
     requires { p < size * size }
     ensures { result ≡ is_beside_member size points.now p }
@@ -23,8 +24,8 @@ fn is_beside(size: Size, p: Point, points: &PointSet) -> bool
     false
 }
 
-/// Whether p, the only member of its own set or not, is no member of the other and, unless it is the only one, a
-/// neighbour of a member.
+/// Whether `p` is not in `others`, and is either the only liberty of its own string, as `only` says, or a neighbour of
+/// a point of `others`.
 fn reaches(size: Size, p: Point, only: bool, others: &PointSet) -> bool
     requires on_board { p < size * size }
     ensures { result ≡ (not (set.contains others.now p) && (only || is_beside_member size others.now p)) }
@@ -39,8 +40,8 @@ fn reaches(size: Size, p: Point, only: bool, others: &PointSet) -> bool
     is_beside(size, p, others)
 }
 
-/// The members of the first set, liberties of one string, that the other string does not share, and that are neighbours
-/// of its liberties or the only ones of their own.
+/// The liberties of one string, `points`, that are not in `others`, the liberties of the other string, and that are
+/// neighbours of a point of `others` or the only liberty of their own string.
 pub fn reaching(size: Size, points: &PointSet, others: &PointSet) -> PointSet
     requires { (p : ℕ) → IsTrue (set.contains points.now p) → p < size * size }
     ensures { (p : ℕ) → set.contains result p ≡ reaches_among size points.now others.now p }

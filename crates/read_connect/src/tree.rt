@@ -1,4 +1,5 @@
-//! The walk over the tree of a connection: the plays of a node one after another, each read to its end before the next.
+//! The walk over the tree of a connection. The plays of a node are tried one after another, and each is read to its end
+//! before the next.
 
 ghost use Rattle.std.specs.Prelude.{◌≡◌, ◌+◌, ◌≤◌, ℕ, suc, true, false, not, IsTrue, length};
 ghost use Rattle.std.specs.FinSet as set;
@@ -18,7 +19,7 @@ use go_base::points::PointSet;
 use go_base::{Cell, Colour, Look, Point};
 use trial_board::{Trial, Tried};
 
-/// Whether both points hold stones of the strings' colour.
+/// Whether both strings stand: both points of `link` hold stones of its colour.
 fn both_stand<L: Look>(board: &mut Trial<L>, link: Link) -> bool
     requires { AreOnBoard L.shows board.old link }
     ensures stays { Stays L.shows L.seen board.old board.new }
@@ -32,14 +33,15 @@ fn both_stand<L: Look>(board: &mut Trial<L>, link: Link) -> bool
     board.cell(link.b) == stone
 }
 
-/// Whether the side that moved, the strings' own or the other, has its way.
+/// Whether the side that moved has its way: if `own`, the strings are joined, else they are not.
 fn has_way(own: bool, joined: bool) -> bool
     ensures { result ≡ has_way own joined }
 {
     if own { joined } else { !joined }
 }
 
-/// Whether the strings can be joined, with `plies` plies left.
+/// Whether the strings can be joined with `plies` plies left. The strings' own colour is to play if `own`, else the
+/// other.
 #[cycle(read)]
 pub fn can_connect<L: Look>(board: &mut Trial<L>, link: Link, own: bool, plies: u8) -> bool
     requires room { length board.old.moves + plies ≤ most_moves }
@@ -66,7 +68,8 @@ pub fn can_connect<L: Look>(board: &mut Trial<L>, link: Link, own: bool, plies: 
     goes_on(board, link, own, plies - 1, &liberties, &of_b)
 }
 
-/// Whether strings that are apart can be joined, with `plies` plies left after the next move.
+/// Whether two strings that stand and are not one can be joined, with `plies` plies left after the next move. `of_a`
+/// and `of_b` are their liberties.
 #[cycle(read)]
 fn goes_on<L: Look>(
     board: &mut Trial<L>,
@@ -106,7 +109,7 @@ pub fn pass_parts<L: Look>(board: &mut Trial<L>, link: Link, plies: u8) -> bool
 }
 
 /// Whether some connecting move gives the side to play its way, with `plies` plies left after it. The liberties that
-/// both strings have are tried first, and the captures are found only if nothing else serves.
+/// both strings share are tried first, and the captures are searched for only if no other move serves.
 #[cycle(read)]
 fn some_move<L: Look>(
     board: &mut Trial<L>,
@@ -136,7 +139,7 @@ fn some_move<L: Look>(
     some_of(board, link, own, plies, &captures)
 }
 
-/// Whether some point of the set gives the side to play its way, with `plies` plies left after its play there.
+/// Whether a play at some point of `points` gives the side to play its way, with `plies` plies left after it.
 #[cycle(read)]
 fn some_of<L: Look>(
     board: &mut Trial<L>,
@@ -163,7 +166,7 @@ fn some_of<L: Look>(
     false
 }
 
-/// Whether the play at p is legal and gives the side to play its way, with `plies` plies left after it.
+/// Whether the play at `p` is legal and gives the side to play its way, with `plies` plies left after it.
 #[cycle(read)]
 pub fn attains<L: Look>(board: &mut Trial<L>, link: Link, own: bool, plies: u8, p: Point) -> bool
     requires ready { IsReady L.shows L.seen board.old link plies }

@@ -1,4 +1,4 @@
--- What a stone that is played reaches, and how far that is told.
+-- What a stone that is played reaches, counted up to two points.
 use Rattle.std.specs.Prelude.{◌≡◌, ◌≢◌, ℕ, ◌*◌, ◌<◌, ◌==◌, Bool, true, false, IsTrue, List, if◌then◌else◌}
 use Rattle.std.specs.Ordering.{nat_cmp}
 use Rattle.std.specs.FinSet as set
@@ -17,13 +17,13 @@ pub record HasOther (P : ℕ → Type 0) (p : ℕ) : Type 0 where
   pub inside : P point
   pub other : point ≢ p
 
--- which points P has, as far as it is told: none, p alone, or two at least
+-- which points P has, counted up to two: none, p alone, or at least two
 abbrev pub Tells : (ℕ → Type 0) → Reach → Type 0
 Tells P Nothing = (x : ℕ) → P x → ⊥
 Tells P (Only p) = P p × ((x : ℕ) → P x → x ≡ p)
 Tells P More = (p : ℕ) → HasOther P p
 
--- what is told of two sets of points is told of both together
+-- the reach of two sets of points together, from the reach of each
 abbrev pub together : Reach → Reach → Reach
 together Nothing r = r
 together (Only p) Nothing = Only p
@@ -31,7 +31,7 @@ together (Only p) (Only q) = if p == q then Only p else More
 together (Only p) More = More
 together More r = More
 
--- two points at least are told
+-- at least two points are reached
 abbrev pub is_more : Reach → Bool
 is_more Nothing = false
 is_more (Only p) = false
@@ -59,12 +59,12 @@ pub record IsLibertyBeside (s : ℕ) (cells : List Cell) (c : Colour) (l x : ℕ
   pub beside : are_neighbours s l q ≡ true
   pub its : IsLibertyOf s cells c q x
 
--- what a stone of c that is played at l reaches: an empty neighbour of l, or another liberty of a string of c next to
--- it
+-- x is reached by a stone of c that is played at l: x is an empty neighbour of l, or a liberty other than l of a string
+-- of c next to l
 pub data IsReached (s : ℕ) (cells : List Cell) (c : Colour) (l x : ℕ) : Type 0 where
   by_side : IsEmptyNeighbour s cells l x → IsReached s cells c l x
   by_string : IsLibertyBeside s cells c l x → x ≢ l → IsReached s cells c l x
 
--- what a stone of c at l reaches: nothing, p alone, or two points at least
+-- what a stone of c at l reaches: nothing, p alone, or at least two points
 abbrev pub Reaches : ℕ → List Cell → Colour → ℕ → Reach → Type 0
 Reaches s cells c l = Tells (IsReached s cells c l)

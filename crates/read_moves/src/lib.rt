@@ -1,8 +1,8 @@
-//! The moves that a reading tries: the liberties of the target, the empty points next to them where the target is weak,
-//! and the last liberties of the enemy strings that surround it; in the wider tree also the further candidates.
+//! The moves that a reading tries: the liberties of the target, the empty points next to them if the target has few,
+//! and the last liberties of the enemy strings next to it; in the wider tree also the further candidates.
 //!
-//! The answer is stated over every position that agrees with what was seen afterwards; it leaves the trial moves as
-//! they were and takes no memory.
+//! The contracts state the answer for every position that agrees with what was seen afterwards. The search leaves the
+//! trial moves as they were and takes no memory.
 #![tactic(auto)]
 
 pub mod moves;

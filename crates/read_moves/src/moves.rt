@@ -1,5 +1,5 @@
-//! The points that a reading tries beside a target's liberties: the empty sides of a point, and those that plays on
-//! them would leave.
+//! The points that a reading tries besides a target's liberties: the empty neighbours of a point, and the liberties
+//! that plays on the target's liberties would leave.
 
 ghost use Rattle.std.specs.Prelude.{◌≡◌, ℕ, ◌*◌, ◌<◌, ◌≤◌, ◌&&◌, ◌||◌, IsTrue};
 ghost use Rattle.std.specs.FinSet as set;
@@ -21,7 +21,7 @@ use go_base::{Cell, Colour, Look};
 use trial_board::Trial;
 use wider_moves::sides;
 
-/// Adds the empty neighbours of l.
+/// Adds the empty neighbours of `l` to `found`.
 pub fn add_sides<L: Look>(board: &mut Trial<L>, l: Point, found: &mut PointSet)
     requires { l < (L.shows board.old.look).size * (L.shows board.old.look).size }
     ensures stays { Stays L.shows L.seen board.old board.new }
@@ -34,7 +34,7 @@ pub fn add_sides<L: Look>(board: &mut Trial<L>, l: Point, found: &mut PointSet)
     sides::add_sides(board, Cell::Empty, l, found);
 }
 
-/// How many sides of l are empty.
+/// How many neighbours of `l` are empty.
 pub fn empty_sides<L: Look>(board: &mut Trial<L>, l: Point) -> u16
     requires { l < (L.shows board.old.look).size * (L.shows board.old.look).size }
     ensures stays { Stays L.shows L.seen board.old board.new }
@@ -50,9 +50,9 @@ pub fn empty_sides<L: Look>(board: &mut Trial<L>, l: Point) -> u16
     sides.count()
 }
 
-/// Adds the one liberty that a stone of this colour at l would have, where it is empty now. No play is tried: a stone
-/// that takes nothing has just what it reaches as liberties, and one that takes something has a liberty where that
-/// stood, which is not empty now.
+/// Adds the one liberty that a stone of colour `c` at `l` would have to `found`, if that point is empty now. No play is
+/// tried: the liberties of a stone that takes nothing are the points that it reaches, and a stone that takes a string
+/// has a liberty where a taken stone stood, which is not empty now.
 fn add_backfilling_at<L: Look>(board: &mut Trial<L>, c: Colour, l: Point, found: &mut PointSet)
     requires { l < (L.shows board.old.look).size * (L.shows board.old.look).size }
     ensures stays { Stays L.shows L.seen board.old board.new }
@@ -75,8 +75,8 @@ fn add_backfilling_at<L: Look>(board: &mut Trial<L>, c: Colour, l: Point, found:
     }
 }
 
-/// Adds the one liberty that a stone of this colour would have at a point of the set, where it is empty now, for each
-/// such point.
+/// For each point of `points`, adds the one liberty that a stone of colour `c` there would have to `found`, if that
+/// liberty is empty now.
 pub(crate) fn add_backfilling<L: Look>(
     board: &mut Trial<L>,
     c: Colour,

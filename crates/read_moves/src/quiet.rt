@@ -19,7 +19,8 @@ use trial_board::Trial;
 /// How many liberties a string in atari has.
 pub(crate) const IN_ATARI: u16 = 1;
 
-/// Whether the string of q, where it is of the other colour, has a liberty that is not l.
+/// Whether the string of `q` has a liberty other than `l`; true also if `q` holds no stone of the other colour than
+/// `c`.
 fn lives_without<L: Look>(board: &mut Trial<L>, c: Colour, l: Point, q: Point) -> bool
     requires small { l < largest_points }
     requires on_board { q < (L.shows board.old.look).size * (L.shows board.old.look).size }
@@ -42,7 +43,7 @@ fn lives_without<L: Look>(board: &mut Trial<L>, c: Colour, l: Point, q: Point) -
     first_other(&found, l, 0).is_some()
 }
 
-/// Whether a stone of the colour at l takes nothing: each enemy string next to it has another liberty.
+/// Whether a stone of colour `c` at `l` takes nothing: each enemy string next to `l` has another liberty.
 pub fn is_quiet<L: Look>(board: &mut Trial<L>, c: Colour, l: Point) -> bool
     requires { l < (L.shows board.old.look).size * (L.shows board.old.look).size }
     ensures stays { Stays L.shows L.seen board.old board.new }

@@ -1,5 +1,5 @@
-//! What a stone that is played reaches: the empty sides of its point, and the other liberties of the strings that it
-//! joins. It is told no further than to two points.
+//! What a stone that is played reaches: the empty neighbours of its point, and the other liberties of the strings that
+//! it joins. The count stops at two points.
 
 ghost use Rattle.std.specs.Prelude.{◌≡◌, ◌≢◌, ℕ, ◌*◌, ◌<◌, ◌≤◌, IsTrue, IfSome, IfNone, if◌then◌else◌};
 ghost use Rattle.std.specs.FinSet as set;
@@ -20,7 +20,7 @@ use go_base::size::Point;
 use go_base::{Cell, Colour, Look};
 use trial_board::Trial;
 
-/// A string with more liberties than these has two at least beside any point.
+/// A string with more liberties than this has at least two besides any given point.
 const FEW_LIBERTIES: u16 = 2;
 
 /// What a stone at a point reaches, or a part of it.
@@ -28,14 +28,14 @@ const FEW_LIBERTIES: u16 = 2;
 pub enum Reach {
     /// It reaches nothing.
     Nothing,
-    /// It reaches this point alone.
+    /// It reaches this point and no other.
     Only(Point),
-    /// It reaches two points at least.
+    /// It reaches at least two points.
     More,
 }
 
 impl Reach {
-    /// What is reached where this is and the other is.
+    /// What this reach and the other are together.
     fn with(self, other: Reach) -> Reach
         ensures { result ≡ together self other }
     {
@@ -46,7 +46,7 @@ impl Reach {
         }
     }
 
-    /// Whether two points are reached at least.
+    /// Whether at least two points are reached.
     fn is_more(self) -> bool
         ensures { result ≡ is_more self }
     {
@@ -57,7 +57,7 @@ impl Reach {
     }
 }
 
-/// The least member from `from` on that is not l.
+/// The least member of `points` that is at least `from` and is not `l`.
 pub(crate) fn first_other(points: &PointSet, l: Point, from: u16) -> Option<Point>
     requires { l < largest_points }
     ensures some { IfSome result (λ p. (from ≤ p) × (p < largest_points) × IsTrue (set.contains points.now p) × (p ≢ l)
@@ -75,7 +75,7 @@ pub(crate) fn first_other(points: &PointSet, l: Point, from: u16) -> Option<Poin
     }
 }
 
-/// What the members of the set reach that are not l.
+/// The members of `points` other than `l`, as a reach.
 fn reach_within(points: &PointSet, l: Point) -> Reach
     requires { l < largest_points }
     ensures { Tells (IsOtherMember points.now l) result }
@@ -89,7 +89,7 @@ fn reach_within(points: &PointSet, l: Point) -> Reach
     }
 }
 
-/// The point q where it is empty.
+/// The point `q` if it is empty, else nothing.
 fn reach_of_side<L: Look>(board: &mut Trial<L>, q: Point) -> Reach
     requires { q < (L.shows board.old.look).size * (L.shows board.old.look).size }
     ensures stays { Stays L.shows L.seen board.old board.new }
@@ -105,7 +105,7 @@ fn reach_of_side<L: Look>(board: &mut Trial<L>, q: Point) -> Reach
     }
 }
 
-/// The empty sides of l.
+/// The empty neighbours of `l`, as a reach.
 fn reach_of_sides<L: Look>(board: &mut Trial<L>, l: Point) -> Reach
     requires { l < (L.shows board.old.look).size * (L.shows board.old.look).size }
     ensures stays { Stays L.shows L.seen board.old board.new }
@@ -124,7 +124,7 @@ fn reach_of_sides<L: Look>(board: &mut Trial<L>, l: Point) -> Reach
     reach
 }
 
-/// The liberties of the string of q that are not l, where it holds a stone of the colour.
+/// The liberties of the string of `q` other than `l`, as a reach; nothing if `q` holds no stone of colour `c`.
 fn reach_of_string<L: Look>(board: &mut Trial<L>, c: Colour, l: Point, q: Point) -> Reach
     requires small { l < largest_points }
     requires on_board { q < (L.shows board.old.look).size * (L.shows board.old.look).size }
@@ -145,7 +145,7 @@ fn reach_of_string<L: Look>(board: &mut Trial<L>, c: Colour, l: Point, q: Point)
     reach_within(&found, l)
 }
 
-/// What a stone of the colour at l would reach. Strings are looked at only as long as fewer than two points are
+/// What a stone of colour `c` at `l` would reach. Strings are searched only as long as fewer than two points are
 /// reached.
 pub(crate) fn reach_of<L: Look>(board: &mut Trial<L>, c: Colour, l: Point) -> Reach
     requires { l < (L.shows board.old.look).size * (L.shows board.old.look).size }

@@ -22,7 +22,7 @@ use trial_board::Trial;
 use wider_moves::further_candidates;
 use wider_moves::sides::add_sides_of;
 
-/// Adds the empty points next to a point of the set, where it has at most two.
+/// Adds the empty points next to a point of `points` to `found`, if `points` has at most two points.
 fn add_beside_few<L: Look>(board: &mut Trial<L>, points: &PointSet, found: &mut PointSet)
     requires { (l : ℕ) → IsTrue (set.contains points.now l)
         → l < (L.shows board.old.look).size * (L.shows board.old.look).size }
@@ -40,7 +40,7 @@ fn add_beside_few<L: Look>(board: &mut Trial<L>, points: &PointSet, found: &mut 
     }
 }
 
-/// The colour that attacks what stands there.
+/// The colour opposite to the stone in `cell`; black if the cell is empty.
 fn attacker_of(cell: Cell) -> Colour
     ensures { result ≡ attacker_of cell }
 {
@@ -50,8 +50,8 @@ fn attacker_of(cell: Cell) -> Colour
     }
 }
 
-/// The wide candidates by the target's liberties, at either side's turn: the empty neighbours of the liberties, if
-/// there are at most two of these, and the one liberty that a stone of the attacker on one of them would have.
+/// The wide candidates by the target's liberties, at either side's turn: the empty neighbours of `liberties`, if there
+/// are at most two liberties, and the one liberty that a stone of the attacker on one of them would have.
 fn wide_by_liberties<L: Look>(board: &mut Trial<L>, target: Point, liberties: &PointSet) -> PointSet
     requires on_board { target < (L.shows board.old.look).size * (L.shows board.old.look).size }
     requires liberties { (pos : BoardState) → Agrees (L.seen board.old.look) pos
@@ -70,8 +70,8 @@ fn wide_by_liberties<L: Look>(board: &mut Trial<L>, target: Point, liberties: &P
     found
 }
 
-/// The later candidates of the stated tree at the turn: where a wide ply is left, the wide candidates by the target's
-/// liberties.
+/// The later candidates of the stated tree at the turn: the wide candidates by the target's liberties, if a wide ply is
+/// left.
 fn stated_later_candidates<L: Look>(
     board: &mut Trial<L>,
     turn: Turn,
@@ -95,8 +95,8 @@ fn stated_later_candidates<L: Look>(
     }
 }
 
-/// The later candidates of the wider tree at the turn: those of the stated one, and the further candidates, of which
-/// some are tried only where a wide ply is left.
+/// The later candidates of the wider tree at the turn: the later candidates of the stated tree, and the further
+/// candidates. Some of the further candidates are tried only if a wide ply is left.
 fn wider_later_candidates<L: Look>(
     board: &mut Trial<L>,
     turn: Turn,
@@ -120,12 +120,12 @@ fn wider_later_candidates<L: Look>(
     found
 }
 
-/// The candidates that are tried last at the turn. Where a wide ply is left they are the empty neighbours of the
-/// target's liberties, if there are at most two of these, and the one liberty that a stone of the attacker on one of
-/// its liberties would have. In the wider tree they are also the further candidates of whose turn it is.
+/// The candidates that are tried last at the turn. If a wide ply is left, they are the empty neighbours of the target's
+/// liberties, if there are at most two liberties, and the one liberty that a stone of the attacker on one of the
+/// liberties would have. In the wider tree they are also the further candidates of the side to play.
 ///
-/// The caller gives the target's liberties. The trial moves stay as they were, and no play is tried. After GNU Go
-/// Manual, "Tactical reading"; the choice of these points is this project's own.
+/// `liberties` are the target's. The trial moves stay as they were, and no play is tried. After GNU Go Manual,
+/// "Tactical reading"; the choice of these points is this project's own.
 pub fn later_candidates<L: Look>(board: &mut Trial<L>, turn: Turn, liberties: &PointSet) -> PointSet
     requires on_board { turn.target < (L.shows board.old.look).size * (L.shows board.old.look).size }
     requires liberties { (pos : BoardState) → Agrees (L.seen board.old.look) pos
@@ -143,8 +143,8 @@ pub fn later_candidates<L: Look>(board: &mut Trial<L>, turn: Turn, liberties: &P
     }
 }
 
-/// The points that a reading tries at a turn: the liberties of the target, the last liberty of each enemy string next
-/// to it, and the `later_candidates`.
+/// The points that a reading tries at a turn: the liberties of the target, the last liberty of each enemy string in
+/// atari next to the target, and the `later_candidates`.
 ///
 /// The trial moves stay as they were. After GNU Go Manual, "Tactical reading"; the choice of these points is this
 /// project's own.

@@ -1,6 +1,6 @@
--- The first proof of a claim that is so, and of the code of a question: `.` wherever it will do, else the play that
--- takes back if the defender can, else the first move in reading order that will do, the pass before all points, and
--- else `*`.
+-- The first proof of a true claim, and of the code of a question. The word of a node is `.` if the claim is settled;
+-- else the play that takes back, if the defender can; else, if the claim is what the side to play wants, the first move
+-- that leads to it, the pass before all points; and else `*`.
 use Rattle.std.specs.Prelude.{◌≡◌, ℕ, zero, suc, Bool, List, [], ◌∷◌, ◌++◌, Option, None, Some, if◌then◌else◌}
 use Rattle.std.specs.Prelude.{codes}
 use Rattle.std.specs.List.{join_with_byte}
@@ -23,11 +23,11 @@ abbrev pub move_word : ℕ → Spot → Word
 move_word s (At p) = vertex_text s p
 move_word s Pass = codes "PASS"
 
--- how the words of a claim's proof at a node are written
+-- a function from a node to the words of a claim's proof there
 abbrev pub Writer : Type 0
 Writer = Node → BoardState → List Word
 
--- the words of the proof at the child, where there is one
+-- the words of the proof at the child, or no words if there is none
 abbrev pub write_child : Writer → Option (Node × BoardState) → List Word
 write_child write None = []
 write_child write (Some child) = write child.0 child.1
@@ -37,18 +37,18 @@ abbrev pub write_each : Writer → List (Node × BoardState) → List Word
 write_each write [] = []
 write_each write (child ∷ more) = write child.0 child.1 ++ write_each write more
 
--- the words of a move and of the proof at the child to which it leads, where there is a move
+-- the words of a move and of the proof at the child to which it leads, or no words if there is no move
 abbrev pub write_move : Writer → Node → BoardState → Option Spot → List Word
 write_move write node pos None = []
 write_move write node pos (Some spot) = move_word pos.size spot ∷ write_child write (child_after node pos spot)
 
--- the words of the play at the target's point and of the proof at the child to which it takes back, if there is such a
--- child; else the other words
+-- the words of the play at the target's point and of the proof at the child to which it takes back, if there is one;
+-- else the other words
 abbrev pub write_back : Writer → Node → BoardState → Option (Node × BoardState) → List Word → List Word
 write_back write node pos None others = others
 write_back write node pos (Some child) others = move_word pos.size (At node.turn.target) ∷ write child.0 child.1
 
--- the words of the first proof of the claim at the node with n plies left, where the claim is so
+-- the words of the first proof of the claim at the node with n plies left, if the claim is true
 unfoldable pub first_words : ℕ → Bool → Writer
 first_words zero won node pos = codes "." ∷ []
 first_words (suc n) won node pos =
@@ -66,7 +66,7 @@ pub record BeginsWithFirstMove (n : ℕ) (won : Bool) (node : Node) (pos : Board
   pub leads : child_after node pos spot ≡ Some child
   pub words : first_words (suc n) won node pos ≡ move_word pos.size spot ∷ first_words n won child.0 child.1
 
--- the words of the first proofs of what a proof of the code claims under the allowances of these codes, each behind the
+-- the words of the first proofs of what a proof of the code claims under the allowances of these codes, each after the
 -- letter of its claim
 unfoldable pub first_words_of : ReadingQuestion → BoardState → ℕ → List ℕ → List Word
 first_words_of q pos code [] = []

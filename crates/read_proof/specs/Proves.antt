@@ -1,5 +1,5 @@
 -- When a text proves a claim about a node of the game tree: that the attacker wins there, or that he does not. A claim
--- is written as a test value, true where it is the first.
+-- is written as a Bool, true for the first.
 use Rattle.std.specs.Prelude.{ℕ, zero, suc, ◌+◌, ◌/◌, Bool, not, ◌&&◌, ◌||◌, ◌==◌, nat_lt, List, [], ◌∷◌}
 use Rattle.std.specs.Prelude.{◌++◌, Option, None, Some, is_some, if◌then◌else◌}
 use Rattle.std.specs.List.{filter_map}
@@ -17,7 +17,7 @@ use Rattle.read_proof.specs.declared.token.Token.{Token}
 use Rattle.read_proof.specs.declared.token.Token.TheVariants.{Settled, Move, Each}
 use Rattle.read_proof.specs.Tokens.{Word, token_of}
 
--- the target has more liberties than the attacker can fill with n plies left, or than he may play at
+-- the target has more liberties than the attacker can fill with n plies left, or so many that he may not play at it
 unfoldable pub has_too_many : ℕ → Node → BoardState → Bool
 has_too_many n node pos =
     if node.turn.attacker_to_play then nat_lt ((n + 1) / 2) (liberties pos.size pos.cells node.turn.target)
@@ -28,9 +28,9 @@ has_too_many n node pos =
 abbrev pub can_take_back : Node → BoardState → Bool
 can_take_back node pos = is_some (taking_back node pos)
 
--- the claim is settled at the node with n plies left: that the attacker wins, if the target is taken and cannot be
--- taken back; that he does not, if it can be but no ply is left for it, or if it stands, and no ply is left or it has
--- too many liberties
+-- the claim is settled at the node with n plies left. That the attacker wins is settled if the target is taken and
+-- cannot be taken back. That he does not is settled if the target is taken and can be taken back but no ply is left, or
+-- if it stands and no ply is left or it has too many liberties
 unfoldable pub is_settled : ℕ → Bool → Node → BoardState → Bool
 is_settled n won node pos =
     if won then is_captured pos node.turn.target && not (can_take_back node pos)
@@ -55,19 +55,19 @@ each_may_prove won node pos = not (is_wanted won node) && not (is_captured pos n
 abbrev pub passed : Node → BoardState → Node × BoardState
 passed node pos = (next_node node (allowance_of node), pass pos)
 
--- the child to which a move of the side to play leads, where it is one: a candidate that can be played, or the
--- defender's pass
+-- the child to which a move of the side to play leads, if the node has that move: a candidate that can be played, or
+-- the defender's pass
 unfoldable pub child_after : Node → BoardState → Spot → Option (Node × BoardState)
 child_after node pos (At p) = if is_candidate node.turn pos p then child_of node pos p else None
 child_after node pos Pass = if node.turn.attacker_to_play then None else Some (passed node pos)
 
--- the child to which a move takes back the target: the play at its point does, where the defender can take back
+-- the child to which a move leads that takes back the target: the play at its point, if the defender can take back
 abbrev pub back_after : Node → BoardState → Spot → Option (Node × BoardState)
 back_after node pos (At p) = if p == node.turn.target then taking_back node pos else None
 back_after node pos Pass = None
 
--- the child at which a proof goes on behind a move: the one to which it takes back, if the target is taken, and else
--- the one to which it leads
+-- the child at which a proof goes on behind a move: if the target is taken, the child of the play that takes it back;
+-- else the child to which the move leads
 unfoldable pub child_behind : Node → BoardState → Spot → Option (Node × BoardState)
 child_behind node pos spot =
     if is_captured pos node.turn.target then back_after node pos spot else child_after node pos spot
@@ -80,25 +80,27 @@ pass_children node pos = if node.turn.attacker_to_play then [] else passed node 
 abbrev pub play_children : Node → BoardState → List (Node × BoardState)
 play_children node pos = filter_map (child_of node pos) (candidates_of node.turn pos)
 
--- the children of the node: that after the defender's pass first, and then those after the candidates
+-- the children of the node: the child after the defender's pass first, then the children after the candidates
 unfoldable pub children_of : Node → BoardState → List (Node × BoardState)
 children_of node pos = pass_children node pos ++ play_children node pos
 
--- how a claim is proved at a node by the first of these words: the words behind its proof, or nothing where it has none
+-- a function that reads a claim's proof at a node: the words that follow the proof, or nothing if the words do not
+-- begin with a proof
 abbrev pub Prover : Type 0
 Prover = Node → BoardState → List Word → Option (List Word)
 
--- the words behind the proof at the child, where there is one
+-- the words that follow the proof at the child; nothing if there is no child or no proof of it
 abbrev pub at_child : Prover → Option (Node × BoardState) → List Word → Option (List Word)
 at_child prove None words = None
 at_child prove (Some child) words = prove child.0 child.1 words
 
--- the words behind the proofs at these children, one after another
+-- the words that follow the proofs at these children, one after another; nothing if one of the proofs is missing
 abbrev pub at_each : Prover → List (Node × BoardState) → List Word → Option (List Word)
 at_each prove [] words = Some words
 at_each prove (child ∷ more) words = option_and_then (at_each prove more) (prove child.0 child.1 words)
 
--- the words behind a proof whose first word says this: `.` where the claim is settled, a move, or `*`
+-- the words that follow a proof whose first word is this token: `.` is a proof if the claim is settled, and a move or
+-- `*` goes on as the arguments move and each say
 abbrev pub by_token : Bool → (Spot → List Word → Option (List Word)) → (List Word → Option (List Word)) → Option Token
     → List Word → Option (List Word)
 by_token settled move each None rest = None
@@ -106,7 +108,8 @@ by_token settled move each (Some Settled) rest = if settled then Some rest else 
 by_token settled move each (Some (Move spot)) rest = move spot rest
 by_token settled move each (Some Each) rest = each rest
 
--- the words behind the proof of the claim at the node with n plies left that stands in front; nothing where none does
+-- the words that follow the proof of the claim at the node with n plies left; nothing if the words do not begin with a
+-- proof
 unfoldable pub proves : ℕ → Bool → Prover
 proves n won node pos [] = None
 proves zero won node pos (word ∷ rest) =

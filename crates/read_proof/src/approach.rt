@@ -1,4 +1,4 @@
-//! Approach: where the defender clears the way for a stone of his that would be cramped.
+//! The points of Approach: plays by which the defender clears the way for a stone of his that would be cramped.
 
 ghost use Rattle.std.specs.Prelude.{◌≡◌, ℕ, ◌*◌, ◌<◌, ◌==◌, ◌&&◌, ◌||◌, nat_lt};
 ghost use Rattle.std.specs.FinSet as set;
@@ -11,7 +11,7 @@ use crate::beside::beside;
 use crate::strings::{all_liberties, around_strings, last_liberties};
 use go_base::{Cell, Point, PointSet, Position};
 
-/// A stone that reaches so many points or more is not cramped.
+/// A stone that reaches this number of points or more is not cramped.
 const ROOM: u16 = 2;
 
 /// How many liberties an enemy string may have that the defender approaches.
@@ -28,7 +28,7 @@ fn foe_of(cell: Cell) -> Cell
     }
 }
 
-/// The neighbours of l at which this cell stands.
+/// The neighbours of `l` whose cell is `cell`.
 fn next_to(pos: &Position, cell: Cell, l: Point) -> PointSet
     requires on_board { l < pos.now.size * pos.now.size }
     requires small { l < largest_points }
@@ -39,8 +39,8 @@ fn next_to(pos: &Position, cell: Cell, l: Point) -> PointSet
     beside(pos, cell, &alone)
 }
 
-/// The points that a stone of this colour reaches that is played at l: the empty neighbours, and the other liberties of
-/// its strings next to l.
+/// The points that a stone `own` played at `l` reaches: the empty neighbours of `l`, and the other liberties of the
+/// strings of its colour next to `l`.
 fn reached(pos: &Position, own: Cell, l: Point) -> PointSet
     requires on_board { l < pos.now.size * pos.now.size }
     requires small { l < largest_points }
@@ -51,7 +51,7 @@ fn reached(pos: &Position, own: Cell, l: Point) -> PointSet
     found
 }
 
-/// Whether a stone of this colour that is played at l takes something.
+/// Whether a stone `own` played at `l` captures an enemy string next to it.
 fn takes_some(pos: &Position, own: Cell, l: Point) -> bool
     requires on_board { l < pos.now.size * pos.now.size }
     requires small { l < largest_points }
@@ -60,14 +60,14 @@ fn takes_some(pos: &Position, own: Cell, l: Point) -> bool
     last_liberties(pos, &next_to(pos, foe_of(own), l)).has(l)
 }
 
-/// Whether so many points leave a stone no room.
+/// Whether a stone that reaches `reached` points has no room.
 fn is_no_room(reached: u16) -> bool
     ensures { result ≡ nat_lt reached 2 }
 {
     reached < ROOM
 }
 
-/// Whether a stone of this colour that is played at l is cramped: it takes nothing, and it reaches at most one point.
+/// Whether a stone `own` played at `l` is cramped: it captures nothing, and it reaches at most one point.
 fn is_cramped(pos: &Position, own: Cell, l: Point) -> bool
     requires on_board { l < pos.now.size * pos.now.size }
     requires small { l < largest_points }
@@ -77,7 +77,7 @@ fn is_cramped(pos: &Position, own: Cell, l: Point) -> bool
     is_no_room(reached(pos, own, l).count()) && !takes
 }
 
-/// Adds l if it is in the set and a stone of this colour is cramped there.
+/// Adds `l` to `found` if `l` is in `points` and a stone `own` is cramped there.
 fn add_cramped(pos: &Position, own: Cell, points: &PointSet, l: Point, found: &mut PointSet)
     requires on_board { l < pos.now.size * pos.now.size }
     requires small { l < largest_points }
@@ -93,7 +93,7 @@ fn add_cramped(pos: &Position, own: Cell, points: &PointSet, l: Point, found: &m
     }
 }
 
-/// The points of the set at which a stone of this colour is cramped.
+/// The points of `points` at which a stone `own` is cramped.
 fn cramped(pos: &Position, own: Cell, points: &PointSet) -> PointSet
     ensures { (l : ℕ) → set.contains result l ≡ (nat_lt l (pos.now.size * pos.now.size)
         && (set.contains points.now l && is_cramped pos.now.size pos.now.cells own l)) }
@@ -105,8 +105,8 @@ fn cramped(pos: &Position, own: Cell, points: &PointSet) -> PointSet
     found
 }
 
-/// The enemy stones next to a point of Beside at which a stone of the target's colour is cramped. Handed in are the
-/// liberties of the enemy strings next to the target with at most two.
+/// The enemy stones next to a point of Beside at which a stone of the target's colour is cramped. `weak` holds the
+/// points of Beside: the liberties of the enemy strings next to the target that have at most two.
 fn in_the_way(pos: &Position, target: Point, weak: &PointSet) -> PointSet
     requires on_board { target < pos.now.size * pos.now.size }
     requires weak { (l : ℕ) → set.contains weak.now l ≡ is_beside 2 pos.now.size pos.now.cells target l }
@@ -117,8 +117,8 @@ fn in_the_way(pos: &Position, target: Point, weak: &PointSet) -> PointSet
     beside(pos, foe_of(own), &cramped(pos, own, weak))
 }
 
-/// The points of Approach: the liberties of the strings in the way that have at most two. Handed in are the liberties
-/// of the enemy strings next to the target with at most two.
+/// The points of Approach: the liberties of the strings in the way that have at most two. `weak` holds the points of
+/// Beside: the liberties of the enemy strings next to the target that have at most two.
 pub(crate) fn approach(pos: &Position, target: Point, weak: &PointSet) -> PointSet
     requires on_board { target < pos.now.size * pos.now.size }
     requires weak { (l : ℕ) → set.contains weak.now l ≡ is_beside 2 pos.now.size pos.now.cells target l }

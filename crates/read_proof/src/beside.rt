@@ -11,7 +11,7 @@ ghost use Rattle.read_proof.specs.Beside.{stands_beside};
 use go_base::sides::neighbour;
 use go_base::{Cell, Point, PointSet, Position, Size};
 
-/// Whether the point at a side of q is in the set.
+/// Whether `q` has a neighbour at this side and the neighbour is in `points`.
 fn has_side(size: Size, points: &PointSet, q: Point, side: u8) -> bool
     requires on_board { q < size * size }
     requires side { side < 4 }
@@ -24,7 +24,7 @@ fn has_side(size: Size, points: &PointSet, q: Point, side: u8) -> bool
     }
 }
 
-/// Whether some neighbour of q is in the set.
+/// Whether some neighbour of `q` is in `points`.
 fn is_beside(pos: &Position, points: &PointSet, q: Point) -> bool
     requires { q < pos.now.size * pos.now.size }
     ensures { result ≡ any_below (pos.now.size * pos.now.size)
@@ -39,7 +39,7 @@ fn is_beside(pos: &Position, points: &PointSet, q: Point) -> bool
     false
 }
 
-/// Adds p where this cell stands there.
+/// Adds `p` to `found` if its cell is `cell`.
 pub(crate) fn add_where(pos: &Position, cell: Cell, p: Point, found: &mut PointSet)
     requires on_board { p < pos.now.size * pos.now.size }
     requires small { p < largest_points }
@@ -51,7 +51,7 @@ pub(crate) fn add_where(pos: &Position, cell: Cell, p: Point, found: &mut PointS
     }
 }
 
-/// Adds p where this cell stands there, and it is next to a point of the set.
+/// Adds `p` to `found` if its cell is `cell` and it is next to a point of `points`.
 fn add_beside(pos: &Position, cell: Cell, points: &PointSet, p: Point, found: &mut PointSet)
     requires on_board { p < pos.now.size * pos.now.size }
     requires small { p < largest_points }
@@ -63,7 +63,7 @@ fn add_beside(pos: &Position, cell: Cell, points: &PointSet, p: Point, found: &m
     }
 }
 
-/// The points next to a point of the set at which this cell stands.
+/// The points of the board whose cell is `cell` and which are next to a point of `points`.
 pub(crate) fn beside(pos: &Position, cell: Cell, points: &PointSet) -> PointSet
     ensures { (p : ℕ) → set.contains result p
         ≡ stands_beside pos.now.size pos.now.cells cell (set.contains points.now) p }

@@ -18,10 +18,10 @@ use read_rules::Turn;
 /// How many liberties a string in atari has.
 const IN_ATARI: u16 = 1;
 
-/// With so many liberties or more the empty points next to a target's liberties are not tried.
+/// If a target has this number of liberties or more, the empty points next to them are not tried.
 const MANY: u16 = 3;
 
-/// The one liberty of the string of q, where it has just one.
+/// The only liberty of the string of `q`, or `None` if it does not have exactly one.
 fn only_liberty(pos: &Position, q: Point) -> Option<Point>
     requires { q < pos.now.size * pos.now.size }
     ensures { MatchOption result ((p : ℕ) → is_only_liberty pos.now.size pos.now.cells q p ≡ false)
@@ -45,7 +45,7 @@ fn surroundings(pos: &Position, target: Point) -> Surroundings
     surroundings_of(&mut pos.board(), target)
 }
 
-/// The empty points next to the target's liberties, where it has at most two.
+/// The empty points next to the target's liberties, if it has at most two; else none.
 fn beside_few(pos: &Position, liberties: &PointSet) -> PointSet
     ensures { (p : ℕ) → set.contains result p ≡ (nat_lt (set.len liberties.now) 3
         && is_empty_beside pos.now.size pos.now.cells (set.contains liberties.now) p) }
@@ -56,7 +56,8 @@ fn beside_few(pos: &Position, liberties: &PointSet) -> PointSet
     beside(pos, Cell::Empty, liberties)
 }
 
-/// Adds the one liberty that a stone of c at l would have, where l is in the set and the liberty is empty now.
+/// Adds the only liberty that the string of a stone `c` played at `l` would have, if `l` is in `liberties` and that
+/// point is empty now.
 fn add_left(pos: &Position, c: Colour, liberties: &PointSet, l: Point, found: &mut PointSet)
     requires on_board { l < pos.now.size * pos.now.size }
     requires small { l < largest_points }
@@ -73,7 +74,8 @@ fn add_left(pos: &Position, c: Colour, liberties: &PointSet, l: Point, found: &m
     }
 }
 
-/// Adds the one liberty that a stone of the attacker at a liberty of the target would have, for each of them.
+/// Adds the backfilling moves: for each liberty of the target, the only liberty that an attacker's stone played there
+/// would have.
 fn add_backfilling(pos: &Position, attacker: Colour, liberties: &PointSet, found: &mut PointSet)
     ensures { (p : ℕ) → set.contains found.new p ≡ (set.contains found.old p
         || any_below (pos.now.size * pos.now.size)
@@ -84,7 +86,7 @@ fn add_backfilling(pos: &Position, attacker: Colour, liberties: &PointSet, found
     }
 }
 
-/// The colour that attacks what stands there.
+/// The colour that attacks a stone: its opposite. An empty point counts as white.
 fn attacker_of(cell: Cell) -> Colour
     ensures { result ≡ attacker_of cell }
 {
@@ -94,8 +96,8 @@ fn attacker_of(cell: Cell) -> Colour
     }
 }
 
-/// The wide candidates by the target's liberties, which are handed in: the empty neighbours of at most two liberties,
-/// and the backfilling moves.
+/// The wide candidates by the target's liberties: the empty neighbours of the liberties, if these are at most two, and
+/// the backfilling moves. `liberties` are the target's.
 fn wide_by_liberties(pos: &Position, target: Point, liberties: &PointSet) -> PointSet
     requires on_board { target < pos.now.size * pos.now.size }
     requires liberties { liberties.now ≡ liberty_points pos.now.size pos.now.cells target }
@@ -106,8 +108,8 @@ fn wide_by_liberties(pos: &Position, target: Point, liberties: &PointSet) -> Poi
     found
 }
 
-/// The later candidates of both trees: if a wide ply is left, the wide candidates by the target's liberties, which are
-/// handed in.
+/// The later candidates of both trees: if a wide ply is left, the wide candidates by the target's liberties; else none.
+/// `liberties` are the target's.
 fn later_in_both_trees(pos: &Position, turn: Turn, liberties: &PointSet) -> PointSet
     requires on_board { turn.target < pos.now.size * pos.now.size }
     requires liberties { liberties.now ≡ liberty_points pos.now.size pos.now.cells turn.target }
@@ -119,8 +121,8 @@ fn later_in_both_trees(pos: &Position, turn: Turn, liberties: &PointSet) -> Poin
     PointSet::new()
 }
 
-/// The later candidates at the turn: all but the target's liberties, which are handed in, and the last liberties of the
-/// enemy strings next to it.
+/// The later candidates at the turn: all but the target's liberties and the last liberties of the enemy strings next to
+/// it. `liberties` are the target's.
 fn later_candidates(pos: &Position, turn: Turn, liberties: &PointSet) -> PointSet
     requires on_board { turn.target < pos.now.size * pos.now.size }
     requires liberties { liberties.now ≡ liberty_points pos.now.size pos.now.cells turn.target }

@@ -1,4 +1,4 @@
-//! The checker: a letter and a proof for each code from 3 down to the one that is claimed.
+//! The checker: it reads a letter and a proof for each code from 3 down to the code that is claimed, or to 1.
 
 ghost use Rattle.std.specs.Prelude.{◌≡◌, ◌≢◌, ◌*◌, ◌<◌, ◌≤◌, ◌↔◌, None, Some, IsTrue, MatchOption};
 ghost use Rattle.std.specs.Str.{bytes_eq};
@@ -25,8 +25,8 @@ fn is_letter(word: &[u8], won: bool) -> bool
     }
 }
 
-/// The text behind the letter and the proof, in front of it, of what a proof of the code claims under the allowances of
-/// another code.
+/// Reads, at the front of `text`, the letter and the proof of what a proof of `code` claims under the allowances of
+/// `more`. Answers the text behind them, or `None` if `text` does not begin with them.
 fn proved_under<'a>(
     pos: &Position,
     question: &ReadingQuestion,
@@ -48,7 +48,8 @@ fn proved_under<'a>(
     proved(pos, first_node(question, more), question.plies, won, rest)
 }
 
-/// The text behind the proofs of what a proof of the code claims under the codes from 3 down to it, or to 1.
+/// Reads the proofs of what a proof of `code` claims under the codes from 3 down to `code`, or to 1. Answers the text
+/// behind them, or `None` if `text` does not begin with them.
 fn all_proved<'a>(
     pos: &Position,
     question: &ReadingQuestion,
@@ -75,10 +76,9 @@ fn all_proved<'a>(
 /// Whether the text is a proof that an attack on the string at `target`, or its defence, has this code with these
 /// depths.
 ///
-/// The text has a letter and a proof for each code from 3 down to this one, or to 1 where it is 0: `W` claims that the
-/// attacker wins under that code's ko allowances, and `N` that he does not. Its words are parted by blanks as those of
-/// a protocol line are, and nothing stands behind the last proof. Where the answer is true, the code is that of the
-/// game tree. Takes no memory.
+/// The text has a letter and a proof for each code from 3 down to this one, or to 1 if it is 0: `W` claims that the
+/// attacker wins under that code's ko allowances, and `N` that he does not. Blanks separate its words as in a protocol
+/// line, and no word follows the last proof. If the answer is true, `code` is that of the game tree. Takes no memory.
 pub fn check(pos: &Position, of: Kind, target: Point, depths: Depths, code: u8, text: &[u8]) -> bool
     requires on_board { target < pos.now.size * pos.now.size }
     requires stone { cell_at pos.now.cells target ≢ Cell.Empty }

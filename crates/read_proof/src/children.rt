@@ -10,7 +10,7 @@ use crate::candidates::is_candidate;
 use go_base::{Illegal, Point, Position};
 use read_rules::{Node, Spot};
 
-/// The child after a play that the ban alone forbids, where the mover may still ignore it.
+/// The child after a play that the ko ban alone forbids, if the mover may still ignore the ban.
 fn allowed_child(pos: &Position, node: Node, p: Point) -> Option<(Node, Position)>
     requires target { node.turn.target < pos.now.size * pos.now.size }
     requires on_board { p < pos.now.size * pos.now.size }
@@ -28,7 +28,7 @@ fn allowed_child(pos: &Position, node: Node, p: Point) -> Option<(Node, Position
     }
 }
 
-/// The child after a play that the rules forbid for this reason: there is none unless the ban is the reason.
+/// The child after a play that the rules forbid because of `why`: there is one only if `why` is the ko ban.
 fn forbidden_child(pos: &Position, node: Node, p: Point, why: Illegal) -> Option<(Node, Position)>
     requires target { node.turn.target < pos.now.size * pos.now.size }
     requires on_board { p < pos.now.size * pos.now.size }
@@ -42,7 +42,7 @@ fn forbidden_child(pos: &Position, node: Node, p: Point, why: Illegal) -> Option
     }
 }
 
-/// The child to which the mover's play at p leads, where p can be played.
+/// The child to which the mover's play at `p` leads, if `p` can be played.
 pub fn child_of(pos: &Position, node: Node, p: Point) -> Option<(Node, Position)>
     requires target { node.turn.target < pos.now.size * pos.now.size }
     requires on_board { p < pos.now.size * pos.now.size }
@@ -55,14 +55,14 @@ pub fn child_of(pos: &Position, node: Node, p: Point) -> Option<(Node, Position)
     }
 }
 
-/// The child to which the pass leads.
+/// The child to which the defender's pass leads.
 pub fn passed(pos: &Position, node: Node) -> (Node, Position)
     ensures { result ≡ passed node pos.now }
 {
     (node.next(node.allowance()), pos.pass())
 }
 
-/// The child to which a move leads, where it is one of the node.
+/// The child to which a move leads, if the node has that move: a candidate that can be played, or the defender's pass.
 pub fn child_after(pos: &Position, node: Node, spot: Spot) -> Option<(Node, Position)>
     requires { node.turn.target < pos.now.size * pos.now.size }
     ensures value { result ≡ child_after node pos.now spot }

@@ -1,4 +1,5 @@
-//! What a proof of a code claims, under each code from 3 down, and the nodes at which it does.
+//! What a proof of a code claims under the allowances of each code from 3 down, and the nodes about which it claims
+//! this.
 
 ghost use Rattle.std.specs.Prelude.{◌≡◌, ◌*◌, ◌<◌, ◌==◌, if◌then◌else◌};
 ghost use Rattle.go_rules.specs.Position.{colour_of};
@@ -8,7 +9,8 @@ ghost use Rattle.read_proof.specs.ProofOf.{claim_under};
 use go_base::{Cell, Colour, Point, Position};
 use read_rules::{Depths, Kind, Node, ReadingQuestion};
 
-/// What a proof of the code claims of the attacker under the allowances of another code.
+/// What a proof of `code` claims under the allowances of `more`: true if it claims that the attacker wins, false if it
+/// claims that he does not.
 pub fn claim_under(question: &ReadingQuestion, code: u8, more: u8) -> bool
     ensures { result ≡ claim_under question.now code more }
 {
@@ -18,8 +20,8 @@ pub fn claim_under(question: &ReadingQuestion, code: u8, more: u8) -> bool
     }
 }
 
-/// How often a side may ignore the ko ban under a code: the side that is asked about once under code 1, and the other
-/// side once under code 3.
+/// How often a side may ignore the ko ban under `code`: once if `code` is `with_one`, else never. `with_one` is 1 for
+/// the side that is asked about, and 3 for the other side.
 fn allowance_under(code: u8, with_one: u8) -> u8
     ensures { result ≡ (if code == with_one then 1 else 0) }
 {
@@ -47,7 +49,7 @@ pub fn first_node(question: &ReadingQuestion, code: u8) -> Node
     }
 }
 
-/// The colour of a stone.
+/// The colour of a stone; an empty point counts as black.
 fn colour_of(cell: Cell) -> Colour
     ensures { result ≡ colour_of cell }
 {
@@ -57,7 +59,7 @@ fn colour_of(cell: Cell) -> Colour
     }
 }
 
-/// The question that a call asks.
+/// The question that a call asks about the stone at `target`.
 pub fn question_on(pos: &Position, of: Kind, target: Point, depths: Depths) -> ReadingQuestion
     requires { target < pos.now.size * pos.now.size }
     ensures { result ≡ asked_in depths.tree pos.now of target depths.plies depths.wide }

@@ -15,7 +15,7 @@ use crate::strings::{Around, around_strings, last_liberties, string_of};
 use go_base::flood::Found;
 use go_base::{Cell, Point, PointSet, Position};
 
-/// How many liberties a target has around which the attacker tries a net.
+/// The number of liberties of a target around which the attacker tries a net.
 const NETTED: u16 = 3;
 
 /// How many liberties an enemy string next to the target's may have that the attacker strengthens.
@@ -36,14 +36,15 @@ const LEAST_OF_COVERED: u16 = 2;
 /// How many liberties an enemy string next to the target's may have around which the defender tries a net.
 const FEW_OF_COVERED: u16 = 3;
 
-/// Whether the attacker tries a net around a target with so many liberties.
+/// Whether the attacker tries a net around a target with this number of liberties.
 fn is_netted(liberties: u16) -> bool
     ensures { result ≡ (liberties == netted) }
 {
     liberties == NETTED
 }
 
-/// The points of Net: the empty neighbours of the target's liberties, which are handed in, if these are three.
+/// The points of Net: the empty neighbours of the target's liberties, if it has three; else none. `liberties` are the
+/// target's.
 fn net(pos: &Position, liberties: &PointSet) -> PointSet
     ensures { (target p : ℕ) → liberties.now ≡ liberty_points pos.now.size pos.now.cells target
         → set.contains result p ≡ is_net pos.now.size pos.now.cells target p }
@@ -54,8 +55,8 @@ fn net(pos: &Position, liberties: &PointSet) -> PointSet
     PointSet::new()
 }
 
-/// The liberties of the enemy strings next to the target that have at most so many, which are the points of Beside, and
-/// the enemy stones next to these strings that are not of the target's.
+/// What stands around the enemy strings next to the target that have at most `most` liberties: their liberties, which
+/// are the points of Beside, and the stones next to them of the target's colour that are not of its string.
 fn weak_enemies(pos: &Position, target: Point, most: u16) -> Around
     requires { target < pos.now.size * pos.now.size }
     ensures liberties { (p : ℕ) → set.contains result.liberties p
@@ -75,7 +76,8 @@ fn weak_enemies(pos: &Position, target: Point, most: u16) -> Around
     }
 }
 
-/// The points of Rescue: the last liberties of strings of the target's colour that are next to a weak enemy string.
+/// The points of Rescue: the last liberties of strings of the target's colour, other than its own, that are next to a
+/// weak enemy string.
 fn rescue(pos: &Position, target: Point) -> PointSet
     requires { target < pos.now.size * pos.now.size }
     ensures { (p : ℕ) → set.contains result p ≡ is_rescue pos.now.size pos.now.cells target p }
@@ -83,7 +85,8 @@ fn rescue(pos: &Position, target: Point) -> PointSet
     last_liberties(pos, &weak_enemies(pos, target, FEW_OF_ATTACKER).enemies)
 }
 
-/// The stones of the target's colour next to its liberties, which are handed in, that are not of its string.
+/// The stones of the target's colour that are next to its liberties and not of its string. `liberties` are the
+/// target's.
 fn near_friends(pos: &Position, target: Point, liberties: &PointSet) -> PointSet
     requires on_board { target < pos.now.size * pos.now.size }
     requires liberties { liberties.now ≡ liberty_points pos.now.size pos.now.cells target }
@@ -93,8 +96,8 @@ fn near_friends(pos: &Position, target: Point, liberties: &PointSet) -> PointSet
     beside(pos, pos.cell(target), liberties).difference(&pos.string(target))
 }
 
-/// The liberties of the linked strings that have at most so many, which are the points of Join and of Link; the
-/// target's liberties are handed in.
+/// The liberties of the linked strings that have at most `most`: the points of Join and of Link. `liberties` are the
+/// target's.
 fn linked_liberties(pos: &Position, target: Point, most: u16, liberties: &PointSet) -> PointSet
     requires on_board { target < pos.now.size * pos.now.size }
     requires liberties { liberties.now ≡ liberty_points pos.now.size pos.now.cells target }
@@ -103,7 +106,7 @@ fn linked_liberties(pos: &Position, target: Point, most: u16, liberties: &PointS
     around_strings(pos, 0, most, &near_friends(pos, target, liberties)).liberties
 }
 
-/// The enemy stones next to a linked string; the target's liberties are handed in.
+/// The enemy stones next to a linked string. `liberties` are the target's.
 fn cutters(pos: &Position, target: Point, liberties: &PointSet) -> PointSet
     requires on_board { target < pos.now.size * pos.now.size }
     requires liberties { liberties.now ≡ liberty_points pos.now.size pos.now.cells target }
@@ -113,8 +116,7 @@ fn cutters(pos: &Position, target: Point, liberties: &PointSet) -> PointSet
     around_strings(pos, 0, FEW_OF_LINKED, &near_friends(pos, target, liberties)).enemies
 }
 
-/// The points of Cut: the last liberties of enemy strings next to a linked string; the target's liberties are handed
-/// in.
+/// The points of Cut: the last liberties of enemy strings next to a linked string. `liberties` are the target's.
 fn cut(pos: &Position, target: Point, liberties: &PointSet) -> PointSet
     requires on_board { target < pos.now.size * pos.now.size }
     requires liberties { liberties.now ≡ liberty_points pos.now.size pos.now.cells target }
@@ -145,7 +147,8 @@ fn cover(pos: &Position, target: Point) -> PointSet
     beside(pos, Cell::Empty, &covered_liberties(pos, target))
 }
 
-/// The further candidates of every ply: for the attacker Beside and Rescue, for the defender Save and Cut.
+/// The further candidates of every ply: for the attacker Beside and Rescue; for the defender Save, which has the points
+/// of Rescue, and Cut.
 fn always(pos: &Position, attacker_to_play: bool, target: Point, liberties: &PointSet) -> PointSet
     requires on_board { target < pos.now.size * pos.now.size }
     requires liberties { liberties.now ≡ liberty_points pos.now.size pos.now.cells target }
@@ -190,8 +193,8 @@ fn wide_alone(
     found
 }
 
-/// The further candidates of the target, if a wide ply is left or not, at the attacker's turn or the defender's; its
-/// liberties are handed in.
+/// The further candidates of the target at the attacker's turn or at the defender's. `wide` says whether a wide ply is
+/// left; `liberties` are the target's.
 pub(crate) fn further_candidates(
     pos: &Position,
     wide: bool,

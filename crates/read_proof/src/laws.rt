@@ -14,8 +14,8 @@ ghost use Rattle.read_proof.specs.ProofOf.{IsProofOf};
 ghost use Rattle.read_proof.specs.FirstProof.{move_word, first_words, first_text};
 ghost use Rattle.read_proof.specs.FirstProof.{BeginsWithFirstMove};
 
-/// What is proved is so: where words prove at a node that the attacker wins, he wins there, and where they prove that
-/// he does not, he does not. A text that is a proof of a code is about the code of the game tree.
+/// What is proved is true: if words prove at a node that the attacker wins, he wins there, and if they prove that he
+/// does not, he does not. If a text is a proof of a code, the game tree has that code.
 pub fn proofs_are_sound()
     ensures node { (n : ℕ) (won : Bool) (node : Node) (pos : BoardState) (words left : List Word)
         → node.turn.target < pos.size * pos.size → proves n won node pos words ≡ Some left
@@ -24,8 +24,8 @@ pub fn proofs_are_sound()
         → q.target < pos.size * pos.size → code ≤ 3 → IsProofOf q pos code text → (answer_of q pos).code ≡ code }
 {}
 
-/// What is so has a proof: the first words of a claim that is so prove it, whatever stands behind them. Where the claim
-/// is not settled, and is what the side to play wants, they begin with the first move that leads to it; but if the
+/// What is true has a proof: the first words of a true claim prove it, whatever text follows them. If the claim is not
+/// settled, and is what the side to play wants, its first words begin with the first move that leads to it; but if the
 /// defender can take back a lone stone, they begin with the play at its point. So each question about a position has a
 /// text that is a proof of its code: the first one.
 pub fn first_proofs_prove()

@@ -1,4 +1,4 @@
-//! What may prove a claim at a node, by the target's liberties and by whose turn it is.
+//! Whether a claim at a node is settled, and whether one move or all moves may prove it.
 
 ghost use Rattle.std.specs.Prelude.{◌≡◌, ◌*◌, ◌<◌};
 ghost use Rattle.read_rules.specs.GameTree.{has_many_liberties};
@@ -8,7 +8,7 @@ use crate::taking_back::{can_take_back, is_captured};
 use go_base::Position;
 use read_rules::{Node, Turn};
 
-/// Whether the target has more liberties than the attacker may play at.
+/// Whether the target has so many liberties that the attacker may not play at it.
 #[tactic(auto, unfolding(read_rules::specs::GameTree::has_many_liberties))]
 pub fn has_many_liberties(pos: &Position, turn: Turn) -> bool
     requires { turn.target < pos.now.size * pos.now.size }
@@ -17,7 +17,8 @@ pub fn has_many_liberties(pos: &Position, turn: Turn) -> bool
     turn.has_many(pos.liberties(turn.target))
 }
 
-/// Whether the target has more liberties than the attacker can fill with `plies` plies left, or than he may play at.
+/// Whether the target has more liberties than the attacker can fill with `plies` plies left, or so many that he may not
+/// play at it.
 #[tactic(auto, unfolding(crate::specs::Proves::has_too_many, read_rules::specs::GameTree::has_many_liberties))]
 fn has_too_many(pos: &Position, node: Node, plies: u8) -> bool
     requires { node.turn.target < pos.now.size * pos.now.size }
@@ -57,7 +58,8 @@ pub fn is_wanted(node: Node, won: bool) -> bool
     }
 }
 
-/// Whether one move may prove the claim.
+/// Whether one move may prove the claim: the target is taken; or the claim is what the side to play wants, and it is
+/// not the attacker's turn at a target that he may not play at.
 #[tactic(auto, unfolding(crate::specs::Proves::move_may_prove))]
 pub fn move_may_prove(pos: &Position, node: Node, won: bool) -> bool
     requires { node.turn.target < pos.now.size * pos.now.size }
@@ -68,7 +70,7 @@ pub fn move_may_prove(pos: &Position, node: Node, won: bool) -> bool
             && !(node.turn.attacker_to_play && has_many_liberties(pos, node.turn)))
 }
 
-/// Whether all moves together may prove the claim.
+/// Whether all moves together may prove the claim: it is not what the side to play wants, and the target stands.
 #[tactic(auto, unfolding(crate::specs::Proves::each_may_prove))]
 pub fn each_may_prove(pos: &Position, node: Node, won: bool) -> bool
     requires { node.turn.target < pos.now.size * pos.now.size }

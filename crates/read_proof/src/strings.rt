@@ -14,7 +14,7 @@ use go_base::{Point, PointSet, Position};
 /// How many liberties a string in atari has.
 const IN_ATARI: u16 = 1;
 
-/// Whether so many liberties are no fewer than `least` and no more than `most`.
+/// Whether the number of liberties is at least `least` and at most `most`.
 fn are_between(least: u16, most: u16, liberties: u16) -> bool
     ensures { result ≡ (nat_le least liberties && nat_le liberties most) }
 {
@@ -24,13 +24,13 @@ fn are_between(least: u16, most: u16, liberties: u16) -> bool
 /// What stands around strings.
 #[derive(Drop)]
 pub(crate) struct Around {
-    /// Their liberties.
+    /// The liberties of the strings.
     pub liberties: PointSet,
-    /// The enemy stones next to them.
+    /// The enemy stones next to the strings.
     pub enemies: PointSet,
 }
 
-/// The string of p, its liberties and the enemy stones next to it.
+/// The string of `p`, its liberties and the enemy stones next to it.
 pub(crate) fn string_of(pos: &Position, p: Point) -> Found
     requires { p < pos.now.size * pos.now.size }
     ensures stones { result.stones ≡ string_at pos.now.size pos.now.cells p }
@@ -40,7 +40,8 @@ pub(crate) fn string_of(pos: &Position, p: Point) -> Found
     flood(&mut pos.board(), p)
 }
 
-/// Adds what stands around the string of q if it has at least and at most so many liberties, and tells its stones.
+/// Answers the stones of the string of `q`, and adds what stands around it to `found` if it has from `least` to `most`
+/// liberties.
 fn add_string(pos: &Position, least: u16, most: u16, q: Point, found: &mut Around) -> PointSet
     requires { q < pos.now.size * pos.now.size }
     ensures stones { result ≡ string_at pos.now.size pos.now.cells q }
@@ -61,8 +62,8 @@ fn add_string(pos: &Position, least: u16, most: u16, q: Point, found: &mut Aroun
     stones
 }
 
-/// The liberties of those strings of the points that have at least and at most so many, and the enemy stones next to
-/// these strings. Each string is found once: its stones are taken off the points that are left.
+/// What stands around the strings of `points` that have from `least` to `most` liberties. Each string is found once:
+/// its stones are taken off the points that are left.
 pub(crate) fn around_strings(pos: &Position, least: u16, most: u16, points: &PointSet) -> Around
     requires { (q : ℕ) → IsTrue (set.contains points.now q) → q < pos.now.size * pos.now.size }
     ensures liberties { (p : ℕ) → set.contains result.liberties p ≡ any_below (pos.now.size * pos.now.size)
@@ -84,7 +85,7 @@ pub(crate) fn around_strings(pos: &Position, least: u16, most: u16, points: &Poi
     found
 }
 
-/// The points that are the one liberty of the string of a stone of the set.
+/// The points that are the only liberty of the string of a point of `points`.
 pub(crate) fn last_liberties(pos: &Position, points: &PointSet) -> PointSet
     requires { (q : ℕ) → IsTrue (set.contains points.now q) → q < pos.now.size * pos.now.size }
     ensures { (p : ℕ) → set.contains result p ≡ any_below (pos.now.size * pos.now.size)
@@ -93,7 +94,7 @@ pub(crate) fn last_liberties(pos: &Position, points: &PointSet) -> PointSet
     around_strings(pos, IN_ATARI, IN_ATARI, points).liberties
 }
 
-/// The liberties of the strings of the points.
+/// The liberties of the strings of `points`.
 pub(crate) fn all_liberties(pos: &Position, points: &PointSet) -> PointSet
     requires { (q : ℕ) → IsTrue (set.contains points.now q) → q < pos.now.size * pos.now.size }
     ensures { (p : ℕ) → set.contains result p ≡ any_below (pos.now.size * pos.now.size)

@@ -20,7 +20,7 @@ pub fn is_captured(pos: &Position, node: Node) -> bool
     pos.cell(node.turn.target) == Cell::Empty
 }
 
-/// Whether the point at a side of t, if there is one, holds a stone of the colour.
+/// Whether the neighbour of `t` at this side, if there is one, holds a stone of the colour `c`.
 fn side_holds(pos: &Position, t: Point, side: u8, c: Colour) -> bool
     requires on_board { t < pos.now.size * pos.now.size }
     requires side { side < 4 }
@@ -35,7 +35,7 @@ fn side_holds(pos: &Position, t: Point, side: u8, c: Colour) -> bool
     }
 }
 
-/// Whether each neighbour of t holds a stone of the colour.
+/// Whether each neighbour of `t` holds a stone of the colour `c`.
 fn is_walled_in(pos: &Position, t: Point, c: Colour) -> bool
     requires { t < pos.now.size * pos.now.size }
     ensures { result ≡ is_walled_in pos.now.size pos.now.cells t c }
@@ -48,7 +48,8 @@ fn is_walled_in(pos: &Position, t: Point, c: Colour) -> bool
     true
 }
 
-/// Whether the defender has just lost a lone stone.
+/// Whether the defender may try to take back: it is his turn in the wider tree, and the target was a lone stone that
+/// was just taken.
 fn has_lost_one_stone(pos: &Position, node: Node) -> bool
     requires { node.turn.target < pos.now.size * pos.now.size }
     ensures { result ≡ has_lost_one_stone node pos.now }
@@ -59,7 +60,7 @@ fn has_lost_one_stone(pos: &Position, node: Node) -> bool
         && is_walled_in(pos, node.turn.target, node.turn.defender.other())
 }
 
-/// The child to which the defender takes back, if he can.
+/// The child to which the defender's taking back leads, if he can take back the target.
 #[tactic(auto, unfolding(read_rules::specs::GameTree::taking_back))]
 pub fn taking_back(pos: &Position, node: Node) -> Option<(Node, Position)>
     requires { node.turn.target < pos.now.size * pos.now.size }
@@ -72,7 +73,7 @@ pub fn taking_back(pos: &Position, node: Node) -> Option<(Node, Position)>
     child_of(pos, node, node.turn.target)
 }
 
-/// Whether the defender can take back.
+/// Whether the defender can take back the target.
 pub fn can_take_back(pos: &Position, node: Node) -> bool
     requires { node.turn.target < pos.now.size * pos.now.size }
     ensures { result ≡ can_take_back node pos.now }
@@ -80,7 +81,7 @@ pub fn can_take_back(pos: &Position, node: Node) -> bool
     taking_back(pos, node).is_some()
 }
 
-/// The child to which a move takes back the target.
+/// The child to which a move leads that takes back the target; `None` for any other move.
 fn back_after(pos: &Position, node: Node, spot: Spot) -> Option<(Node, Position)>
     requires { node.turn.target < pos.now.size * pos.now.size }
     ensures value { result ≡ back_after node pos.now spot }
@@ -97,8 +98,8 @@ fn back_after(pos: &Position, node: Node, spot: Spot) -> Option<(Node, Position)
     }
 }
 
-/// The child at which a proof goes on behind a move: the one to which it takes back, if the target is taken, and else
-/// the one to which it leads.
+/// The child at which a proof goes on behind a move. If the target is taken, only the play that takes it back has a
+/// child; else each move of the node has one.
 #[tactic(auto, unfolding(crate::specs::Proves::child_behind))]
 pub fn child_behind(pos: &Position, node: Node, spot: Spot) -> Option<(Node, Position)>
     requires { node.turn.target < pos.now.size * pos.now.size }

@@ -11,7 +11,7 @@ use vertices::{spells, target_named};
 /// What a word of a proof says.
 #[derive(Clone, Copy, Debug, PartialEq, Eq)]
 pub enum Token {
-    /// `.`: the claim is settled.
+    /// `.`: the claim is settled at the node.
     Settled,
     /// A vertex or `PASS`: the move leads to a child with the claim.
     Move(Spot),
@@ -19,7 +19,7 @@ pub enum Token {
     Each,
 }
 
-/// What a word says in a proof on a board of this size.
+/// What a word says in a proof on a board of this size, or `None` if it is no word of a proof.
 #[tactic(auto, unfolding(crate::specs::Tokens::token_of))]
 pub(crate) fn token_said(word: &[u8], size: Size) -> Option<Token>
     ensures { result ≡ token_of size (kept word.now) }

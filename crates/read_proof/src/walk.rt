@@ -16,7 +16,8 @@ use go_base::{Point, Position};
 use read_rules::{Node, Spot};
 use vertices::next_word;
 
-/// The text behind the proof, in front of it, of the claim at the child behind a move, with `plies` plies left.
+/// The text behind a proof of the claim at the child behind a move, with `plies` plies left there. `None` if there is
+/// no such child, or if `text` does not begin with a proof.
 #[cycle(proof)]
 fn move_proved<'a>(
     pos: &Position,
@@ -36,7 +37,8 @@ fn move_proved<'a>(
     proved(&new, next, plies, won, text)
 }
 
-/// The text behind the proof of the claim at the child after the defender's pass, with `plies` plies left.
+/// The text behind a proof of the claim at the child after the defender's pass, with `plies` plies left there. At the
+/// attacker's turn there is no pass, and `text` is answered.
 #[cycle(proof)]
 fn pass_proved<'a>(
     pos: &Position,
@@ -57,7 +59,7 @@ fn pass_proved<'a>(
     proved(&new, next, plies, won, text)
 }
 
-/// The text behind the proof of the claim at the child after the play at p, or the same where it cannot be played.
+/// The text behind a proof of the claim at the child after the play at `p`; all of `text` if `p` cannot be played.
 #[cycle(proof)]
 fn play_proved<'a>(
     pos: &Position,
@@ -80,7 +82,7 @@ fn play_proved<'a>(
     }
 }
 
-/// The text behind the proofs of the claim at the children after the candidates that can be played, one after another.
+/// The text behind the proofs of the claim at the children after the candidates that can be played, in reading order.
 #[cycle(proof)]
 fn plays_proved<'a>(
     pos: &Position,
@@ -104,8 +106,8 @@ fn plays_proved<'a>(
     Some(left)
 }
 
-/// The text behind the proof, in front of it, of the claim at the node with `plies` plies left: that the attacker wins
-/// there, or that he does not.
+/// The text behind the proof with which `text` begins: a proof of the claim at the node with `plies` plies left, that
+/// the attacker wins there or that he does not. `None` if `text` does not begin with such a proof.
 #[cycle(proof)]
 pub(crate) fn proved<'a>(
     pos: &Position,

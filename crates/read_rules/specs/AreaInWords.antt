@@ -19,13 +19,13 @@ pub data IsOneStep (s : ℕ) (cells : List Cell) (q p : ℕ) : Type 0 where
   along : (p ≡ q) ⊎ IsInString s cells q p → IsOneStep s cells q p
   beyond : (y : ℕ) → (y ≡ q) ⊎ IsInString s cells q y → p < s * s → are_neighbours s y p ≡ true → IsOneStep s cells q p
 
--- so many steps lead from the string of the target to p
+-- this many steps lead from the string of the target to p
 pub data IsReachedIn (s : ℕ) (cells : List Cell) (target : ℕ) : ℕ → ℕ → Type 0 where
   at_string : {p : ℕ} → IsInString s cells target p → IsReachedIn s cells target zero p
   one_more : {n q p : ℕ} → IsReachedIn s cells target n q → IsOneStep s cells q p → IsReachedIn s cells target (suc n) p
 
--- the node is a first node of the question, on its position and with all plies: the attacker's and the defender's ko
--- allowances are none and none, one and none, or none and one
+-- the node is a first node of the question, on its position and with all plies: at most one of attacker and defender
+-- may ignore the ko ban, and only once
 pub record IsFirstOf (q : ReadingQuestion) (pos : BoardState) (n : ℕ) (node : Node) (here : BoardState) : Type 0 where
   pub plies : n ≡ q.plies
   pub on_it : here ≡ pos
@@ -34,26 +34,27 @@ pub record IsFirstOf (q : ReadingQuestion) (pos : BoardState) (n : ℕ) (node : 
   pub one_at_most : attacker_ko + defender_ko ≤ 1
   pub is_node : node ≡ node_under q attacker_ko defender_ko
 
--- a candidate that can be played leads from the one node to the other
+-- a play at a candidate leads from the node before over there to the node over here
 pub record IsByPlay (before : Node) (there : BoardState) (node : Node) (here : BoardState) : Type 0 where
   pub point : ℕ
   pub candidate : IsTrue (is_candidate before.turn there point)
   pub child : IsChild before there point node here
 
--- the defender's pass leads from the one node to the other
+-- the defender's pass leads from the node before over there to the node over here
 pub record IsByPass (before : Node) (there : BoardState) (node : Node) (here : BoardState) : Type 0 where
   pub defender_to_play : before.turn.attacker_to_play ≡ false
   pub node_is : node ≡ next_node before (allowance_of before)
   pub here_is : here ≡ pass there
 
--- a move leads to the node from one whose target stands and, at the attacker's turn, has not too many liberties
+-- a play at a candidate or the defender's pass leads to the node from the node before, whose target stands and, at the
+-- attacker's turn, has not too many liberties
 pub record IsByMove (before : Node) (there : BoardState) (node : Node) (here : BoardState) : Type 0 where
   pub stands : cell_at there.cells before.turn.target ≢ Empty
   pub few : before.turn.attacker_to_play ≡ true → HasManyLiberties before.turn there → ⊥
   pub move : IsByPlay before there node here ⊎ IsByPass before there node here
 
--- the node leads on from one of the question with a ply more: by a play at a candidate, by the defender's pass, or by a
--- play of his that takes back a lone stone
+-- the node comes after a node of the question that has one ply more: by a play at a candidate, by the defender's pass,
+-- or by a play of the defender that takes back a lone stone
 pub record IsNextOf (q : ReadingQuestion) (pos : BoardState) (n : ℕ) (node : Node) (here : BoardState) : Type 0 where
   pub before : Node
   pub there : BoardState
@@ -65,7 +66,7 @@ pub record IsAroundTarget (node : Node) (here : BoardState) (p : ℕ) : Type 0 w
   pub stands : cell_at here.cells node.turn.target ≢ Empty
   pub reached : IsReachedIn here.size here.cells node.turn.target (steps_of node.turn.tree) p
 
--- in the wider tree the target is taken, it is the defender's turn, and two steps lead from its point to p
+-- the target is taken in the wider tree, it is the defender's turn, and two steps lead from the target's point to p
 pub record IsAroundLoss (node : Node) (here : BoardState) (p : ℕ) : Type 0 where
   pub lost : HasLostStones node here
   pub between : ℕ
@@ -73,7 +74,7 @@ pub record IsAroundLoss (node : Node) (here : BoardState) (p : ℕ) : Type 0 whe
   pub first : IsOneStep here.size here.cells node.turn.target between
   pub second : IsOneStep here.size here.cells between p
 
--- p is looked at at some node of the question
+-- p is around the target at some node of the question
 pub record IsLookedAt (q : ReadingQuestion) (pos : BoardState) (p : ℕ) : Type 0 where
   pub plies : ℕ
   pub node : Node

@@ -28,7 +28,7 @@ unfoldable pub is_empty_beside : ℕ → List Cell → (ℕ → Bool) → ℕ �
 is_empty_beside s cells S p =
     nat_lt p (s * s) && same_cell (cell_at cells p) Empty && any_below (s * s) (λ l. S l && are_neighbours s l p)
 
--- the colour that attacks what stands there, which is the other one; black where nothing does
+-- the colour that attacks the stone of this cell, which is the other colour; black if the cell is empty
 abbrev pub attacker_of : Cell → Colour
 attacker_of Empty = black
 attacker_of Black = white
@@ -44,9 +44,9 @@ leaves_only l p (Err why) = false
 abbrev pub is_left : BoardState → Colour → ℕ → ℕ → Bool
 is_left pos c l p = same_cell (cell_at pos.cells p) Empty && leaves_only l p (play_free pos c l)
 
--- p is empty, and at some liberty of the target the attacker's play, with the ban dropped, is legal and leaves the
--- string of its stone one liberty, which is p: an attacker who first plays there does not put himself into atari by
--- filling that liberty
+-- p is empty, and at some liberty l of the target the attacker's play, with the ban dropped, is legal and leaves the
+-- string of its stone one liberty, which is p: an attacker who first plays at p does not put himself into atari when he
+-- then fills l
 unfoldable pub is_backfilling : BoardState → ℕ → ℕ → Bool
 is_backfilling pos target p =
     same_cell (cell_at pos.cells p) Empty
@@ -54,9 +54,9 @@ is_backfilling pos target p =
     (λ l. is_liberty pos.size pos.cells target l
     && leaves_only l p (play_free pos (attacker_of (cell_at pos.cells target)) l))
 
--- p is a candidate at the turn: it is a liberty of the target; or, where a wide ply is left and the target has at most
--- two, an empty neighbour of one; or the one liberty of an enemy string next to it; or, where a wide ply is left, a
--- backfilling move; or, in the wider tree, a further candidate of whose turn it is
+-- p is a candidate at the turn: it is a liberty of the target; or an empty neighbour of a liberty, if a wide ply is
+-- left and the target has at most two liberties; or the last liberty of an enemy string next to the target; or a
+-- backfilling move, if a wide ply is left; or, in the wider tree, a further candidate of the side to play
 unfoldable pub is_candidate : Turn → BoardState → ℕ → Bool
 is_candidate turn pos p =
     is_liberty pos.size pos.cells turn.target p
@@ -78,7 +78,7 @@ near_candidates s cells target =
     neighbourhood_of s cells (neighbourhood_of s cells
     (neighbourhood_of s cells (neighbourhood_of s cells (alone target))))
 
--- The same in terms of strings and liberties.
+-- The candidates in terms of strings and liberties.
 
 -- p is an empty neighbour of the point l
 pub record IsEmptyNeighbour (s : ℕ) (cells : List Cell) (l p : ℕ) : Type 0 where
@@ -86,7 +86,7 @@ pub record IsEmptyNeighbour (s : ℕ) (cells : List Cell) (l p : ℕ) : Type 0 w
   pub is_empty : cell_at cells p ≡ Empty
   pub beside : are_neighbours s l p ≡ true
 
--- the string of q is an enemy string next to the string of the target, it has one liberty, and this is p
+-- the string of q is an enemy string in atari next to the string of the target, and p is its last liberty
 pub record IsTakenAt (s : ℕ) (cells : List Cell) (target q p : ℕ) : Type 0 where
   pub on_board : q < s * s
   pub enemy : is_enemy (cell_at cells target) (cell_at cells q) ≡ true
@@ -94,8 +94,8 @@ pub record IsTakenAt (s : ℕ) (cells : List Cell) (target q p : ℕ) : Type 0 w
   pub in_atari : liberties s cells q ≡ 1
   pub last : IsLiberty s cells q p
 
--- l is a liberty of the target, the attacker's play at l, with the ban dropped, is legal and leaves the string of its
--- stone one liberty, and this is p, which is empty before the play
+-- l is a liberty of the target; the attacker's play at l, with the ban dropped, is legal and leaves the string of its
+-- stone one liberty; p is this liberty, and p is empty before the play
 pub record IsBackfilledAt (pos : BoardState) (target l p : ℕ) : Type 0 where
   pub liberty : IsLiberty pos.size pos.cells target l
   pub new : BoardState

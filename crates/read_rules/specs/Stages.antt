@@ -1,5 +1,5 @@
 -- The candidates by stages: the liberties of the target and the last liberties of enemy strings next to it come first,
--- and the later candidates stand here.
+-- and the later candidates, which this file defines, come last.
 use Rattle.std.specs.Prelude.{ℕ, ◌&&◌, ◌||◌, Bool, nat_lt}
 use Rattle.go_rules.specs.Strings.{is_liberty, liberties}
 use Rattle.go_rules.specs.Position.{BoardState}
@@ -15,8 +15,8 @@ is_wide_by_liberties pos target p =
     && is_empty_beside pos.size pos.cells (is_liberty pos.size pos.cells target) p)
     || is_backfilling pos target p
 
--- p is a later candidate: where a wide ply is left, a wide candidate by the target's liberties; or, in the wider tree,
--- a further candidate of whose turn it is
+-- p is a later candidate: if a wide ply is left, a wide candidate by the target's liberties; in the wider tree also a
+-- further candidate of the side to play
 unfoldable pub is_later_candidate : Turn → BoardState → ℕ → Bool
 is_later_candidate turn pos p =
     (nat_lt 0 turn.wide && is_wide_by_liberties pos turn.target p)

@@ -8,18 +8,18 @@ abbrev pub is_wider : Tree → Bool
 is_wider Stated = false
 is_wider Wider = true
 
--- how many liberties a target may have, where no wide ply is left, that the attacker still plays at
+-- if no wide ply is left, the attacker still plays at a target with at most this many liberties
 abbrev pub most_narrow : Tree → ℕ
 most_narrow Stated = 2
 most_narrow Wider = 4
 
--- how many liberties a target may have, where one or two wide plies are left, that can be captured
+-- if one or two wide plies are left, a target that can be captured has at most this many liberties
 abbrev pub most_few : Tree → ℕ
 most_few Stated = 3
 most_few Wider = 4
 
--- how many steps from the string of its target the reading of one node looks: a candidate of the stated tree is at most
--- three steps away, one of the wider tree four, and a play at it looks two steps further
+-- how many steps from the string of its target the reading of one node looks: a candidate is at most three steps away
+-- in the stated tree and four in the wider tree, and a play at a candidate looks two steps further
 abbrev pub steps_of : Tree → ℕ
 steps_of Stated = 5
 steps_of Wider = 6

@@ -8,7 +8,7 @@ use Rattle.read_rules.specs.declared.turn.Turn.{Turn}
 abbrev pub mover_of : Turn → Colour
 mover_of turn = if turn.attacker_to_play then other turn.defender else turn.defender
 
--- the turn after a move: the other side is to play, and a wide ply is spent where one is left; the tree stays
+-- the turn after a move: the other side is to play, and a wide ply is spent if one is left; the tree stays
 abbrev pub next_turn : Turn → Turn
 next_turn turn = record {
   tree = turn.tree;

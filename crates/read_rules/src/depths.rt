@@ -14,15 +14,15 @@ pub const MAX_PLIES: u8 = 200;
 /// The greatest number of wide plies of a reading; the least is 0.
 pub const MAX_WIDE: u8 = 12;
 
-/// How deep a reading goes: the plies from the question to the end of the tree, and the plies at its beginning that
-/// look wide, each in its range, and which of the two trees is read.
+/// How deep a reading goes: the plies from the question to the end of the tree, the wide plies at its beginning, each
+/// number in its range, and which of the two trees is read.
 #[derive(Clone, Copy, Debug, PartialEq, Eq)]
 pub struct Depths {
     /// Which tree is read.
     pub tree: Tree,
-    /// How many moves, passes among them, may follow on one another.
+    /// How many moves may follow on one another; a pass counts as a move.
     pub plies: u8,
-    /// In how many of the first plies more is tried than the liberties of the strings.
+    /// How many of the first plies are wide: in a wide ply more candidates are tried.
     pub wide: u8,
     ghost some_plies: { least_plies ≤ plies },
     ghost few_plies: { plies ≤ most_plies },
@@ -30,7 +30,7 @@ pub struct Depths {
 }
 
 impl Depths {
-    /// These depths in the stated tree; `None` where one of the numbers is out of its range.
+    /// These depths in the stated tree, or `None` if `plies` or `wide` is out of its range.
     pub fn new(plies: u8, wide: u8) -> Option<Depths>
         ensures valid { IsSome result ↔ AreDepths plies wide }
         ensures value { IfSome result (λ depths. (depths.plies ≡ plies) × (depths.wide ≡ wide)
@@ -46,7 +46,7 @@ impl Depths {
         })
     }
 
-    /// The same depths in this tree.
+    /// The same depths in `tree`.
     pub fn in_tree(self, tree: Tree) -> Depths
         ensures tree { result.tree ≡ tree }
         ensures depths { (result.plies ≡ self.plies) × (result.wide ≡ self.wide) }

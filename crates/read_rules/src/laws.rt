@@ -29,9 +29,10 @@ ghost use Rattle.read_rules.specs.Rules.{IsFirstMove, node_under, IsGreatestCode
 use crate::question::Kind;
 use go_base::Cell;
 
-/// A candidate is a liberty of the target; an empty neighbour of one, where the target has few and a wide ply is left;
-/// the last liberty of an enemy string next to the target; or, where a wide ply is left, the one liberty that a stone
-/// of the attacker on a liberty of the target would have; or, in the wider tree, a further candidate at this turn.
+/// A candidate is one of these points: a liberty of the target; an empty neighbour of a liberty, if the target has at
+/// most two liberties and a wide ply is left; the last liberty of an enemy string next to the target; if a wide ply is
+/// left, the one liberty that a stone of the attacker on a liberty of the target would have; in the wider tree, a
+/// further candidate at this turn.
 pub fn candidates_are_by_strings()
     ensures candidate { (turn : Turn) (pos : BoardState) (p : ℕ) → turn.target < pos.size * pos.size →
         IsTrue (is_candidate turn pos p) ↔ IsCandidate turn pos p }
@@ -39,9 +40,9 @@ pub fn candidates_are_by_strings()
         → p < pos.size * pos.size }
 {}
 
-/// A candidate is a liberty of the target, the last liberty of an enemy string next to it, or a later candidate at the
-/// turn. In the stated tree there are later candidates only if a wide ply is left; if none is left in the wider tree,
-/// they are the further candidates of every ply.
+/// A candidate is a liberty of the target, the last liberty of an enemy string next to the target, or a later candidate
+/// at the turn. The stated tree has later candidates only if a wide ply is left. If no wide ply is left in the wider
+/// tree, its later candidates are the further candidates of every ply.
 pub fn candidates_come_in_stages()
     ensures stages { (turn : Turn) (pos : BoardState) (p : ℕ) → is_candidate turn pos p
         ≡ (is_liberty pos.size pos.cells turn.target p || is_last_liberty_of_enemy pos.size pos.cells turn.target p
@@ -53,8 +54,7 @@ pub fn candidates_come_in_stages()
         ≡ is_further_always turn.attacker_to_play pos.size pos.cells turn.target p }
 {}
 
-/// Where a target is taken, where it has too many liberties, which children a node has, and where the defender takes
-/// back.
+/// When a target is taken, when it has too many liberties, which children a node has, and when the defender takes back.
 pub fn nodes_are_by_the_rules()
     ensures captured { (pos : BoardState) (target : ℕ)
         → IsTrue (is_captured pos target) ↔ (cell_at pos.cells target ≡ Cell.Empty) }
@@ -70,8 +70,8 @@ pub fn nodes_are_by_the_rules()
         IsTrue (can_play node pos p) ↔ ((next : Node) × (new : BoardState) × IsChild node pos p next new) }
 {}
 
-/// The four rules that say who wins, in their order. A target that is taken is captured, but if the defender can take
-/// back the lone stone it is only captured if a ply is left for it and the attacker wins after it.
+/// The four rules that say who wins, in their order. A target that is taken is captured. If the defender can take back
+/// the lone stone, it is only captured if a ply is left for taking back and the attacker wins afterwards.
 pub fn the_tree_is_by_four_rules()
     ensures captured { (n : ℕ) (node : Node) (pos : BoardState) → IsTrue (is_captured pos node.turn.target)
         → ((next : Node) (new : BoardState) → TakesBack node pos next new → ⊥)
@@ -91,20 +91,20 @@ pub fn the_tree_is_by_four_rules()
         IsTrue (attacker_wins (n + 1) node pos) ↔ EachChildWins n node pos }
 {}
 
-/// With more plies the attacker wins wherever he won with fewer.
+/// If the attacker wins with some number of plies, he also wins with one more.
 pub fn winning_is_monotone_in_the_plies()
     ensures one_more { (n : ℕ) (node : Node) (pos : BoardState) → IsTrue (attacker_wins n node pos)
         → IsTrue (attacker_wins (n + 1) node pos) }
 {}
 
-/// A tree in which the ban forbids no candidate and no taking back has the same winner under every pair of ko
-/// allowances.
+/// If the ban forbids no candidate and no taking back in a tree, the same side wins under every pair of ko allowances.
 pub fn trees_without_a_ban_have_one_winner()
     ensures allowances { (n : ℕ) (node : Node) (pos : BoardState) (a d : ℕ) → IsBanFree n node pos
         → attacker_wins n (with_allowances node a d) pos ≡ attacker_wins n node pos }
 {}
 
-/// The codes by their ko allowances of attacker and defender, the greatest of them, and the first move that attains it.
+/// The ko allowances of attacker and defender under which each code is attained. The code of an answer is the greatest
+/// that is attained, and its move is the first that attains it.
 pub fn answers_are_by_codes()
     ensures attack_3 { (q : ReadingQuestion) (pos : BoardState) → q.kind ≡ Kind.Attack
         → attains_code q pos 3 ≡ attacker_wins q.plies (node_under q 0 1) pos }
@@ -130,9 +130,10 @@ pub fn answers_are_by_codes()
         × IsFirstMove (q.plies - 1) (first_node q (code_of q pos)) pos spot }
 {}
 
-/// A string with more liberties than half of the plies, rounded up at the attacker's turn and down at the defender's,
-/// or than 4, or in the stated tree without wide plies than 2, is not captured, since a play takes away one liberty at
-/// most; nor is one that the attacker may not play at.
+/// Too many liberties: more than half of the plies, rounded up at the attacker's turn and down at the defender's, or
+/// more than the attacker can play at with the wide plies that are left at his turn. A target with too many liberties
+/// is not captured, since a play takes away at most one liberty. Neither is a target at which the attacker may not
+/// play.
 pub fn many_liberties_stand()
     ensures one_liberty { (pos : BoardState) (c : Colour) (p : ℕ) (new : BoardState) (t : ℕ) → t < pos.size * pos.size
         → play_free pos c p ≡ Ok new →
@@ -146,11 +147,12 @@ pub fn many_liberties_stand()
         → IsTooMany turn.tree true n turn.wide (liberties pos.size pos.cells turn.target) }
 {}
 
-/// How far the active area of a question reaches: its points are those that five steps, or six in the wider tree, lead
-/// to from the target's string at some node whose target stands, each to a point of the same string or to a neighbour
-/// of one; and those that two steps lead to from its point where it is taken in the wider tree at the defender's turn.
-/// The nodes are the first ones under the three pairs of ko allowances, what a play at a candidate, or the defender's
-/// pass, leads to from a node that is left undecided, and what the defender's play leads to that takes back.
+/// How far the active area of a question reaches. At a node whose target stands, it has the points that five steps, or
+/// six in the wider tree, lead to from the target's string; a step leads to a point of the same string or to a
+/// neighbour of the string. At a node of the wider tree where the target is taken and the defender is to play, it has
+/// the points that two steps lead to from the target's point. The nodes are the first nodes under the three pairs of ko
+/// allowances, the nodes after a play at a candidate or after the defender's pass from an undecided node, and the nodes
+/// after a defender's play that takes back.
 pub fn the_active_area_is_reached_by_steps()
     ensures area { (q : ReadingQuestion) (pos : BoardState) (p : ℕ) → q.target < pos.size * pos.size →
         InActiveArea q pos p ↔ IsLookedAt q pos p }

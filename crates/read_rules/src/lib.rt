@@ -1,7 +1,7 @@
 //! The rules of a tactical reading as definitions: depths, kinds, questions and answers, the candidates of a target,
-//! the bounded game trees with their ko allowances, the codes, and the active area, with the laws that say in Go's own
-//! words what the computing definitions mean. There is next to no code here; the reader and every other crate that
-//! speaks of readings cite it.
+//! the bounded game trees with their ko allowances, the codes, and the active area. The laws say in Go's own words what
+//! the computing definitions mean. There is next to no code here; the reader and every other crate that speaks of
+//! readings cite these definitions.
 //!
 //! After GNU Go Manual, "Tactical reading"; the trees, their bounds and ko allowances are this project's own.
 #![tactic(auto)]

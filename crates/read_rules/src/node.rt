@@ -7,14 +7,14 @@ ghost use Rattle.read_rules.specs.Turns.{mover_of};
 use crate::turn::Turn;
 use go_base::Colour;
 
-/// A node of the game tree, but for its position and the plies that are left.
+/// A node of the game tree, without its position and the plies that are left.
 #[derive(Clone, Copy, Debug, PartialEq, Eq)]
 pub struct Node {
-    /// Whose turn it is, and in the reading of which string.
+    /// Whose turn it is, in the reading of which string, and with how many wide plies left.
     pub turn: Turn,
-    /// How often the attacker may still play where the ban alone forbids it.
+    /// How often the attacker may still ignore the ko ban.
     pub attacker_ko: u8,
-    /// How often the defender may.
+    /// How often the defender may still ignore the ko ban.
     pub defender_ko: u8,
 }
 
@@ -26,7 +26,7 @@ impl Node {
         self.turn.mover()
     }
 
-    /// How often the side to play may still play where the ban alone forbids it.
+    /// How often the side to play may still ignore the ko ban.
     pub fn allowance(self) -> u8
         ensures { result ≡ allowance_of self }
     {
@@ -37,7 +37,7 @@ impl Node {
         }
     }
 
-    /// The node after a move that leaves its mover this allowance.
+    /// The node after a move that leaves its mover the allowance `left`.
     pub fn next(self, left: u8) -> Node
         ensures { result ≡ next_node self left }
     {

@@ -3,15 +3,16 @@
 ghost use Rattle.std.specs.Prelude.{◌≡◌};
 ghost use Rattle.read_rules.specs.Trees.{is_wider, most_narrow};
 
-/// Which moves a reading tries, and how many liberties a target may have that is still played at.
+/// Which moves a reading tries, and with how many liberties the attacker still plays at a target.
 #[derive(Clone, Copy, Debug, PartialEq, Eq, Hash)]
 pub enum Tree {
-    /// The smaller tree. It tries the liberties of the target and the last liberties of the enemy strings next to it,
-    /// and where a wide ply is left the empty neighbours of at most two liberties and backfilling moves. Where no wide
-    /// ply is left, a target with more than two liberties stands.
+    /// The smaller tree. It tries the liberties of the target and the last liberties of the enemy strings next to it.
+    /// If a wide ply is left, it also tries backfilling moves, and the empty neighbours of the liberties of a target
+    /// with at most two. The attacker does not play at a target with more than four liberties, or with more than two if
+    /// no wide ply is left.
     Stated,
-    /// The larger tree. It tries the further candidates too, some of them in every ply and some only where a wide ply
-    /// is left. A target with more than four liberties stands, wide ply or not.
+    /// The larger tree. It tries the further candidates too, some of them in every ply and some only if a wide ply is
+    /// left. The attacker does not play at a target with more than four liberties, with a wide ply left or without.
     Wider,
 }
 
@@ -26,7 +27,7 @@ impl Tree {
         }
     }
 
-    /// How many liberties a target may have, if no wide ply is left, that the attacker still plays at.
+    /// If no wide ply is left, the attacker still plays at a target with at most this many liberties.
     pub fn most_narrow(self) -> u16
         ensures { result ≡ most_narrow self }
     {

@@ -1,4 +1,4 @@
-//! Whose turn it is at a node of the game tree, under whatever ko allowances.
+//! Whose turn it is at a node of the game tree, without the ko allowances.
 
 ghost use Rattle.std.specs.Prelude.{◌≡◌, ◌&&◌, ◌||◌, ◌==◌, nat_lt};
 ghost use Rattle.read_rules.specs.Stages.{has_later_candidates};
@@ -8,7 +8,7 @@ ghost use Rattle.read_rules.specs.Turns.{mover_of, next_turn};
 use crate::tree::Tree;
 use go_base::{Colour, Point};
 
-/// A turn of the game tree: a node but for its position, the plies that are left, and the ko allowances.
+/// A turn of the game tree: a node without its position, the plies that are left, and the ko allowances.
 #[derive(Clone, Copy, Debug, PartialEq, Eq)]
 pub struct Turn {
     /// Which tree is read.
@@ -35,7 +35,7 @@ impl Turn {
         }
     }
 
-    /// The turn after a move.
+    /// The turn after a move: the other side is to play, and a wide ply is spent if one is left.
     pub fn next(self) -> Turn
         ensures { result ≡ next_turn self }
     {
@@ -55,7 +55,7 @@ impl Turn {
         self.wide > 0 || self.tree.is_wider()
     }
 
-    /// Whether so many liberties of the target are more than the attacker may play at.
+    /// Whether the attacker may not play at a target with `liberties` liberties, since these are too many.
     pub fn has_many(self, liberties: u16) -> bool
         ensures { result ≡ (nat_lt 4 liberties || ((self.wide == 0) && nat_lt (most_narrow self.tree) liberties)) }
     {

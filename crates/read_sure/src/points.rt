@@ -22,7 +22,7 @@ fn every_point(size: Size) -> PointSet
     points
 }
 
-/// The points that the side to play tries: the attacker the candidates, the defender every point of the board.
+/// The points that the side to play tries: the attacker tries the candidates, the defender every point of the board.
 pub fn tried_points<L: Look>(board: &mut Trial<L>, node: Node) -> PointSet
     requires target { IsPointOf L.shows board.old node.turn.target }
     ensures stays { Stays L.shows L.seen board.old board.new }

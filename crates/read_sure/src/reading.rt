@@ -31,7 +31,8 @@ fn move_under<L: Look>(board: &mut Trial<L>, question: &ReadingQuestion, code: u
     sure_move(board, first_node(question, code), question.plies - 1)
 }
 
-/// The sure answer to a question. Each code lies within the one below it, so a question without code 1 has none.
+/// The sure answer to a question. A question that attains a code attains the codes below it, so without code 1 it has
+/// none.
 fn answer_on<L: Look>(board: &mut Trial<L>, question: &ReadingQuestion) -> Answer
     requires room { length board.old.moves + question.now.plies ≤ most_moves }
     requires plies { 0 < question.now.plies }
@@ -92,7 +93,7 @@ fn read<L: Look>(look: L, question: ReadingQuestion) -> Report<L>
     }
 }
 
-/// The question of this kind about the stone at the target.
+/// The question of this `kind` about the stone at `target`.
 fn asked<L: Look>(look: &mut L, kind: Kind, target: Point, depths: Depths) -> ReadingQuestion
     requires on_board { target < (L.shows look.old).size * (L.shows look.old).size }
     requires stone { cell_at (L.shows look.old).cells target ≢ Cell.Empty }
@@ -111,7 +112,7 @@ fn asked<L: Look>(look: &mut L, kind: Kind, target: Point, depths: Depths) -> Re
     }
 }
 
-/// Reads the question of this kind about the stone at the target.
+/// Reads the question of this `kind` about the stone at `target`.
 fn answered<L: Look>(look: L, kind: Kind, target: Point, depths: Depths) -> Report<L>
     requires on_board { target < (L.shows look).size * (L.shows look).size }
     requires stone { cell_at (L.shows look).cells target ≢ Cell.Empty }
@@ -132,10 +133,10 @@ fn answered<L: Look>(look: L, kind: Kind, target: Point, depths: Depths) -> Repo
 /// Reads whether the string at `target` is surely captured when the attacker plays first: whatever the defender plays
 /// within the plies, at whatever point of the board.
 ///
-/// The code is 3 if it is captured even if the defender may ignore the ko ban once, 2 if neither side may, 1 if the
-/// attacker may once, and 0 if no capture is sure. The move is the first in reading order that attains the code. An
-/// answer above 0 is one of `read_tree::attack` too. It takes no memory, but much longer than that: every reply is
-/// tried.
+/// The code is 3 if it is captured even if the defender may ignore the ko ban once, 2 if it is captured when neither
+/// side may, 1 if only when the attacker may once, and 0 if no capture is sure. The move is the first in reading order
+/// that attains the code. If the code is above 0, `read_tree::attack` has at least this code too. It takes no memory,
+/// but much longer than `read_tree::attack`: every reply is tried.
 pub fn sure_attack<L: Look>(look: L, target: Point, depths: Depths) -> Report<L>
     requires on_board { target < (L.shows look).size * (L.shows look).size }
     requires stone { cell_at (L.shows look).cells target ≢ Cell.Empty }
@@ -159,10 +160,11 @@ pub fn sure_attack<L: Look>(look: L, target: Point, depths: Depths) -> Report<L>
 
 /// Reads whether the string at `target` is surely not to be saved when the defender plays first.
 ///
-/// The code is 0 if it is captured whatever the defender plays, even if he may ignore the ko ban once. Else the capture
-/// is not sure, and the code is 3 if it is not sure even if the attacker may ignore the ko ban once, 2 if neither side
-/// may, and 1 if the defender may once. The move is the first after which the capture is not sure: the pass if it is
-/// one, else the first in reading order. It takes no memory, but much longer than `read_tree::defend`.
+/// The code is 0 if the string is captured whatever the defender plays, even if he may ignore the ko ban once. Else the
+/// capture is not sure, and the code is 3 if it is not sure even if the attacker may ignore the ko ban once, 2 if
+/// neither side may, and 1 if the defender may once. The move is the first after which the capture is not sure: the
+/// pass if the capture is not sure after it, else the first such play in reading order. It takes no memory, but much
+/// longer than `read_tree::defend`.
 pub fn sure_defend<L: Look>(look: L, target: Point, depths: Depths) -> Report<L>
     requires on_board { target < (L.shows look).size * (L.shows look).size }
     requires stone { cell_at (L.shows look).cells target ≢ Cell.Empty }

@@ -10,8 +10,8 @@ use read_rules::Node;
 use read_tree::taking_back::is_walled_in;
 use trial_board::Trial;
 
-/// Whether in the wider tree it is the defender's turn, the target's point is empty, and each neighbour of it holds a
-/// stone of the attacker: a lone stone was just taken there.
+/// Whether in the wider tree it is the defender's turn, the target's point is empty, and each neighbour of that point
+/// holds a stone of the attacker: a lone stone was just taken there.
 pub fn has_lost_one_stone<L: Look>(board: &mut Trial<L>, node: Node) -> bool
     requires target { IsPointOf L.shows board.old node.turn.target }
     ensures stays { Stays L.shows L.seen board.old board.new }

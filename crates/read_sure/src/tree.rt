@@ -1,4 +1,4 @@
-//! Whether a string is surely captured at a node, and which move there is the first that succeeds, on a board with
+//! Whether a string is surely captured at a node, and which move is the first that succeeds there, on a board with
 //! trial moves.
 
 ghost use Rattle.std.specs.Prelude.{◌≡◌, ◌+◌, ◌<◌, ◌≤◌, true, IfSome, length, is_some};
@@ -19,8 +19,8 @@ use read_tree::nodes::{is_barred, make_at};
 use read_tree::taking_back::may_take_back_at;
 use trial_board::Trial;
 
-/// Whether the mover's play at p can be made, and with `plies` plies left after it the target is surely captured if the
-/// attacker played, and is not if the defender did.
+/// Whether the mover's play at `p` can be made, and with `plies` plies left after it the target is surely captured if
+/// the attacker played, and is not surely captured if the defender did.
 #[cycle(sure)]
 fn succeeds<L: Look>(board: &mut Trial<L>, node: Node, p: Point, plies: u8) -> bool
     requires room { length board.old.moves + plies < most_moves }
@@ -39,7 +39,7 @@ fn succeeds<L: Look>(board: &mut Trial<L>, node: Node, p: Point, plies: u8) -> b
     }
 }
 
-/// Whether the defender passes here, and with `plies` plies left after it the target is not surely captured.
+/// Whether it is the defender's turn, and with `plies` plies left after his pass the target is not surely captured.
 #[cycle(sure)]
 fn pass_holds<L: Look>(board: &mut Trial<L>, node: Node, plies: u8) -> bool
     requires room { length board.old.moves + plies < most_moves }
@@ -56,7 +56,7 @@ fn pass_holds<L: Look>(board: &mut Trial<L>, node: Node, plies: u8) -> bool
     !won
 }
 
-/// The first point in reading order, of those that are tried, that succeeds with `plies` plies left after it.
+/// The first point in reading order that is tried and succeeds with `plies` plies left after it.
 #[cycle(sure)]
 fn first_sure<L: Look>(board: &mut Trial<L>, node: Node, plies: u8) -> Option<Point>
     requires room { length board.old.moves + plies < most_moves }
@@ -111,9 +111,9 @@ pub fn sure_move<L: Look>(board: &mut Trial<L>, node: Node, plies: u8) -> Option
     first_sure_move(board, node, plies)
 }
 
-/// Whether the target, whose point is empty, is surely captured, with `plies` plies left: it is, if the defender has
-/// not just lost a lone stone, or if he cannot take back; else if a ply is left for it and the target is surely
-/// captured after it.
+/// Whether the target, whose point is empty, is surely captured, with `plies` plies left. It is, if the defender has
+/// not just lost a lone stone, or if he cannot take back. Else it is if a ply is left for taking back and the target is
+/// surely captured afterwards.
 #[cycle(sure)]
 fn taken<L: Look>(board: &mut Trial<L>, node: Node, plies: u8) -> bool
     requires room { length board.old.moves + plies ≤ most_moves }

@@ -1,4 +1,4 @@
--- The defender runs: his play at a liberty of the target leaves it more liberties than the attacker can take.
+-- The defender runs: his play at a liberty of the target leaves the target more liberties than the attacker can take.
 use Rattle.std.specs.Prelude.{◌≡◌, ◌≢◌, ◌⊎◌, ℕ, ◌-◌, true, false, List}
 use Rattle.std.specs.Ordering.{nat_cmp}
 use Rattle.std.specs.FinSet as set
@@ -9,11 +9,12 @@ use Rattle.read_rules.specs.Candidates.{IsEmptyNeighbour}
 use Rattle.read_rules.specs.declared.turn.Turn.{Turn}
 use Rattle.read_rules.specs.Bound.{outlasts}
 
--- x is known and not l, or an empty neighbour of l
+-- x is known and not l, or x is an empty neighbour of l
 abbrev pub IsLibertyAfter : ℕ → List Cell → set.FinSet nat_cmp → ℕ → ℕ → Type 0
 IsLibertyAfter s cells known l x = ((set.contains known x ≡ true) × (x ≢ l)) ⊎ IsEmptyNeighbour s cells l x
 
--- the defender may play at l, and keeps there too many of these liberties, with n plies left after it
+-- the ban does not forbid the defender to play at l; and some of the liberties that the target has after it, kept, are
+-- already too many, with n plies left after the play
 pub record RunsFree (n : ℕ) (turn : Turn) (here : BoardState) (known : set.FinSet nat_cmp) (l : ℕ) : Type 0 where
   pub free : is_banned here.ban turn.defender l ≡ false
   pub kept : set.FinSet nat_cmp

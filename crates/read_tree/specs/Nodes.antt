@@ -1,4 +1,4 @@
--- A node of the game tree on a board with trial moves, under whatever ko allowances.
+-- A node of the game tree on a board with trial moves, under any ko allowances.
 use Rattle.std.specs.Prelude.{◌≡◌, ℕ, ◌+◌, Bool, ◌&&◌, ◌==◌, nat_lt, Option}
 use Rattle.std.specs.Option.{option_map}
 use Rattle.go_rules.specs.Position.{BoardState}
@@ -8,12 +8,12 @@ use Rattle.read_rules.specs.GameTree.{child_of}
 use Rattle.read_tree.specs.declared.allowances.Allowances.{Allowances}
 use Rattle.read_tree.specs.declared.nodes.NodeAt.{NodeAt}
 
--- at most one side may still ignore the ban, and that once
+-- at most one side may still ignore the ban, and only once
 abbrev pub has_one_at_most : Node → Bool
 has_one_at_most node = nat_lt (node.attacker_ko + node.defender_ko) 2
 
--- the allowances of a node: of the attacker where he may still ignore the ban, of the defender where he may, and that
--- of neither where neither may
+-- the ko allowances of a node as a set: the attacker's if he may still ignore the ban, the defender's if he may, and
+-- that of neither side if neither may
 abbrev pub the_allowance : Node → Allowances
 the_allowance node = record {
   defender = nat_lt 0 node.defender_ko;
@@ -27,7 +27,7 @@ pub record SameReading (node next : Node) : Type 0 where
   pub target : next.turn.target ≡ node.turn.target
   pub defender : next.turn.defender ≡ node.turn.defender
 
--- the mover's play at p leads from here to this node over new; or, with no node, it cannot be played
+-- the mover's play at p leads from here to the node next over new; if next is none, p cannot be played
 abbrev pub LeadsTo : Node → BoardState → ℕ → Option Node → BoardState → Type 0
 LeadsTo node here p next new = child_of node here p ≡ option_map (λ n. (n, new)) next
 
@@ -41,7 +41,7 @@ turn_of node = record {
   wide = node.k;
 }
 
--- the node of the game tree
+-- the node of the game tree that a NodeAt describes
 abbrev pub game_node : NodeAt → Node
 game_node node = record {
   turn = turn_of node;

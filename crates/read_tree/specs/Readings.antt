@@ -1,4 +1,4 @@
--- What the reading of a question needs on a trial board, and what it answers.
+-- What the reading of a question needs on a trial board, and what its answer is.
 use Rattle.std.specs.Prelude.{◌≡◌, ◌↔◌, ◌+◌, ◌<◌, ◌≤◌, Bool, true, false, [], length, IsNone, IfSome}
 use Rattle.std.specs.Ordering.{nat_cmp}
 use Rattle.std.specs.FinSet as set
@@ -18,7 +18,7 @@ use Rattle.read_tree.specs.Walk.{IsPointOf, AreLibertiesOf, OnEachAgreeing}
 abbrev pub untried : {L : Type 0} → L → Trying L
 untried look = record { look = look; moves = []; count = 0 }
 
--- the question has plies, for which there is room, its target is on the board, and the points are the target's
+-- the question has plies and the board has room for them; the target is on the board; and the points are the target's
 -- liberties, which are not too many
 pub record IsToRead {L : Type 0} (shows : L → BoardState) (seen : L → Fact → Bool) (board : Trying L)
     (q : ReadingQuestion) (known : set.FinSet nat_cmp) : Type 0 where
@@ -28,9 +28,9 @@ pub record IsToRead {L : Type 0} (shows : L → BoardState) (seen : L → Fact �
   pub liberties : AreLibertiesOf seen board q.target known
   pub few : outlasts_at (first_turn q) q.plies (set.len known) ≡ false
 
--- the answer has a code, and a move on the board exactly where the code is not 0; and on each position that agrees with
--- what is seen now, where the question is about it, it is the question's answer there, and what was looked at since
--- lies in the active area
+-- the answer has a code, and a move on the board exactly if the code is not 0; and on each position that agrees with
+-- what is seen now and that the question is about, it is the question's answer, and what was looked at since lies in
+-- the active area
 pub record Answers {L : Type 0} (shows : L → BoardState) (seen : L → Fact → Bool) (old new : Trying L)
     (q : ReadingQuestion) (answer : Answer) : Type 0 where
   pub stays : Stays shows seen old new

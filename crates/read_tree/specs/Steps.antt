@@ -1,4 +1,4 @@
--- What the steps of the reader answer.
+-- What the steps of the reader find.
 use Rattle.std.specs.Prelude.{◌≡◌, ◌≢◌, ℕ, ◌*◌, ◌<◌, ◌≤◌, ◌==◌, ◌&&◌, Bool, true, false, not, List, Some, None}
 use Rattle.std.specs.Prelude.{if◌then◌else◌}
 use Rattle.std.specs.Ordering.{nat_cmp}
@@ -29,23 +29,23 @@ use Rattle.read_tree.specs.Allowances.{Ko, neither_may, has, has_some, own_ko, u
 use Rattle.read_rules.specs.ActiveArea.{IsNodeOf}
 pub use Rattle.read_rules.specs.GoodMoves.{IsOnBoard}
 
--- the moves without the newest, where a play was made
+-- the moves without the newest if a play was made, else all moves
 abbrev pub tail_if : Made → List TrialMove → List TrialMove
 tail_if Not moves = moves
 tail_if Legal moves = tail moves
 tail_if Allowed moves = tail moves
 
--- what was found of the target's liberties, with n plies left: more than are taken in time exactly where the target has
--- more, and else all of them
+-- what was found of the target's liberties, with n plies left: too many exactly if the target has too many, and else
+-- all of them
 pub record TellsLiberties (turn : Turn) (n s : ℕ) (cells : List Cell) (found : set.FinSet nat_cmp) : Type 0 where
   pub many : outlasts_at turn n (set.len found)
       ≡ outlasts_at turn n (liberties s cells turn.target)
   pub all : outlasts_at turn n (set.len found) ≡ false
       → found ≡ liberty_points s cells turn.target
 
--- where the play at p leads from here, under each allowance: nowhere; to new, and the allowance is kept; or the mover's
--- own allowance alone lets it be played, is spent, and it leads to new. Where the own allowance is not asked for,
--- nothing is said of it
+-- where the play at p leads from here, under each allowance: nowhere; or to new, and the allowance is kept; or to new
+-- under the mover's own allowance alone, which is spent. If own is false, a play that leads nowhere may still be
+-- possible under the mover's own allowance
 abbrev pub Makes : Made → Turn → Bool → BoardState → ℕ → BoardState → Type 0
 Makes Not turn own here p new = (ko : Ko) → (ko ≡ own_ko turn.attacker_to_play → own ≡ true)
     → child_of (under turn ko) here p ≡ None
@@ -54,20 +54,20 @@ Makes Allowed turn own here p new =
     (child_of (under turn (own_ko turn.attacker_to_play)) here p ≡ Some (under (next_turn turn) neither_may, new))
     × ((ko : Ko) → ko ≢ own_ko turn.attacker_to_play → child_of (under turn ko) here p ≡ None)
 
--- the side that moved, the attacker or not, has its way
+-- the side that moved has its way: the attacker if he won, the defender if the attacker did not win
 abbrev pub has_way : Bool → Bool → Bool
 has_way attacker won = if attacker then won else not won
 
--- under each of the asked allowances the node is one of the trees of the question
+-- under each of the asked allowances the node is in one of the trees of the question
 pub record AreNodesOf (q : ReadingQuestion) (root : BoardState) (n : ℕ) (turn : Turn) (asked : Allowances)
     (here : BoardState) : Type 0 where
   pub each : (ko : Ko) → has asked ko ≡ true → IsNodeOf q root n (under turn ko) here
 
--- the answer where the target has too many liberties
+-- the answer if the target has too many liberties
 abbrev pub unread : Bool → Answer
 unread attack = if attack then record { code = 0; at = None } else record { code = 3; at = Some Pass }
 
--- the best answer so far, or the move, where it has its way under some of the allowances above the best so far
+-- the best answer so far; or the move spot, if it has its way under some of the allowances above the best code so far
 abbrev pub better : Answer → Bool → Allowances → Spot → Answer
 better best attack good spot =
     if has_some good then record { code = best_code good best.code attack; at = Some spot } else best
@@ -76,8 +76,8 @@ better best attack good spot =
 abbrev pub node_of : Turn → ℕ → Node
 node_of turn code = under turn (ko_of turn.attacker_to_play code)
 
--- the best of the pass and of the candidates that were tried: no greater code is attained by them, and its move is the
--- first
+-- best is the answer by the pass and the candidates that were tried: none of these attains a greater code, and its move
+-- is the first that attains its code
 pub record IsBest (n : ℕ) (turn : Turn) (here : BoardState) (tried : ℕ → Bool) (best : Answer) : Type 0 where
   pub bounded : best.code ≤ 3
   pub no_pass : (code : ℕ) → best.code < code → code ≤ 3 → pass_saves n (node_of turn code) here ≡ false
@@ -87,7 +87,8 @@ pub record IsBest (n : ℕ) (turn : Turn) (here : BoardState) (tried : ℕ → B
   pub move : best.code ≢ 0 → (spot : Spot) × (best.at ≡ Some spot)
       × (Some spot ≡ first_move n (node_of turn best.code) here)
 
--- what is missing of the asked: no candidate that was tried gives it, and the rest each is given by one
+-- missing is a part of asked: no candidate that was tried succeeds under an allowance of missing, and under each other
+-- allowance of asked some candidate succeeds
 pub record IsLeft (n : ℕ) (turn : Turn) (here : BoardState) (candidate tried : ℕ → Bool) (asked missing : Allowances)
     : Type 0 where
   pub asked_for : (ko : Ko) → has missing ko ≡ true → has asked ko ≡ true
@@ -109,8 +110,8 @@ pub data IsTakenForGood (turn : Turn) (here : BoardState) : Type 0 where
   with_neighbour : (q : ℕ) → q < here.size * here.size → are_neighbours here.size turn.target q ≡ true
       → cell_at here.cells q ≡ stone_of turn.defender → IsTakenForGood turn here
 
--- it is the attacker's turn, l is the only liberty of the target, which is of the defender's colour, the ban lets him
--- play there, and the target is then not taken back
+-- it is the attacker's turn; l is the only liberty of the target, which is of the defender's colour; the ban lets the
+-- attacker play at l; and the target is then not taken back
 pub record IsTaken (turn : Turn) (here : BoardState) : Type 0 where
   pub attacks : turn.attacker_to_play ≡ true
   pub enemy : cell_at here.cells turn.target ≡ stone_of turn.defender
@@ -120,7 +121,7 @@ pub record IsTaken (turn : Turn) (here : BoardState) : Type 0 where
   pub free : is_banned here.ban (other turn.defender) l ≡ false
   pub for_good : IsTakenForGood turn here
 
--- the defender is to play, with n plies left after his move; the target is his and has one liberty, and if it is taken
+-- the defender is to play, with n plies left after his move; the target is his and has one liberty; and if it is taken
 -- it is not taken back
 pub record IsInAtari (n : ℕ) (turn : Turn) (here : BoardState) : Type 0 where
   pub defends : turn.attacker_to_play ≡ false
@@ -130,8 +131,7 @@ pub record IsInAtari (n : ℕ) (turn : Turn) (here : BoardState) : Type 0 where
   pub sound : IsPosition here
   pub for_good : IsTakenForGood turn here
 
--- found has those of the asked under which some point that passes the test gives the side to play its way: each is
--- given by one, and under the others none does
+-- found has exactly the allowances of asked under which some point that passes the test succeeds
 pub record TellsBy (n : ℕ) (turn : Turn) (here : BoardState) (points : ℕ
     → Bool) (asked found : Allowances) : Type 0 where
   pub asked_for : (ko : Ko) → has found ko ≡ true → has asked ko ≡ true
@@ -139,13 +139,13 @@ pub record TellsBy (n : ℕ) (turn : Turn) (here : BoardState) (points : ℕ
   pub none : (ko : Ko) → has asked ko ≡ true → has found ko ≡ false → (q : ℕ)
       → (points q && succeeds n (under turn ko) here q) ≡ false
 
--- p is a candidate at the turn's node, but no liberty of the target
+-- p is a candidate at the turn, but no liberty of the target
 abbrev pub is_off_liberties : Turn → BoardState → ℕ → Bool
 is_off_liberties turn here p =
     is_candidate turn here p && not (is_liberty here.size here.cells turn.target p)
 
--- the attacker is to play, the target holds a defender's stone after the play at p, and next is what was known but for
--- p
+-- the attacker is to play, the target holds a defender's stone after the play at p, and next has the points of known
+-- other than p
 pub record IsCarried (turn : Turn) (new : BoardState) (p : ℕ) (known next : set.FinSet nat_cmp) : Type 0 where
   pub attacks : turn.attacker_to_play ≡ true
   pub enemy : cell_at new.cells turn.target ≡ stone_of turn.defender

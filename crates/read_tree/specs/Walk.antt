@@ -1,4 +1,4 @@
--- What a function of the walk over the game tree needs, and what it tells, over every position that agrees with what
+-- What a function of the walk over the game tree needs, and what it answers, on every position that agrees with what
 -- was seen.
 use Rattle.std.specs.Prelude.{◌≡◌, ◌⊎◌, ℕ, ◌+◌, ◌*◌, ◌<◌, Bool, true, List, length}
 use Rattle.std.specs.Ordering.{nat_cmp}
@@ -32,12 +32,12 @@ abbrev pub AreCapturesOf : {L : Type 0} → (L → Fact → Bool) → Trying L �
 AreCapturesOf seen board target points = (pos : BoardState) → Agrees (seen board.look) pos → (p : ℕ)
     → set.contains points p ≡ is_capture (after pos board.moves) target p
 
--- P is true of the position after the moves that stood, on each position that agrees with what is seen now
+-- P is true of the position after the old moves, on each position that agrees with what is seen now
 abbrev pub OnEachAgreeing : {L : Type 0} → (L → Fact → Bool) → Trying L → Trying L → (BoardState → Type 0) → Type 0
 OnEachAgreeing seen old new P = (pos : BoardState) → Agrees (seen new.look) pos → P (after pos old.moves)
 
--- what was looked at since lies in the active area of each question among whose nodes the turn's is, with n plies left,
--- under each of the asked allowances, where it is undecided and P is true of the position
+-- what was looked at since lies in the active area of each question that has the turn's node, with n plies left, in its
+-- trees under each of the asked allowances, if that node is undecided and P is true of the position
 abbrev pub LooksNearWhere : {L : Type 0} → (L → Fact → Bool) → Trying L → Trying L → ℕ → Turn → Allowances
     → (BoardState → Type 0) → Type 0
 LooksNearWhere seen old new n turn asked P = OnEachAgreeing seen old new (λ here.
@@ -45,21 +45,23 @@ LooksNearWhere seen old new n turn asked P = OnEachAgreeing seen old new (λ her
     → ((ko : Ko) → IsUndecided (under turn ko) here) → P here
     → AddsNear (seen old.look) (seen new.look) (InActiveArea q root))
 
--- the same of each position
+-- what was looked at since lies in the active area of each question that has the turn's node, with n plies left, in its
+-- trees under each of the asked allowances, if that node is undecided
 abbrev pub LooksNear : {L : Type 0} → (L → Fact → Bool) → Trying L → Trying L → ℕ → Turn → Allowances → Type 0
 LooksNear seen old new n turn asked = OnEachAgreeing seen old new (λ here.
     (q : ReadingQuestion) (root : BoardState) → AreNodesOf q root n turn asked here
     → ((ko : Ko) → IsUndecided (under turn ko) here)
     → AddsNear (seen old.look) (seen new.look) (InActiveArea q root))
 
--- the same, decided or not, of looks that lie there or at the target's point
+-- what was looked at since lies at the target's point or in the active area of each question that has the turn's node,
+-- with n plies left, in its trees under each of the asked allowances
 abbrev pub LooksNearOrAt : {L : Type 0} → (L → Fact → Bool) → Trying L → Trying L → ℕ → Turn → Allowances → Type 0
 LooksNearOrAt seen old new n turn asked = OnEachAgreeing seen old new (λ here.
     (q : ReadingQuestion) (root : BoardState) → AreNodesOf q root n turn asked here
     → AddsNear (seen old.look) (seen new.look) (λ p. (p ≡ turn.target) ⊎ InActiveArea q root p))
 
--- what was looked at since lies in the active area of each question among whose nodes the turn's is, with n plies left,
--- under each of the asked allowances, where the defender has just lost a lone stone
+-- what was looked at since lies in the active area of each question that has the turn's node, with n plies left, in its
+-- trees under each of the asked allowances, if the defender has just lost a lone stone
 abbrev pub LooksNearLoss : {L : Type 0} → (L → Fact → Bool) → Trying L → Trying L → ℕ → Turn → Allowances → Type 0
 LooksNearLoss seen old new n turn asked = OnEachAgreeing seen old new (λ here.
     (q : ReadingQuestion) (root : BoardState) → AreNodesOf q root n turn asked here
@@ -67,7 +69,7 @@ LooksNearLoss seen old new n turn asked = OnEachAgreeing seen old new (λ here.
     → AddsNear (seen old.look) (seen new.look) (InActiveArea q root))
 
 -- a function of the walk may go on with n plies left after a move: there is room for them, the target is on the board,
--- some allowance is asked for, and the points and the table are what the target's liberties and the nodes are
+-- some allowance is asked for, the points are the target's liberties, and the table is true
 pub record IsReady {L : Type 0} (shows : L → BoardState) (seen : L → Fact → Bool) (board : Trying L) (turn : Turn)
     (n : ℕ) (asked : Allowances) (points : set.FinSet nat_cmp) (entries : List Entry) : Type 0 where
   pub room : length board.moves + n < most_moves

@@ -7,7 +7,7 @@ ghost use Rattle.go_rules.specs.Board.{largest_points};
 use go_base::Point;
 use go_base::points::PointSet;
 
-/// The members but for p. It takes no memory.
+/// The members of `points` other than `p`. It takes no memory.
 pub fn all_but(points: &PointSet, p: Point) -> PointSet
     requires { p < largest_points }
     ensures { (q : ℕ) → set.contains result q ≡ (set.contains points.now q && not (q == p)) }

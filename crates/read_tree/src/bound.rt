@@ -1,4 +1,4 @@
-//! The bound on the target's liberties: with more, it is not captured.
+//! The bound on the target's liberties: a target with more is not captured.
 
 ghost use Rattle.std.specs.Prelude.{◌≡◌, ℕ, ◌-◌, ◌&&◌, ◌||◌, false, nat_lt};
 ghost use Rattle.std.specs.FinSet as set;
@@ -8,7 +8,7 @@ ghost use Rattle.read_rules.specs.Trees.{most_few};
 use go_base::points::PointSet;
 use read_rules::{Tree, Turn};
 
-/// How many liberties a target may have, where one or two wide plies are left, that can be captured.
+/// If one or two wide plies are left, a target that can be captured has at most this many liberties.
 fn most_few(tree: Tree) -> u16
     ensures { result ≡ most_few tree }
 {
@@ -18,7 +18,7 @@ fn most_few(tree: Tree) -> u16
     }
 }
 
-/// How many liberties a target may have that is captured with so many wide plies left in the tree.
+/// With `wide` wide plies left in the tree, a target that is captured has at most this many liberties.
 fn most_by_wide(tree: Tree, wide: u8) -> u16
     ensures { result ≡ most_by_wide tree wide }
 {
@@ -31,7 +31,7 @@ fn most_by_wide(tree: Tree, wide: u8) -> u16
     }
 }
 
-/// Whether so many liberties are too many for the plies and the wide plies that are left in the tree.
+/// Whether `liberties` liberties are too many for the plies and the wide plies that are left in the tree.
 #[tactic(auto, unfolding(read_rules::specs::Bound::outlasts))]
 pub fn outlasts(tree: Tree, attacker: bool, plies: u8, wide: u8, liberties: u16) -> bool
     ensures { result ≡ outlasts tree attacker plies wide liberties }
@@ -65,14 +65,14 @@ fn most_within(tree: Tree, attacker: bool, plies: u8, wide: u8) -> u16
     }
 }
 
-/// The most liberties with which the target is not too strong to be captured, with `plies` plies left.
+/// The most liberties of the target that are not too many to be captured, with `plies` plies left.
 pub fn most_liberties(turn: Turn, plies: u8) -> u16
     ensures { (l : ℕ) → outlasts_at turn plies l ≡ nat_lt result l }
 {
     most_within(turn.tree, turn.attacker_to_play, plies, turn.wide)
 }
 
-/// Whether the target has too many liberties to be captured, with `plies` plies left; its liberties are handed in.
+/// Whether the target has too many liberties to be captured, with `plies` plies left; `known` are its liberties.
 pub fn has_too_many(turn: Turn, plies: u8, known: &PointSet) -> bool
     ensures { result ≡ outlasts_at turn plies (set.len known.now) }
 {

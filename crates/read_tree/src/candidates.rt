@@ -1,5 +1,5 @@
-//! The candidates off the liberties of the target, by stages: the captures of enemy strings next to it, and the others,
-//! which are the later candidates.
+//! The candidates off the liberties of the target, by stages: the captures of enemy strings next to it, and then the
+//! later candidates.
 
 ghost use Rattle.std.specs.Prelude.{◌≡◌, ℕ, ◌*◌, ◌<◌};
 ghost use Rattle.std.specs.FinSet as set;
@@ -17,7 +17,7 @@ use read_moves::later_candidates;
 use read_rules::Turn;
 use trial_board::Trial;
 
-/// The last liberties of the enemy strings next to the target, but for its own liberties, which are known.
+/// The last liberties of the enemy strings in atari next to the target, without the target's own liberties, `known`.
 pub fn captures_of<L: Look>(board: &mut Trial<L>, target: Point, known: &PointSet) -> PointSet
     requires target { target < (L.shows board.old.look).size * (L.shows board.old.look).size }
     requires liberties { (pos : BoardState) → Agrees (L.seen board.old.look) pos
@@ -32,7 +32,7 @@ pub fn captures_of<L: Look>(board: &mut Trial<L>, target: Point, known: &PointSe
     board.surroundings(target).last_liberties.difference(known)
 }
 
-/// The later candidates at the turn that are neither liberties of the target nor captures, which both are known.
+/// The later candidates at the turn that are neither in `known`, the liberties of the target, nor in `captures`.
 pub fn others_of<L: Look>(
     board: &mut Trial<L>,
     turn: Turn,

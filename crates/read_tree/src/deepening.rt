@@ -1,5 +1,5 @@
-//! A play at the root that is read with fewer plies first: what the attacker wins with few plies he wins with all, and
-//! the table then knows the nodes by which he does.
+//! A deep play is read with fewer plies first: what the attacker wins with few plies he wins with all, and the table
+//! then knows the nodes by which he does.
 
 ghost use Rattle.std.specs.Prelude.{◌≡◌, ℕ, ◌+◌, ◌<◌, ◌≤◌, suc, true, length, IsTrue, if◌then◌else◌};
 ghost use Rattle.trial_board.specs.Trials.{Stays};
@@ -18,15 +18,15 @@ use go_base::{Look, Point};
 use read_rules::Turn;
 use trial_board::Trial;
 
-/// From how many plies after the play on it is read with fewer first.
+/// A play with at least this many plies left after it is read with fewer plies first.
 const DEEP: u8 = 17;
 
-/// Whether a play with so many plies left after it is read with fewer first: in the wider tree, where it pays.
+/// Whether a play with `plies` plies left after it is read with fewer plies first. This pays only in the wider tree.
 fn is_deep(turn: Turn, plies: u8) -> bool {
     turn.tree.is_wider() && plies >= DEEP
 }
 
-/// Those of the asked that are left open by reading the play at p with fewer plies than `plies` after it: under the
+/// Of `asked`, the allowances left open by reading the play at `p` with fewer plies than `plies` after it. Under the
 /// others the attacker has his way.
 fn open_after_fewer<L: Look>(
     board: &mut Trial<L>,
@@ -58,8 +58,8 @@ fn open_after_fewer<L: Look>(
     left
 }
 
-/// Those of the asked under which a play at p gives the side to play its way, with `plies` plies left after it, by what
-/// was left open and what was found of that.
+/// Of `asked`, the allowances under which a play at `p` gives the side to play its way, with `plies` plies left after
+/// it: from those that were left open, `left`, and those of `left` under which the play succeeds, `good`.
 fn with_closed(attacker: bool, asked: Allowances, left: Allowances, good: Allowances) -> Allowances
     ensures { result ≡ (if attacker then without asked (without left good) else good) }
 {
@@ -70,8 +70,8 @@ fn with_closed(attacker: bool, asked: Allowances, left: Allowances, good: Allowa
     }
 }
 
-/// Those of the asked under which the play at p gives the side to play its way, with `plies` plies left after it: a
-/// deep one is read with fewer plies first.
+/// Of `asked`, the allowances under which the play at `p` gives the side to play its way, with `plies` plies left after
+/// it. A deep play is read with fewer plies first.
 pub fn succeeds_by_depths<L: Look>(
     board: &mut Trial<L>,
     turn: Turn,

@@ -1,4 +1,4 @@
-//! Whether a defender's play at a liberty leaves his target more liberties than the attacker can take.
+//! Whether a defender's play at a liberty leaves the target more liberties than the attacker can take.
 
 ghost use Rattle.std.specs.Prelude.{◌≡◌, ℕ, ◌*◌, ◌<◌, ◌&&◌, ◌||◌, true, IsTrue};
 ghost use Rattle.std.specs.FinSet as set;
@@ -18,8 +18,8 @@ use read_moves::add_sides;
 use read_rules::Turn;
 use trial_board::Trial;
 
-/// Liberties that the target has after the defender's play at its liberty l: the others that are known, and the empty
-/// sides of l.
+/// Liberties that the target has after the defender's play at its liberty `l`: the other known ones, and the empty
+/// neighbours of `l`.
 fn kept_at<L: Look>(board: &mut Trial<L>, l: Point, known: &PointSet) -> PointSet
     requires { l < (L.shows board.old.look).size * (L.shows board.old.look).size }
     ensures stays { Stays L.shows L.seen board.old board.new }
@@ -34,8 +34,8 @@ fn kept_at<L: Look>(board: &mut Trial<L>, l: Point, known: &PointSet) -> PointSe
     kept
 }
 
-/// Whether no ban forbids the defender to play at the target's liberty l, and his play there leaves it too many
-/// liberties, with `plies` plies left after it.
+/// Whether no ban forbids the defender to play at the target's liberty `l`, and his play there leaves the target too
+/// many liberties, with `plies` plies left after it.
 fn runs_free<L: Look>(
     board: &mut Trial<L>,
     turn: Turn,
@@ -63,8 +63,8 @@ fn runs_free<L: Look>(
     )
 }
 
-/// Whether the target is the defender's and has a liberty where his play leaves it too many, with `plies` plies left
-/// after it. It is his turn.
+/// Whether the target is the defender's and has a liberty where his play leaves it too many liberties, with `plies`
+/// plies left after it. It is his turn.
 pub fn escapes<L: Look>(board: &mut Trial<L>, turn: Turn, plies: u8, known: &PointSet) -> bool
     requires target { turn.target < (L.shows board.old.look).size * (L.shows board.old.look).size }
     requires inside { (p : ℕ) → IsTrue (set.contains known.now p)

@@ -17,14 +17,14 @@ use trial_board::overlay::Overlay;
 /// What the first look at a target found, and the view that it looked through.
 #[derive(Drop)]
 pub struct FirstLook<L> {
-    /// The liberties of the target; where they are too many, a part of them that is too many already.
+    /// The liberties of the target; if they are too many, a part of them that is too many already.
     pub liberties: PointSet,
-    /// The view that was handed in; what was looked at is among its facts.
+    /// The view that the caller passed in; what was looked at is among its facts.
     pub look: L,
 }
 
-/// Searches the target's string on the view alone, and stops as soon as it has too many liberties for the plies. A
-/// board for trial moves is large, and most targets have too many liberties to need one.
+/// Searches the target's string on the view alone, and stops as soon as the string has too many liberties for the
+/// plies. A board for trial moves is large, and most targets have so many liberties that they need none.
 #[inline(always)]
 pub fn first_look<L: Look>(look: L, turn: Turn, plies: u8) -> FirstLook<L>
     requires { turn.target < (L.shows look).size * (L.shows look).size }

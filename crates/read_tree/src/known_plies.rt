@@ -1,14 +1,14 @@
-//! What is known of a node under one ko allowance, by the plies that are left.
+//! What is known of a node under one ko allowance, for each number of plies left.
 
 ghost use Rattle.std.specs.Prelude.{◌≡◌, ◌||◌, ℕ, Bool, None, nat_lt};
 ghost use Rattle.read_tree.specs.KnownPlies.{is_from, IsMonotone, IsTrueKnown};
 
-/// With how many plies the attacker is known to have his way at a node, and with how many he is known not to.
+/// With how many plies the attacker is known to have his way at a node, and with how many he is known not to have it.
 #[derive(Clone, Copy, Debug, PartialEq, Eq)]
 pub struct KnownPlies {
-    /// With these plies or more he is known to have it; nothing is known of that if there are none.
+    /// With at least this many plies he is known to have his way; `None` if that is known of no number.
     pub won_from: Option<u8>,
-    /// With fewer plies than these he is known not to have it.
+    /// With fewer plies than this he is known not to have his way.
     pub lost_below: u8,
 }
 
@@ -23,7 +23,7 @@ impl KnownPlies {
         }
     }
 
-    /// Whether he is known to have his way with so many plies.
+    /// Whether the attacker is known to have his way with `plies` plies.
     pub fn is_won(self, plies: u8) -> bool
         ensures { result ≡ is_from self.won_from plies }
     {
@@ -33,22 +33,22 @@ impl KnownPlies {
         }
     }
 
-    /// Whether he is known not to have his way with so many plies.
+    /// Whether the attacker is known not to have his way with `plies` plies.
     pub fn is_lost(self, plies: u8) -> bool
         ensures { result ≡ nat_lt plies self.lost_below }
     {
         plies < self.lost_below
     }
 
-    /// Whether it is known if he has his way with so many plies.
+    /// Whether it is known if the attacker has his way with `plies` plies.
     pub fn is_known(self, plies: u8) -> bool
         ensures { result ≡ (is_from self.won_from plies || nat_lt plies self.lost_below) }
     {
         self.is_won(plies) || self.is_lost(plies)
     }
 
-    /// What is known once it was found whether he has his way with so many plies: with more plies he keeps it, and with
-    /// fewer he has it no sooner.
+    /// What is known after it was found whether the attacker has his way with `plies` plies: if he has, he also has it
+    /// with more plies; if he has not, he has not with fewer.
     pub fn with(self, plies: u8, good: bool) -> KnownPlies
         ensures { (won : ℕ → Bool) → IsMonotone won → IsTrueKnown won self → good ≡ won plies → IsTrueKnown won result }
     {
@@ -67,7 +67,7 @@ impl KnownPlies {
         }
     }
 
-    /// The plies that something is known of: the more, the dearer it was to find.
+    /// How many plies the knowledge reaches: the more, the longer it took to find.
     pub fn depth(self) -> u8 {
         match self.won_from {
             Some(least) if least > self.lost_below => least,

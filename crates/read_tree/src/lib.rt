@@ -1,11 +1,11 @@
 //! The tactical reader: whether a string can be captured, and whether it can be saved, by one of two bounded game
 //! trees.
 //!
-//! `read` reads a question on a view of a position and hands the view back; what it looked at is then among its facts,
-//! and on every position that agrees with these facts the answer is the same. `attack` and `defend` make the question
-//! from the stone at a point; their depths say which tree is read. Codes are 3, 2, 1 and 0: the side that is asked
-//! about has its way even if the other may ignore the ko ban once; if neither may; only if it may itself; not at all.
-//! Nothing takes memory.
+//! `read` reads a question on a view of a position and returns the view. What it looked at is then among the view's
+//! facts, and on every position that agrees with these facts the answer is the same. `attack` and `defend` make the
+//! question from the stone at a point; their depths say which tree is read. The codes are 3, 2, 1 and 0: the side that
+//! is asked about has its way even if the other side may ignore the ko ban once; if neither side may; only if it may do
+//! so itself; not at all. Nothing takes memory.
 //!
 //! After GNU Go Manual, "Tactical reading"; the trees, their bounds and their ko allowances are this project's own.
 #![tactic(auto)]

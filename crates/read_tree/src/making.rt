@@ -1,4 +1,4 @@
-//! The plays at a node, and what comes of each.
+//! The plays at a node, and the outcome of each.
 
 ghost use Rattle.std.specs.Prelude.{◌≡◌, ◌+◌, ◌*◌, ◌<◌, ◌≤◌, true, length};
 ghost use Rattle.go_rules.specs.Position.{BoardState};
@@ -11,19 +11,19 @@ use go_base::{Look, Point};
 use read_rules::Turn;
 use trial_board::{Trial, Tried};
 
-/// What comes of a play at a node.
+/// The outcome of a play at a node.
 #[derive(Clone, Copy, Debug, PartialEq, Eq)]
 pub enum Made {
-    /// It is not made.
+    /// The play is not made.
     Not,
-    /// It is legal, and was made.
+    /// The play is legal, and was made.
     Legal,
-    /// The ban alone forbids it, and it was made by the mover's own allowance.
+    /// Only the ban forbids the play, and it was made by the mover's own allowance.
     Allowed,
 }
 
-/// Plays for the side to play at p, where the rules let it, or with `own` its own allowance. A play that is made stands
-/// afterwards.
+/// Plays at `p` for the side to play, if the rules let it, or if `own` lets it use its own allowance. A play that is
+/// made stands afterwards.
 pub fn make<L: Look>(board: &mut Trial<L>, turn: Turn, p: Point, own: bool) -> Made
     requires room { length board.old.moves < most_moves }
     requires on_board { p < (L.shows board.old.look).size * (L.shows board.old.look).size }

@@ -9,25 +9,25 @@ ghost use Rattle.read_tree.specs.Table.{IsTrueOf, IsTrueTable};
 use crate::table::{AttackerNode, Entry, Verdict, find, keep};
 use go_base::Point;
 
-/// What a reading remembers while it goes on. No answer depends on it: it tells which point is tried first, and which
+/// What a reading remembers while it goes on. No answer depends on it: it says which point is tried first, and which
 /// nodes need not be read again.
 #[derive(Drop)]
 pub struct Memory<'a> {
-    /// The attacker's play that had its way last; it is tried first where it is a point of the node.
+    /// The attacker's play that last had its way; it is tried first if it is a point of the node.
     pub reply: Point,
-    /// The attacker's nodes that were read, and what was found; without entries none is remembered.
+    /// The attacker's nodes that were read, and what was found. An empty table remembers nothing.
     pub table: &'a mut [Entry],
 }
 
 impl Memory<'_> {
-    /// Whether there is room for nodes.
+    /// Whether the table has room for nodes.
     pub fn has_room(&self) -> bool
         ensures { IsTrue result ↔ (0 < length self.now.table.now) }
     {
         !self.table.is_empty()
     }
 
-    /// What is known of the node.
+    /// What the table knows of the node.
     pub fn find(&self, node: &AttackerNode) -> Verdict
         ensures { (seen : Fact → Bool) (tree : Tree) (target : ℕ) (defender : Colour)
             → IsTrueTable seen tree target defender self.now.table.now
@@ -39,7 +39,7 @@ impl Memory<'_> {
         find(self.table, node)
     }
 
-    /// Remembers what is known of the node, where there is room.
+    /// Remembers the verdict on the node, if the table has room.
     pub fn keep(&mut self, node: &AttackerNode, verdict: Verdict)
         ensures { (seen : Fact → Bool) (tree : Tree) (target : ℕ) (defender : Colour)
             → IsTrueTable seen tree target defender self.old.table.now

@@ -1,4 +1,5 @@
-//! Who wins at a node of the game tree, and which move there is the first that will do, on a board with trial moves.
+//! Who wins at a node of the game tree, and which move is the first that gives the side to play its way, on a board
+//! with trial moves.
 
 ghost use Rattle.std.specs.Prelude.{◌≡◌, ◌+◌, ◌<◌, ◌≤◌, ◌&&◌, ◌||◌, ◌==◌, nat_lt, true, None, Some, IfSome};
 ghost use Rattle.std.specs.Prelude.{MatchOption, length, is_some};
@@ -22,7 +23,7 @@ use read_moves::candidates;
 use read_rules::{Node, Spot, Tree, Turn};
 use trial_board::{Trial, Tried};
 
-/// From how many plies on a node is read with a table.
+/// A node with at least this many plies left is read with a table.
 const PLIES_WITH_TABLE: u8 = 12;
 
 /// A node of the game tree over a position with trial moves, and what is left to spend there.
@@ -40,20 +41,20 @@ pub struct NodeAt {
     pub n: u8,
     /// How many wide plies are left.
     pub k: u8,
-    /// How often the attacker may still play where the ban alone forbids it.
+    /// How often the attacker may still ignore the ko ban.
     pub a: u8,
-    /// How often the defender may.
+    /// How often the defender may still ignore the ko ban.
     pub d: u8,
 }
 
-/// Whether at most one side may still ignore the ban, and that once.
+/// Whether at most one side may still ignore the ban, and only once.
 fn has_one_at_most(node: Node) -> bool
     ensures { result ≡ has_one_at_most node }
 {
     u16::from(node.attacker_ko) + u16::from(node.defender_ko) < 2
 }
 
-/// The allowance of a node where at most one side may still ignore the ban, and that once.
+/// The allowance of a node at which at most one side may still ignore the ban, and only once.
 fn the_allowance(node: Node) -> Allowances
     ensures { result ≡ the_allowance node }
 {
@@ -64,7 +65,8 @@ fn the_allowance(node: Node) -> Allowances
     }
 }
 
-/// Whether the attacker wins at such a node, by the reader, with `plies` plies left.
+/// Whether the attacker wins at the node, by the reader, with `plies` plies left. At most one side may still ignore the
+/// ban, and only once.
 fn wins_by_reader<L: Look>(board: &mut Trial<L>, node: Node, plies: u8, memory: &mut Memory) -> bool
     requires room { length board.old.moves + plies ≤ most_moves }
     requires target { IsPointOf L.shows board.old node.turn.target }
@@ -77,7 +79,7 @@ fn wins_by_reader<L: Look>(board: &mut Trial<L>, node: Node, plies: u8, memory: 
     tree::attacker_wins(board, node.turn, plies, the_allowance(node), None, memory).has_some()
 }
 
-/// Makes the mover's play at p where it can be played, and answers the node to which it leads.
+/// Makes the mover's play at `p` if it can be played, and returns the node to which it leads.
 pub fn make_at<L: Look>(board: &mut Trial<L>, node: Node, p: Point) -> Option<Node>
     requires room { length board.old.moves < most_moves }
     requires on_board { IsPointOf L.shows board.old p }
@@ -119,7 +121,7 @@ pub fn is_barred<L: Look>(board: &mut Trial<L>, node: Node) -> bool
         .has_many(board.liberties(node.turn.target).count())
 }
 
-/// Whether the attacker's play at p, or the defender's, can be made and gives him his way, with `plies` plies left.
+/// Whether the mover's play at `p` can be made and gives him his way, with `plies` plies left after it.
 #[cycle(wins)]
 fn succeeds<L: Look>(
     board: &mut Trial<L>,
@@ -193,8 +195,8 @@ fn first_success<L: Look>(
 }
 
 /// The first move that gives the side to play its way with `plies` plies left after it: the defender's pass before all
-/// points, and then the candidates in reading order. Where the attacker is to play it does not ask whether the target
-/// has more liberties than he may play at. The table remembers attacker's nodes over the position that the view shows.
+/// points, and then the candidates in reading order. At the attacker's turn this does not ask whether the target has
+/// more liberties than he may play at. The table remembers attacker's nodes over the position that the view shows.
 #[cycle(wins)]
 pub fn first_move<L: Look>(
     board: &mut Trial<L>,
@@ -235,9 +237,9 @@ fn has_good_move<L: Look>(board: &mut Trial<L>, node: Node, plies: u8, memory: &
     first_move(board, node, plies, memory).is_some()
 }
 
-/// Whether the target, whose point is empty, is captured, with `plies` plies left: it is, if no lone stone of the
-/// defender was taken in the wider tree, or if he cannot take back; else if a ply is left for it and the attacker wins
-/// after it.
+/// Whether the target, whose point is empty, is captured, with `plies` plies left. It is, if no lone stone of the
+/// defender was taken in the wider tree, or if he cannot take back. Else it is if a ply is left for taking back and the
+/// attacker wins afterwards.
 #[cycle(wins)]
 fn taken_at<L: Look>(board: &mut Trial<L>, node: Node, plies: u8, memory: &mut Memory) -> bool
     requires room { length board.old.moves + plies ≤ most_moves }
@@ -265,8 +267,8 @@ fn taken_at<L: Look>(board: &mut Trial<L>, node: Node, plies: u8, memory: &mut M
     !succeeds(board, node, node.turn.target, plies - 1, memory)
 }
 
-/// Whether the attacker wins at the node, with `plies` plies left. The reader reads it where at most one side may still
-/// ignore the ban; else each move is tried, until one side has done so.
+/// Whether the attacker wins at the node, with `plies` plies left. The reader reads the node if at most one side may
+/// still ignore the ban, and only once; else each move is tried, until that is so.
 #[cycle(wins)]
 pub fn wins_at<L: Look>(board: &mut Trial<L>, node: Node, plies: u8, memory: &mut Memory) -> bool
     requires room { length board.old.moves + plies ≤ most_moves }
@@ -288,7 +290,7 @@ pub fn wins_at<L: Look>(board: &mut Trial<L>, node: Node, plies: u8, memory: &mu
     has_good_move(board, node, plies - 1, memory) == node.turn.attacker_to_play
 }
 
-/// The node of the game tree.
+/// The node of the game tree that `node` describes.
 fn game_node(node: NodeAt) -> Node
     ensures { result ≡ game_node node }
 {
@@ -306,7 +308,7 @@ fn game_node(node: NodeAt) -> Node
     }
 }
 
-/// Whether the attacker wins at the node, by a table that knows nothing yet.
+/// Whether the attacker wins at the node, with `table` to remember nodes in.
 fn wins_with<L: Look>(board: &mut Trial<L>, node: NodeAt, table: &mut [Entry]) -> bool
     requires room { length board.old.moves + node.n ≤ most_moves }
     requires target { IsPointOf L.shows board.old node.target }
@@ -322,7 +324,8 @@ fn wins_with<L: Look>(board: &mut Trial<L>, node: NodeAt, table: &mut [Entry]) -
     wins_at(board, game_node(node), node.n, &mut memory)
 }
 
-/// The same with a table, which is made here: it is large, and a short reading is not to pay for it.
+/// Whether the attacker wins at the node, read with a table. The table is made here: it is large, and a short reading
+/// should not pay for it.
 #[inline(never)]
 fn wins_with_table<L: Look>(board: &mut Trial<L>, node: NodeAt) -> bool
     requires room { length board.old.moves + node.n ≤ most_moves }
@@ -335,9 +338,9 @@ fn wins_with_table<L: Look>(board: &mut Trial<L>, node: NodeAt) -> bool
     wins_with(board, node, &mut table)
 }
 
-/// Whether the attacker wins at a node of the game tree over the position after the trial moves: the string at the
-/// target's point is captured with `n` plies left, or that point is empty. The trial moves stay as they are. Takes no
-/// memory.
+/// Whether the attacker wins at a node of the game tree over the position after the trial moves, with `n` plies left:
+/// the string at the target's point is captured, or it is taken already and taking back does not save it. The trial
+/// moves stay as they are. Takes no memory.
 pub fn wins<L: Look>(board: &mut Trial<L>, node: NodeAt) -> bool
     requires room { length board.old.moves + node.n ≤ most_moves }
     requires target { IsPointOf L.shows board.old node.target }

@@ -1,5 +1,5 @@
-//! The order in which the points of a node are tried: the attacker's play that had its way last, and then the
-//! liberties of the target with more empty sides.
+//! The order in which the points of a node are tried: the attacker's play that last had its way, and then the liberties
+//! of the target, those with more empty neighbours first.
 
 ghost use Rattle.std.specs.Prelude.{◌≡◌, ℕ, ◌*◌, ◌<◌, ◌&&◌, ◌↔◌, false, IsTrue, IfSome, IfNone, if◌then◌else◌};
 ghost use Rattle.std.specs.FinSet as set;
@@ -16,7 +16,7 @@ use go_base::{Look, Point};
 use read_moves::empty_sides;
 use trial_board::Trial;
 
-/// Whether p is a point of the first set that was not tried.
+/// Whether `p` is a point of `points` that was not tried.
 fn is_left(points: &PointSet, tried: &PointSet, p: Point) -> bool
     ensures { IsTrue result
         ↔ ((p < largest_points) × IsTrue (set.contains points.now p) × (set.contains tried.now p ≡ false)) }
@@ -24,7 +24,7 @@ fn is_left(points: &PointSet, tried: &PointSet, p: Point) -> bool
     usize::from(p) < MAX_POINTS && points.has(p) && !tried.has(p)
 }
 
-/// How many liberties are ordered: a node that is to be read has no more of them.
+/// How many liberties are ordered: a node that is read has no more of them.
 const MOST_ORDERED: usize = 4;
 
 /// A liberty in the order.
@@ -32,23 +32,23 @@ const MOST_ORDERED: usize = 4;
 struct Ordered {
     /// The liberty.
     point: Point,
-    /// One more than its empty sides; 0 where no liberty came.
+    /// One more than the number of its empty neighbours; 0 if the place has no liberty.
     rank: u16,
 }
 
-/// The order in which the points of a node are tried. It is free inside the tree, so no clause speaks of it.
+/// The order in which the points of a node are tried. Any order gives the same answer, so no clause speaks of it.
 #[derive(Clone, Copy, Debug, PartialEq, Eq)]
 pub struct TryOrder {
-    /// The point that is tried first, where it is one of the node's.
+    /// The point that is tried first, if it is one of the node's.
     first: Point,
-    /// Whether the liberties were ordered: they are once a node, and only where the first point does not do.
+    /// Whether the liberties are ordered. This is done once a node, and only if the first point does not do.
     is_found: bool,
-    /// The liberties with more empty sides first, the least first among equals.
+    /// The liberties with more empty neighbours first; among equals the lowest point first.
     liberties: [Ordered; MOST_ORDERED],
 }
 
 impl TryOrder {
-    /// The order that begins with this point, and whose liberties are still to be found.
+    /// The order that begins with `first`, and whose liberties are still to be found.
     pub fn beginning_with(first: Point) -> Self {
         let nothing = Ordered { point: 0, rank: 0 };
         TryOrder {
@@ -58,8 +58,8 @@ impl TryOrder {
         }
     }
 
-    /// Puts a liberty after those of its rank and before those of lower rank; the last drops out where all places are
-    /// taken.
+    /// Puts a liberty after the liberties of its rank and before those of lower rank. If all places are taken, the last
+    /// one drops out.
     fn put(&mut self, point: Point, rank: u16) {
         let mut moved = Ordered { point, rank };
         for place in 0..MOST_ORDERED {
@@ -71,7 +71,7 @@ impl TryOrder {
         }
     }
 
-    /// The first liberty in the order that is a point of the set and was not tried.
+    /// The first liberty in the order that is a point of `points` and was not tried.
     fn first_left(&self, points: &PointSet, tried: &PointSet) -> Option<Point>
         ensures { IfSome result (λ p. (p < largest_points) × IsTrue (set.contains points.now p)
             × (set.contains tried.now p ≡ false)) }
@@ -85,8 +85,8 @@ impl TryOrder {
         None
     }
 
-    /// Orders the known liberties of the target that are points of the set, by their empty sides. One alone needs no
-    /// order.
+    /// Orders the known liberties of the target that are in `points` by the number of their empty neighbours. A lone
+    /// liberty needs no order.
     fn find<L: Look>(&mut self, board: &mut Trial<L>, points: &PointSet, known: &PointSet)
         requires { (p : ℕ) → IsTrue (set.contains points.now p)
             → p < (L.shows board.old.look).size * (L.shows board.old.look).size }
@@ -110,7 +110,7 @@ impl TryOrder {
     }
 }
 
-/// The first point of the set that was not tried.
+/// The first point of `points` that was not tried.
 fn first_left(points: &PointSet, tried: &PointSet) -> Option<Point>
     ensures some { IfSome result (λ p. (p < largest_points) × IsTrue (set.contains points.now p)
         × (set.contains tried.now p ≡ false)) }
@@ -126,8 +126,8 @@ fn first_left(points: &PointSet, tried: &PointSet) -> Option<Point>
     None
 }
 
-/// A point that was not tried, None where each was: the one that the order begins with, or else the first of its
-/// liberties, or else the first of the set.
+/// A point of `points` that was not tried, or `None` if each was: the point that the order begins with, or else the
+/// first of its liberties, or else the first of `points`.
 pub fn next_to_try<L: Look>(
     board: &mut Trial<L>,
     points: &PointSet,
@@ -157,7 +157,7 @@ pub fn next_to_try<L: Look>(
     }
 }
 
-/// The attacker's play that had its way last: p, where he made it, and else the one before.
+/// The attacker's play that last had its way: `p` if the attacker made it, else the play `before`.
 pub fn last_reply(attacker: bool, p: Point, before: Point) -> Point
     ensures { result ≡ (if attacker then p else before) }
 {

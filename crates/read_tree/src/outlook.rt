@@ -21,7 +21,7 @@ use wider_moves::sides::add_sides;
 /// How many liberties a string in atari has.
 const IN_ATARI: u16 = 1;
 
-/// The cell of a stone of the colour.
+/// The cell of a stone of this colour.
 pub fn stone_of(colour: Colour) -> Cell
     ensures { result ≡ stone_of colour }
 {
@@ -31,8 +31,8 @@ pub fn stone_of(colour: Colour) -> Cell
     }
 }
 
-/// Whether the target would be taken for good: the tree is the stated one, or a neighbour of its point holds a stone of
-/// its colour, which is taken with it. A lone stone may be taken back.
+/// Whether a target taken now is taken for good: the tree is the stated one, or a neighbour of the target's point holds
+/// a stone of its colour, which is taken with it. A lone stone may be taken back.
 fn is_taken_for_good<L: Look>(board: &mut Trial<L>, turn: Turn) -> bool
     requires { turn.target < (L.shows board.old.look).size * (L.shows board.old.look).size }
     ensures stays { Stays L.shows L.seen board.old board.new }
@@ -50,7 +50,7 @@ fn is_taken_for_good<L: Look>(board: &mut Trial<L>, turn: Turn) -> bool
     own.first_from(0).is_some()
 }
 
-/// Whether it is the attacker's turn and he may play at the only liberty of the target, which takes it.
+/// Whether it is the attacker's turn and he may play at the only liberty of the target, which takes the target.
 fn can_fill<L: Look>(board: &mut Trial<L>, turn: Turn, liberties: &PointSet) -> bool
     requires target { turn.target < (L.shows board.old.look).size * (L.shows board.old.look).size }
     requires liberties { liberties.now ≡ liberty_points (L.shows board.old.look).size
@@ -89,9 +89,9 @@ pub fn can_take<L: Look>(board: &mut Trial<L>, turn: Turn, liberties: &PointSet)
     can_fill(board, turn, liberties) && is_taken_for_good(board, turn)
 }
 
-/// Whether it is the defender's turn, the target is his and in atari, and a ply is left after his move. Then the
-/// attacker takes it, unless the defender plays at its liberty or takes an enemy string next to it; and in the wider
-/// tree it is no lone stone, which might be taken back.
+/// Whether it is the defender's turn, the target is his and in atari, a ply is left after his move, and the target is
+/// taken for good if it is taken. Then the attacker takes it, unless the defender plays at its liberty or takes an
+/// enemy string next to it.
 pub fn is_in_atari<L: Look>(board: &mut Trial<L>, turn: Turn, plies: u8, known: &PointSet) -> bool
     requires target { turn.target < (L.shows board.old.look).size * (L.shows board.old.look).size }
     requires liberties { (pos : BoardState) → Agrees (L.seen board.old.look) pos
@@ -109,8 +109,8 @@ pub fn is_in_atari<L: Look>(board: &mut Trial<L>, turn: Turn, plies: u8, known: 
     board.cell(turn.target) == stone_of(turn.defender) && is_taken_for_good(board, turn)
 }
 
-/// The liberties of the target, with `plies` plies left; where they are too many, a part of them that is too many
-/// already. No more of its string is searched once that is seen.
+/// The liberties of the target, with `plies` plies left; if they are too many, a part of them that is too many already.
+/// The search of the string stops there.
 pub fn liberties_within<L: Look>(board: &mut Trial<L>, turn: Turn, plies: u8) -> PointSet
     requires { turn.target < (L.shows board.old.look).size * (L.shows board.old.look).size }
     ensures stays { Stays L.shows L.seen board.old board.new }
@@ -129,13 +129,14 @@ pub fn liberties_within<L: Look>(board: &mut Trial<L>, turn: Turn, plies: u8) ->
 pub enum Outlook {
     /// The target is not captured: it has too many liberties.
     Safe,
-    /// The attacker takes it now.
+    /// The attacker takes the target now.
     Taken,
-    /// It is to be read.
+    /// The node has to be read.
     Open,
 }
 
-/// What is known of a node by the target's liberties, with `plies` plies left. They are handed in, or too many of them.
+/// What is known of a node by the target's liberties, with `plies` plies left. `known` are the liberties, or too many
+/// of them.
 pub fn outlook_of<L: Look>(board: &mut Trial<L>, turn: Turn, plies: u8, known: &PointSet) -> Outlook
     requires target { turn.target < (L.shows board.old.look).size * (L.shows board.old.look).size }
     requires liberties { (pos : BoardState) → Agrees (L.seen board.old.look) pos

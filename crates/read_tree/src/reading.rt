@@ -34,10 +34,10 @@ use read_moves::candidates;
 use read_rules::{Answer, Depths, Kind, ReadingQuestion, Spot, Tree, Turn};
 use trial_board::Trial;
 
-/// From how many plies on a reading remembers nodes.
+/// A reading of at least this many plies remembers nodes.
 const PLIES_WITH_TABLE: u8 = 12;
 
-/// The best answer so far, or the move, where it has its way under some of the allowances of greater codes.
+/// The best answer so far; or the move `spot`, if it has its way under some allowances, `good`, of greater codes.
 fn better(best: Answer, attack: bool, good: Allowances, spot: Spot) -> Answer
     ensures is { result ≡ better best attack good spot }
     ensures code { best.code ≤ 3 → result.code ≤ 3 }
@@ -52,8 +52,8 @@ fn better(best: Answer, attack: bool, good: Allowances, spot: Spot) -> Answer
     }
 }
 
-/// The answer by the candidates in reading order, from the best answer so far: each is asked only for the codes above
-/// the best.
+/// The best answer after the candidates in reading order, beginning with the best answer so far, `first`. Each
+/// candidate is asked only for the codes above the best.
 fn best_point<L: Look>(
     board: &mut Trial<L>,
     turn: Turn,
@@ -92,7 +92,7 @@ fn best_point<L: Look>(
     best
 }
 
-/// The answer where the target has too many liberties: an attack fails, and no defence is needed.
+/// The answer if the target has too many liberties: an attack fails, and no defence is needed.
 fn unread(attack: bool) -> Answer
     ensures { result ≡ unread attack }
 {
@@ -106,8 +106,8 @@ fn unread(attack: bool) -> Answer
     }
 }
 
-/// The answer to a question that is about the position, where the target's liberties are known and not too many. The
-/// table remembers attacker's nodes of this reading.
+/// The answer to a question that is about the position, if the target's liberties are known and not too many. The table
+/// remembers attacker's nodes of this reading.
 fn read_by<L: Look>(
     board: &mut Trial<L>,
     question: &ReadingQuestion,
@@ -137,7 +137,7 @@ fn read_by<L: Look>(
     best_point(board, turn, plies, best, known, &mut memory)
 }
 
-/// The same with a table, which is made here: it is large, and a short reading is not to pay for it.
+/// The answer, read with a table. The table is made here: it is large, and a short reading should not pay for it.
 #[inline(never)]
 fn read_with_table<L: Look>(
     board: &mut Trial<L>,
@@ -151,7 +151,7 @@ fn read_with_table<L: Look>(
     read_by(board, question, known, &mut table)
 }
 
-/// The same with a smaller table.
+/// The answer, read with a smaller table, which is made here.
 #[inline(never)]
 fn read_with_smaller_table<L: Look>(
     board: &mut Trial<L>,
@@ -165,7 +165,7 @@ fn read_with_smaller_table<L: Look>(
     read_by(board, question, known, &mut table)
 }
 
-/// The same with a table where there are plies enough, and without one where it would cost more than it saves.
+/// The answer, read with a table if there are plies enough, and without one if a table would cost more than it saves.
 fn read_known<L: Look>(board: &mut Trial<L>, question: &ReadingQuestion, known: &PointSet) -> Answer
     requires { IsToRead L.shows L.seen board.old question.now known.now }
     ensures { Answers L.shows L.seen board.old board.new question.now result }
@@ -179,8 +179,8 @@ fn read_known<L: Look>(board: &mut Trial<L>, question: &ReadingQuestion, known: 
     }
 }
 
-/// The answer to a question whose target has few liberties, read on a board of its own. That board is large, and a
-/// question that needs none is not to pay for it.
+/// The answer to a question whose target has few liberties, read on a board of its own. The board is large, and a
+/// question that needs none should not pay for it.
 #[inline(never)]
 fn read_through<L: Look>(look: L, question: ReadingQuestion, liberties: PointSet) -> Report<L>
     requires { IsToRead L.shows L.seen (untried look) question liberties }
@@ -197,8 +197,8 @@ fn read_through<L: Look>(look: L, question: ReadingQuestion, liberties: PointSet
 }
 
 /// Reads a question about a stone of the position that the view shows: the answer, how many plays were tried, and the
-/// view with what was looked at. `attack` and `defend` make their question from the stone and read it so; who keeps
-/// questions hands over the one that is kept.
+/// view with what was looked at. `attack` and `defend` make their question from a stone; a caller with a cache of
+/// questions calls `read` with its own.
 pub fn read<L: Look>(look: L, question: ReadingQuestion) -> Report<L>
     requires size { question.size ≡ (L.shows look).size }
     requires on_board { question.target < question.size * question.size }
@@ -225,7 +225,7 @@ pub fn read<L: Look>(look: L, question: ReadingQuestion) -> Report<L>
         × AddsIn (L.seen look) (L.seen result.look)
         (neighbourhood_of (L.shows look).size (L.shows look).cells (alone question.target)) }
 
-    // On each of these positions the points looked at lie in the active area of the reading.
+    // On every position that agrees with these facts, the points looked at lie in the active area of the reading.
     ensures near { (pos : BoardState) → Agrees (L.seen result.look) pos
         → AddsNear (L.seen look) (L.seen result.look) (InActiveArea question pos) }
 {
@@ -244,7 +244,7 @@ pub fn read<L: Look>(look: L, question: ReadingQuestion) -> Report<L>
     read_through(look, question, liberties)
 }
 
-/// The question of this kind about the stone at the target.
+/// The question of this `kind` about the stone at `target`.
 fn asked<L: Look>(look: &mut L, kind: Kind, target: Point, depths: Depths) -> ReadingQuestion
     requires on_board { target < (L.shows look.old).size * (L.shows look.old).size }
     requires stone { cell_at (L.shows look.old).cells target ≢ Cell.Empty }
@@ -264,7 +264,7 @@ fn asked<L: Look>(look: &mut L, kind: Kind, target: Point, depths: Depths) -> Re
     }
 }
 
-/// Reads the question of this kind about the stone at the target.
+/// Reads the question of this `kind` about the stone at `target`.
 fn answered<L: Look>(look: L, kind: Kind, target: Point, depths: Depths) -> Report<L>
     requires on_board { target < (L.shows look).size * (L.shows look).size }
     requires stone { cell_at (L.shows look).cells target ≢ Cell.Empty }
@@ -292,9 +292,9 @@ fn answered<L: Look>(look: L, kind: Kind, target: Point, depths: Depths) -> Repo
 
 /// Reads whether the string at `target` can be captured when the attacker plays first.
 ///
-/// The code is 3 where it is captured even if the defender may ignore the ko ban once, 2 where neither side may, 1
-/// where the attacker may once, and 0 otherwise. The move is the first in reading order that attains the code. Takes no
-/// memory.
+/// The code is 3 if it is captured even if the defender may ignore the ko ban once, 2 if it is captured when neither
+/// side may, 1 if only when the attacker may once, and 0 otherwise. The move is the first in reading order that attains
+/// the code. Takes no memory.
 ///
 /// After GNU Go Manual, "Tactical reading", on return codes; the tree itself is this project's own.
 pub fn attack<L: Look>(look: L, target: Point, depths: Depths) -> Report<L>
@@ -323,7 +323,7 @@ pub fn attack<L: Look>(look: L, target: Point, depths: Depths) -> Report<L>
         × AddsIn (L.seen look) (L.seen result.look)
         (neighbourhood_of (L.shows look).size (L.shows look).cells (alone target)) }
 
-    // On each of these positions the points looked at lie in the active area of the reading.
+    // On every position that agrees with these facts, the points looked at lie in the active area of the reading.
     ensures near { (pos : BoardState) → Agrees (L.seen result.look) pos
         → AddsNear (L.seen look) (L.seen result.look)
         (InActiveArea (asked_in depths.tree (L.shows look) Kind.Attack target depths.plies depths.wide) pos) }
@@ -333,9 +333,9 @@ pub fn attack<L: Look>(look: L, target: Point, depths: Depths) -> Report<L>
 
 /// Reads whether the string at `target` can be saved when the defender plays first.
 ///
-/// The code is 3 where it is saved even if the attacker may ignore the ko ban once, 2 where neither side may, 1 where
-/// the defender may once, and 0 otherwise. The move is the pass where no stone need be added, else the first in reading
-/// order that attains the code. Takes no memory.
+/// The code is 3 if it is saved even if the attacker may ignore the ko ban once, 2 if it is saved when neither side
+/// may, 1 if only when the defender may once, and 0 otherwise. The move is the pass if no stone need be added, else the
+/// first in reading order that attains the code. Takes no memory.
 ///
 /// After GNU Go Manual, "Tactical reading", on return codes; the tree itself is this project's own.
 pub fn defend<L: Look>(look: L, target: Point, depths: Depths) -> Report<L>
@@ -364,7 +364,7 @@ pub fn defend<L: Look>(look: L, target: Point, depths: Depths) -> Report<L>
         × AddsIn (L.seen look) (L.seen result.look)
         (neighbourhood_of (L.shows look).size (L.shows look).cells (alone target)) }
 
-    // On each of these positions the points looked at lie in the active area of the reading.
+    // On every position that agrees with these facts, the points looked at lie in the active area of the reading.
     ensures near { (pos : BoardState) → Agrees (L.seen result.look) pos
         → AddsNear (L.seen look) (L.seen result.look)
         (InActiveArea (asked_in depths.tree (L.shows look) Kind.Defend target depths.plies depths.wide) pos) }

@@ -1,14 +1,14 @@
-//! What a reading hands back.
+//! What a reading returns.
 
 use read_rules::Answer;
 
-/// What a reading found, how many plays it tried, and its view of the position, handed back as it is then.
+/// What a reading found, how many plays it tried, and its view of the position as it is after the reading.
 #[derive(Drop)]
 pub struct Report<L> {
     /// The code and the first move that attains it.
     pub answer: Answer,
     /// How many trial plays were made.
     pub trials: u64,
-    /// The view that was handed in; what the reading looked at is among its facts.
+    /// The view that the caller passed in; what the reading looked at is among its facts.
     pub look: L,
 }

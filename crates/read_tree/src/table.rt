@@ -1,5 +1,5 @@
-//! What a reading remembers of the attacker's nodes, so that a node that is met again by other plays is not read again.
-//! The table has its storage in place, takes no memory, and lives for one reading.
+//! What a reading remembers of the attacker's nodes, so that it does not read a node again that other plays lead to.
+//! The table is an array, takes no memory from an allocator, and lives for one reading.
 
 ghost use Rattle.std.specs.Prelude.{◌≡◌, ℕ, Bool, true, ◌<◌, length, replicate};
 ghost use Rattle.go_rules.specs.declared.Colour.{Colour};
@@ -16,20 +16,22 @@ use go_base::bits::WORDS;
 use go_base::{Colour, Point};
 use trial_board::Changes;
 
-/// How many nodes are remembered at most.
+/// How many nodes a table remembers at most.
 pub const ENTRIES: usize = 4096;
 
-/// How many in the stated tree, which has fewer nodes: to make a larger table takes longer than most of its readings.
+/// How many nodes a smaller table remembers at most. A question in the stated tree is read with a smaller table: that
+/// tree has fewer nodes, and making a larger table takes longer than most of its readings.
 pub const FEWER_ENTRIES: usize = 1024;
 
-/// How many places a node may have; of the nodes there the one stays that was read with most plies.
+/// How many places a node may have. If they all hold other nodes, the node that was read with the fewest plies is
+/// replaced.
 const PLACES: usize = 4;
 
-/// A node at the attacker's turn, by what the trial moves changed of the position that is read. Tree, target and
-/// defender are those of the reading.
+/// A node at the attacker's turn, described by what the trial moves changed of the position that is read. Its tree,
+/// target and defender are those of the reading.
 #[derive(Clone, Copy, Debug, PartialEq, Eq)]
 pub struct AttackerNode {
-    /// What the trial moves changed, the ban among it.
+    /// What the trial moves changed; the ban is part of it.
     pub changes: Changes,
     /// How many plies are left after the attacker's play.
     pub plies: u8,
@@ -42,27 +44,27 @@ pub struct AttackerNode {
 pub struct Verdict {
     /// The allowances under which it is known whether the attacker has his way.
     pub known: Allowances,
-    /// Those under which he has; it counts only for those that are known.
+    /// The allowances under which he has his way; only those that are also in `known` count.
     pub good: Allowances,
 }
 
-/// What is remembered of an attacker's node, with whatever plies are left.
+/// What is remembered of an attacker's node, for any number of plies left.
 #[derive(Clone, Copy, Debug, PartialEq, Eq)]
 pub struct Entry {
     /// What the trial moves changed.
     pub changes: Changes,
     /// How many wide plies are left.
     pub wide: u8,
-    /// What is known under the allowance by which the defender may.
+    /// What is known if the defender may ignore the ban.
     pub defender: KnownPlies,
-    /// Under the one by which neither side may.
+    /// What is known if neither side may ignore the ban.
     pub neither: KnownPlies,
-    /// Under the one by which the attacker may.
+    /// What is known if the attacker may ignore the ban.
     pub attacker: KnownPlies,
 }
 
 impl Verdict {
-    /// Nothing is known.
+    /// A verdict that knows nothing.
     pub fn nothing() -> Verdict
         ensures { (seen : Fact → Bool) (tree : Tree) (target : ℕ) (defender : Colour) (node : AttackerNode)
             → IsTrueOf seen tree target defender node result }
@@ -73,7 +75,7 @@ impl Verdict {
         }
     }
 
-    /// The same, and what was found for some that were not known.
+    /// This verdict, and what was found for the allowances `missing`: the attacker has his way under those in `found`.
     pub fn with(self, missing: Allowances, found: Allowances) -> Verdict
         ensures { result ≡ record {
           known = either self.known missing;
@@ -88,7 +90,7 @@ impl Verdict {
 }
 
 impl Entry {
-    /// Nothing is known of the node.
+    /// An entry of the node that knows nothing.
     fn nothing_of(node: &AttackerNode) -> Entry
         ensures changes { result.changes ≡ node.now.changes }
         ensures wide { result.wide ≡ node.now.wide }
@@ -104,14 +106,14 @@ impl Entry {
         }
     }
 
-    /// Whether it is about the node.
+    /// Whether the entry is about the node.
     fn is_of(&self, node: &AttackerNode) -> bool
         ensures { result ≡ true → (self.now.changes ≡ node.now.changes) × (self.now.wide ≡ node.now.wide) }
     {
         self.wide == node.wide && self.changes == node.changes
     }
 
-    /// What is known with so many plies left.
+    /// What the entry knows with `plies` plies left.
     fn with_plies(&self, plies: u8) -> Verdict
         ensures { (seen : Fact → Bool) (tree : Tree) (target : ℕ) (defender : Colour)
             → IsTrueEntry seen tree target defender self.now
@@ -132,7 +134,7 @@ impl Entry {
         }
     }
 
-    /// The same, and what was found with so many plies left.
+    /// This entry, and what `verdict` says with `plies` plies left.
     fn with(&self, plies: u8, verdict: Verdict) -> Entry
         ensures { (seen : Fact → Bool) (tree : Tree) (target : ℕ) (defender : Colour)
             → IsTrueEntry seen tree target defender self.now
@@ -151,7 +153,7 @@ impl Entry {
         }
     }
 
-    /// The plies that something is known of: the more, the dearer it was to find.
+    /// How many plies the knowledge of the entry reaches: the more, the longer it took to find.
     fn depth(&self) -> u8 {
         self.defender
             .depth()
@@ -160,7 +162,8 @@ impl Entry {
     }
 }
 
-/// What is known once it was found, if it was, whether the attacker has his way with so many plies.
+/// What is known after a reading with `plies` plies. If it was `found`, `good` says whether the attacker has his way;
+/// else nothing new is known.
 fn learnt(before: KnownPlies, plies: u8, found: bool, good: bool) -> KnownPlies
     ensures { (won : ℕ → Bool) → IsMonotone won → IsTrueKnown won before → (found ≡ true → good ≡ won plies)
         → IsTrueKnown won result }
@@ -172,14 +175,14 @@ fn learnt(before: KnownPlies, plies: u8, found: bool, good: bool) -> KnownPlies
     }
 }
 
-/// A table of this entry alone.
+/// A table that has `entry` in every place.
 fn filled_with(entry: Entry) -> [Entry; ENTRIES]
     ensures { result ≡ replicate 4096 entry }
 {
     [entry; ENTRIES]
 }
 
-/// A table of no nodes, of which nothing is known.
+/// A table that knows nothing of any node.
 pub fn empty_table() -> [Entry; ENTRIES]
     ensures { (seen : Fact → Bool) (tree : Tree) (target : ℕ) (defender : Colour)
         → IsTrueTable seen tree target defender result }
@@ -191,14 +194,14 @@ pub fn empty_table() -> [Entry; ENTRIES]
     }))
 }
 
-/// A smaller table of this entry alone.
+/// A smaller table that has `entry` in every place.
 fn fewer_filled_with(entry: Entry) -> [Entry; FEWER_ENTRIES]
     ensures { result ≡ replicate 1024 entry }
 {
     [entry; FEWER_ENTRIES]
 }
 
-/// A smaller table of no nodes, of which nothing is known.
+/// A smaller table that knows nothing of any node.
 pub fn smaller_table() -> [Entry; FEWER_ENTRIES]
     ensures { (seen : Fact → Bool) (tree : Tree) (target : ℕ) (defender : Colour)
         → IsTrueTable seen tree target defender result }
@@ -215,7 +218,7 @@ fn mixed(number: u64, word: u64) -> u64 {
     (number.rotate_left(5) ^ word).wrapping_mul(0x517c_c1b7_2722_0a95)
 }
 
-/// A number by the ban.
+/// A number that stands for the ban.
 fn ban_word(ban: Option<(Point, Colour)>) -> u64 {
     match ban {
         None => 0,
@@ -224,7 +227,7 @@ fn ban_word(ban: Option<(Point, Colour)>) -> u64 {
     }
 }
 
-/// The first of the node's places in a table of so many entries, whatever plies are left.
+/// The first of the node's places in a table of `entries` entries. It does not depend on the plies that are left.
 fn first_place(node: &AttackerNode, entries: usize) -> usize
     requires { 0 < entries }
     ensures { result < entries }
@@ -236,7 +239,7 @@ fn first_place(node: &AttackerNode, entries: usize) -> usize
     ((number ^ (number >> 32)) % entries as u64) as usize
 }
 
-/// The place of the node among its places: that of its entry, or else of the entry that was found with fewest plies.
+/// The place of the node among its places: the place of its entry, or else of the entry that reaches the fewest plies.
 fn place_of(table: &[Entry], node: &AttackerNode) -> usize
     requires { 0 < length table.now }
     ensures { result < length table.now }
@@ -258,7 +261,7 @@ fn place_of(table: &[Entry], node: &AttackerNode) -> usize
     place
 }
 
-/// What the table knows of the node: nothing, if it is in none of its places.
+/// What the table knows of the node: nothing, if none of its places has the node.
 pub fn find(table: &[Entry], node: &AttackerNode) -> Verdict
     requires { 0 < length table.now }
     ensures { (seen : Fact → Bool) (tree : Tree) (target : ℕ) (defender : Colour)
@@ -273,7 +276,7 @@ pub fn find(table: &[Entry], node: &AttackerNode) -> Verdict
     }
 }
 
-/// What the entry knows of the node: nothing, if it is about another.
+/// What the entry knows of the node: nothing, if it is about another node.
 fn entry_of(entry: &Entry, node: &AttackerNode) -> Entry
     ensures changes { result.changes ≡ node.now.changes }
     ensures wide { result.wide ≡ node.now.wide }
@@ -287,7 +290,7 @@ fn entry_of(entry: &Entry, node: &AttackerNode) -> Entry
     }
 }
 
-/// Remembers what is known of the node, with what was known of it before, or in the place of another.
+/// Remembers the verdict on the node: together with what was known of the node before, or in the place of another node.
 pub fn keep(table: &mut [Entry], node: &AttackerNode, verdict: Verdict)
     requires { 0 < length table.old }
     ensures { (seen : Fact → Bool) (tree : Tree) (target : ℕ) (defender : Colour)

@@ -18,7 +18,7 @@ use read_rules::{Node, Turn};
 use trial_board::Trial;
 use wider_moves::sides::add_sides;
 
-/// Whether each neighbour of p holds a stone of the colour that attacks this one.
+/// Whether each neighbour of `p` holds a stone of the colour that attacks `defender`.
 pub fn is_walled_in<L: Look>(board: &mut Trial<L>, p: Point, defender: Colour) -> bool
     requires { p < (L.shows board.old.look).size * (L.shows board.old.look).size }
     ensures stays { Stays L.shows L.seen board.old board.new }
@@ -33,8 +33,8 @@ pub fn is_walled_in<L: Look>(board: &mut Trial<L>, p: Point, defender: Colour) -
     free.first_from(0).is_none()
 }
 
-/// Those of the asked under which the defender can play at the target's point, which is empty and walled in by the
-/// attacker: if the play takes stones, those under which the ban does not forbid it.
+/// Of `asked`, the allowances under which the defender can play at the target's point, which is empty and walled in by
+/// the attacker: none if the play takes no stones, all if the ban does not forbid it, else only the defender's own.
 pub fn may_take_back<L: Look>(board: &mut Trial<L>, turn: Turn, asked: Allowances) -> Allowances
     requires target { turn.target < (L.shows board.old.look).size * (L.shows board.old.look).size }
     requires defender { turn.attacker_to_play ≡ false }
@@ -56,7 +56,8 @@ pub fn may_take_back<L: Look>(board: &mut Trial<L>, turn: Turn, asked: Allowance
     asked
 }
 
-/// The same under the allowances of a node.
+/// Whether the defender can play at the target's point under the allowances of a node. The point is empty and walled in
+/// by the attacker.
 pub fn may_take_back_at<L: Look>(board: &mut Trial<L>, node: Node) -> bool
     requires target { node.turn.target < (L.shows board.old.look).size * (L.shows board.old.look).size }
     requires defender { node.turn.attacker_to_play ≡ false }

@@ -38,8 +38,8 @@ use go_base::{Cell, Look, Point};
 use read_rules::{Tree, Turn};
 use trial_board::Trial;
 
-/// With fewer plies left after the attacker's play his nodes are not remembered: to read them costs less than to find
-/// them. A node of the wider tree has more candidates, so that it pays there sooner.
+/// If fewer plies than this are left after the attacker's play, his node is not remembered: reading it costs less than
+/// finding it in the table. A node of the wider tree has more candidates, so that remembering it pays sooner.
 fn least_plies(tree: Tree) -> u8 {
     match tree {
         Tree::Stated => 4,
@@ -47,8 +47,8 @@ fn least_plies(tree: Tree) -> u8 {
     }
 }
 
-/// The liberties of the target after the play at p, by those before it: an attacker's play that does not take the
-/// target takes no liberty but its own point. None where they are to be found on the board.
+/// The liberties of the target after the play at `p`, from its liberties before it, `known`: an attacker's play that
+/// does not take the target takes no liberty but its own point. `None` if the liberties have to be found on the board.
 #[inline(always)]
 fn liberties_after<L: Look>(
     board: &mut Trial<L>,
@@ -69,8 +69,8 @@ fn liberties_after<L: Look>(
     Some(all_but(known, p))
 }
 
-/// The liberties of the target, with `plies` plies left: those that are known, or else those that are found, where they
-/// are not too many.
+/// The liberties of the target: `known`, or else what is found on the board. If they are too many for `plies`, a part
+/// of them that is too many already.
 fn liberties_known<L: Look>(
     board: &mut Trial<L>,
     turn: Turn,
@@ -92,15 +92,15 @@ fn liberties_known<L: Look>(
     }
 }
 
-/// Those of the asked under which the attacker wins, by those under which the side to play, the attacker or not, has
-/// its way.
+/// Turns the mover's successes into the attacker's: of `asked`, the allowances under which the attacker wins, from
+/// `good`, those under which the mover has its way. The mover is the attacker if `attacker`, else the defender.
 pub fn attackers(attacker: bool, asked: Allowances, good: Allowances) -> Allowances
     ensures { result ≡ (if attacker then good else without asked good) }
 {
     if attacker { good } else { asked.without(good) }
 }
 
-/// Those of the asked under which the side that has moved at `turn` has its way, with `plies` plies left.
+/// Of `asked`, the allowances under which the side that has moved at `turn` has its way, with `plies` plies left.
 #[cycle(read)]
 fn has_way<L: Look>(
     board: &mut Trial<L>,
@@ -126,7 +126,8 @@ fn has_way<L: Look>(
     attackers(turn.attacker_to_play, asked, won)
 }
 
-/// Those of the asked under which the play at p gives the side to play its way, with `plies` plies left after it.
+/// Of `asked`, the allowances under which the play at `p` gives the side to play its way, with `plies` plies left after
+/// it.
 #[cycle(read)]
 pub fn succeeds<L: Look>(
     board: &mut Trial<L>,
@@ -172,9 +173,9 @@ pub fn succeeds<L: Look>(
     }
 }
 
-/// Those of the asked under which a play at some point of the set gives the side to play its way, with `plies` plies
-/// left after it. The attacker's play that had its way last comes first, and then the liberties with more empty sides.
-/// A point is asked only for what those before it left.
+/// Of `asked`, the allowances under which a play at some point of the set gives the side to play its way, with `plies`
+/// plies left after it. The attacker's play that last had its way comes first, and then the liberties with more empty
+/// neighbours. A point is asked only for the allowances that the points before it left.
 #[cycle(read)]
 fn some_of<L: Look>(
     board: &mut Trial<L>,
@@ -210,7 +211,8 @@ fn some_of<L: Look>(
 }
 
 /// Of `asked`, the allowances under which a later candidate, neither a liberty of the target nor a capture, gives the
-/// side to play its way, with `plies` plies left after it. No later candidate saves a target in atari.
+/// side to play its way, with `plies` plies left after it: none for a defender if `is_in_atari` says that the attacker
+/// then takes the target.
 #[cycle(read)]
 fn some_later<L: Look>(
     board: &mut Trial<L>,
@@ -240,8 +242,8 @@ fn some_later<L: Look>(
 }
 
 /// Of `asked`, the allowances under which a candidate off the liberties of the target gives the side to play its way,
-/// with `plies` plies left after it: none if such an attacker's play leaves too many liberties. The captures are tried
-/// first; the later candidates are found only if these leave something.
+/// with `plies` plies left after it: none if an attacker's play off these liberties leaves the target too many. The
+/// captures are tried first; the later candidates are found only if the captures leave something.
 #[cycle(read)]
 fn some_other<L: Look>(
     board: &mut Trial<L>,
@@ -271,8 +273,9 @@ fn some_other<L: Look>(
     asked.without(missing.without(later))
 }
 
-/// Those of the asked under which some candidate gives the side to play its way, with `plies` plies left after it. The
-/// liberties of the target are tried first; the other candidates are found only where these leave something.
+/// Of `asked`, the allowances under which some candidate gives the side to play its way, with `plies` plies left after
+/// it. The liberties of the target are tried first; the other candidates are found only if the liberties leave
+/// something.
 #[cycle(read)]
 fn some_success<L: Look>(
     board: &mut Trial<L>,
@@ -298,8 +301,9 @@ fn some_success<L: Look>(
     asked.without(missing.without(rest))
 }
 
-/// The same for the attacker, by the table: what it knows of the node is not read again, and what is read is
-/// remembered. Near the end of the reading a node is read sooner than it is found.
+/// Of `asked`, the allowances under which some candidate gives the attacker his way, with `plies` plies left after it.
+/// What the table knows of the node is not read again, and what is read is remembered. Near the end of the reading no
+/// table is used, since reading a node is faster than finding it.
 #[cycle(read)]
 fn some_by_table<L: Look>(
     board: &mut Trial<L>,
@@ -339,8 +343,8 @@ fn some_by_table<L: Look>(
     asked.both(verdict.good)
 }
 
-/// Those of the asked under which the defender's pass saves the target, with `plies` plies left after it: none where it
-/// is in atari.
+/// Of `asked`, the allowances under which the defender's pass saves the target, with `plies` plies left after it: none
+/// if `is_in_atari` says that the attacker then takes the target.
 #[cycle(read)]
 #[tactic(auto, using(crate::proofs::TableLemmas::table_more))]
 pub fn pass_saves<L: Look>(
@@ -405,8 +409,8 @@ fn some_capture_or_liberty<L: Look>(
 ///
 /// He tries the captures, the liberties of the target, the pass, and the later candidates, in this order. If the target
 /// can be saved, a capture or a liberty mostly does it. To read the pass is to read all of the attacker's candidates,
-/// so it comes after them. The later candidates are dear to find, and few of them save the target. The order changes no
-/// answer.
+/// so it comes after them. The later candidates take long to find, and few of them save the target. The order changes
+/// no answer.
 #[cycle(read)]
 fn defender_has_good_move<L: Look>(
     board: &mut Trial<L>,
@@ -465,9 +469,9 @@ fn has_good_move<L: Look>(
     defender_has_good_move(board, turn, plies, asked, known, memory)
 }
 
-/// Those of the asked under which the target, whose point is empty, is captured, with `plies` plies left: all, if no
-/// lone stone of the defender was taken in the wider tree; else those under which he cannot take back, or a ply is left
-/// for it and the attacker wins after it.
+/// Of `asked`, the allowances under which the target, whose point is empty, is captured, with `plies` plies left. They
+/// are all, if no lone stone of the defender was taken in the wider tree. Else they are those under which the defender
+/// cannot take back, or a ply is left for taking back and the attacker wins afterwards.
 #[cycle(read)]
 fn taken<L: Look>(
     board: &mut Trial<L>,
@@ -507,7 +511,7 @@ fn taken<L: Look>(
     asked.without(back)
 }
 
-/// Those of the asked under which the target is captured, with `plies` plies left.
+/// Of `asked`, the allowances under which the target is captured, with `plies` plies left.
 #[cycle(read)]
 pub fn attacker_wins<L: Look>(
     board: &mut Trial<L>,

@@ -25,8 +25,8 @@ fn surely_wins(position: &Position, node: Node, plies: u8) -> bool
     zone_of(position, node, plies).is_some()
 }
 
-/// Whether the mover's play at p can be made, and with `plies` plies left after it the target is surely captured if the
-/// attacker played, and is not if the defender did.
+/// Whether the mover's play at `p` can be made and succeeds: with `plies` plies left after it the target is surely
+/// captured if the attacker played, and is not if the defender did.
 fn succeeds(position: &Position, node: Node, p: Point, plies: u8) -> bool
     requires target { node.turn.target < position.now.size * position.now.size }
     requires on_board { p < position.now.size * position.now.size }
@@ -38,8 +38,9 @@ fn succeeds(position: &Position, node: Node, p: Point, plies: u8) -> bool
     }
 }
 
-/// The first point in reading order, of those that are tried, that succeeds with `plies` plies left after it. Only these
-/// points are read: each of them is tried, and of the others none succeeds.
+/// The first point in reading order, of those that the mover may try, whose play succeeds with `plies` plies left after
+/// it. Only the points of `points` are read: the mover may try each of them, and no other point that he may try
+/// succeeds.
 fn first_of(position: &Position, node: Node, points: &PointSet, plies: u8) -> Option<Point>
     requires target { node.turn.target < position.now.size * position.now.size }
     requires tried { (p : ℕ) → set.contains points.now p ≡ true → is_tried node position.now p ≡ true }
@@ -58,8 +59,8 @@ fn first_of(position: &Position, node: Node, points: &PointSet, plies: u8) -> Op
     None
 }
 
-/// The attacker's first move that succeeds with `plies` plies left after it; none if the target has too many liberties
-/// for him.
+/// The attacker's first move that succeeds with `plies` plies left after it; `None` if there is none, or if the target
+/// has too many liberties for him.
 fn attackers_move(position: &Position, node: Node, plies: u8) -> Option<Spot>
     requires target { node.turn.target < position.now.size * position.now.size }
     requires turn { is_attackers node ≡ true }
@@ -75,7 +76,7 @@ fn attackers_move(position: &Position, node: Node, plies: u8) -> Option<Spot>
 }
 
 /// The defender's first move that succeeds with `plies` plies left after it: the pass before all points. If the pass
-/// fails, only the replies are read that its zone asks for, since the others fail as it does.
+/// fails, only the replies that its zone asks for are read, since every other reply fails as the pass does.
 fn defenders_move(position: &Position, node: Node, plies: u8) -> Option<Spot>
     requires target { node.turn.target < position.now.size * position.now.size }
     requires turn { is_attackers node ≡ false }
@@ -94,7 +95,7 @@ fn defenders_move(position: &Position, node: Node, plies: u8) -> Option<Spot>
     }
 }
 
-/// The first move that succeeds under the allowances of a code.
+/// The first move that succeeds under the ko allowances of `code`.
 fn move_under(position: &Position, question: &ReadingQuestion, code: u8) -> Option<Spot>
     requires target { question.now.target < position.now.size * position.now.size }
     requires plies { 0 < question.now.plies }
@@ -109,8 +110,8 @@ fn move_under(position: &Position, question: &ReadingQuestion, code: u8) -> Opti
     }
 }
 
-/// The sure answer to a question. The code that most answers have is read first. Each code lies within the one below it,
-/// so a question without code 1 has none.
+/// The sure answer to a question. Code 3 is read first, since most answers have it. A question that attains a code
+/// attains each lower one, so a question that does not attain code 1 has code 0.
 fn answer_on(position: &Position, question: &ReadingQuestion) -> Answer
     requires target { question.now.target < position.now.size * position.now.size }
     requires plies { 0 < question.now.plies }
@@ -141,7 +142,7 @@ fn answer_on(position: &Position, question: &ReadingQuestion) -> Answer
     }
 }
 
-/// The sure answer to the question of this kind about the stone at the target.
+/// The sure answer to the question of this kind about the stone at `target`.
 fn answered(position: &Position, kind: Kind, target: Point, depths: Depths) -> Answer
     requires on_board { target < position.now.size * position.now.size }
     requires stone { cell_at position.now.cells target ≢ Cell.Empty }
@@ -155,13 +156,13 @@ fn answered(position: &Position, kind: Kind, target: Point, depths: Depths) -> A
     answer_on(position, &question)
 }
 
-/// Reads by zones whether the string at `target` is surely captured when the attacker plays first: whatever the defender
-/// plays within the plies, at whatever point of the board.
+/// Reads by zones whether the string at `target` is surely captured when the attacker plays first: whatever the
+/// defender plays within the plies, at any point of the board.
 ///
 /// The answer is that of `read_sure::sure_attack`, and is found much sooner: the code is 3 if the string is captured
 /// even if the defender may ignore the ko ban once, 2 if neither side may, 1 if the attacker may once, and 0 if no
-/// capture is sure, and the move is the first in reading order that attains it. It is an answer about this position
-/// alone, and tells no facts on which it rests.
+/// capture is sure, and the move is the first in reading order that attains it. The answer is about this position
+/// alone, and comes without the facts on which it rests.
 pub fn sure_attack(position: &Position, target: Point, depths: Depths) -> Answer
     requires on_board { target < position.now.size * position.now.size }
     requires stone { cell_at position.now.cells target ≢ Cell.Empty }
@@ -174,13 +175,13 @@ pub fn sure_attack(position: &Position, target: Point, depths: Depths) -> Answer
     answered(position, Kind::Attack, target, depths)
 }
 
-/// Reads by zones whether the string at `target` is surely not to be saved when the defender plays first.
+/// Reads by zones whether the string at `target` is surely captured even when the defender plays first.
 ///
 /// The answer is that of `read_sure::sure_defend`, and is found much sooner: the code is 0 if the string is captured
-/// whatever the defender plays, even if he may ignore the ko ban once. Else the capture is not sure, and the code is 3 if
-/// it is not sure even if the attacker may ignore the ko ban once, 2 if neither side may, and 1 if the defender may once.
-/// The move is the first after which the capture is not sure: the pass if it is one, else the first in reading order. It
-/// is an answer about this position alone, and tells no facts on which it rests.
+/// whatever the defender plays, even if he may ignore the ko ban once. Else the capture is not sure, and the code is 3
+/// if it is not sure even if the attacker may ignore the ko ban once, 2 if neither side may, and 1 if the defender may
+/// once. The move is the first after which the capture is not sure: the pass if it is such a move, else the first in
+/// reading order. The answer is about this position alone, and comes without the facts on which it rests.
 pub fn sure_defend(position: &Position, target: Point, depths: Depths) -> Answer
     requires on_board { target < position.now.size * position.now.size }
     requires stone { cell_at position.now.cells target ≢ Cell.Empty }

@@ -1,6 +1,6 @@
-//! Finds sure captures with the points on which they rest. A reply of the defender that changes nothing on which the
-//! capture after his pass rests fails as the pass does, so only the others are read. `sure_attack` and `sure_defend`
-//! answer questions so, about one position.
+//! Finds sure captures together with the points on which they rest, their zones. If a reply of the defender changes
+//! nothing on which the capture after his pass rests, it fails as the pass does, so only the other replies are read.
+//! `sure_attack` and `sure_defend` answer questions about one position in this way.
 #![tactic(auto)]
 
 mod answers;

@@ -1,4 +1,5 @@
-//! What is looked at to show a play, the attacker's candidates, or that no reply but those that are read captures.
+//! Looks at a board with trial moves: at the result of a play, at the target's liberties, and at the replies that have
+//! to be read.
 
 ghost use Rattle.std.specs.Prelude.{◌≡◌, ℕ, ◌+◌, ◌*◌, ◌<◌, ◌≤◌, ◌==◌, true, length, []};
 ghost use Rattle.std.specs.FinSet as set;
@@ -17,7 +18,7 @@ use read_rules::Node;
 use read_tree::nodes::make_at;
 use trial_board::Trial;
 
-/// The liberties of the target, which are the first candidates of either side.
+/// The liberties of the target; each of them is a candidate of either side.
 pub fn liberties_to_try<L: Look>(board: &mut Trial<L>, node: Node) -> PointSet
     requires target { IsPointOf L.shows board.old node.turn.target }
     ensures stays { Stays L.shows L.seen board.old board.new }
@@ -27,7 +28,7 @@ pub fn liberties_to_try<L: Look>(board: &mut Trial<L>, node: Node) -> PointSet
     board.liberties(node.turn.target)
 }
 
-/// Looks at the cells and the bans of these points, after the moves that stand.
+/// Looks at the cells and the ko bans of the points of `points`, after the trial moves that stand.
 fn look_at<L: Look>(board: &mut Trial<L>, points: &PointSet)
     requires on_board { (q : ℕ) → set.contains points.now q ≡ true → IsPointOf L.shows board.old q }
     ensures stays { Stays L.shows L.seen board.old board.new }
@@ -43,8 +44,8 @@ fn look_at<L: Look>(board: &mut Trial<L>, points: &PointSet)
     }
 }
 
-/// Looks at the mover's play at p, on the position without trial moves, and at these points after it. If the play
-/// cannot be made, at what shows that.
+/// Looks at the mover's play at `p` and at the points of `points` after it. If the play cannot be made, it looks at
+/// what shows that.
 pub fn look_at_play<L: Look>(board: &mut Trial<L>, node: Node, p: Point, points: &PointSet)
     requires untried { board.old.moves ≡ [] }
     requires on_board { IsPointOf L.shows board.old p }
@@ -70,8 +71,9 @@ pub fn one_point(p: Point) -> PointSet
     points
 }
 
-/// The replies that have to be read for one point of a zone: the point if it is empty, and if it holds a stone of the
-/// attacker the only liberty of its string. A string that has shown two liberties is not searched further.
+/// The replies that have to be read for the point `q` of a zone: `q` itself if it is empty; if it holds a stone of the
+/// attacker, the only liberty of its string, if it has only one. A string that has shown two liberties is not searched
+/// further.
 fn replies_for<L: Look>(board: &mut Trial<L>, node: Node, q: Point) -> PointSet
     requires on_board { IsPointOf L.shows board.old q }
     ensures stays { Stays L.shows L.seen board.old board.new }
@@ -93,8 +95,8 @@ fn replies_for<L: Look>(board: &mut Trial<L>, node: Node, q: Point) -> PointSet
     liberties
 }
 
-/// The replies that have to be read for a zone of the defender's pass: its empty points, and the only liberties of the
-/// attacker's strings that have a stone in it.
+/// The replies that have to be read for `zone`, a zone of the node after the defender's pass: its empty points, and the
+/// only liberty of each attacker's string in atari that has a stone in it.
 pub fn replies_to_read<L: Look>(board: &mut Trial<L>, node: Node, zone: &PointSet) -> PointSet
     requires on_board { (q : ℕ) → set.contains zone.now q ≡ true → IsPointOf L.shows board.old q }
     ensures stays { Stays L.shows L.seen board.old board.new }

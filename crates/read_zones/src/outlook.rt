@@ -1,5 +1,5 @@
-//! What the reading of the tree that is tried says of a node. It is quick, and what it does not capture is not surely
-//! captured.
+//! What the plain game tree, in which the defender tries only candidates, says about a node. It is quick to read, and a
+//! target that it does not capture is not surely captured.
 
 ghost use Rattle.std.specs.Prelude.{◌≡◌, ◌*◌, ◌<◌, ◌≤◌, true, false};
 ghost use Rattle.trial_board.specs.Trials.{most_moves};
@@ -12,8 +12,8 @@ use read_tree::memory::Memory;
 use read_tree::nodes::wins_at;
 use trial_board::{MAX_TRIAL_MOVES, Trial};
 
-/// Whether the target is captured in the tree that is tried, with `plies` plies left. It takes no table of nodes: most
-/// readings are over sooner than one is made.
+/// Whether the attacker wins at the node in the plain game tree, with `plies` plies left. No table of nodes is used:
+/// most readings end sooner than a table is made.
 fn is_won(position: &Position, node: Node, plies: u8) -> bool
     requires target { node.turn.target < position.now.size * position.now.size }
     requires room { plies ≤ most_moves }
@@ -29,7 +29,8 @@ fn is_won(position: &Position, node: Node, plies: u8) -> bool
     won
 }
 
-/// Whether the tree that is tried tells that the target is not surely captured, with `plies` plies left.
+/// Whether the plain game tree shows that the target is not surely captured, with `plies` plies left. False says
+/// nothing.
 pub fn is_lost(position: &Position, node: Node, plies: u8) -> bool
     requires target { node.turn.target < position.now.size * position.now.size }
     ensures { result ≡ true → surely_wins plies node position.now ≡ false }

@@ -1,4 +1,4 @@
-//! What a look at a position shows, with the points on which it rests.
+//! Answers about a position, each with its zone: the points on which it rests.
 
 ghost use Rattle.std.specs.Prelude.{◌≡◌, ℕ, ◌*◌, ◌<◌, true, false, MatchOption, IfSome};
 ghost use Rattle.std.specs.FinSet as set;
@@ -23,26 +23,27 @@ use read_sure::taking_back::has_lost_one_stone;
 use read_tree::nodes::is_barred;
 use trial_board::Trial;
 
-/// Points that a look told, and the points on which they rest.
+/// A set of points, and its zone.
 #[derive(Drop)]
 pub struct Shown {
-    /// The points.
+    /// The set of points.
     pub points: PointSet,
-    /// On every position that agrees here they are the same.
+    /// The points on which the answer rests: on every position that agrees at these points, what the function says of
+    /// `points` is true too.
     pub zone: PointSet,
 }
 
-/// Whether a lone stone was just taken where the target stood, which may be taken back, and the points on which that
-/// rests.
+/// Whether a lone stone was just taken at the target's point, so that it may be taken back, and the points on which
+/// this rests.
 #[derive(Drop)]
 pub struct Loss {
-    /// Whether it was a lone stone.
+    /// Whether a lone stone was just taken there, at the defender's turn in the wider tree.
     pub is_lone: bool,
-    /// On every position that agrees here the target's point is empty, and it is the same.
+    /// On every position that agrees at these points the target's point is empty and `is_lone` is the same.
     pub zone: PointSet,
 }
 
-/// The points that were asked for. What was told is so on every position that agrees on them.
+/// The points that the board looked at. On every position that agrees at these points, all facts that it recorded hold.
 fn points_seen<'a>(board: Trial<Watch<'a>>) -> PointSet
     ensures on_board { (p : ℕ) → set.contains result p ≡ true
         → p < (shown_by board.entry.look).size * (shown_by board.entry.look).size }
@@ -54,7 +55,7 @@ fn points_seen<'a>(board: Trial<Watch<'a>>) -> PointSet
     facts.points()
 }
 
-/// The attacker's candidates; none if the target has too many liberties for him.
+/// The candidates at the attacker's turn, with their zone; `None` if the target has too many liberties for him.
 pub fn candidates_shown(position: &Position, node: Node) -> Option<Shown>
     requires target { node.turn.target < position.now.size * position.now.size }
     requires turn { is_attackers node ≡ true }
@@ -77,8 +78,8 @@ pub fn candidates_shown(position: &Position, node: Node) -> Option<Shown>
     })
 }
 
-/// The points on which it rests that the attacker takes the target at once, by its only liberty; none if he may not, or
-/// if it is not told.
+/// The points on which it rests that the attacker takes the target at once, by its only liberty, and for good; `None`
+/// if the target has too many liberties for him, or if the test does not show it.
 pub fn taking_shown(position: &Position, node: Node) -> Option<PointSet>
     requires target { node.turn.target < position.now.size * position.now.size }
     requires turn { is_attackers node ≡ true }
@@ -99,7 +100,7 @@ pub fn taking_shown(position: &Position, node: Node) -> Option<PointSet>
     None
 }
 
-/// Whether the defender has just lost a lone stone at the target's point, which is empty.
+/// Whether the defender has just lost a lone stone at the target's point, with its zone. The point is empty.
 pub fn loss_shown(position: &Position, node: Node) -> Loss
     requires target { node.turn.target < position.now.size * position.now.size }
     requires gone { is_gone node position.now ≡ true }
@@ -109,7 +110,7 @@ pub fn loss_shown(position: &Position, node: Node) -> Loss
     ensures on_board { (q : ℕ) → set.contains result.zone q ≡ true → q < position.now.size * position.now.size }
 {
     let mut board = Trial::new(Watch::new(position));
-    // That it is captured rests on the target's point first of all.
+    // The target's point shows that the target is captured, so it belongs to the zone.
     let _gone = board.cell(node.turn.target);
     let is_lone = has_lost_one_stone(&mut board, node);
     Loss {
@@ -118,7 +119,8 @@ pub fn loss_shown(position: &Position, node: Node) -> Loss
     }
 }
 
-/// The liberties of the target, which are the attacker's first candidates; none if they are too many for him.
+/// The liberties of the target, which are the first candidates that the attacker tries, with their zone; `None` if the
+/// target has too many liberties for him.
 pub fn liberties_shown(position: &Position, node: Node) -> Option<Shown>
     requires target { node.turn.target < position.now.size * position.now.size }
     requires turn { is_attackers node ≡ true }
@@ -139,7 +141,8 @@ pub fn liberties_shown(position: &Position, node: Node) -> Option<Shown>
     })
 }
 
-/// The replies that have to be read for a zone of the defender's pass.
+/// The replies that have to be read for `zone`, a zone of the node after the defender's pass, and the points on which
+/// these replies rest.
 pub fn replies_shown(position: &Position, node: Node, zone: &PointSet) -> Shown
     requires on_board { (q : ℕ) → set.contains zone.now q ≡ true → q < position.now.size * position.now.size }
     ensures on_board { (p : ℕ) → set.contains result.points p ≡ true → p < position.now.size * position.now.size }
@@ -155,8 +158,8 @@ pub fn replies_shown(position: &Position, node: Node, zone: &PointSet) -> Shown
     }
 }
 
-/// The points on which it rests that the mover's play at p leads to such a position, alike at these points, or that it
-/// cannot be made.
+/// The zone of the mover's play at `p`: on every position that agrees there the play leads to a position that is alike
+/// at the points of `points`, or it cannot be made on either position.
 pub fn play_shown(position: &Position, node: Node, p: Point, points: &PointSet) -> PointSet
     requires on_board { p < position.now.size * position.now.size }
     requires points { (q : ℕ) → set.contains points.now q ≡ true → q < position.now.size * position.now.size }

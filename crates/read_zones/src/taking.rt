@@ -10,7 +10,7 @@ use read_rules::Turn;
 use read_tree::outlook::can_take;
 use trial_board::Trial;
 
-/// Whether it is the attacker's turn and he may take the target by its only liberty, for good.
+/// Whether it is the attacker's turn and he can take the target by its only liberty, for good. False says nothing.
 pub fn takes<L: Look>(board: &mut Trial<L>, turn: Turn) -> bool
     requires target { IsPointOf L.shows board.old turn.target }
     ensures stays { Stays L.shows L.seen board.old board.new }

@@ -19,7 +19,8 @@ use read_proof::children::{child_of, passed};
 use read_rules::Node;
 use sure_proof::candidate_shown;
 
-/// The zone that shows that the attacker's play at p captures, with `plies` plies left after it; none if it does not.
+/// The zone that shows that the attacker's play at `p` surely captures, with `plies` plies left after it; `None` if it
+/// does not.
 #[cycle(zones)]
 fn play_zone(position: &Position, node: Node, p: Point, plies: u8) -> Option<PointSet>
     requires target { node.turn.target < position.now.size * position.now.size }
@@ -36,7 +37,8 @@ fn play_zone(position: &Position, node: Node, p: Point, plies: u8) -> Option<Poi
     Some(play_shown(position, node, p, &after))
 }
 
-/// The zone that shows that the defender's reply at p fails, with `plies` plies left after it; none if it holds.
+/// The zone that shows that the defender's reply at `p` fails or cannot be made, with `plies` plies left after it;
+/// `None` if the reply holds.
 #[cycle(zones)]
 fn reply_zone(position: &Position, node: Node, p: Point, plies: u8) -> Option<PointSet>
     requires target { node.turn.target < position.now.size * position.now.size }
@@ -57,8 +59,8 @@ fn reply_zone(position: &Position, node: Node, p: Point, plies: u8) -> Option<Po
     }
 }
 
-/// The points on which it rests that p is a candidate, as it is among these, and that the target has not too many
-/// liberties: the points that show it of p alone, or all at which the look for the candidates looked if those are no more.
+/// The points on which it rests that `p`, one of the points of `shown`, is a candidate, and that the target has not too
+/// many liberties: the points that show this for `p` alone, or the zone of all of `shown` if that has no more points.
 fn candidate_zone(position: &Position, node: Node, shown: &Shown, p: Point) -> PointSet
     requires target { node.turn.target < position.now.size * position.now.size }
     requires turn { is_attackers node ≡ true }
@@ -78,8 +80,8 @@ fn candidate_zone(position: &Position, node: Node, shown: &Shown, p: Point) -> P
     shown.zone.copied()
 }
 
-/// The zone that shows that the attacker's play at one of these candidates captures, with `plies` plies left after it;
-/// none if none of them does.
+/// The zone that shows that the attacker's play at some point of `shown` surely captures, with `plies` plies left after
+/// it; `None` if no such play does.
 #[cycle(zones)]
 fn some_zone(position: &Position, node: Node, shown: &Shown, plies: u8) -> Option<PointSet>
     requires target { node.turn.target < position.now.size * position.now.size }
@@ -107,8 +109,9 @@ fn some_zone(position: &Position, node: Node, shown: &Shown, plies: u8) -> Optio
     None
 }
 
-/// The zone at the attacker's turn, with `plies` plies left after his move. A target in atari is taken at once. The
-/// liberties of the target are read before the other candidates: it rests on few points that they are candidates.
+/// The zone of a node at the attacker's turn, with `plies` plies left after his move. A target in atari is taken at
+/// once. The liberties of the target are read before the other candidates, since few points show that they are
+/// candidates.
 #[cycle(zones)]
 fn attacker_zone(position: &Position, node: Node, plies: u8) -> Option<PointSet>
     requires target { node.turn.target < position.now.size * position.now.size }
@@ -136,7 +139,8 @@ fn attacker_zone(position: &Position, node: Node, plies: u8) -> Option<PointSet>
     some_zone(position, node, &others, plies)
 }
 
-/// The zone at the defender's turn, with `plies` plies left after his move.
+/// The zone of a node at the defender's turn, with `plies` plies left after his move; `None` if the target is not
+/// surely captured there.
 #[cycle(zones)]
 fn defender_zone(position: &Position, node: Node, plies: u8) -> Option<PointSet>
     requires target { node.turn.target < position.now.size * position.now.size }
@@ -160,7 +164,7 @@ fn defender_zone(position: &Position, node: Node, plies: u8) -> Option<PointSet>
     Some(zone)
 }
 
-/// The zone that shows that the mover cannot play at p; none if he can.
+/// The zone that shows that the mover cannot play at `p`; `None` if he can.
 fn refused_zone(position: &Position, node: Node, p: Point) -> Option<PointSet>
     requires target { node.turn.target < position.now.size * position.now.size }
     requires on_board { p < position.now.size * position.now.size }
@@ -176,7 +180,7 @@ fn refused_zone(position: &Position, node: Node, p: Point) -> Option<PointSet>
 }
 
 /// The zone that shows that a lone stone that was just taken is surely captured, with `plies` plies left: the defender
-/// cannot take back, or a ply is left for it and the target is surely captured after it; none if that is not so.
+/// cannot take back, or a ply is left for it and the target is surely captured after it. `None` if neither is true.
 #[cycle(zones)]
 fn back_zone(position: &Position, node: Node, plies: u8) -> Option<PointSet>
     requires target { node.turn.target < position.now.size * position.now.size }
@@ -193,7 +197,8 @@ fn back_zone(position: &Position, node: Node, plies: u8) -> Option<PointSet>
     reply_zone(position, node, node.turn.target, plies - 1)
 }
 
-/// The zone of a target whose point is empty, with `plies` plies left.
+/// The zone of a node at which the target's point is empty, with `plies` plies left; `None` if the target is not surely
+/// captured there.
 #[cycle(zones)]
 fn taken_zone(position: &Position, node: Node, plies: u8) -> Option<PointSet>
     requires target { node.turn.target < position.now.size * position.now.size }
@@ -213,8 +218,8 @@ fn taken_zone(position: &Position, node: Node, plies: u8) -> Option<PointSet>
     Some(zone)
 }
 
-/// The points on which it rests that the target is surely captured at the node, with `plies` plies left; none exactly if
-/// it is not. On every position that agrees on them it is surely captured too.
+/// The zone of the node: the points on which it rests that the target is surely captured with `plies` plies left;
+/// `None` exactly if it is not. On every position that agrees at these points the target is surely captured too.
 #[cycle(zones)]
 pub fn zone_of(position: &Position, node: Node, plies: u8) -> Option<PointSet>
     requires target { node.turn.target < position.now.size * position.now.size }

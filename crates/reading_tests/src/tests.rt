@@ -20,7 +20,7 @@ use go_base::{Cell, Colour, Point, Position, Size};
 use read_rules::{Kind, Spot};
 use vertices::vertex_named;
 
-/// A small position: its size, black's stones, and then white's, among them passes.
+/// A small position: its size, black's stones, and then white's. A `PASS` may stand for a stone.
 type Stones = (u8, &'static str, &'static str);
 
 /// A question of a reading: what is asked, the vertex of its stone, the plies, and the wide plies.
@@ -32,7 +32,7 @@ type LinkQuestion = (LinkKind, &'static str, &'static str, u8);
 /// Black D4 has one liberty, D3.
 const IN_ATARI: Stones = (9, "D4", "C4 E4 D5");
 
-/// White C3 stands in a ko: it has taken D3, where black may not play at once.
+/// White C3 stands in a ko: it has taken D3, and the ban forbids black to play at D3 at once.
 const KO: Stones = (5, "B3 C4 C2 D3", "D4 E3 D2 C3");
 
 /// White C3 is in atari in a ko, which black takes with D3.
@@ -77,7 +77,7 @@ fn two_stones(position: &Position, a: &str, b: &str) -> Option<(Point, Point)>
     Some((a, b))
 }
 
-/// The move of an answer that is written so, a vertex or `PASS`; nothing where no move is written.
+/// The move of an answer from its text, a vertex or `PASS`; `None` if the text is neither.
 fn spot(size: Size, name: &str) -> Option<Spot> {
     if name == "PASS" {
         return Some(Spot::Pass);
@@ -93,7 +93,7 @@ fn with_stone(position: &Position, colour: Colour, name: &str) -> Option<Positio
     position.play(colour, vertex(position.size(), name)?).ok()
 }
 
-/// The position with these stones more.
+/// The position after these stones are added to it.
 fn with_stones(position: Position, colour: Colour, names: &str) -> Option<Position> {
     let mut position = position;
     for name in names.split_whitespace() {

@@ -1,4 +1,4 @@
-//! The matches that go and come from one text of patterns to another, over games on a board of 9.
+//! The matches that go and come when one text of patterns replaces another, over games on a board of 9.
 use crate::tests::{new_helpers, patterns_of, with_more};
 use go_base::{Colour, Point, Position, Size};
 use match_engine::Readings;
@@ -9,11 +9,11 @@ use std::alloc::Global;
 /// The longest list that has an automaton.
 const MOST_PATTERNS: usize = 4096;
 
-/// A change: after how many moves, for which friend, whether it went or came, the pattern's place in its list, the
-/// transformation and the point.
+/// An expected change: after how many moves, for which friend, whether the match went or came, the pattern's place in
+/// its list, the transformation and the point.
 type Want = (u64, Colour, Way, u16, u8, Point);
 
-/// Two texts, the plays of a game, and what changes for both colours.
+/// A row: what it shows, the old and the new text, the plays of a game, and what changes for both colours.
 type Row = (
     &'static str,
     &'static [u8],
@@ -22,7 +22,7 @@ type Row = (
     &'static [Want],
 );
 
-/// What belongs together, and what does not.
+/// Changes of texts, and which matches of the two texts are the same.
 static ROWS: [Row; 11] = [
     (
         "a mended constraint: the match comes on the position behind the last move",
@@ -143,7 +143,7 @@ fn positions_of(alloc: Global, plays: &[(Colour, Point)]) -> Option<Vec<Position
     Some(positions)
 }
 
-/// The patterns of a text, ready to be found.
+/// The patterns of `text`, ready to be searched for.
 fn matcher_of(alloc: Global, text: &[u8]) -> Option<Matcher> {
     let patterns = patterns_of(alloc, text)?;
     if patterns.len() > MOST_PATTERNS {
@@ -155,7 +155,7 @@ fn matcher_of(alloc: Global, text: &[u8]) -> Option<Matcher> {
     }
 }
 
-/// The changes of a row. Readings go three plies deep, two of them wide.
+/// The changes in `row`. Readings go three plies deep, two of them wide.
 fn changes_in(alloc: Global, row: &Row) -> Option<Vec<Change>> {
     let (_, old, new, plays, _) = row;
     let old = matcher_of(alloc, old)?;
@@ -175,7 +175,7 @@ fn changes_in(alloc: Global, row: &Row) -> Option<Vec<Change>> {
     .ok()
 }
 
-/// Whether a change is the one that is wanted.
+/// Whether `change` is the expected one, `want`.
 fn is_wanted(change: &Change, want: &Want) -> bool {
     let found = change.found;
     let (moves, friend, way, pattern, transform, at) = *want;
@@ -187,7 +187,7 @@ fn is_wanted(change: &Change, want: &Want) -> bool {
         && found.at == at
 }
 
-/// Whether the changes are those that are wanted, in their order.
+/// Whether `changes` are the expected ones, in their order.
 fn are_wanted(changes: &[Change], wanted: &[Want]) -> bool {
     changes.len() == wanted.len()
         && changes

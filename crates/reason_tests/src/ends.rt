@@ -9,7 +9,7 @@ use std::alloc::Global;
 /// The longest list that has an automaton.
 const MOST_PATTERNS: usize = 4096;
 
-/// A pattern, the black and the white stones, and how many of its tries end at each part.
+/// A row: what it shows, a pattern, the black and the white stones, and how many of its tries end at each part.
 type Row = (
     &'static str,
     &'static [u8],
@@ -18,7 +18,7 @@ type Row = (
     [u64; 7],
 );
 
-/// Each part, and each count of transformations.
+/// A row for each part, and for each count of transformations.
 static ROWS: [Row; 8] = [
     (
         "a stone has four neighbours, and each comes by two of eight transformations",
@@ -78,7 +78,7 @@ static ROWS: [Row; 8] = [
     ),
 ];
 
-/// The counts of the first pattern of a row, for Black. Readings go three plies deep, two of them wide.
+/// The counts of the first pattern of `row`, for Black. Readings go three plies deep, two of them wide.
 fn ends_in(alloc: Global, row: &Row) -> Option<[u64; 7]> {
     let (_, text, black, white, _) = row;
     let position = with_more(Position::new(Size::new(9)?), Colour::Black, black)?;

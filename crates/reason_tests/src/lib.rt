@@ -1,5 +1,5 @@
 //! Worked rows of the reasons why patterns do not match, from the text of a database to the reason and to counts, and
-//! of what a change of patterns changes. There is no code here but tests, which cross the crates of the layer.
+//! of the matches that a change of patterns changes. This crate has only tests, which cross the crates of the layer.
 #![tactic(auto)]
 
 #[cfg(test)]

@@ -8,10 +8,10 @@ use pat_types::{Drawn, Letter, Pattern};
 use read_rules::{Answer, Depths, Spot};
 use std::alloc::Global;
 
-/// A pattern tried at a point of a board of 9.
+/// A row: a pattern that is tried at a point of a board of 9.
 #[derive(Clone, Copy)]
 struct Row {
-    /// What it shows.
+    /// What the row shows.
     name: &'static str,
     /// The text of the pattern.
     text: &'static [u8],
@@ -23,15 +23,15 @@ struct Row {
     friend: Colour,
     /// The number of the transformation.
     transform: u8,
-    /// The point of the star.
+    /// The point of the pattern's star.
     at: Point,
-    /// The reason.
+    /// The expected reason.
     want: Option<Reason>,
-    /// How often `near_edge` and `no_ban` are asked.
+    /// How often the try asks `near_edge` and `no_ban`.
     calls: (u64, u64),
 }
 
-/// What most rows have: no stones, black as the friend, the diagram as drawn, and no helper asked.
+/// What most rows have: no stones, black as the friend, the diagram as drawn, and no call of a helper.
 const MOST: Row = Row {
     name: "",
     text: b"",
@@ -44,7 +44,7 @@ const MOST: Row = Row {
     calls: (0, 0),
 };
 
-/// Each part of the definition, failing as the first.
+/// A row for each part of the definition that fails first.
 static ROWS: [Row; 21] = [
     Row {
         name: "a match has no reason, and asks each helper",
@@ -202,8 +202,8 @@ static ROWS: [Row; 21] = [
         want: Some(Reason::EnemyIllegal(Illegal::Suicide)),
         ..MOST
     },
-    // Black stands on B1: a white stone on A1 has one liberty, A2. The first point in reading order by which it is
-    // captured is A3, since a stone on A2 would have one liberty, B2.
+    // Black stands on B1: a white stone on A1 has one liberty, A2. The first point in reading order that captures it is
+    // A3, since a stone on A2 would have one liberty, B2.
     Row {
         name: "class n asks for a play by which the enemy is safe",
         text: b"Pattern P\n*O\n:O,ns",
@@ -293,13 +293,13 @@ pub(crate) fn new_helpers(alloc: Global) -> Result<Helpers, NoMemory> {
     Helpers::new(alloc, list)
 }
 
-/// The patterns that a text spells.
+/// The patterns that `text` spells.
 pub(crate) fn patterns_of(alloc: Global, text: &[u8]) -> Option<Vec<Pattern>> {
     let names = new_helpers(alloc).ok()?.names(alloc).ok()?;
     read(alloc, text, names.as_slice(), Vec::new(alloc)).ok()
 }
 
-/// A position after more plays of one colour.
+/// The position after more plays of one colour.
 pub(crate) fn with_more(position: Position, colour: Colour, plays: &[Point]) -> Option<Position> {
     let mut position = position;
     for p in plays {
@@ -311,14 +311,14 @@ pub(crate) fn with_more(position: Position, colour: Colour, plays: &[Point]) -> 
     Some(position)
 }
 
-/// The position of a row.
+/// The position of `row`.
 fn position_of(row: &Row) -> Option<Position> {
     let position = Position::new(Size::new(9)?);
     let position = with_more(position, Colour::Black, row.black)?;
     with_more(position, Colour::White, row.white)
 }
 
-/// The reason in a row, and how often its helpers were asked. Readings go three plies deep, two of them wide.
+/// The reason in `row`, and how often its helpers were asked. Readings go three plies deep, two of them wide.
 fn answer_to(alloc: Global, row: &Row) -> Option<(Option<Reason>, (u64, u64))> {
     let position = position_of(row)?;
     if row.at >= position.size().points() {

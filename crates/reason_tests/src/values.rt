@@ -9,7 +9,7 @@ use read_rules::Depths;
 use std::alloc::Global;
 use why_report::{function_name, put_expression};
 
-/// The entry up to its expression.
+/// The text of the entry up to its expression.
 const ENTRY: &[u8] = b"Pattern P
 .....*...
 .OOX.....
@@ -33,18 +33,18 @@ const WHITE: [Point; 4] = [48, 56, 58, 66];
 /// The star, F5.
 const STAR: Point = 41;
 
-/// An expression, and the values of its parts: those below a part before it, the left before the right.
+/// A row: an expression, and the values of its parts. The parts below a part come before it, the left before the right.
 #[derive(Clone, Copy)]
 struct Row {
-    /// What it shows.
+    /// What the row shows.
     name: &'static str,
     /// The expression.
     text: &'static str,
-    /// The values; `None` for a part that is not needed.
+    /// The expected values; `None` for a part that is not needed.
     want: &'static [Option<i64>],
 }
 
-/// Each function, and each way in which a part is needed or not.
+/// A row for each function, and for each way in which a part is needed or not.
 static ROWS: [Row; 28] = [
     Row {
         name: "the liberties of a string",
@@ -197,14 +197,14 @@ static ROWS: [Row; 28] = [
     },
 ];
 
-/// The position of the rows.
+/// The position on which all rows are valued.
 fn position() -> Option<Position> {
     let position = Position::new(Size::new(9)?);
     let position = with_more(position, Colour::Black, &BLACK)?;
     with_more(position, Colour::White, &WHITE)
 }
 
-/// The values of an expression.
+/// The values of the parts of the expression `text`.
 fn values(alloc: Global, text: &str) -> Option<Vec<Option<i64>>> {
     let mut entry = Vec::new(alloc);
     entry.extend_from_slice(ENTRY).ok()?;
@@ -260,7 +260,7 @@ static CALLS: [(&str, &str); 21] = [
     ("xplay_defend", "xplay_defend(A,B)"),
 ];
 
-/// The function that a text calls.
+/// The function that `text` calls.
 fn function_called(alloc: Global, text: &str) -> Option<Function> {
     match &parse(alloc, text.as_bytes(), &LABELS).ok()? {
         Expr::Call(function, _) => Some(*function),
@@ -276,7 +276,7 @@ fn a_function_has_the_name_by_which_it_is_called(rt: HostRuntime) {
     }
 }
 
-/// The labels of the texts below.
+/// The labels of the texts in `CALLS` and `TEXTS`.
 static LABELS: [LabelAt; 2] = [
     LabelAt {
         letter: b'A',
@@ -290,7 +290,7 @@ static LABELS: [LabelAt; 2] = [
     },
 ];
 
-/// Expressions as they are put: with the parentheses that they need.
+/// Expressions as they are printed: with the parentheses that they need.
 static TEXTS: [(&str, &str); 7] = [
     (
         "operators of one level group from the left",
@@ -304,7 +304,7 @@ static TEXTS: [(&str, &str); 7] = [
     ("an order within a test", "1 < 2 == 3 >= 4 && 5 > (6 < 7)"),
 ];
 
-/// An expression, read and put again.
+/// The expression `text`, parsed and printed again.
 fn put_again(alloc: Global, text: &str) -> Option<String> {
     let expr = parse(alloc, text.as_bytes(), &LABELS).ok()?;
     let mut page = String::new(alloc);

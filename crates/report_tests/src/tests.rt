@@ -1,4 +1,4 @@
-//! What authors of pattern files are told.
+//! The reports that authors of pattern files get.
 
 mod entries;
 mod faults;

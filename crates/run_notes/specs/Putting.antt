@@ -1,16 +1,16 @@
--- How a text goes out on a sink.
+-- What reaches a sink when a text is put on it.
 use Rattle.std.specs.Prelude.{◌≡◌, ◌⊎◌, ℕ, List, [], ◌++◌, Option}
 use Rattle.std.specs.Io.KnownBytes.{Appends}
 use Rattle.gtp_io.specs.Outside.{Rose}
 
--- a front of the bytes was put
+-- a front of the bytes was put, from none of them to all
 pub record PutsFront (old new : Option (List ℕ)) (bytes : List ℕ) : Type 0 where
   pub part : List ℕ
   pub missing : List ℕ
   pub whole : bytes ≡ part ++ missing
   pub writes : Appends old new part
 
--- the notes got this text, or a front of it where their count of faults rose
+-- the sink got this whole text, or a front of it and its count of faults rose
 pub record IsNoted (written_old written_new : Option (List ℕ)) (faults_old faults_new : ℕ)
     (text : List ℕ) : Type 0 where
   pub got : List ℕ

@@ -1,4 +1,4 @@
-//! The notes of a run.
+//! The notes of a run, and how they are put on a sink.
 ghost use Rattle.std.specs.Prelude.{◌≡◌, ◌∷◌, [], Some, OnOk, OnErr};
 ghost use Rattle.std.specs.List.{concat};
 ghost use Rattle.std.specs.Io.KnownBytes.{Appends};
@@ -15,26 +15,26 @@ use vertices::Short;
 pub struct Links {
     /// How many lines asked whether two strings can be joined or kept apart, and were answered with a result.
     pub connections: u64,
-    /// How many of these were read afresh.
+    /// How many of these connections were read afresh.
     pub fresh: u64,
 }
 
-/// The counts of a run.
+/// What a run counted.
 #[derive(Clone, Copy, Debug, PartialEq, Eq)]
 pub struct Counts {
     /// How many lines asked for a reading and were answered with a code.
     pub readings: u64,
-    /// How many of these were read afresh.
+    /// How many of these readings were read afresh.
     pub fresh: u64,
-    /// How many moves were tried by the fresh readings.
+    /// How many moves the fresh readings tried.
     pub trials: u64,
-    /// How many readings were not kept for want of memory.
+    /// How many readings were not cached for want of memory.
     pub refused: u64,
-    /// What was counted of connections.
+    /// The counts of connections.
     pub links: Links,
 }
 
-/// What a run sent.
+/// What a run wrote to its output.
 #[derive(Clone, Copy, Debug, PartialEq, Eq)]
 pub struct Sent {
     /// How many replies went out whole.
@@ -43,7 +43,7 @@ pub struct Sent {
     pub bytes: u64,
 }
 
-/// The line of connections, in three pieces, which are empty if there were none.
+/// The line of connections in three pieces, which are empty if there were no connections.
 fn link_pieces(links: Links) -> (Short, Short, Short)
     ensures { concat (result.0 ∷ result.1 ∷ result.2 ∷ []) ≡ links_line links }
 {
@@ -57,7 +57,7 @@ fn link_pieces(links: Links) -> (Short, Short, Short)
     )
 }
 
-/// Puts the line of the counts, and behind it that of connections.
+/// Puts the line of readings, and then the line of connections.
 fn put_counts<D: Sink>(notes: &mut D, counts: Counts) -> Result<(), Failed>
     ensures ok { OnOk result (Appends (D.written notes.old) (D.written notes.new) (counts_line (Some counts))) }
     ensures part { OnErr result (PutsFront (D.written notes.old) (D.written notes.new) (counts_line (Some counts))) }
@@ -77,7 +77,7 @@ fn put_counts<D: Sink>(notes: &mut D, counts: Counts) -> Result<(), Failed>
     put_pieces(notes, &pieces)
 }
 
-/// Puts the line of what was sent.
+/// Puts the line of what a run sent.
 fn put_sent<D: Sink>(notes: &mut D, sent: Sent) -> Result<(), Failed>
     ensures ok { OnOk result (Appends (D.written notes.old) (D.written notes.new) (sent_line (Some sent))) }
     ensures part { OnErr result (PutsFront (D.written notes.old) (D.written notes.new) (sent_line (Some sent))) }
@@ -91,7 +91,7 @@ fn put_sent<D: Sink>(notes: &mut D, sent: Sent) -> Result<(), Failed>
     put_pieces(notes, &pieces)
 }
 
-/// Puts the lines of the counts where they are asked for.
+/// Puts the lines of the counts, if there are counts.
 fn put_some_counts<D: Sink>(notes: &mut D, counts: Option<Counts>) -> Result<(), Failed>
     ensures ok { OnOk result (Appends (D.written notes.old) (D.written notes.new) (counts_line counts)) }
     ensures part { OnErr result (PutsFront (D.written notes.old) (D.written notes.new) (counts_line counts)) }
@@ -103,7 +103,7 @@ fn put_some_counts<D: Sink>(notes: &mut D, counts: Option<Counts>) -> Result<(),
     }
 }
 
-/// Puts the line of what was sent where lines were generated.
+/// Puts the line of what a run sent, if it is given.
 fn put_some_sent<D: Sink>(notes: &mut D, sent: Option<Sent>) -> Result<(), Failed>
     ensures ok { OnOk result (Appends (D.written notes.old) (D.written notes.new) (sent_line sent)) }
     ensures part { OnErr result (PutsFront (D.written notes.old) (D.written notes.new) (sent_line sent)) }
@@ -115,7 +115,7 @@ fn put_some_sent<D: Sink>(notes: &mut D, sent: Option<Sent>) -> Result<(), Faile
     }
 }
 
-/// Puts all notes, or fails if the sink does.
+/// Puts all notes. Fails if the sink fails.
 fn put_lines<D: Sink>(
     notes: &mut D,
     counts: Option<Counts>,
@@ -133,10 +133,10 @@ fn put_lines<D: Sink>(
     put_pieces(notes, last)
 }
 
-/// Puts the notes of a run on a sink: its counts and what it sent, where they are asked for, and the pieces of its last
-/// line.
+/// Puts the notes of a run on the sink `notes`: its counts and what it sent, if they are given, and then the pieces of
+/// its last line.
 ///
-/// Nothing more is put after the sink's first failure.
+/// Puts nothing more after the sink's first failure.
 pub fn put_notes<D: Sink>(notes: &mut D, counts: Option<Counts>, sent: Option<Sent>, last: &[Short])
     ensures { IsNoted (D.written notes.old) (D.written notes.new) (D.faults notes.old) (D.faults notes.new)
         (notes_text counts sent (concat last.now)) }

@@ -1,4 +1,4 @@
--- What a run over objects in memory says.
+-- What a run over a feed, a page and a shelf in memory does.
 use Rattle.std.specs.Prelude.{◌≡◌, ℕ, false, List, ◌++◌, Option, Some, None}
 use Rattle.gtp_rules.specs.Lines.{RawLine}
 use Rattle.gtp_rules.specs.Steps.{Step}
@@ -20,8 +20,8 @@ use Rattle.session.specs.Ends.{IsRight}
 use Rattle.session.specs.Headline.{GiveOptions, IsUnopened}
 use Rattle.session.specs.declared.outcome.End.{End}
 
--- a front of the input was taken, so that rest is left and piece bytes came last, and bytes were put behind the old
--- ones, as the end says
+-- a front of the input was taken, so that rest is left and the last call gave piece bytes, and bytes were appended to
+-- the old ones of the page, as the end of the run says
 pub record ServesBytes {M : Type 0} (step : M → RawLine → Step M → Type 0) (first : M) (input rest old new : List ℕ)
     (piece : ℕ) (end : End) : Type 0 where
   pub taken : List ℕ
@@ -30,8 +30,8 @@ pub record ServesBytes {M : Type 0} (step : M → RawLine → Step M → Type 0)
   pub writes : new ≡ old ++ put
   pub right : IsRight step first (Some rest) taken put piece end
 
--- the bytes of the feed were served, or where so many lines are to be generated, the bytes of these, and the feed was
--- left alone
+-- the bytes of the feed were served; or, if lines are to be generated, the bytes of these lines were served and the
+-- feed was left alone
 abbrev pub ServesEither : {M : Type 0} → Option ℕ → (M → RawLine → Step M → Type 0) → M → List ℕ → List ℕ → List ℕ
     → List ℕ → ℕ → End → Type 0
 ServesEither None step first input rest old new piece end = ServesBytes step first input rest old new piece end
@@ -39,8 +39,8 @@ ServesEither (Some n) step first input rest old new piece end =
     (rest ≡ input) × ((unread : List ℕ) × (last : ℕ) × ServesBytes step first
     (generated_text n) unread old new last end)
 
--- the words gave options, the files were opened, and the lines were served by the plain machine and these helpers; rest
--- is what the feed has left, and piece how many bytes it gave last
+-- the words gave options, the files were opened, and the lines were served by the plain machine with these helpers;
+-- rest is what the feed has left, and piece is how many bytes it gave last
 pub record ServesInMemory (helpers : List SlotState) (words : List (List ℕ)) (contents : Contents)
     (input rest old new : List ℕ) (piece : ℕ)
     (end : End) : Type 0 where
@@ -52,7 +52,7 @@ pub record ServesInMemory (helpers : List SlotState) (words : List (List ℕ)) (
       (first_machine helpers (depths_in Stated options))
       input rest old new piece end
 
--- by how far a run came: before the lines nothing was taken and nothing put
+-- what holds if a run came to this phase; before it serves lines, a run takes nothing from the feed and puts nothing
 abbrev pub ComesTo : List SlotState → List (List ℕ) → Contents → List ℕ → List ℕ → List ℕ → List ℕ → ℕ
     → Phase → Type 0
 ComesTo helpers words contents input rest old new piece NotTaken =

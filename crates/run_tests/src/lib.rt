@@ -1,7 +1,9 @@
-//! Runs over objects in memory: what the contract of the top call says there, and the worked sessions as tests.
+//! Runs over sources, sinks and loaders in memory: what the contract of `session::run` says of them, and the worked
+//! sessions as tests.
 //!
-//! A feed tells the bytes that it has left and a page those that it holds, so over these the contract names the
-//! bytes, and a shelf tells the contents of its files. Over objects that never fail no fault is told.
+//! A feed tells the bytes that it has left, a page the bytes that it holds, and a shelf the contents of its files, so
+//! here the contract names these bytes. If none of them can fail, the run reports no fault of a file, the input or the
+//! output.
 #![tactic(auto)]
 
 ghost use Rattle.std.specs.Prelude.{◌≢◌, map, string_bytes};
@@ -15,7 +17,7 @@ use helpers::Helper;
 use session::{Outcome, run};
 use std::alloc::Global;
 
-/// Runs over bytes and files in memory, and puts the replies on the page.
+/// Runs the program over bytes and files in memory, and puts the replies on `page`.
 pub fn run_in_memory(
     alloc: Global,
     words: &[String],
@@ -39,7 +41,7 @@ pub fn run_in_memory(
     )
 }
 
-/// Runs over objects that never fail.
+/// Runs the program over a shelf, a feed and a page that never fail.
 pub fn run_surely(
     alloc: Global,
     words: &[String],

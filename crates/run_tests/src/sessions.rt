@@ -1,19 +1,23 @@
-//! Worked sessions: the pattern files, what goes in, and what must come out.
+//! Worked sessions: the pattern files, the input, and the output that must come.
 
-/// A pattern file.
+/// A pattern file of a session.
 #[derive(Clone, Copy)]
 pub struct File<'a> {
-    /// Its name.
+    /// The name of the file.
     pub name: &'static str,
-    /// What it holds.
+    /// The bytes of the file.
     pub text: &'a [u8],
 }
 
-/// A session, by the name of what it shows.
+/// A session, named by what it shows.
 pub struct Session {
+    /// What the session shows.
     pub name: &'static str,
+    /// The pattern files.
     pub files: &'static [File<'static>],
+    /// The bytes of the input.
     pub input: &'static [u8],
+    /// The bytes of the output that must come.
     pub output: &'static [u8],
 }
 
@@ -76,7 +80,7 @@ pub static SESSIONS: [Session; 33] = [
         output: b"=\n\n= 6.5\n\n? syntax error\n\n= true\n\n= false\n\n=\n\n= 6.5\n\n",
     },
     // . . O . .
-    // . O X O .     Black's stone at D4 has its last liberty at D3; with one ply the defender's pass is the end.
+    // . O X O .     Black's stone at D4 has its last liberty at D3; one ply deep, a pass already saves the stone.
     // . . . . .
     Session {
         name: "stone_in_atari_is_captured",
@@ -141,7 +145,7 @@ pub static SESSIONS: [Session; 33] = [
         output: b"=\n\n=\n\n=\n\n=\n\n=\n\n=\n\n=\n\n=\n\n=\n\n=\n\n= 3 D3\n\n",
     },
     // O . . . .
-    // X O . . .     White takes A3, and black may retake there only against the ban.
+    // X O . . .     White takes A3, and Black may retake there only by ignoring the ko ban.
     // . X O . .
     // X . X O .
     Session {
@@ -232,7 +236,7 @@ pub static SESSIONS: [Session; 33] = [
     },
     // . . . . .
     // . . X O .     White's last play, at C3, took the black stone at D3,
-    // . X O . O     and the ban at D3 stands until the next move.
+    // . X O . O     and the ko ban at D3 stands until the next move.
     // . . X O .
     // . . . . .
     Session {

@@ -1,5 +1,5 @@
-//! The worked sessions as runs over objects in memory, and what comes of a run where an object fails, a file or
-//! a word is refused, or options are set.
+//! The worked sessions as runs over a feed, a page and a shelf in memory, and runs in which one of these fails, a file
+//! or a word is refused, or options are set.
 mod automata;
 mod counts;
 mod faults;

@@ -1,4 +1,4 @@
--- What a session says of lines that it answered: their replies are out or wait, or the output failed within one.
+-- What a session has done with lines: their replies are out or wait, or the output failed within one of the replies.
 use Rattle.std.specs.Prelude.{◌≡◌, ◌⊎◌, ℕ, Bool, List, Option}
 use Rattle.gtp_rules.specs.Lines.{RawLine}
 use Rattle.gtp_rules.specs.Steps.{Step}
@@ -13,29 +13,29 @@ use Rattle.session.specs.Tallies.{Progress}
 use Rattle.session.specs.Serving.{RunsTo, RunsPart, progress_of}
 use Rattle.session.specs.Waiting.{OutboxState, OutputState, output_of, holds_with, sent_with, Stop, IsStop}
 
--- how far a run is: what its session keeps, and its output
+-- the state of a run: what its session keeps, and its output
 pub record Standing : Type 0 where
   pub kept : Kept
   pub output : OutputState
 
--- how far a run is whose session keeps this, with this output
+-- the state of a run whose session keeps this and whose output is this
 abbrev pub standing_at : Kept → OutputState → Standing
 standing_at kept output = record { kept = kept; output = output }
 
--- how far a run is whose session keeps this, whose output holds these bytes, and whose outbox is this
+-- the state of a run whose session keeps this, whose output holds these bytes, and whose outbox is this
 abbrev pub standing : Kept → Option (List ℕ) → OutboxState → Standing
 standing kept written outbox = standing_at kept (output_of written outbox)
 
--- how far a run is without what waits
+-- the progress of a run, without its waiting replies
 abbrev pub progress_at : Standing → Progress
 progress_at now = progress_of now.output.written now.kept now.output.sent
 
--- how far a run is with what waits
+-- the progress of a run, once its waiting replies are out
 abbrev pub progress_with : Standing → Progress
 progress_with now = progress_of (holds_with now.output) now.kept (sent_with now.output)
 
--- The output failed within a reply to one of these lines. What is noted are the counts after that line, and these names
--- were missed up to it.
+-- The output failed within a reply to one of these lines. The counts after that line are noted, and these names were
+-- missed up to it.
 pub record CutsShort {M : Type 0} (step : M → RawLine → Step M → Type 0) (goes : Kept → Turn M → Kept → Type 0)
     (from : M) (lines : List RawLine) (old : Progress) (stop : Stop) (missed : List (List ℕ)) : Type 0 where
   pub kept : Kept
@@ -43,8 +43,8 @@ pub record CutsShort {M : Type 0} (step : M → RawLine → Step M → Type 0) (
   pub names : missed ≡ kept.missed
   pub runs : RunsPart step goes from lines old (progress_of stop.written kept stop.sent)
 
--- the output may fail so within what waits, and then no name more was missed; or within a reply to one of these lines
--- behind it
+-- the output may fail within the waiting replies, and then no more names were missed; or within a later reply, to one
+-- of these lines
 abbrev pub MayCut : {M : Type 0} → (M → RawLine → Step M → Type 0) → (Kept → Turn M → Kept → Type 0) → M
     → List RawLine → Standing → Stop → List (List ℕ) → Type 0
 MayCut step goes from lines old stop missed = (IsStop old.output stop × (missed ≡ old.kept.missed))
@@ -54,15 +54,15 @@ MayCut step goes from lines old stop missed = (IsStop old.output stop × (missed
 abbrev pub step_at : Contents → Kept → Machine → RawLine → Step Machine → Type 0
 step_at contents kept = answering.step (matcher_of kept.engine) contents
 
--- The lines were answered whole. Their replies are out or wait, and the output may fail in no further way but within
--- one of them.
+-- The lines were answered whole. Their replies are out or wait; if the output fails from now on, it does so within the
+-- replies that waited before or within one of these.
 pub record Answered (contents : Contents) (lines : List RawLine) (ended : Bool) (old new : Standing) : Type 0 where
   pub runs : RunsTo (step_at contents old.kept) IsAfterLine (machine_of old.kept) lines (machine_of new.kept) ended
       (progress_with old) (progress_with new)
   pub stops : (stop : Stop) → IsStop new.output stop
       → MayCut (step_at contents old.kept) IsAfterLine (machine_of old.kept) lines old stop new.kept.missed
 
--- the output failed within what waits, or within a reply to one of the lines
+-- the output failed within the replies that waited, or within a reply to one of the lines
 pub record BreaksIn (contents : Contents) (lines : List RawLine) (old : Standing) (stop : Stop)
     (missed : List (List ℕ)) : Type 0 where
   pub cut : MayCut (step_at contents old.kept) IsAfterLine (machine_of old.kept) lines old stop missed

@@ -1,5 +1,5 @@
--- What a run counts of the lines that it answered, and tells on its notes: the whole claim of `run`, with the counts of
--- what is kept. `Headline` says what a run does, and names nothing that is kept.
+-- What a run counts of the lines that it answered and writes on its notes: the whole claim of `run`, with the counts
+-- that depend on the caches. `Headline` says what a run does, and names no cache.
 use Rattle.std.specs.Prelude.{◌≡◌, ℕ, ◌+◌, ◌≤◌, Bool, false, MatchBool, List, [], Option, None, IsSomeAnd, Result, Ok}
 use Rattle.std.specs.Prelude.{Err}
 use Rattle.helpers.specs.HelperStates.{SlotState}
@@ -33,8 +33,8 @@ use Rattle.session.specs.declared.outcome.Outcome.{Outcome}
 use Rattle.session.specs.declared.outcome.Outcome.TheVariants as told
 use Rattle.session.specs.declared.outcome.WordsError.{WordsError}
 
--- A session that had counted and kept nothing, and may keep this many questions, and as many about connections, counts
--- this after the lines.
+-- A session that starts with no counts and empty caches, with room for `capacity` questions of readings and as many
+-- about connections, has these counts after the lines.
 pub record RoseAlong (capacity : ℕ) (turns : List (Turn Machine)) (counts : Counts) : Type 0 where
   pub first : Kept
   pub last : Kept
@@ -44,11 +44,12 @@ pub record RoseAlong (capacity : ℕ) (turns : List (Turn Machine)) (counts : Co
   pub along : IsAlong IsAfterLine first turns last
   pub same : counts ≡ last.engine.counts
 
--- The counts are those of these lines: each that asks for a reading and is answered with a code is counted, and no more
--- are fresh. Where no keeping was refused, a certain hit is not fresh: n of them leave only the other readings to be.
--- Without a fresh reading no play was tried, and if no line asks for a reading or for matches nothing is counted of
--- readings. Each line that asks about a connection and is answered with a result is counted, and no more are fresh. The
--- counts rose line by line, as those of a session that may keep this many questions.
+-- The counts are those of these lines. Each line that asks for a reading and is answered with a code is counted, and at
+-- most as many readings are fresh. If every reading could be cached, certain hits are not fresh: with n of them, at
+-- most the other readings are. If no reading was fresh, no trial play was made. If no line asks for a reading or for
+-- matches, nothing is counted of readings. Each line that asks about a connection and is answered with a result is
+-- counted, and at most as many connections are fresh. The counts rose line by line, as those of a session with room for
+-- `capacity` cached questions.
 pub record AreCountsOf (capacity : ℕ) (turns : List (Turn Machine)) (counts : Counts) : Type 0 where
   pub readings : counts.readings ≡ readings_in turns
   pub fresh : counts.fresh ≤ counts.readings
@@ -59,24 +60,24 @@ pub record AreCountsOf (capacity : ℕ) (turns : List (Turn Machine)) (counts : 
   pub fresh_links : counts.links.fresh ≤ counts.links.connections
   pub rose : RoseAlong capacity turns counts
 
--- the counts are told if they are asked for: those of the lines of the tally
+-- counts are noted exactly if they are asked for, and are those of the lines of the tally
 abbrev pub AreCounts : Bool → ℕ → Option Counts → Tally Machine → Type 0
 AreCounts asked capacity counts tally =
     MatchBool asked (IsSomeAnd counts (AreCountsOf capacity tally.turns)) (counts ≡ None)
 
--- the lines were served, and the notes tell the counts of these lines, if the options ask for them
+-- the lines were served, and the notes hold the counts of these lines if the options ask for them
 pub record IsServedCounted (tree : Tree) (helpers : List SlotState) (options : Options) (contents : Contents)
     (missed : List (List ℕ)) (now : List (List ℕ)) (before after : Streams) (end : End) (counts : Option Counts)
     (sent : Option Sent) : Type 0 where
   pub served : IsServed tree helpers options contents missed now before after end (counts_line counts) sent
   pub counted : AreCounts options.stats options.cache counts served.tally
 
--- nothing was taken or put, and the notes tell no counts and nothing of what was sent
+-- nothing was taken or put, and the notes hold neither counts nor what was sent
 pub record IsUncounted (before after : Streams) (counts : Option Counts) (sent : Option Sent) : Type 0 where
   pub untouched : IsUntouched before after (counts_line counts) sent
   pub uncounted : counts ≡ None
 
--- by how far a run came, what its words gave, what it did, and what it is to note: its counts, and what was sent
+-- what a run did, by how far it came: what its words gave, what it served, and the counts and what was sent to note
 abbrev pub CameCounted : Tree → List SlotState → List (List ℕ) → Contents → List (List ℕ) → List (List ℕ) → Streams
     → Streams → Option Counts → Option Sent → Phase → Type 0
 CameCounted tree helpers words contents missed now before after counts sent NotTaken =
@@ -87,7 +88,7 @@ CameCounted tree helpers words contents missed now before after counts sent (Ser
     (options : Options) × GiveOptions words options
     × IsServedCounted tree helpers options contents missed now before after end counts sent
 
--- what a run of these words with these helpers did that reads in a tree, by its outcome, and what it counted
+-- what a run of these words with these helpers and readings in this tree did, by its outcome, and what it counted
 pub record RunsCountedIn (tree : Tree) (helpers : List SlotState) (words : List (List ℕ)) (before after : Outside)
     (outcome : Outcome) : Type 0 where
   pub counts : Option Counts
@@ -101,12 +102,12 @@ pub record RunsCountedIn (tree : Tree) (helpers : List SlotState) (words : List 
   pub notes : IsNoted before.noted after.noted before.notes_faults after.notes_faults
       (notes_text counts sent (note_of outcome))
 
--- what a run of these words with these helpers did that reads in the stated tree, and what it counted
+-- what a run of these words with these helpers and readings in the stated tree did, and what it counted
 abbrev pub RunsCounted : List SlotState → List (List ℕ) → Outside → Outside → Outcome → Type 0
 RunsCounted = RunsCountedIn Stated
 
--- what a run with these helpers did that reads in a tree, and what it counted, by its words if they could be had;
--- texts tells these
+-- what a run with these helpers and readings in this tree did, and what it counted; `texts` gives the bytes of its
+-- words, if it has words
 abbrev pub RunsHadCounted : {V : Type 0} → Tree → List SlotState → (V → List (List ℕ)) → Result V WordsError → Outside
     → Outside → Outcome → Type 0
 RunsHadCounted tree helpers texts (Ok words) before after outcome =

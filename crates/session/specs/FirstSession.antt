@@ -30,8 +30,8 @@ use Rattle.session.specs.declared.serve.Ended.{Ended}
 use Rattle.run_notes.specs.declared.notes.Counts.{Counts}
 use Rattle.run_notes.specs.declared.notes.Sent.{Sent}
 
--- the session is the first machine with these helpers and depths, its matcher finds the matches of these patterns as
--- the plain one does, it has counted and kept nothing, and may keep this many questions, which are eight and more, and
+-- the session is the first machine with these helpers and depths, finds the matches of these patterns as the plain
+-- matcher does, has counted and cached nothing, and has room for `capacity` questions of readings, at least eight, and
 -- as many about connections
 pub record IsPlainWith (patterns : List Pattern) (depths : ReadingDepths) (capacity : ℕ)
     (session : EngineView) : Type 0 where
@@ -42,8 +42,8 @@ pub record IsPlainWith (patterns : List Pattern) (depths : ReadingDepths) (capac
   pub room : 8 ≤ capacity
   pub matches : matcher_of session ≡ plain_matcher patterns
 
--- the files of the options were opened, in which the helpers may be named, the session is plain with their patterns and
--- the depths of the options in a tree, has these helpers, and no line has come
+-- the files of the options, which may name the helpers, were opened; the session is plain with their patterns and the
+-- depths of the options in a tree, and has these helpers; no line has come
 pub record Opens (tree : Tree) (helpers : List SlotState) (contents : Contents) (options : Options)
     (session : EngineView) (slots : List SlotState) (lines : LinesState) : Type 0 where
   pub patterns : List Pattern
@@ -52,7 +52,7 @@ pub record Opens (tree : Tree) (helpers : List SlotState) (contents : Contents) 
   pub same : slots ≡ helpers
   pub none : lines ≡ no_line
 
--- how far a run with these options came: its files were not opened, or the lines were served
+-- what a run with these options did, by how far it came: its files were not opened, or the lines were served
 abbrev pub CameBy : Tree → List SlotState → Options → Contents → List (List ℕ) → List (List ℕ) → Streams → Streams
     → Option Counts → Option Sent → Phase → Type 0
 CameBy tree helpers options contents missed now before after counts sent NotTaken = ⊥
@@ -61,7 +61,7 @@ CameBy tree helpers options contents missed now before after counts sent (NotOpe
 CameBy tree helpers options contents missed now before after counts sent (Served end) =
     IsServedCounted tree helpers options contents missed now before after end counts sent
 
--- the lines were served with a tally, by which the counts rose, and along which what is kept went on
+-- the lines were served with a tally, by which the counts rose, and along which what is kept changed
 pub record ServesCounting {M : Type 0} (generate : Option ℕ) (step : M → RawLine → Step M → Type 0)
     (goes : Kept → Turn M → Kept → Type 0) (first : M) (before after : Streams) (end : End)
     (old new : Progress) : Type 0 where
@@ -69,8 +69,8 @@ pub record ServesCounting {M : Type 0} (generate : Option ℕ) (step : M → Raw
   pub serves : ServesLines generate step first before after end tally
   pub advances : Advances goes old new tally
 
--- The lines were served so by a session that kept this, and whose outbox had sent this, and these counts and names
--- missed are those of what is kept then.
+-- A session that kept `old`, and whose outbox had sent `was`, served the lines. The counts and the missed names at the
+-- end are those of what it keeps then.
 pub record EndsCounting (generate : Option ℕ) (contents : Contents) (old : Kept) (was : Sent) (before after : Streams)
     (ended : Ended) (missed : List (List ℕ)) (now : Sent) : Type 0 where
   pub kept : Kept

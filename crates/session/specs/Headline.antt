@@ -1,4 +1,4 @@
--- The claim of `run`: by its outcome, what its files are, what it took from its source, put on its output and noted.
+-- The claim of `run`, by its outcome: what its files are, what it took from its source, put on its output and noted.
 use Rattle.std.specs.Prelude.{◌≡◌, ◌≢◌, ◌⊎◌, ℕ, ◌<◌, ◌≤◌, true, false, List, [], ◌++◌, length}
 use Rattle.std.specs.Prelude.{Option, Some, None, IsSomeAnd, MatchOption, Result, Ok, Err, codes}
 use Rattle.std.specs.List.{flat_map}
@@ -36,8 +36,7 @@ use Rattle.session.specs.declared.outcome.WordsError.{WordsError}
 use Rattle.session.specs.declared.outcome.End.{End}
 use Rattle.session.specs.declared.outcome.End.TheVariants.{InputTooLong}
 
--- what stands outside a run: the files by their names, the names that were missed, the streams, and the notes with how
--- often they failed
+-- the outside of a run: the files by their names, the missed names, the streams, the notes, and how often these failed
 pub record Outside : Type 0 where
   pub contents : Contents
   pub missed : List (List ℕ)
@@ -45,8 +44,8 @@ pub record Outside : Type 0 where
   pub noted : Option (List ℕ)
   pub notes_faults : ℕ
 
--- what stands outside, where files have these contents, these names were missed, the streams are these, and the notes
--- hold these bytes and failed this often
+-- the outside: files have these contents, these names were missed, the streams are these, and the notes hold these
+-- bytes and failed this often
 abbrev pub outside : Contents → List (List ℕ) → Streams → Option (List ℕ) → ℕ → Outside
 outside contents missed streams noted notes_faults = record {
   contents = contents;
@@ -56,18 +55,18 @@ outside contents missed streams noted notes_faults = record {
   notes_faults = notes_faults;
 }
 
--- the words of the command line are taken, and give these options
+-- the words of the command line are accepted, and give these options
 pub record GiveOptions (words : List (List ℕ)) (options : Options) : Type 0 where
   pub taken : is_taken words ≡ true
   pub found : AreFound (rows_in words) options
 
--- the files of the options were not opened, and the error says why; want of memory has no other cause
+-- the files of the options were not opened, and the error says why; if memory ran out, nothing more is said
 abbrev pub IsUnopened : List SlotState → List (List ℕ) → Contents → OpenError → Type 0
 IsUnopened helpers words contents error =
     (error ≡ open_error.NoMemory) ⊎ ((options : Options) × GiveOptions words options
     × IsRefused (helper_names helpers) contents options.files options.states error)
 
--- Generated lines were served in place of the source, which stays as it was. They are fewer bytes than the longest
+-- Generated lines were served instead of the source, which stays as it was. They have fewer bytes than the longest
 -- input.
 pub record ServesGenerated {M : Type 0} (n : ℕ) (step : M → RawLine → Step M → Type 0) (first : M)
     (before after : Streams) (end : End) (tally : Tally M) : Type 0 where
@@ -79,22 +78,22 @@ pub record ServesGenerated {M : Type 0} (n : ℕ) (step : M → RawLine → Step
       (record after { left = Some rest; piece = last }) end tally
   pub not_too_long : end ≢ InputTooLong
 
--- the lines of the source were served, or generated lines if so many are to be generated
+-- the lines of the source were served, or n generated lines if the options ask for these
 abbrev pub ServesLines : {M : Type 0} → Option ℕ → (M → RawLine → Step M → Type 0) → M → Streams → Streams → End
     → Tally M → Type 0
 ServesLines None step first before after end tally = Serves step first before after end tally
 ServesLines (Some n) step first before after end tally = ServesGenerated n step first before after end tally
 
--- what was sent is told if lines are generated: the replies of the tally that went out whole, and its bytes
+-- if lines are generated, what was sent is noted: the replies of the tally that went out whole, and its bytes
 abbrev pub IsSent : {M : Type 0} → Option ℕ → Option Sent → Tally M → Type 0
 IsSent generate sent tally = MatchOption generate (sent ≡ None) (λ n. IsSomeAnd sent
     (λ s. (s.lines ≡ kept_sum 0 tally.replies) × (s.bytes ≡ kept_sum 0 (length tally.out))))
 
--- The files of the options were opened, in which the helpers may be named, and the lines were served by the plain
--- machine, which compares each diagram of their patterns with the board, reads in this tree, as deep as the options
--- say, and asks the helpers, whose meanings never change. The names that the loader missed are those that it had
--- missed, and behind them those of the lines that were answered `cannot load file`, in their order. The notes tell no
--- counts unless the options ask for them; which counts they tell is said by `RunsCountedIn`.
+-- The files of the options, which may name the helpers, were opened, and the lines were served by the plain machine. It
+-- compares each diagram of their patterns with the board, reads in this tree, as deep as the options say, and asks the
+-- helpers, whose meanings never change. The names that the loader missed are those that it had missed before, and after
+-- them those of the lines answered `cannot load file`, in their order. The notes hold no counts unless the options ask
+-- for them; `RunsCountedIn` says which counts they hold.
 pub record IsServed (tree : Tree) (helpers : List SlotState) (options : Options) (contents : Contents)
     (missed : List (List ℕ)) (now : List (List ℕ)) (before after : Streams) (end : End) (counts : List ℕ)
     (sent : Option Sent) : Type 0 where
@@ -107,13 +106,14 @@ pub record IsServed (tree : Tree) (helpers : List SlotState) (options : Options)
   pub uncounted : options.stats ≡ false → counts ≡ []
   pub told : IsSent options.generate sent tally
 
--- nothing was taken or put, and the notes tell no counts and nothing of what was sent
+-- nothing was taken or put, and the notes hold neither counts nor what was sent
 pub record IsUntouched (before after : Streams) (counts : List ℕ) (sent : Option Sent) : Type 0 where
   pub streams : after ≡ before
   pub uncounted : counts ≡ []
   pub unsent : sent ≡ None
 
--- by how far a run came, what its words gave, what it did, and what it is to note: a text of counts, and what was sent
+-- what a run did, by how far it came: what its words gave, what it served, and the text of counts and what was sent to
+-- note
 abbrev pub Came : Tree → List SlotState → List (List ℕ) → Contents → List (List ℕ) → List (List ℕ) → Streams → Streams
     → List ℕ → Option Sent → Phase → Type 0
 Came tree helpers words contents missed now before after counts sent NotTaken =
@@ -124,23 +124,23 @@ Came tree helpers words contents missed now before after counts sent (Served end
     (options : Options) × GiveOptions words options
     × IsServed tree helpers options contents missed now before after end counts sent
 
--- the file words of a command line
+-- the words of a command line that name files
 abbrev pub files_in : List (List ℕ) → List (List ℕ)
 files_in words = words_in (codes "files") (rows_in words)
 
--- by how far a run came, which names the loader missed before it served lines; `IsServed` says which it missed then
+-- which names the loader missed before lines were served, by how far a run came; `IsServed` says which it missed later
 abbrev pub MissedAfter : List (List ℕ) → List (List ℕ) → List (List ℕ) → Phase → Type 0
 MissedAfter names before now NotTaken = now ≡ before
 MissedAfter names before now (NotOpened error) = MissedIn names before now error
 MissedAfter names before now (Served end) = Unit {0}
 
--- a fault is told only if its object's count rose, and the count is greater than before only if the fault is told
+-- if a fault is reported, its count rose, as far as a u64 can; if the count rose, the fault is reported
 pub record IsCauseOf (fault : Type 0) (before now : ℕ) : Type 0 where
   pub later : before ≤ now
   pub rose : fault → Rose before now
   pub told : before < now → fault
 
--- What a run of these words with these helpers did that reads in a tree, by its outcome. Its notes are a text of
+-- What a run of these words with these helpers and readings in this tree did, by its outcome. Its notes are a text of
 -- counts, then the line of what was sent, and then the note of its outcome.
 pub record RunsIn (tree : Tree) (helpers : List SlotState) (words : List (List ℕ)) (before after : Outside)
     (outcome : Outcome) : Type 0 where
@@ -155,7 +155,7 @@ pub record RunsIn (tree : Tree) (helpers : List SlotState) (words : List (List �
   pub notes : IsNoted before.noted after.noted before.notes_faults after.notes_faults
       (counts ++ sent_line sent ++ note_of outcome)
 
--- what a run of these words with these helpers did that reads in the stated tree
+-- what a run of these words with these helpers and readings in the stated tree did
 abbrev pub Runs : List SlotState → List (List ℕ) → Outside → Outside → Outcome → Type 0
 Runs = RunsIn Stated
 
@@ -166,7 +166,7 @@ pub record DoesNothing (before after : Outside) (outcome : Outcome) : Type 0 whe
   pub streams : after.streams ≡ before.streams
   pub notes : IsNoted before.noted after.noted before.notes_faults after.notes_faults (note_of outcome)
 
--- what a run with these helpers did that reads in a tree, by its words if they could be had; texts tells these
+-- what a run with these helpers and readings in this tree did; `texts` gives the bytes of its words, if it has words
 abbrev pub RunsHad : {V : Type 0} → Tree → List SlotState → (V → List (List ℕ)) → Result V WordsError → Outside
     → Outside → Outcome → Type 0
 RunsHad tree helpers texts (Ok words) before after outcome = RunsIn tree helpers (texts words) before after outcome

@@ -1,4 +1,4 @@
--- What a run says on its notes of how it ended.
+-- What a run writes on its notes about how it ended.
 use Rattle.std.specs.Prelude.{ℕ, List, [], ◌++◌, codes, decimal}
 use Rattle.session.specs.declared.outcome.Outcome.{Outcome}
 use Rattle.session.specs.declared.outcome.Outcome.TheVariants.{Done, BadDatabase, Usage, NoMemory, InputFault}

@@ -10,7 +10,7 @@ use Rattle.session.specs.declared.outcome.End.TheVariants as served
 use Rattle.session.specs.declared.outcome.WordsError.{WordsError}
 use Rattle.session.specs.declared.outcome.WordsError.TheVariants as words
 
--- how far a run came: its words were not taken, its files were not opened, or the lines were served until an end
+-- how far a run came: its words were not accepted, its files were not opened, or the lines were served until an end
 pub data Phase : Type 0 where
   NotTaken : Phase
   NotOpened : OpenError → Phase
@@ -28,12 +28,12 @@ phase_of FileFault = NotOpened open_error.FileFault
 phase_of (TooManyStates limit) = NotOpened (open_error.TooManyStates limit)
 phase_of InputTooLong = Served served.InputTooLong
 
--- the outcome if the words could not be had
+-- the outcome of a run whose words are missing
 abbrev pub unhad : WordsError → Outcome
 unhad words.NotText = Usage
 unhad words.NoMemory = NoMemory
 
--- the exit status
+-- the exit status of the program
 abbrev pub code_of : Outcome → ℕ
 code_of Done = 0
 code_of (BadDatabase line kind) = 1

@@ -1,5 +1,5 @@
--- How a run opens the pattern files, which its words name: it joins their contents in their order and reads the
--- joined text.
+-- How a run opens the pattern files that its words name: it joins their contents in their order and reads the joined
+-- text.
 use Rattle.std.specs.Prelude.{◌≡◌, ◌≤◌, ℕ, ◌-◌, ◌==◌, ◌&&◌, not, Bool, List, [], ◌∷◌, ◌++◌, length, map, slice_index}
 use Rattle.std.specs.Prelude.{Option, Some, None, Contains, if◌then◌else◌}
 use Rattle.std.specs.List.{flat_map}
@@ -30,7 +30,7 @@ needs_feed text = not (length text == 0) && not (slice_index text (length text -
 abbrev pub added_feed : List ℕ → List ℕ
 added_feed text = if needs_feed text then line_feed ∷ [] else []
 
--- the contents of a file, with the line feed that is added
+-- the contents of a file, with a line feed added if they need one
 abbrev pub ended : List ℕ → List ℕ
 ended text = text ++ added_feed text
 
@@ -51,25 +51,24 @@ pub record IsJoined (contents : Contents) (names : List (List ℕ)) (text : List
   pub told : AreContents contents names texts
   pub joined : text ≡ joined_text texts
 
--- the contents of a file were put behind a text, with the line feed that is added
+-- `new` is `old` with the contents of a file after it, and with a line feed if they need one
 pub record Adds (contents : Option (List ℕ)) (old new : List ℕ) : Type 0 where
   pub text : List ℕ
   pub told : IsContents contents text
   pub added : new ≡ old ++ ended text
 
--- one of the names was appended to those missed
+-- one of the names was appended to the missed names
 pub record MissedOne (names before now : List (List ℕ)) : Type 0 where
   pub name : List ℕ
   pub named : Contains names name
   pub appended : now ≡ before ++ name ∷ []
 
--- now are the names missed after a load of files by their names that had this error: one more if a file failed, else
--- those before
+-- `now` are the missed names after a load of files that ended with this error: one more if a file failed, else the same
 abbrev pub MissedBy : List (List ℕ) → List (List ℕ) → List (List ℕ) → LoadError → Type 0
 MissedBy names before now load.Failed = MissedOne names before now
 MissedBy names before now load.NoMemory = now ≡ before
 
--- the joined files have no fault if these helpers may be named, and the patterns are their entries
+-- the joined files have no fault, if these helpers may be named, and the patterns are their entries
 pub record IsDatabase (known : List (List ℕ)) (contents : Contents) (names : List (List ℕ))
     (patterns : List Pattern) : Type 0 where
   pub text : List ℕ
@@ -77,24 +76,24 @@ pub record IsDatabase (known : List (List ℕ)) (contents : Contents) (names : L
   pub sound : first_fault known text ≡ None
   pub spelled : map entry_of patterns ≡ entries text
 
--- the joined files have this first fault if these helpers may be named
+-- the joined files have this first fault, if these helpers may be named
 pub record IsFaulty (known : List (List ℕ)) (contents : Contents) (names : List (List ℕ))
     (line kind : ℕ) : Type 0 where
   pub text : List ℕ
   pub joined : IsJoined contents names text
   pub fault : first_fault known text ≡ Some (record { line = line; kind = kind })
 
--- the patterns have no more states than there may be
+-- the patterns have at most this many states
 abbrev pub HasFewStates : List Pattern → ℕ → Type 0
 HasFewStates patterns most = (n : ℕ) × HasStates patterns n × (n ≤ most)
 
--- the joined files have no fault, their entries are the patterns, and these have no more states than there may be
+-- the joined files have no fault, their entries are the patterns, and these have at most this many states
 pub record IsOpened (known : List (List ℕ)) (contents : Contents) (names : List (List ℕ)) (most : ℕ)
     (patterns : List Pattern) : Type 0 where
   pub database : IsDatabase known contents names patterns
   pub few : HasFewStates patterns most
 
--- the joined files have no fault, and their entries have more states than there may be
+-- the joined files have no fault, and their entries have more states than allowed
 pub record HasTooMany (known : List (List ℕ)) (contents : Contents) (names : List (List ℕ))
     (most : ℕ) : Type 0 where
   pub patterns : List Pattern
@@ -115,24 +114,24 @@ MissedIn names before now (BadDatabase line kind) = now ≡ before
 MissedIn names before now (TooManyStates limit) = now ≡ before
 MissedIn names before now NoMemory = now ≡ before
 
--- the patterns were refused: they have more states than there may be, or there was no memory
+-- the patterns were refused: they have more states than allowed, or memory ran out
 abbrev pub RefusesStates : List Pattern → ℕ → OpenError → Type 0
 RefusesStates patterns most FileFault = ⊥
 RefusesStates patterns most (BadDatabase line kind) = ⊥
 RefusesStates patterns most (TooManyStates limit) = (limit ≡ most) × HasMoreStates patterns most
 RefusesStates patterns most NoMemory = Unit {0}
 
--- the error that a load's becomes
+-- the error of the run after this error of a load
 abbrev pub unloaded : LoadError → OpenError
 unloaded load.Failed = FileFault
 unloaded load.NoMemory = NoMemory
 
--- the error that a database's becomes
+-- the error of the run after this error of a database
 abbrev pub unread : DbError → OpenError
 unread (db.Fault line kind) = BadDatabase line kind
 unread db.NoMemory = NoMemory
 
--- the error that an automaton's becomes
+-- the error of the run after this error of an automaton
 abbrev pub uncompiled : JoinError → OpenError
 uncompiled (join.TooManyStates limit) = TooManyStates limit
 uncompiled join.NoMemory = NoMemory

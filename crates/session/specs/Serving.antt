@@ -1,5 +1,5 @@
--- What the loops of a run say of the lines that they answer, of the bytes that they put and of what they count, by any
--- machine M, any step, and any relation that says how what is kept goes on with a line.
+-- What the loops of a run do with lines: which they answer, which bytes they put, and what they count. M is any
+-- machine, `step` any step, and `goes` any relation that says how what is kept changes with a line.
 use Rattle.std.specs.Prelude.{◌≡◌, ℕ, ◌<◌, Bool, List, ◌++◌, length, take, Option}
 use Rattle.std.specs.Io.KnownBytes.{Appends}
 use Rattle.gtp_rules.specs.Lines.{RawLine}
@@ -10,7 +10,7 @@ use Rattle.session_core.specs.Kept.{Kept}
 use Rattle.machine_rules.specs.Turns.{Turn}
 use Rattle.session.specs.Tallies.{Tally, Progress, Advances, IsTallied, BreaksOff, tally_of, cut_tally, kept_sum}
 
--- how far a run is: what its output holds, what its session keeps, and what was sent
+-- the progress of a run: what its output holds, what its session keeps, and what was sent
 abbrev pub progress_of : Option (List ℕ) → Kept → Sent → Progress
 progress_of written session sent =
     record { written = written; kept = session; replies = sent.lines; bytes = sent.bytes }
@@ -21,7 +21,7 @@ pub record Puts (old new : Option (List ℕ)) (before now : Sent) (bytes : List 
   pub lines : now.lines ≡ before.lines
   pub bytes_sent : now.bytes ≡ kept_sum before.bytes (length bytes)
 
--- a front of the bytes was put and counted, and not all of them
+-- a proper prefix of the bytes was put and counted
 pub record PutsPart (old new : Option (List ℕ)) (before now : Sent) (bytes : List ℕ) : Type 0 where
   pub part : List ℕ
   pub missing : List ℕ
@@ -29,12 +29,12 @@ pub record PutsPart (old new : Option (List ℕ)) (before now : Sent) (bytes : L
   pub proper : 0 < length missing
   pub puts : Puts old new before now part
 
--- the first n of the bytes were put and counted, and not all of them
+-- the first n of the bytes, which are not all, were put and counted
 pub record PutsFront (old new : Option (List ℕ)) (before now : Sent) (bytes : List ℕ) (n : ℕ) : Type 0 where
   pub within : n < length bytes
   pub puts : Puts old new before now (take n bytes)
 
--- the bytes were put and counted, and so was the reply that they are
+-- the bytes were put and counted, and counted as one reply
 pub record PutsReply (old new : Option (List ℕ)) (before now : Sent) (bytes : List ℕ) : Type 0 where
   pub writes : Appends old new bytes
   pub lines : now.lines ≡ kept_sum before.lines 1
@@ -68,7 +68,7 @@ pub record RunsTo {M : Type 0} (step : M → RawLine → Step M → Type 0) (goe
   pub run : IsTallied step from lines tally to ended
   pub advances : Advances goes old new tally
 
--- the lines were answered up to one, whose reply was put in part
+-- the lines were answered up to one whose reply was put in part
 pub record RunsPart {M : Type 0} (step : M → RawLine → Step M → Type 0) (goes : Kept → Turn M → Kept → Type 0)
     (from : M)
     (lines : List RawLine) (old new : Progress) : Type 0 where

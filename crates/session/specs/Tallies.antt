@@ -1,6 +1,6 @@
--- What a run counts of the lines that it answers, by any machine M and any step: each line was answered, as in a
--- transcript, and is tallied with its reply. A count in ℕ is exact; the program's counts stand still at the greatest
--- value of a u64.
+-- What a run counts of the lines that it answers, for any machine M and any step: each line was answered, as in a
+-- transcript, and is tallied with its reply. Counts in ℕ are exact; the program's counts stop at the greatest value of
+-- a u64.
 use Rattle.session_core.specs.Replies.{reply_count}
 use Rattle.std.specs.Prelude.{◌≡◌, ℕ, zero, suc, ◌+◌, ◌-◌, ◌^◌, min, Bool, true, false, MatchBool, List, [], ◌∷◌}
 use Rattle.std.specs.Prelude.{◌++◌, length, Option}
@@ -11,13 +11,13 @@ use Rattle.gtp_rules.specs.Transcript.{Answers, Cut}
 use Rattle.session_core.specs.Kept.{Kept}
 use Rattle.machine_rules.specs.Turns.{Turn, IsAlong}
 
--- the bytes that were put, how many replies they are, and the lines that were answered, each with its machine
+-- the bytes that were put, how many replies were put whole, and the lines that were answered, each with its machine
 pub record Tally (M : Type 0) : Type 0 where
   pub out : List ℕ
   pub replies : ℕ
   pub turns : List (Turn M)
 
--- before the first line
+-- the tally before the first line
 abbrev pub no_tally : {M : Type 0} → Tally M
 no_tally = record { out = []; replies = 0; turns = [] }
 
@@ -25,7 +25,7 @@ no_tally = record { out = []; replies = 0; turns = [] }
 abbrev pub together : {M : Type 0} → Tally M → Tally M → Tally M
 together a b = record { out = a.out ++ b.out; replies = a.replies + b.replies; turns = a.turns ++ b.turns }
 
--- a line that comes to a machine and has this reply, as the only one
+-- a single line that comes to a machine and has this reply
 abbrev pub one_turn : {M : Type 0} → M → RawLine → List ℕ → List (Turn M)
 one_turn machine line reply = record { machine = machine; line = line; reply = reply } ∷ []
 
@@ -33,13 +33,13 @@ one_turn machine line reply = record { machine = machine; line = line; reply = r
 abbrev pub tally_of : {M : Type 0} → M → RawLine → List ℕ → Tally M
 tally_of machine line reply = record { out = reply; replies = reply_count reply; turns = one_turn machine line reply }
 
--- the tally of a line and its reply, of which a part was put: the reply is not counted, but the line was answered
+-- the tally of a line and its reply, of which only a part was put: the reply is not counted, but the line was answered
 abbrev pub cut_tally : {M : Type 0} → M → RawLine → List ℕ → List ℕ → Tally M
 cut_tally machine line part missing =
     record { out = part; replies = 0; turns = one_turn machine line (part ++ missing) }
 
--- The lines were answered with this tally, one after another, and the machine is new after them. After a line that
--- ends the session nothing is answered, and ended says whether there is one.
+-- The lines were answered with this tally, one after another, and `new` is the machine after them. Nothing is answered
+-- after a line that ends the session, and `ended` says whether there is one.
 abbrev pub IsTallied : {M : Type 0} → (M → RawLine → Step M → Type 0) → M → List RawLine → Tally M → M → Bool → Type 0
 IsTallied step old [] tally new ended = (tally ≡ no_tally) × (new ≡ old) × (ended ≡ false)
 IsTallied {M} step old (line ∷ lines) tally new ended =
@@ -47,8 +47,8 @@ IsTallied {M} step old (line ∷ lines) tally new ended =
     × (tally ≡ together (tally_of old line first) rest)
     × MatchBool ends ((rest ≡ no_tally) × (new ≡ mid) × (ended ≡ true)) (IsTallied step mid lines rest new ended)
 
--- what was put breaks off within the reply to one of the lines: those before it were answered with a tally, and with
--- the part of its reply that was put this is the tally of all
+-- The bytes put break off within the reply to one of the lines. The tally is that of the lines before it, and of this
+-- line with the part of its reply that was put.
 pub record BreaksOff {M : Type 0} (step : M → RawLine → Step M → Type 0) (first : M) (lines : List RawLine)
     (tally : Tally M) : Type 0 where
   pub cut : Cut step first lines tally.out
@@ -56,7 +56,7 @@ pub record BreaksOff {M : Type 0} (step : M → RawLine → Step M → Type 0) (
   pub answered : IsTallied step first cut.before whole cut.mid false
   pub tallied : tally ≡ together whole (cut_tally cut.mid cut.line cut.part cut.missing)
 
--- a count after n more; it stands still at the greatest value of a u64
+-- a count plus n, but at most the greatest value of a u64 if n is not 0
 abbrev pub kept_sum : ℕ → ℕ → ℕ
 kept_sum count zero = count
 kept_sum count (suc n) = min (count + suc n) (2 ^ 64 - 1)
@@ -68,7 +68,7 @@ pub record Progress : Type 0 where
   pub replies : ℕ
   pub bytes : ℕ
 
--- bytes were put on the output, what the session keeps went along the lines, and the counts rose by their tally
+-- bytes were put on the output, what the session keeps changed along the lines, and the counts rose by their tally
 pub record Advances {M : Type 0} (goes : Kept → Turn M → Kept → Type 0) (old new : Progress)
     (tally : Tally M) : Type 0 where
   pub writes : Appends old.written new.written tally.out

@@ -1,4 +1,4 @@
--- Replies that wait for the output, and where an output that fails leaves a run.
+-- Replies that wait for the output, and the state of a run after its output failed.
 use Rattle.std.specs.Prelude.{◌≡◌, ◌⊎◌, ℕ, suc, ◌<◌, ◌≤◌, nat_le, if◌then◌else◌, List, [], ◌∷◌, length, take, Option}
 use Rattle.std.specs.Io.KnownBytes.{Appends, Keeps, append_known}
 use Rattle.run_notes.specs.declared.notes.Counts.{Counts}
@@ -37,7 +37,7 @@ outbox_room = 4096
 abbrev pub most_marks : ℕ
 most_marks = 128
 
--- how many of the replies up to the first that does not end within k bytes
+-- how many replies come before the first that does not end within k bytes
 abbrev pub gone : List ReplyMark → ℕ → ℕ
 gone [] k = 0
 gone (m ∷ ms) k = if nat_le m.end k then suc (gone ms k) else 0
@@ -47,7 +47,7 @@ abbrev pub counts_at : List ReplyMark → ℕ → Counts
 counts_at [] k = no_counts
 counts_at (m ∷ ms) k = if nat_le m.end k then counts_at ms k else m.counts
 
--- within all the bytes each reply ends, and within fewer of them not each
+-- every reply ends within all the bytes, and not every reply ends within fewer
 pub record AreMarked (bytes : List ℕ) (marks : List ReplyMark) : Type 0 where
   pub all : (k : ℕ) → length bytes ≤ k → gone marks k ≡ length marks
   pub some : (k : ℕ) → k < length bytes → gone marks k < length marks
@@ -62,28 +62,28 @@ pub record OutputState : Type 0 where
 abbrev pub output_of : Option (List ℕ) → OutboxState → OutputState
 output_of written outbox = record { written = written; sent = outbox.sent; waiting = outbox.waiting }
 
--- what the output would hold after what waits
+-- what the output holds once the waiting replies are out
 abbrev pub holds_with : OutputState → Option (List ℕ)
 holds_with output = append_known output.written output.waiting.bytes
 
--- what would have been sent after what waits
+-- what is sent once the waiting replies are out
 abbrev pub sent_with : OutputState → Sent
 sent_with output = record {
   lines = kept_sum output.sent.lines (length output.waiting.marks);
   bytes = kept_sum output.sent.bytes (length output.waiting.bytes);
 }
 
--- where an output that fails leaves a run: what it holds, what was sent, and what is noted as counted
+-- the state of a run after its output failed: what the output holds, what was sent, and the counts to note
 pub record Stop : Type 0 where
   pub written : Option (List ℕ)
   pub sent : Sent
   pub counts : Counts
 
--- the output failed when it held these bytes, the outbox had counted what was sent, and these counts are noted
+-- the output failed when it held these bytes; the outbox counted what was sent, and these counts are noted
 abbrev pub stop_of : Option (List ℕ) → OutboxState → Counts → Stop
 stop_of written outbox counts = record { written = written; sent = outbox.sent; counts = counts }
 
--- The output may fail so within what waits: within the first reply that does not end within the bytes that were put.
+-- The output may fail like this within the waiting replies: in the first reply that is not whole among the bytes put.
 pub record IsStop (output : OutputState) (stop : Stop) : Type 0 where
   pub place : ℕ
   pub within : place < length output.waiting.bytes
@@ -92,29 +92,29 @@ pub record IsStop (output : OutputState) (stop : Stop) : Type 0 where
   pub bytes : stop.sent.bytes ≡ kept_sum output.sent.bytes place
   pub counts : stop.counts ≡ counts_at output.waiting.marks place
 
--- the output failed within this reply, and what is noted are the counts after its line
+-- the output failed within this reply, and the counts after its line are noted
 pub record CutsReply (written : Option (List ℕ)) (sent : Sent) (reply : List ℕ) (counts : Counts)
     (stop : Stop) : Type 0 where
   pub puts : PutsPart written stop.written sent stop.sent reply
   pub same : stop.counts ≡ counts
 
--- the output may fail so within what waits, or within a reply behind it
+-- the output may fail like this within the waiting replies, or within a reply after them
 abbrev pub MayStop : OutputState → List ℕ → Counts → Stop → Type 0
 MayStop output reply counts stop =
     IsStop output stop ⊎ CutsReply (holds_with output) (sent_with output) reply counts stop
 
--- with what waits all is as it was, and the output may fail in no further way
+-- once the waiting replies are out, all is as it was, and the output may fail in no new way
 pub record Stays (old new : OutputState) : Type 0 where
   pub holds : Keeps (holds_with old) (holds_with new)
   pub sends : sent_with new ≡ sent_with old
   pub stops : (stop : Stop) → IsStop new stop → IsStop old stop
 
--- with what waits the reply is out, and the output may fail in no further way but within this reply
+-- once the waiting replies are out, so is this reply, and the only new way to fail is within it
 pub record Sends (old new : OutputState) (reply : List ℕ) (counts : Counts) : Type 0 where
   pub whole : PutsReply (holds_with old) (holds_with new) (sent_with old) (sent_with new) reply
   pub stops : (stop : Stop) → IsStop new stop → MayStop old reply counts stop
 
--- the reply to a line was sent so, and if there is none all is as it was
+-- the reply to a line was sent; if there is none, nothing changes
 abbrev pub SendsReply : OutputState → OutputState → Reply → Counts → Type 0
 SendsReply old new reply.Nothing counts = new ≡ old
 SendsReply old new answer counts = Sends old new (reply_bytes answer) counts

@@ -1,8 +1,8 @@
 //! The top call of the program: it opens the pattern files, serves the lines of a stream by a session, and notes how
 //! that ended.
 //!
-//! What a session answers to one line stands in `engine`, and the plain machine that it is in `machine_rules`. `run`
-//! writes for a stream of lines a transcript of this machine, by an outcome that tells why it ended.
+//! What a session answers to one line stands in the crate `session_core`, and its plain machine in `machine_rules`.
+//! `run` writes a transcript of this machine for a stream of lines; its outcome says why it ended.
 #![tactic(auto)]
 
 mod outbox;

@@ -1,4 +1,4 @@
-//! Replies that wait, so that those of many lines go out in one call of the output.
+//! Replies that wait, so that the replies to many lines go out in one call of the output.
 ghost use Rattle.std.specs.Prelude.{◌≡◌, ◌+◌, ◌<◌, ◌≤◌, true, length, OnOk, OnErr, IfErr, Option, List, ℕ};
 ghost use Rattle.gtp_io.specs.Outside.{IsCounted};
 ghost use Rattle.run_notes.specs.declared.notes.Sent.{Sent};
@@ -18,16 +18,16 @@ const ROOM: usize = 4096;
 /// How many replies may wait.
 const MOST_MARKS: usize = 128;
 
-/// Where a reply that waits ends, and what was counted up to and with its line.
+/// Where a waiting reply ends, and what was counted up to and with its line.
 #[derive(Clone, Copy)]
 pub(crate) struct ReplyMark {
-    /// How many bytes wait up to its end.
+    /// How many bytes wait up to the end of the reply.
     pub(crate) end: usize,
-    /// The counts after its line.
+    /// The counts after the line of the reply.
     pub(crate) counts: Counts,
 }
 
-/// No reply's mark.
+/// A mark that stands for no reply.
 const NO_MARK: ReplyMark = ReplyMark {
     end: 0,
     counts: Counts {
@@ -42,7 +42,7 @@ const NO_MARK: ReplyMark = ReplyMark {
     },
 };
 
-/// Replies that wait to be put on an output, in their order, and what was sent before them. They are seen as their
+/// Replies that wait for an output, in their order, and what was sent before them. Contracts see the replies as their
 /// bytes and their marks.
 #[derive(Drop)]
 pub(crate) struct Outbox {
@@ -68,14 +68,14 @@ impl Model for Outbox {
         × AreMarked (take b.len b.bytes) (take b.count b.marks) };
 }
 
-/// A count after n more; it stands still at the greatest value of a u64.
+/// A count plus `n`, but at most the greatest value of a u64.
 fn added(count: u64, n: u64) -> u64
     ensures { result ≡ kept_sum count n }
 {
     count.saturating_add(n)
 }
 
-/// Puts all the bytes, and counts them, or says how many went out before the sink failed.
+/// Puts all the bytes and counts them, or says how many went out before the sink failed.
 fn put_all<K: Sink>(output: &mut K, bytes: &[u8], sent: &mut Sent) -> Result<(), usize>
     ensures ok { OnOk result (Puts (K.written output.old) (K.written output.new) sent.old sent.new bytes.now) }
     ensures part { IfErr result
@@ -96,7 +96,7 @@ fn put_all<K: Sink>(output: &mut K, bytes: &[u8], sent: &mut Sent) -> Result<(),
     Ok(())
 }
 
-/// How many of the marks end within the first `place` bytes, and the counts of the first that does not.
+/// How many of the `marks` end within the first `place` bytes, and the counts of the first mark that does not.
 fn cut_at(marks: &[ReplyMark], place: usize) -> (usize, Counts)
     ensures gone { result.0 ≡ gone marks.now place }
     ensures counts { result.1 ≡ counts_at marks.now place }
@@ -109,7 +109,7 @@ fn cut_at(marks: &[ReplyMark], place: usize) -> (usize, Counts)
     (marks.len(), NO_MARK.counts)
 }
 
-/// Puts a reply behind no other, and counts it if it went out whole.
+/// Puts a reply when none waits before it, and counts it if it went out whole.
 fn put_directly<K: Sink>(
     reply: &[u8],
     counts: Counts,
@@ -132,7 +132,7 @@ fn put_directly<K: Sink>(
 }
 
 impl Outbox {
-    /// No reply waits, and nothing was sent.
+    /// The outbox in which no reply waits and from which nothing was sent.
     pub(crate) fn new() -> Outbox
         ensures none { result.waiting ≡ none_wait }
         ensures unsent { result.sent ≡ none_sent }
@@ -146,14 +146,14 @@ impl Outbox {
         }
     }
 
-    /// What was sent.
+    /// What was sent so far.
     pub(crate) fn sent(&self) -> Sent
         ensures { result ≡ self.now.sent }
     {
         self.sent
     }
 
-    /// Whether there is room for a reply of so many bytes behind those that wait.
+    /// Whether a reply of `n` bytes has room after the waiting ones.
     fn has_room(&self, n: usize) -> bool
         ensures { result ≡ true → (length self.now.waiting.bytes + n ≤ outbox_room)
             × (length self.now.waiting.marks < most_marks) }
@@ -161,7 +161,7 @@ impl Outbox {
         self.count < MOST_MARKS && n <= ROOM - self.len
     }
 
-    /// A reply more waits, with the counts after its line.
+    /// Adds a reply to the waiting ones, with the counts after its line.
     fn add(&mut self, reply: &[u8], counts: Counts)
         requires bytes { length self.old.waiting.bytes + length reply.now ≤ outbox_room }
         requires marks { length self.old.waiting.marks < most_marks }
@@ -177,7 +177,7 @@ impl Outbox {
         self.count += 1;
     }
 
-    /// Puts what waits, or says what was counted up to and with the line whose reply broke off.
+    /// Flushes the waiting replies, or gives the counts up to and with the line whose reply broke off.
     pub(crate) fn flush<K: Sink>(&mut self, output: &mut K) -> Result<(), Counts>
         ensures ok { OnOk result (Stays (output_of (K.written output.old) self.old)
             (output_of (K.written output.new) self.new)) }
@@ -205,7 +205,7 @@ impl Outbox {
         }
     }
 
-    /// Puts what waits, if no reply of so many bytes may wait behind it.
+    /// Flushes the waiting replies, if a reply of `n` bytes has no room after them.
     fn make_room<K: Sink>(&mut self, n: usize, output: &mut K) -> Result<(), Counts>
         ensures ok { OnOk result (Stays (output_of (K.written output.old) self.old)
             (output_of (K.written output.new) self.new)) }
@@ -223,7 +223,7 @@ impl Outbox {
         self.flush(output)
     }
 
-    /// A reply that may wait waits, and is put at once with what waits if `now` says so.
+    /// Adds a reply to the waiting ones, and flushes them all if `now`.
     fn keep<K: Sink>(
         &mut self,
         reply: &[u8],
@@ -247,8 +247,8 @@ impl Outbox {
         Ok(())
     }
 
-    /// Takes a reply behind those that wait, with the counts after its line. What waits is put before it where there
-    /// is no room for it, and with it if `now` says so.
+    /// Takes a reply, with the counts after its line. The waiting replies are flushed before it if it has no room after
+    /// them, and together with it if `now`.
     pub(crate) fn put<K: Sink>(
         &mut self,
         reply: &[u8],

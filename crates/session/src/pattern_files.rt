@@ -35,7 +35,7 @@ fn needs_feed(text: &[u8]) -> bool
     !text.is_empty() && text[text.len() - 1] != b'\n'
 }
 
-/// The text with a line feed, if what stands behind its first bytes needs one.
+/// The text, with a line feed if the part after its first `before` bytes needs one.
 fn with_feed(mut text: Vec<u8>, before: usize) -> Result<Vec<u8>, AllocError>
     requires { before ≤ length text.items }
     ensures { IfOk result (λ new. new.items ≡ text.items ++ added_feed (drop before text.items)) }
@@ -46,7 +46,7 @@ fn with_feed(mut text: Vec<u8>, before: usize) -> Result<Vec<u8>, AllocError>
     Ok(text)
 }
 
-/// The text with the contents of a file behind it, and with the line feed that is added after them.
+/// The text, then the contents of the file `name`, then a line feed if these need one.
 fn with_file<L: Loader>(files: &mut L, name: &str, text: Vec<u8>) -> Result<Vec<u8>, LoadError>
     ensures ok { IfOk result (λ new. Adds (L.contents files.old name.now) text.items new.items) }
     ensures missed { L.missed files.new ≡ missed_after (L.missed files.old) name.now result }
@@ -57,7 +57,7 @@ fn with_file<L: Loader>(files: &mut L, name: &str, text: Vec<u8>) -> Result<Vec<
     Ok(with_feed(text, before)?)
 }
 
-/// The contents of the files, joined in their order. Nothing more is loaded after the first that fails.
+/// The contents of the files, joined in their order. Loading stops at the first file that fails.
 fn joined<L: Loader>(alloc: Global, names: &[String], files: &mut L) -> Result<Vec<u8>, LoadError>
     ensures ok { IfOk result (λ text. IsJoined (L.contents files.old) (map string_bytes names.now) text.items) }
     ensures kept { OnOk result (L.missed files.new ≡ L.missed files.old) }
@@ -71,7 +71,7 @@ fn joined<L: Loader>(alloc: Global, names: &[String], files: &mut L) -> Result<V
     Ok(text)
 }
 
-/// The patterns of a text without a fault, in which helpers of these names may be named.
+/// The patterns of a text without a fault; they may name the helpers of the `known` names.
 fn patterns_in(alloc: Global, known: &[Bytes], text: &[u8]) -> Result<Vec<Pattern>, DbError>
     ensures ok { IfOk result (λ patterns. (first_fault known.now text.now ≡ None)
         × (map entry_of patterns.items ≡ entries text.now)) }
@@ -81,15 +81,15 @@ fn patterns_in(alloc: Global, known: &[Bytes], text: &[u8]) -> Result<Vec<Patter
     read(alloc, text, known, Vec::new(alloc))
 }
 
-/// A server before its first line, and the lines of which none has come.
+/// A server before its first line, and the splitter of lines before its first byte.
 #[derive(Drop)]
 pub(crate) struct Opened {
     pub(crate) server: Server,
     pub(crate) lines: Lines,
 }
 
-/// A session with these patterns, by their automaton, these helpers, readings in this tree, and the depths and at most
-/// the states of the options.
+/// A session with `patterns` and their automaton, `helpers`, readings in `tree`, and the depths of `options`. The
+/// automaton may have at most as many states as `options` says.
 fn session_with(
     alloc: Global,
     patterns: Vec<Pattern>,
@@ -109,9 +109,9 @@ fn session_with(
     Ok(Session::in_tree(alloc, patterns, automaton, helpers, tree, options)?)
 }
 
-/// Opens the files of the options: joins their contents, reads them as one database, in which the helpers may be named,
-/// and makes its patterns one automaton; readings are in this tree. Takes all memory that the run asks for before its
-/// first line.
+/// Opens the pattern files of `options`: joins their contents, reads them as one database that may name the `helpers`,
+/// and makes one automaton of its patterns. Readings are in `tree`. Takes all the memory that the run asks for before
+/// its first line.
 pub(crate) fn open<L: Loader>(
     alloc: Global,
     tree: Tree,
@@ -142,7 +142,7 @@ pub(crate) fn open<L: Loader>(
     })
 }
 
-/// What a run is given beside its words and its streams.
+/// What a run is given besides its words and its streams.
 #[derive(Drop)]
 pub(crate) struct Setting {
     /// Where memory comes from.
@@ -153,7 +153,7 @@ pub(crate) struct Setting {
     pub(crate) helpers: Vec<Box<dyn Helper>>,
 }
 
-/// Hands the helpers in, and opens the files of the options as `open` does.
+/// Opens the pattern files of `options` as `open` does, with the helpers that the setting hands in.
 pub(crate) fn open_with<L: Loader>(
     setting: Setting,
     options: &Options,

@@ -28,23 +28,23 @@ use gtp_lex::{Lines, Raw, Taken};
 use run_notes::Counts;
 use session_core::{Reply, Session};
 
-/// The most bytes that are asked of a source at once.
+/// The most bytes that are asked of a source in one call.
 const PIECE: usize = 4096;
 
-/// How many bytes are too many to take.
+/// How many bytes of input are too many.
 const MOST_TAKEN: usize = 1 << 32;
 
-/// A session that answers lines, and the replies that wait.
+/// A session that answers lines, and its waiting replies.
 #[derive(Drop)]
 pub(crate) struct Server {
     /// The session.
     pub(crate) session: Session,
-    /// The replies that wait, and what was sent.
+    /// The waiting replies, and what was sent.
     pub(crate) outbox: Outbox,
 }
 
-// Sends the reply to a line behind those that wait, and says whether it ends the session. It is put at once with what
-// waits if `now` says so.
+// Sends the reply to a line after the waiting ones, and says whether it ends the session. The outbox is flushed at once
+// if `now`.
 fn send<K: Sink>(
     reply: Reply,
     counts: Counts,
@@ -78,7 +78,7 @@ fn send<K: Sink>(
     }
 }
 
-// Answers one line, and says whether it ends the session. What waits is put before a line that may take long.
+// Answers one line, and says whether it ends the session. Waiting replies are flushed before a line that may take long.
 fn answer<L: Loader, K: Sink>(
     server: &mut Server,
     raw: Raw<'_>,
@@ -147,8 +147,8 @@ fn answer_taken<L: Loader, K: Sink>(
     }
 }
 
-// Takes bytes up to and with the first line feed, and answers the line that it ends, if it came.
-// Says how many bytes were taken, and whether the line ends the session.
+// Takes bytes up to and with the first line feed, and answers the line that it ends, if there is a line feed. Says how
+// many bytes were taken, and whether the line ends the session.
 fn answer_next<L: Loader, K: Sink>(
     server: &mut Server,
     lines: &mut Lines,
@@ -182,7 +182,7 @@ fn answer_next<L: Loader, K: Sink>(
     }
 }
 
-// Answers the lines that end in a piece, and says whether one of them ends the session. No reply waits after it.
+// Answers the lines that end in a piece, and says whether one of them ends the session. No reply waits afterwards.
 fn answer_piece<L: Loader, K: Sink>(
     server: &mut Server,
     lines: &mut Lines,
@@ -219,7 +219,7 @@ fn answer_piece<L: Loader, K: Sink>(
     Ok(false)
 }
 
-// Answers the rest as a last line, if there is one. No reply waits after it.
+// Answers the rest of the input as a last line, if there is a rest. No reply waits afterwards.
 fn answer_rest<L: Loader, K: Sink>(
     server: &mut Server,
     lines: &mut Lines,
@@ -248,7 +248,7 @@ fn answer_rest<L: Loader, K: Sink>(
     }
 }
 
-// The next bytes, at most as many as may still be taken.
+// Reads the next bytes, at most `room` of them.
 fn next_piece<S: Source>(input: &mut S, buf: &mut [u8], room: usize) -> Result<usize, Failed>
     requires room { 0 < room }
     requires some { 0 < length buf.old }
@@ -263,19 +263,19 @@ fn next_piece<S: Source>(input: &mut S, buf: &mut [u8], room: usize) -> Result<u
     input.next(&mut buf[..most])
 }
 
-/// Why no more lines were served, and the counts to note: those after the last line, or after the one whose reply
+/// Why no more lines were served, and the counts to note: the counts after the last line, or after the line whose reply
 /// broke off.
 #[derive(Clone, Copy)]
 pub(crate) struct Ended {
-    /// Why.
+    /// Why no more lines were served.
     pub(crate) end: End,
-    /// The counts.
+    /// The counts to note.
     pub(crate) counts: Counts,
 }
 
 /// Answers the lines of the source until its end, a fault, or the line that ends the session.
 ///
-/// The replies of a piece wait and go out together, before the next piece is asked for.
+/// Replies to the lines of a piece wait together, and all are out before the next piece is asked for.
 pub(crate) fn serve<L: Loader, S: Source, K: Sink>(
     server: &mut Server,
     lines: &mut Lines,

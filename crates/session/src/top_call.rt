@@ -29,7 +29,7 @@ use run_notes::{Counts, Sent, put_notes};
 use std::alloc::Global;
 use workload::Workload;
 
-// How a run ended, and what it is to note of it.
+// How a run ended, and what it notes of that.
 #[derive(Clone, Copy)]
 struct Ran {
     outcome: Outcome,
@@ -48,7 +48,7 @@ fn unserved(outcome: Outcome) -> Ran
     }
 }
 
-// A run that served the lines until this end, with its counts and what it sent if the options ask for them.
+// A run that served lines until this end, with its counts and what it sent if `options` asks for them.
 fn served(ended: Ended, options: &Options, sent: Sent) -> Ran
     ensures phase { phase_of result.outcome ≡ Served ended.end }
     ensures input { (result.outcome ≡ Outcome.InputFault) ↔ (ended.end ≡ End.InputFault) }
@@ -70,7 +70,7 @@ fn served(ended: Ended, options: &Options, sent: Sent) -> Ran
     }
 }
 
-// Serves the lines of the input, or the generated lines in their place.
+// Serves the lines of the input, or generated lines instead if `generate` says how many.
 fn serve_lines<L: Loader, S: Source, K: Sink>(
     generate: Option<u32>,
     opened: &mut Opened,
@@ -132,7 +132,7 @@ fn run_options<L: Loader, S: Source, K: Sink>(
     served(ended, options, opened.server.outbox.sent())
 }
 
-// The run but for its notes.
+// Does all of the run but its notes.
 fn run_unnoted<L: Loader, S: Source, K: Sink>(
     setting: Setting,
     words: &[String],
@@ -171,18 +171,20 @@ fn put_ran<D: Sink>(notes: &mut D, ran: Ran)
     put_notes(notes, ran.counts, ran.sent, &[front, rest]);
 }
 
-/// Answers the lines of the input on the output by the patterns of some files, and says on the notes how that ended.
+/// Answers the lines of the input on the output with the patterns of some files, and notes how that ended.
 ///
-/// `words` are the words of the command line without the program's name: options, as `read_options` takes them, and
-/// the names of the pattern files. The patterns may name the `helpers`, each by its name, and a pattern matches only
-/// where those that it names say yes. The files are loaded in their order and joined, their patterns are made one
-/// automaton of at most the options' states, and memory is sought, before the first line is read; the first file that
-/// fails, the first fault of the joined files, or a further state ends the run there. Where lines are to be generated
-/// the input is not called, and these lines go through the same loop. Replies of one read wait for each other, up to
-/// some thousand bytes, but none waits while a line is answered that may take long, and no read is made before every
-/// line that has ended is answered and every reply is out. Nothing more is read or answered after the first failure of
-/// the input or the output, after a line that ends the session, and after 2^32 bytes. The notes get the counts and what
-/// was sent, if these are asked for, and how the run ended; a failure of the notes changes no outcome.
+/// `words` are the words of the command line without the program's name: options, as `read_options` takes them, and the
+/// names of the pattern files. The patterns may name the `helpers`, and a pattern matches only if the helpers that it
+/// names say yes. Before the first line is read, the files are loaded in their order and joined, their patterns are
+/// made one automaton with at most as many states as the options allow, and memory is taken. The first file that fails,
+/// the first fault of the joined files, or one state too many ends the run there. If the options ask for generated
+/// lines, these go through the same loop and the input is not called.
+///
+/// The replies to the lines of one read wait together, up to some thousand bytes. None waits while a line is answered
+/// that may take long, and the next read comes only when every line that has ended is answered and every reply is out.
+/// The run ends after the first failure of the input or the output, after a line that ends the session, and after 2^32
+/// bytes. The notes get the counts and what was sent, if the options ask for these, and how the run ended; a failure of
+/// the notes changes no outcome.
 pub fn run<L: Loader, S: Source, K: Sink, D: Sink>(
     alloc: Global,
     words: &[String],
@@ -192,8 +194,8 @@ pub fn run<L: Loader, S: Source, K: Sink, D: Sink>(
     notes: &mut D,
     helpers: Vec<Box<dyn Helper>>,
 ) -> Outcome
-    // By the outcome, what the files are, what was taken, put and noted, which files were missed, and whose count of
-    // faults rose.
+    // By the outcome: what the files are, what was taken, put and noted, which files were missed, and which stream's
+    // count of faults rose.
     ensures runs { Runs (handed state helpers.items) (map string_bytes words.now)
         (outside (L.contents files.old) (L.missed files.old)
         (streams (S.left input.old) (S.piece input.old) (S.faults input.old) (K.written output.old)
@@ -202,7 +204,7 @@ pub fn run<L: Loader, S: Source, K: Sink, D: Sink>(
         (streams (S.left input.new) (S.piece input.new) (S.faults input.new) (K.written output.new)
         (K.faults output.new)) (D.written notes.new) (D.faults notes.new))
         result }
-    // What the run did, as `runs` says it, and that the notes tell the counts of its lines if the options ask for them.
+    // The run did what `runs` says, and the notes hold the counts of its lines if the options ask for them.
     ensures counted { RunsCounted (handed state helpers.items) (map string_bytes words.now)
         (outside (L.contents files.old) (L.missed files.old)
         (streams (S.left input.old) (S.piece input.old) (S.faults input.old) (K.written output.old)
@@ -211,9 +213,9 @@ pub fn run<L: Loader, S: Source, K: Sink, D: Sink>(
         (streams (S.left input.new) (S.piece input.new) (S.faults input.new) (K.written output.new)
         (K.faults output.new)) (D.written notes.new) (D.faults notes.new))
         result }
-    // A fault of the input was its last call.
+    // If the input failed, the failing call was the last one on it.
     ensures last_read { result ≡ Outcome.InputFault → S.failed input.new ≡ true }
-    // A fault of the output was its last call.
+    // If the output failed, the failing call was the last one on it.
     ensures last { result ≡ Outcome.OutputFault → K.failed output.new ≡ true }
 {
     run_in(
@@ -228,7 +230,7 @@ pub fn run<L: Loader, S: Source, K: Sink, D: Sink>(
     )
 }
 
-/// Answers the lines of the input as `run` does, with readings in this tree.
+/// Answers the lines of the input as `run` does, with readings in `tree`.
 pub fn run_in<L: Loader, S: Source, K: Sink, D: Sink>(
     alloc: Global,
     tree: Tree,
@@ -239,8 +241,8 @@ pub fn run_in<L: Loader, S: Source, K: Sink, D: Sink>(
     notes: &mut D,
     helpers: Vec<Box<dyn Helper>>,
 ) -> Outcome
-    // By the outcome, what the files are, what was taken, put and noted, which files were missed, and whose count of
-    // faults rose.
+    // By the outcome: what the files are, what was taken, put and noted, which files were missed, and which stream's
+    // count of faults rose.
     ensures runs { RunsIn tree (handed state helpers.items) (map string_bytes words.now)
         (outside (L.contents files.old) (L.missed files.old)
         (streams (S.left input.old) (S.piece input.old) (S.faults input.old) (K.written output.old)
@@ -249,7 +251,7 @@ pub fn run_in<L: Loader, S: Source, K: Sink, D: Sink>(
         (streams (S.left input.new) (S.piece input.new) (S.faults input.new) (K.written output.new)
         (K.faults output.new)) (D.written notes.new) (D.faults notes.new))
         result }
-    // What the run did, as `runs` says it, and that the notes tell the counts of its lines if the options ask for them.
+    // The run did what `runs` says, and the notes hold the counts of its lines if the options ask for them.
     ensures counted { RunsCountedIn tree (handed state helpers.items) (map string_bytes words.now)
         (outside (L.contents files.old) (L.missed files.old)
         (streams (S.left input.old) (S.piece input.old) (S.faults input.old) (K.written output.old)
@@ -258,9 +260,9 @@ pub fn run_in<L: Loader, S: Source, K: Sink, D: Sink>(
         (streams (S.left input.new) (S.piece input.new) (S.faults input.new) (K.written output.new)
         (K.faults output.new)) (D.written notes.new) (D.faults notes.new))
         result }
-    // A fault of the input was its last call.
+    // If the input failed, the failing call was the last one on it.
     ensures last_read { result ≡ Outcome.InputFault → S.failed input.new ≡ true }
-    // A fault of the output was its last call.
+    // If the output failed, the failing call was the last one on it.
     ensures last { result ≡ Outcome.OutputFault → K.failed output.new ≡ true }
 {
     let setting = Setting {
@@ -273,8 +275,8 @@ pub fn run_in<L: Loader, S: Source, K: Sink, D: Sink>(
     ran.outcome
 }
 
-/// Answers the lines of the input as `run` does, by words that may be missing: then nothing is loaded, taken or put,
-/// and the notes say why.
+/// Answers the lines of the input as `run` does, with `words` that may be missing: then nothing is loaded, taken or
+/// put, and the notes say why.
 pub fn run_words<L: Loader, S: Source, K: Sink, D: Sink>(
     alloc: Global,
     words: Result<Vec<String>, WordsError>,
@@ -292,7 +294,7 @@ pub fn run_words<L: Loader, S: Source, K: Sink, D: Sink>(
         (streams (S.left input.new) (S.piece input.new) (S.faults input.new) (K.written output.new)
         (K.faults output.new)) (D.written notes.new) (D.faults notes.new))
         result }
-    // What the run did, as `runs` says it, and that the notes tell the counts of its lines if the options ask for them.
+    // The run did what `runs` says, and the notes hold the counts of its lines if the options ask for them.
     ensures counted { RunsHadCounted Stated (handed state helpers.items) (λ words. map string_bytes words.items) words
         (outside (L.contents files.old) (L.missed files.old)
         (streams (S.left input.old) (S.piece input.old) (S.faults input.old) (K.written output.old)
@@ -301,9 +303,9 @@ pub fn run_words<L: Loader, S: Source, K: Sink, D: Sink>(
         (streams (S.left input.new) (S.piece input.new) (S.faults input.new) (K.written output.new)
         (K.faults output.new)) (D.written notes.new) (D.faults notes.new))
         result }
-    // A fault of the input was its last call.
+    // If the input failed, the failing call was the last one on it.
     ensures last_read { result ≡ Outcome.InputFault → S.failed input.new ≡ true }
-    // A fault of the output was its last call.
+    // If the output failed, the failing call was the last one on it.
     ensures last { result ≡ Outcome.OutputFault → K.failed output.new ≡ true }
 {
     run_words_in(
@@ -318,7 +320,7 @@ pub fn run_words<L: Loader, S: Source, K: Sink, D: Sink>(
     )
 }
 
-/// Answers the lines of the input as `run_words` does, with readings in this tree.
+/// Answers the lines of the input as `run_words` does, with readings in `tree`.
 pub fn run_words_in<L: Loader, S: Source, K: Sink, D: Sink>(
     alloc: Global,
     tree: Tree,
@@ -337,7 +339,7 @@ pub fn run_words_in<L: Loader, S: Source, K: Sink, D: Sink>(
         (streams (S.left input.new) (S.piece input.new) (S.faults input.new) (K.written output.new)
         (K.faults output.new)) (D.written notes.new) (D.faults notes.new))
         result }
-    // What the run did, as `runs` says it, and that the notes tell the counts of its lines if the options ask for them.
+    // The run did what `runs` says, and the notes hold the counts of its lines if the options ask for them.
     ensures counted { RunsHadCounted tree (handed state helpers.items) (λ words. map string_bytes words.items) words
         (outside (L.contents files.old) (L.missed files.old)
         (streams (S.left input.old) (S.piece input.old) (S.faults input.old) (K.written output.old)
@@ -346,9 +348,9 @@ pub fn run_words_in<L: Loader, S: Source, K: Sink, D: Sink>(
         (streams (S.left input.new) (S.piece input.new) (S.faults input.new) (K.written output.new)
         (K.faults output.new)) (D.written notes.new) (D.faults notes.new))
         result }
-    // A fault of the input was its last call.
+    // If the input failed, the failing call was the last one on it.
     ensures last_read { result ≡ Outcome.InputFault → S.failed input.new ≡ true }
-    // A fault of the output was its last call.
+    // If the output failed, the failing call was the last one on it.
     ensures last { result ≡ Outcome.OutputFault → K.failed output.new ≡ true }
 {
     match words {

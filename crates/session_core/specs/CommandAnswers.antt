@@ -1,4 +1,4 @@
--- What a session's own answer to a command is, by what the command does.
+-- How a session's answer to a command follows from what the command does.
 use Rattle.std.specs.Prelude.{◌≡◌, ◌⊎◌, ℕ, true, false, List, [], ◌∷◌, Option, None, Some}
 use Rattle.gtp_cmd.specs.declared.commands.Command.{Command}
 use Rattle.gtp_cmd.specs.declared.refusals.RefuseText.TheVariants.{OutOfMemory, CannotLoadFile}
@@ -11,15 +11,15 @@ use Rattle.machine_rules.specs.Effects.{Effect, IsExcused}
 use Rattle.session_core.specs.declared.answer.Answer.{Answer}
 use Rattle.session_core.specs.declared.answer.Answer.TheVariants as answer
 
--- the command succeeds with this result and goes on, and the machine is this one after it
+-- the command succeeds with this result, the session goes on, and `new` is the machine after the command
 pub record Succeeds (effect : Effect) (result : List ℕ) (new : Machine) : Type 0 where
   pub allowed : effect.refusal ≡ None
   pub told : effect.result ≡ result
   pub next : new ≡ effect.next
   pub goes_on : effect.ends ≡ false
 
--- The answer is what the command tells, and the machine is new after it; or it is an excuse that may stand in place of
--- that. A result that grew is excused too, since there may be no memory for its reply.
+-- The answer is what the command prints, and `new` is the machine after it; or the answer is an excuse that may stand
+-- in its place. A grown result needs that excuse too, since there may be no memory for its reply.
 abbrev pub IsAnswer : Effect → Answer → Machine → Type 0
 IsAnswer effect (answer.Told result) new = Succeeds effect result new
 IsAnswer effect (answer.Grown result) new = Succeeds effect result new × IsExcused effect.excuses OutOfMemory new
@@ -33,12 +33,12 @@ IsAnswer effect answer.Ended new =
 abbrev pub named : List ℕ → Option Load
 named name = Some (record { id = None; name = name })
 
--- the names that a load missed which has this answer
+-- the names that a load with this answer missed
 abbrev pub missed_as : Option Load → Answer → List (List ℕ)
 missed_as (Some load) (answer.Refused CannotLoadFile) = load.name ∷ []
 missed_as _ _ = []
 
--- a command was done that may load a file: the answer is what it tells, on a text that is the contents of that file
+-- a command that may load a file was done: the answer is what it prints, on a text that is the contents of that file
 abbrev pub IsDone : Contents → Matcher → Machine → List ℕ → Command → Answer → Machine → Type 0
 IsDone contents matcher old line command answer new =
     (file : List ℕ) × IsFileOf contents (load_of line None command) file

@@ -1,4 +1,4 @@
--- What a session keeps beside its helpers: the machine that it is, and how it finds matches.
+-- What a session keeps besides its helpers: its machine, and how it finds matches.
 use Rattle.std.specs.Prelude.{ℕ, ◌<◌, List, [], length, codes, Contains}
 use Rattle.go_rules.specs.declared.Move.{Move}
 use Rattle.go_rules.specs.Position.{BoardState}
@@ -18,8 +18,8 @@ use Rattle.helpers.specs.HelperStates.{SlotState}
 use Rattle.machine_rules.specs.Machine.{Machine, first_size}
 use Rattle.machine_rules.specs.Matcher.{Matcher, automaton_matcher}
 
--- settings, the position from which the moves are played, the moves, the patterns, the automaton by which their matches
--- are found, what was counted, and the readings and the connections with those that are kept
+-- settings, the position from which the moves are played, the moves, the patterns, the automaton that finds their
+-- matches, the counts, and the readings and the connections with their caches
 pub record EngineView : Type 0 where
   pub base : BoardState
   pub moves : List Move
@@ -31,7 +31,7 @@ pub record EngineView : Type 0 where
   pub readings : ReadingsView
   pub links : ConnectionsView
 
--- the machine that a session with these helpers is
+-- the machine of a session with these helpers
 abbrev pub machine_with : List SlotState → EngineView → Machine
 machine_with helpers kept = record {
   base = kept.base;
@@ -41,7 +41,7 @@ machine_with helpers kept = record {
   helpers = helpers;
 }
 
--- the machine, of whose helpers nothing is said
+-- the machine of a session, as if it had no helpers
 abbrev pub machine_alone : EngineView → Machine
 machine_alone kept = machine_with [] kept
 
@@ -49,28 +49,28 @@ machine_alone kept = machine_with [] kept
 abbrev pub board_of : EngineView → BoardState
 board_of kept = replay_from kept.base kept.moves
 
--- how matches are found: by the automaton
+-- the matcher that finds matches with the automaton
 abbrev pub matcher_of : EngineView → Matcher
 matcher_of kept = automaton_matcher kept.patterns kept.automaton
 
--- no connection was counted
+-- the counts of connections before the first line
 abbrev pub no_links : Links
 no_links = record { connections = 0; fresh = 0 }
 
--- nothing was counted
+-- the counts before the first line
 abbrev pub no_counts : Counts
 no_counts = record { readings = 0; fresh = 0; trials = 0; refused = 0; links = no_links }
 
--- new connections of these plies, of which so many questions may be kept
+-- new connections of these plies, with room for `capacity` cached questions
 abbrev pub first_links : ℕ → ℕ → ConnectionsView
 first_links plies capacity = record { plies = plies; answers = first_keeping capacity }
 
--- the depths of the options, in a tree
+-- the depths that the options set, in a tree
 abbrev pub depths_in : Tree → Options → ReadingDepths
 depths_in tree options = record { tree = tree; plies = options.depth; wide = options.branch }
 
--- what a session with these patterns, this automaton and readings of these depths keeps before the first line, where so
--- many questions may be kept, and as many about connections
+-- what a session with these patterns, this automaton and readings of these depths keeps before the first line, with
+-- room for `capacity` cached questions of readings, and as many about connections
 abbrev pub first_kept : List Pattern → List Row → ReadingDepths → ℕ → EngineView
 first_kept patterns automaton depths capacity = record {
   base = empty_board first_size;

@@ -1,8 +1,8 @@
--- Helpers that are handed in.
+-- Helpers that a caller hands in.
 use Rattle.std.specs.Prelude.{ℕ, true, List, map}
 use Rattle.helpers.specs.HelperStates.{HelperState, SlotState}
 
--- the list of helpers that is made of those handed in: all are on
+-- the slots made of the helpers handed in: all are on
 abbrev pub handed : {B : Type 0} → (B → HelperState) → List B → List SlotState
 handed {B} state boxes = map {A = B} {B = SlotState} (λ b. record { helper = state b; on = true }) boxes
 

@@ -10,10 +10,10 @@ pub record Kept : Type 0 where
   pub helpers : List SlotState
   pub missed : List (List ℕ)
 
--- the machine that this is
+-- the machine of what is kept
 abbrev pub machine_of : Kept → Machine
 machine_of kept = machine_with kept.helpers kept.engine
 
--- what is kept with these helpers, where these names were missed
+-- an engine with these helpers and these missed names
 abbrev pub kept_with : List SlotState → List (List ℕ) → EngineView → Kept
 kept_with helpers missed engine = record { engine = engine; helpers = helpers; missed = missed }

@@ -20,7 +20,7 @@ use Rattle.session_core.specs.Replies.{reply_bytes, reply_ends, reply_count}
 use Rattle.session_core.specs.declared.reply.Reply.{Reply}
 use Rattle.session_core.specs.declared.reply.Reply.TheVariants as replies
 
--- the session that kept old answered what a line says, and keeps new; input is what stands behind the line's words
+-- the session that kept `old` answers a parsed line and keeps `new`; `input` is the line's bytes and its file's text
 pub record AnswersParsed (old : Kept) (input : Input) (said : Parsed) (answer : Reply) (new : Kept) : Type 0 where
   pub reply : MayGive (parsed_step (matcher_of old.engine) (machine_of old) input said) (reply_bytes answer)
       (machine_of new) (reply_ends answer)
@@ -34,28 +34,28 @@ pub record AnswersParsed (old : Kept) (input : Input) (said : Parsed) (answer : 
   pub links : LinksAs (asks_link_of_parsed (machine_of old) said) old.engine new.engine
   pub missed : new.missed ≡ old.missed ++ missed_by (parsed_load input.line said) (reply_bytes answer)
 
--- The session that kept old answered a line, where files have these contents, and keeps new.
+-- The session that kept `old` answers a line and keeps `new`; files have these contents.
 pub record AnswersLine (contents : Contents) (old : Kept) (line : RawLine) (answer : Reply) (new : Kept) : Type 0 where
   -- the reply is one that the step gives
   pub reply : Answers (step (matcher_of old.engine) contents) (machine_of old) line (reply_bytes answer)
       (machine_of new) (reply_ends answer)
-  -- the reply is nothing exactly if the line has no words
+  -- the reply is `Nothing` exactly if the line has no words
   pub nothing : (answer ≡ replies.Nothing) ↔ IsWithoutWords line
   pub bytes : answer ≢ replies.Nothing → reply_count (reply_bytes answer) ≡ 1
   pub patterns : new.engine.patterns ≡ old.engine.patterns
   pub automaton : new.engine.automaton ≡ old.engine.automaton
   -- a line that asks for a reading and is answered with a code is counted
   pub readings : new.engine.counts.readings ≡ counted old.engine.counts.readings (is_read_line (machine_of old) line)
-  -- a line that asks for a reading makes one, which is kept or fresh; a line that asks for matches may make any number;
-  -- no other line makes one
+  -- a line that asks for a reading makes one, which is cached or fresh; a line that asks for matches may make any
+  -- number; no other line makes one
   pub read : ReadsAs (asks_of_line (machine_of old) line) old.engine new.engine
   -- a line that asks about two stones of one colour asks the connections once, and is counted; no other line asks them
   pub links : LinksAs (asks_link_of_line (machine_of old) line) old.engine new.engine
-  -- the file that could not be loaded is told as missed, and no other name
+  -- the file that could not be loaded is noted as missed, and no other name is
   pub missed : new.missed ≡ old.missed ++ missed_by (load_in (machine_of old) line) (reply_bytes answer)
   pub few_fresh : HasFewFresh old.engine.counts → HasFewFresh new.engine.counts
-  -- a refused line leaves the machine, but for the calls of helpers if there was no memory, and of the counts only
-  -- that of refused keepings may have risen
+  -- a refused line keeps the machine, but for the calls of helpers if memory ran out; of the counts only that of
+  -- readings that could not be cached may have risen
   pub refused : IsRefusal (reply_bytes answer)
       → AreSameButCalls (machine_of old) (machine_of new) × KeepsCounts old.engine new.engine
       × LinksNothing old.engine new.engine

@@ -1,4 +1,4 @@
--- How the fields of a session are seen.
+-- How contracts see the fields of a session.
 use Rattle.session_core.specs.EngineView.{EngineView}
 use Rattle.session_core.specs.declared.engine.Engine.TheInside.{Inside}
 

@@ -11,15 +11,15 @@ use Rattle.session_core.specs.EngineView.{machine_with, matcher_of}
 use Rattle.session_core.specs.Kept.{Kept}
 use Rattle.session_core.specs.declared.session.Session.{Session}
 
--- all that a line may change, where these names were missed
+-- all that a line may change: the engine and the helpers of the session, and the missed names
 abbrev pub kept_of : {V : Type 0} {F : V → Type 0} → ((i : V) × F i → HelperState) → Session V F → List (List ℕ) → Kept
 kept_of state session missed =
     record { engine = session.engine; helpers = states_of state session.helpers; missed = missed }
 
--- the machine that a session is
+-- the machine of a session
 abbrev pub machine_now : {V : Type 0} {F : V → Type 0} → ((i : V) × F i → HelperState) → Session V F → Machine
 machine_now state session = machine_with (states_of state session.helpers) session.engine
 
--- the step by which a session answers a line, where files have these contents
+-- the step by which a session answers a line; files have these contents
 abbrev pub step_of : {V : Type 0} {F : V → Type 0} → Session V F → Contents → Machine → RawLine → Step Machine → Type 0
 step_of session contents machine line given = step (matcher_of session.engine) contents machine line given

@@ -1,4 +1,4 @@
--- What one says that may take long.
+-- What a line that may take long says.
 use Rattle.std.specs.Prelude.{◌≡◌, ℕ, List}
 use Rattle.gtp_cmd.specs.Within.{SaysWithin, SaysWithinLine}
 use Rattle.gtp_cmd.specs.declared.commands.Command.{Command}
@@ -10,7 +10,7 @@ use Rattle.session_core.specs.declared.slow.Slow.{Slow}
 use Rattle.session_core.specs.declared.slow.Work.{Work}
 use Rattle.session_core.specs.declared.slow.Work.TheVariants as work
 
--- the command that asks this
+-- the command with this work
 abbrev pub command_of : Work → Command
 command_of (work.Attack p) = command.Attack p
 command_of (work.Defend p) = command.Defend p
@@ -24,11 +24,11 @@ command_of (work.Disconnect a b) = command.Disconnect a b
 command_of (work.GenMove friend) = command.GenMove friend
 command_of (work.RegGenMove friend) = command.RegGenMove friend
 
--- what a line says that may take long
+-- what a postponed line says
 abbrev pub said_by : Slow → Parsed
 said_by slow = parsed.Command slow.id (command_of slow.work)
 
--- A line of these bytes was left for later: nothing was done, and this is what it says.
+-- A line of these bytes was postponed: nothing was done, and `slow` holds what the line says.
 pub record IsLeft (old : Kept) (line : List ℕ) (said : Parsed) (slow : Slow) (new : Kept) : Type 0 where
   pub same : new ≡ old
   pub says : said ≡ said_by slow

@@ -44,7 +44,7 @@ impl Brief {
         Brief { text }
     }
 
-    /// A text that is handed over as it stands.
+    /// The result `text`, moved and not copied.
     pub(crate) fn of(text: Short) -> Brief
         requires { length text ≤ result_room }
         ensures { result ≡ text }
@@ -60,7 +60,7 @@ impl Brief {
         Brief::new(buffer.format(n).as_bytes())
     }
 
-    /// The bytes.
+    /// The bytes of the result.
     pub(crate) fn as_slice(&self) -> &[u8]
         ensures text { result.now ≡ self.now }
         ensures short { length result.now ≤ result_room }
@@ -107,7 +107,7 @@ pub(crate) fn told_number(n: u32) -> Answer
     Answer::Told(Brief::number(n))
 }
 
-/// A success with a result that took memory, if it was found.
+/// A success with the result `text`, or `NoMemory` if there was no memory for it.
 pub(crate) fn grown(text: Result<Bytes, NoMemory>) -> Answer
     ensures answer { (old : Machine) (told : List ℕ) → IfOk text (λ bytes. bytes ≡ told)
         → IsAnswer (grown old told old) result old }
@@ -122,12 +122,12 @@ pub(crate) fn grown(text: Result<Bytes, NoMemory>) -> Answer
 }
 
 impl Answer {
-    /// The reply that this answer is behind an id. Takes memory for a result that did.
+    /// The reply with this answer to a line with this `id`. Takes memory if the result took memory.
     pub(crate) fn reply(self, alloc: Global, id: Option<u32>) -> Reply
         ensures reply { (effect : Effect) (new : Machine) → IsAnswer effect self new
             → MayGive (replied id effect) (reply_bytes result) new (reply_ends result) }
         ensures bytes { reply_count (reply_bytes result) ≡ 1 }
-        // A file was missed exactly if that is told.
+        // The reply says that a file cannot be loaded exactly if this answer does.
         ensures missed { (name : List ℕ) → missed_by (Some (record { id = id; name = name })) (reply_bytes result)
             ≡ missed_as (named name) self }
     {

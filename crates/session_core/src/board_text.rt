@@ -7,7 +7,7 @@ use crate::point_lists::{push_letter, push_number};
 use go_base::{Bytes, Cell, NoMemory, Position, Size};
 use std::alloc::Global;
 
-/// How a cell is shown.
+/// The character that shows a cell.
 fn mark(cell: Cell) -> u8
     ensures { mark_of cell ≡ result ∷ [] }
 {
@@ -18,7 +18,7 @@ fn mark(cell: Cell) -> u8
     }
 }
 
-/// Puts the number of a row, right in two places.
+/// Appends the number of a row, right-aligned in two characters.
 fn push_row_number(text: &mut Bytes, n: u8) -> Result<(), NoMemory>
     ensures { OnOk result (text.new ≡ text.old ++ row_number_text n) }
 {
@@ -28,7 +28,7 @@ fn push_row_number(text: &mut Bytes, n: u8) -> Result<(), NoMemory>
     push_number(text, n)
 }
 
-/// Puts a row from the top.
+/// Appends a row, counted from the top, with its number and line feed.
 fn push_row(text: &mut Bytes, position: &Position, row: u8) -> Result<(), NoMemory>
     requires { row < position.now.size }
     ensures { OnOk result (text.new ≡ text.old ++ row_text position.now.size position.now.cells row) }
@@ -41,7 +41,7 @@ fn push_row(text: &mut Bytes, position: &Position, row: u8) -> Result<(), NoMemo
     text.push(b'\n')
 }
 
-/// Puts a point of a row.
+/// Appends the character of a point of a row, after a blank.
 fn push_cell(text: &mut Bytes, position: &Position, row: u8, column: u8) -> Result<(), NoMemory>
     requires row { row < position.now.size }
     requires column { column < position.now.size }
@@ -52,7 +52,7 @@ fn push_cell(text: &mut Bytes, position: &Position, row: u8, column: u8) -> Resu
     text.push(mark(position.cell(at)))
 }
 
-/// Puts the letters of the columns.
+/// Appends the letters of the columns.
 fn push_letters(text: &mut Bytes, size: Size) -> Result<(), NoMemory>
     ensures { OnOk result (text.new ≡ text.old ++ flat_map letter_text (range_with_len 0 size)) }
 {
@@ -63,7 +63,7 @@ fn push_letters(text: &mut Bytes, size: Size) -> Result<(), NoMemory>
     Ok(())
 }
 
-/// The board as it is shown.
+/// The board as it is printed. Takes memory.
 pub(crate) fn board_text(alloc: Global, position: &Position) -> Result<Bytes, NoMemory>
     ensures { IfOk result (λ text. text ≡ board_text position.now) }
 {

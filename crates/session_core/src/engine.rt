@@ -1,4 +1,4 @@
-//! What a session keeps beside its helpers: the plain machine, its patterns and its counts; and its answer to each
+//! What a session keeps besides its helpers (the plain machine, its patterns, its counts), and how it answers each
 //! line.
 ghost use Rattle.std.specs.Prelude.{◌≡◌, ◌≤◌, ◌++◌, ℕ, List, Option, None, length, IfOk, IfErr, OnOk, OnErr};
 ghost use Rattle.gtp_lex.specs.Raw.{raw_line};
@@ -58,29 +58,28 @@ use run_notes::{Counts, Links};
 use std::alloc::Global;
 use std::marker::Model;
 
-/// What is counted of the lines that ask for a reading and are answered with a code.
+/// Counts of the lines that ask for a reading and are answered with a code.
 #[derive(Clone, Copy)]
 pub(crate) struct ReadingCounts {
-    /// How many there were.
+    /// How many lines there were.
     pub(crate) readings: u64,
-    /// How many of them were read afresh.
+    /// How many of these lines were read afresh.
     pub(crate) fresh: u64,
-    /// How many trial plays these made.
+    /// How many trial plays the fresh readings made.
     pub(crate) trials: u64,
 }
 
-/// Nothing was counted.
+/// The counts before the first line.
 const NO_COUNTS: ReadingCounts = ReadingCounts {
     readings: 0,
     fresh: 0,
     trials: 0,
 };
 
-/// The size of the board before the first line that says one.
+/// The size of the board until a line sets another.
 const FIRST_SIZE: u8 = 19;
 
-/// What a session keeps beside its helpers, seen by contracts as `EngineView`; `machine_of` is the machine that
-/// this is.
+/// What a session keeps besides its helpers. Contracts see it as an `EngineView`; `machine_with` gives its machine.
 #[derive(Drop)]
 pub struct Engine {
     alloc: Global,
@@ -122,8 +121,8 @@ fn word(known: bool) -> &'static [u8]
 }
 
 impl Engine {
-    /// What is kept before the first line: these patterns, whose matches are found by this automaton, a board of 19 by
-    /// 19, no moves, the komi 0.0, readings in this tree, as deep as the options say, nothing counted. Takes memory.
+    /// The engine before the first line: `patterns`, whose matches `automaton` finds, a board of 19 by 19, no moves,
+    /// the komi 0.0, readings in `tree` as deep as `options` says, and nothing counted. Takes memory.
     pub(crate) fn new(
         alloc: Global,
         patterns: Vec<Pattern>,
@@ -157,10 +156,10 @@ impl Engine {
         })
     }
 
-    /// What the session counted: its lines that asked for a reading and were answered with a code, those of them that
-    /// were read afresh, the moves that these tried, and the readings that could not be kept for want of memory; and
-    /// its lines that asked about a connection and were answered with a result, and those of them that were read
-    /// afresh.
+    /// The counts of the session. For the lines that asked for a reading and were answered with a code: how many there
+    /// were, how many were read afresh, and the trial plays of these. The readings that could not be cached for want of
+    /// memory. For the lines that asked about a connection and were answered with a result: how many there were, and
+    /// how many were read afresh.
     pub(crate) fn stats(&self) -> Counts
         ensures { result ≡ self.now.counts }
     {
@@ -176,7 +175,7 @@ impl Engine {
         }
     }
 
-    /// What a line says: one that is too long is refused.
+    /// What a line says; a line that is too long is refused.
     pub(crate) fn heard(&self, raw: Raw<'_>) -> Parsed
         requires { length (bytes_in (raw_line raw)) ≤ longest_line }
         ensures said { (helpers : List SlotState)
@@ -196,10 +195,9 @@ impl Engine {
         }
     }
 
-    /// Answers what a line says, by the step of the machine that this is, unless it may take long. Then nothing is
-    /// done.
+    /// Answers the parsed line `said` by the machine's step, unless the line may take long: then nothing is done.
     ///
-    /// NoMemory comes only in place of a growing reply. It leaves the machine as it was.
+    /// `NoMemory` comes only in place of a growing reply. It leaves the machine as it was.
     pub(crate) fn try_answer(
         &mut self,
         helpers: &mut Helpers,
@@ -222,7 +220,7 @@ impl Engine {
         }
     }
 
-    /// Answers a command behind an id, unless it may take long. Then nothing is done.
+    /// Answers `command` with the `id` of its line, unless the command may take long: then nothing is done.
     fn try_command(
         &mut self,
         helpers: &mut Helpers,
@@ -246,11 +244,11 @@ impl Engine {
         Ok(answer.reply(self.alloc, id))
     }
 
-    /// Answers a line that may take long, by the step of the machine that this is: for the matches of its patterns this
-    /// takes those by its automaton and what the helpers say. With the automaton of the patterns it is the plain
-    /// machine.
+    /// Answers a postponed line by the machine's step. Matches come from the automaton and must pass the helpers. With
+    /// the automaton of the patterns this is the step of the plain machine.
     ///
-    /// NoMemory comes only in place of a growing reply. It leaves the machine as it was, but for the calls of helpers.
+    /// `NoMemory` comes only in place of a growing reply. It leaves the machine as it was, but for the calls of
+    /// helpers.
     pub(crate) fn finish<L: Loader>(
         &mut self,
         helpers: &mut Helpers,
@@ -271,7 +269,7 @@ impl Engine {
             .reply(self.alloc, slow.id)
     }
 
-    /// Does what may take long.
+    /// Does the postponed `work` of a line.
     fn work_on<L: Loader>(
         &mut self,
         helpers: &mut Helpers,
@@ -314,7 +312,7 @@ impl Engine {
         }
     }
 
-    /// Does what a command says, unless it may take long. Then nothing is done.
+    /// Does what `command` says, unless the command may take long: then nothing is done.
     fn obey(&mut self, helpers: &mut Helpers, line: &[u8], command: Command) -> Result<Answer, Work>
         requires within { IsWithin self.old.base.size command }
         requires spans { IsWithinLine line.now command }
@@ -396,7 +394,7 @@ impl Engine {
         self.history.position()
     }
 
-    /// The board after the moves, which tells strings, liberties and legal points without a search.
+    /// The board after the moves, which knows strings, liberties and legal points without a search.
     fn board(&self) -> &StringBoard
         ensures value { reached result.now ≡ board_of self.now }
         ensures size { (board_of self.now).size ≡ self.now.base.size }

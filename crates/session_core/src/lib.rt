@@ -1,9 +1,9 @@
 //! A session of the protocol: what it keeps, and its answer to one line.
 //!
 //! A session is a plain machine (`machine_rules`) that keeps its strings, its readings, its connections and its
-//! automaton beside the settings and moves. `Session::line` gives exactly the machine's reply, and the machine after
-//! it; a line that may take long can be left for later. Its eight rooms answer the commands: for the board, readings,
-//! matches, game records, proofs, connections, the choice of a move, and helpers.
+//! automaton besides the settings and moves. `Session::line` gives exactly the machine's reply, and the machine after
+//! it; a line that may take long can be postponed. Eight modules under `engine` answer the commands: for the board,
+//! readings, matches, game records, proofs, connections, the choice of a move, and helpers.
 #![tactic(auto)]
 
 mod answer;

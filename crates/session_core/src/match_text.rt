@@ -20,7 +20,7 @@ use match_rules::Match;
 use pat_types::Pattern;
 use std::alloc::Global;
 
-/// The name of the pattern at this place of the list.
+/// The name of the pattern at place `number` of `patterns`.
 fn name_at(patterns: &[Pattern], number: u16) -> &[u8]
     requires { number < length patterns.now }
     ensures { result.now ≡ name_of (slice_get patterns.now number) }
@@ -29,14 +29,14 @@ fn name_at(patterns: &[Pattern], number: u16) -> &[u8]
     patterns[at].name.as_slice()
 }
 
-/// Puts a transformation between blanks: it has one digit.
+/// Appends a transformation between blanks; its number has one digit.
 fn push_transform(text: &mut Bytes, t: Transform) -> Result<(), NoMemory>
     ensures { OnOk result (text.new ≡ text.old ++ (codes " " ++ decimal t ++ codes " ")) }
 {
     text.extend(&[b' ', b'0' + t.get(), b' '])
 }
 
-/// Puts a match.
+/// Appends a match.
 fn push_match(text: &mut Bytes, patterns: &[Pattern], size: Size, z: Match) -> Result<(), NoMemory>
     requires pattern { z.pattern < length patterns.now }
     requires at { z.at < size * size }
@@ -47,7 +47,7 @@ fn push_match(text: &mut Bytes, patterns: &[Pattern], size: Size, z: Match) -> R
     push_vertex(text, size, z.at)
 }
 
-/// Puts a match of a list, on a line of its own.
+/// Appends a match of a list, on a line of its own.
 fn push_next(text: &mut Bytes, patterns: &[Pattern], size: Size, z: Match) -> Result<(), NoMemory>
     requires pattern { z.pattern < length patterns.now }
     requires at { z.at < size * size }
@@ -59,7 +59,7 @@ fn push_next(text: &mut Bytes, patterns: &[Pattern], size: Size, z: Match) -> Re
     push_match(text, patterns, size, z)
 }
 
-/// Matches of these patterns in their order, one a line.
+/// The matches `found` in their order, one a line.
 fn list_text(
     alloc: Global,
     patterns: &[Pattern],
@@ -76,8 +76,8 @@ fn list_text(
     Ok(text)
 }
 
-/// The matches of the patterns by an automaton, one a line. What their classes and constraints ask is read at the
-/// depths of the readings, and the helpers that they name are asked last.
+/// The automaton's matches of `patterns` that pass the helpers, one a line. What classes and constraints ask is read at
+/// the depths of `readings`; the helpers that the patterns name are asked last.
 pub(crate) fn matches_text(
     alloc: Global,
     patterns: &[Pattern],

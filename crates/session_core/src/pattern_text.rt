@@ -8,7 +8,7 @@ use go_base::{Bytes, NoMemory};
 use pat_types::{Mark, Pattern};
 use std::alloc::Global;
 
-/// A mark, as the pattern's colon line has it.
+/// A mark as the pattern's colon line has it.
 fn mark_text(mark: Mark) -> &'static [u8]
     ensures { result.now ≡ mark_text mark }
 {
@@ -31,7 +31,7 @@ fn classes_text(classes: &[u8]) -> &[u8]
     if classes.is_empty() { b"-" } else { classes }
 }
 
-/// Puts the name and the size of a pattern.
+/// Appends the name and the size of a pattern.
 fn push_name(text: &mut Bytes, p: &Pattern) -> Result<(), NoMemory>
     ensures { OnOk result (text.new ≡ text.old ++ name_text p.now) }
 {
@@ -42,7 +42,7 @@ fn push_name(text: &mut Bytes, p: &Pattern) -> Result<(), NoMemory>
     push_number(text, p.cols)
 }
 
-/// Puts a pattern.
+/// Appends a pattern.
 fn push_pattern(text: &mut Bytes, p: &Pattern) -> Result<(), NoMemory>
     ensures { OnOk result (text.new ≡ text.old ++ pattern_text p.now) }
 {
@@ -53,7 +53,7 @@ fn push_pattern(text: &mut Bytes, p: &Pattern) -> Result<(), NoMemory>
     text.extend(classes_text(p.classes.as_slice()))
 }
 
-/// Puts a pattern of a list, on a line of its own.
+/// Appends a pattern of a list, on a line of its own.
 fn push_next(text: &mut Bytes, p: &Pattern) -> Result<(), NoMemory>
     ensures { OnOk result (text.new ≡ text.old ++ feed_after text.old ++ pattern_text p.now) }
 {

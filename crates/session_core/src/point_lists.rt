@@ -13,7 +13,7 @@ use gtp_cmd::column_letter;
 use itoa::Buffer;
 use std::alloc::Global;
 
-/// Puts the letter of a column.
+/// Appends the letter of a column.
 pub(crate) fn push_letter(out: &mut Bytes, column: u8) -> Result<(), NoMemory>
     requires { column < 25 }
     ensures { OnOk result (out.new ≡ out.old ++ slice_index column_letters column ∷ []) }
@@ -21,7 +21,7 @@ pub(crate) fn push_letter(out: &mut Bytes, column: u8) -> Result<(), NoMemory>
     out.push(column_letter(column))
 }
 
-/// Puts a number in decimal.
+/// Appends a number in decimal.
 pub(crate) fn push_number(out: &mut Bytes, n: u8) -> Result<(), NoMemory>
     ensures { OnOk result (out.new ≡ out.old ++ decimal n) }
 {
@@ -29,7 +29,8 @@ pub(crate) fn push_number(out: &mut Bytes, n: u8) -> Result<(), NoMemory>
     out.extend(buffer.format(n).as_bytes())
 }
 
-/// Puts the vertex of a point, all its bytes at once, so that room is looked for once. The row has one or two digits.
+/// Appends the vertex of a point, all its bytes at once, so that room is looked for once. The row has one or two
+/// digits.
 pub(crate) fn push_vertex(out: &mut Bytes, size: Size, p: Point) -> Result<(), NoMemory>
     requires { p < size * size }
     ensures { OnOk result (out.new ≡ out.old ++ vertex_text size p) }
@@ -43,7 +44,7 @@ pub(crate) fn push_vertex(out: &mut Bytes, size: Size, p: Point) -> Result<(), N
     out.extend(&[letter, b'0' + number / 10, b'0' + number % 10])
 }
 
-/// Puts the vertex of a point of a list, behind a blank if it is not the first.
+/// Appends the vertex of a point of a list, after a blank if it is not the first.
 fn push_next(out: &mut Bytes, size: Size, p: Point) -> Result<(), NoMemory>
     requires { p < size * size }
     ensures { OnOk result (out.new ≡ out.old ++ blank_after out.old ++ vertex_text size p) }
@@ -54,7 +55,7 @@ fn push_next(out: &mut Bytes, size: Size, p: Point) -> Result<(), NoMemory>
     push_vertex(out, size, p)
 }
 
-/// The least member from a point on, None exactly if there is none below the end.
+/// The least member of `points` from `from` on, or `None` exactly if there is none below `end`.
 fn member_below(points: &PointSet, from: u16, end: u16) -> Option<Point>
     ensures some { IfSome result (λ q. (from ≤ q) × (q < end) × IsTrue (set.contains points.now q)
         × ((r : ℕ) → from ≤ r → r < q → set.contains points.now r ≡ false)) }
@@ -88,7 +89,7 @@ pub(crate) fn legal_text(alloc: Global, board: &StringBoard, c: Colour) -> Resul
     points_text(alloc, board.size(), &board.legal_points(c))
 }
 
-/// The liberties of the string of p, as vertices in reading order.
+/// The liberties of the string of `p`, as vertices in reading order.
 pub(crate) fn liberties_text(
     alloc: Global,
     board: &StringBoard,

@@ -27,7 +27,7 @@ fn spot_text(size: Size, spot: Spot) -> Short
     }
 }
 
-/// A point as it is printed, `PASS` if there is none.
+/// A point as it is printed; `PASS` if there is none.
 pub(crate) fn move_text(size: Size, at: Option<Point>) -> Short
     requires { IfSome at (λ p. p < size * size) }
     ensures text { result ≡ move_or_pass size at }
@@ -39,7 +39,7 @@ pub(crate) fn move_text(size: Size, at: Option<Point>) -> Short
     }
 }
 
-/// An answer about two strings as it is printed: `0`, or `1` and the move.
+/// An answer about two strings as it is printed: `1` or `0`, and the move if there is one.
 pub(crate) fn linkage_text(size: Size, linkage: Linkage) -> Short
     requires { IfSome linkage.at (IsOnBoard size) }
     ensures text { result ≡ linkage_text size linkage }

@@ -25,7 +25,7 @@ use read_rules::Tree;
 use run_notes::{Counts, Links};
 use std::alloc::Global;
 
-/// The bytes of a line; of one that is too long none count.
+/// The bytes of a line; a line that is too long counts as empty.
 fn bytes_of(raw: Raw<'_>) -> &[u8]
     ensures { result.now ≡ bytes_in (raw_line raw.entry) }
 {
@@ -38,16 +38,15 @@ fn bytes_of(raw: Raw<'_>) -> &[u8]
 /// A session of the protocol.
 #[derive(Drop)]
 pub struct Session {
-    /// The machine that it is, its patterns and what it counted.
+    /// The machine, its patterns and its counts.
     pub engine: Engine,
-    /// The helpers that its patterns ask.
+    /// The helpers that the patterns ask.
     pub helpers: Helpers,
 }
 
 impl Session {
-    /// A session with these patterns, whose matches it finds by this automaton, and these helpers, before its first
-    /// line: a board of 19 by 19, no moves, the komi 0.0, readings in the stated tree, as deep as the options say,
-    /// nothing counted. Takes memory.
+    /// A session before its first line: `patterns`, whose matches `automaton` finds, `helpers`, a board of 19 by 19, no
+    /// moves, the komi 0.0, readings in the stated tree as deep as `options` says, and nothing counted. Takes memory.
     pub fn new(
         alloc: Global,
         patterns: Vec<Pattern>,
@@ -64,7 +63,7 @@ impl Session {
         Session::in_tree(alloc, patterns, automaton, helpers, Tree::Stated, options)
     }
 
-    /// A session before its first line, as `new` makes it, with readings in this tree. Takes memory.
+    /// A session before its first line, as `new` makes it, but with readings in `tree`. Takes memory.
     pub fn in_tree(
         alloc: Global,
         patterns: Vec<Pattern>,
@@ -83,30 +82,30 @@ impl Session {
         Ok(Session { engine, helpers })
     }
 
-    /// What the session counted: its lines that asked for a reading and were answered with a code, those of them that
-    /// were read afresh, the moves that these tried, and the readings that could not be kept for want of memory; and
-    /// what `links` tells.
+    /// The counts of the session. For the lines that asked for a reading and were answered with a code: how many there
+    /// were, how many were read afresh, and the trial plays of these. The readings that could not be cached for want of
+    /// memory, and the counts that `links` gives.
     pub fn stats(&self) -> Counts
         ensures { result ≡ self.now.engine.counts }
     {
         self.engine.stats()
     }
 
-    /// What the session counted of connections: its lines that asked about one and were answered with a result, and
-    /// those of them that were read afresh. Takes no memory.
+    /// The counts of connections: how many lines asked about one and were answered with a result, and how many of these
+    /// were read afresh. Takes no memory.
     pub fn links(&self) -> Links
         ensures { result ≡ self.now.engine.counts.links }
     {
         self.engine.stats().links
     }
 
-    /// Answers one line, by the step of the machine that the session is, unless it may take long: a question that is
-    /// not kept, a list of matches, a chosen move, a game record, a printed proof or the check of one. Then nothing is
-    /// done, and `finish` answers it.
+    /// Answers one line by the machine's step, unless the line may take long: a question that is not cached, a list of
+    /// matches, a chosen move, a game record, a printed proof or the check of a proof. Then nothing is done, and
+    /// `finish` answers the line.
     ///
-    /// `Nothing` comes exactly for a line without words. `NoMemory` comes only in place of a growing reply. Without
-    /// memory and after a refused line the machine is as it was, and of the counts only that of refused keepings may
-    /// have risen. The empty condition says that the call makes no helper of its own.
+    /// `Nothing` comes exactly for a line without words. `NoMemory` comes only in place of a growing reply. After
+    /// `NoMemory` or a refusal the machine is as it was, and of the counts only that of readings not cached may have
+    /// risen. The empty condition `own` says that the call makes no helper of its own.
     pub fn try_line(&mut self, raw: Raw<'_>) -> Result<Reply, Slow>
         requires own { ⊤ }
         requires short { length (bytes_in (raw_line raw)) ≤ longest_line }
@@ -123,12 +122,11 @@ impl Session {
             .try_answer(&mut self.helpers, bytes_of(raw), said)
     }
 
-    /// Answers a line that was left, which may take long, by the step of the machine that the session is: for the
-    /// matches of its patterns this takes those by its automaton, to which its helpers say yes. With the automaton of
-    /// the patterns it is the plain machine.
+    /// Answers a postponed line by the machine's step. Matches come from the automaton and must pass the helpers. With
+    /// the automaton of the patterns this is the step of the plain machine.
     ///
-    /// NoMemory comes only in place of a growing reply, and leaves the machine as it was, but for the calls of helpers.
-    /// The empty condition says that the call makes no helper of its own.
+    /// `NoMemory` comes only in place of a growing reply, and leaves the machine as it was, but for the calls of
+    /// helpers. The empty condition `own` says that the call makes no helper of its own.
     pub fn finish<L: Loader>(&mut self, slow: Slow, raw: Raw<'_>, files: &mut L) -> Reply
         requires own { ⊤ }
         requires within { SaysWithin self.old.engine.base.size (said_by slow) }
@@ -143,8 +141,8 @@ impl Session {
             .finish(&mut self.helpers, slow, bytes_of(raw), files)
     }
 
-    /// Answers one line, however long it takes: as `try_line` and, if that leaves it, `finish`. A file that it names
-    /// is loaded from `files`.
+    /// Answers one line, however long it takes: by `try_line`, then by `finish` if the line is postponed. A file that
+    /// the line names is loaded from `files`.
     pub fn line<L: Loader>(&mut self, raw: Raw<'_>, files: &mut L) -> Reply
         requires short { length (bytes_in (raw_line raw)) ≤ longest_line }
         ensures answers { AnswersLine (L.contents files.old) (kept_of state self.old (L.missed files.old))

@@ -2,12 +2,12 @@
 use go_base::{Colour, Point};
 use gtp_cmd::Span;
 
-/// What may take long.
+/// The work of a line that may take long.
 #[derive(Clone, Copy, Debug, PartialEq, Eq)]
 pub enum Work {
-    /// Whether the string of a point can be captured, for which no kept answer stands.
+    /// Whether the string of a point can be captured; no answer is cached.
     Attack(Point),
-    /// Whether the string of a point can be saved, for which no kept answer stands.
+    /// Whether the string of a point can be saved; no answer is cached.
     Defend(Point),
     /// The list of matches for a friend.
     Match(Colour),
@@ -17,16 +17,16 @@ pub enum Work {
     AttackProof(Point),
     /// The first proof of the code of a defence.
     DefendProof(Point),
-    /// Whether the words in this part of the line are a proof of this code of an attack, or else of a defence.
+    /// Whether the words in this part of the line are a proof of `code`, for an attack if `attack`, else for a defence.
     CheckProof {
         attack: bool,
         target: Point,
         code: u8,
         tokens: Span,
     },
-    /// Whether the strings of two points can be joined, for which no kept answer stands.
+    /// Whether the strings of two points can be joined; no answer is cached.
     Connect(Point, Point),
-    /// Whether the strings of two points can be kept apart, for which no kept answer stands.
+    /// Whether the strings of two points can be kept apart; no answer is cached.
     Disconnect(Point, Point),
     /// The move for a friend that the patterns choose, which is played.
     GenMove(Colour),
@@ -34,11 +34,11 @@ pub enum Work {
     RegGenMove(Colour),
 }
 
-/// A line that may take long and was not answered yet: its id, and what it asks.
+/// A line that may take long and is not answered yet: its id, and what it asks.
 #[derive(Clone, Copy, Debug, PartialEq, Eq)]
 pub struct Slow {
-    /// The line's id.
+    /// The id of the line.
     pub id: Option<u32>,
-    /// What it asks.
+    /// What the line asks.
     pub work: Work,
 }

@@ -19,17 +19,17 @@ has_feed text = list_any (λ b. b == line_feed) text
 abbrev pub empty_files : Contents
 empty_files name = Some []
 
--- what a session keeps that has no helpers and missed no file
+-- what a session without helpers keeps, if it missed no file
 abbrev pub kept_alone : EngineView → Kept
 kept_alone engine = record { engine = engine; helpers = []; missed = [] }
 
--- The old session answered the line of the text by the step of the plain machine without helpers, where each file is
--- empty, and is the new one, which has its reply. Matches are found as before.
+-- The session `old` answered the line of the text by the step of the plain machine without helpers, with every file
+-- empty, and became `new`, which has its reply. Matches are found as before.
 pub record Answers (old : HeldSession) (text : List ℕ) (new : HeldSession) : Type 0 where
   pub line : AnswersLine empty_files (kept_alone old.engine) (line_of text) new.reply (kept_alone new.engine)
   pub matcher : matcher_of new.engine ≡ matcher_of old.engine
 
--- the fault is that of the text: a line feed exactly if it has one
+-- the fault is that of the text: a line feed if it has one, else too little memory
 abbrev pub IsFaultOf : List ℕ → LineFault → Type 0
 IsFaultOf text LineFeed = has_feed text ≡ true
 IsFaultOf text NoMemory = has_feed text ≡ false

@@ -1,4 +1,4 @@
--- What a session is that was opened, and why none was.
+-- Which session is opened, and why none is.
 use Rattle.std.specs.Prelude.{◌≡◌, ℕ, List, length, Option, Some, None}
 use Rattle.helpers.specs.HelperStates.{SlotState}
 use Rattle.pat_types.specs.declared.pattern.Pattern.{Pattern}
@@ -17,9 +17,9 @@ use Rattle.session_doors.specs.declared.opening.OpenFault.TheVariants.{Patterns}
 use Rattle.session_doors.specs.declared.options.SessionOptions.{SessionOptions}
 use Rattle.session_doors.specs.Options.{options_fault}
 
--- The session is that with which the program begins to serve lines: the plain machine with these patterns and depths,
--- which has counted and kept nothing and may keep this many questions, and as many about connections. No line was
--- answered.
+-- The session is the one with which the program begins to serve lines: the plain machine with these patterns and
+-- depths, which has counted and cached nothing, with room for `cache` questions of readings and as many about
+-- connections. No line was answered.
 pub record IsFirst (patterns : List Pattern) (depths : ReadingDepths) (cache : ℕ) (held : HeldSession) : Type 0 where
   pub machine : (helpers : List SlotState) → machine_with helpers held.engine ≡ first_machine helpers depths
   pub matches : matcher_of held.engine ≡ plain_matcher patterns
@@ -28,8 +28,8 @@ pub record IsFirst (patterns : List Pattern) (depths : ReadingDepths) (cache : �
   pub links : held.engine.links.answers ≡ first_keeping cache
   pub reply : held.reply ≡ Nothing
 
--- the session is the first one with the patterns of the text, which have at most so many states, and it tells how many
--- patterns there are
+-- the session is the first one with the patterns of the text, which have at most this many states, and `opened` says
+-- how many patterns there are
 pub record IsFirstOf (text : List ℕ) (states : ℕ) (depths : ReadingDepths) (cache : ℕ)
     (opened : OpenedSession) : Type 0 where
   pub patterns : List Pattern
@@ -37,17 +37,17 @@ pub record IsFirstOf (text : List ℕ) (states : ℕ) (depths : ReadingDepths) (
   pub first : IsFirst patterns depths cache opened.session
   pub count : opened.patterns ≡ length patterns
 
--- the options have no fault, and the session is the first one by them with the patterns of the text
+-- the options have no fault, and the session is the first one with them and with the patterns of the text
 pub record IsOpened (text : List ℕ) (options : SessionOptions) (opened : OpenedSession) : Type 0 where
   pub faultless : options_fault options ≡ None
   pub first : IsFirstOf text options.states (depths_named options.depths) options.cache opened
 
--- the fault is one of the text, which gives no patterns with at most so many states
+-- the fault is one of the text, which gives no patterns with at most this many states
 abbrev pub IsRefusedAs : List ℕ → ℕ → OpenFault → Type 0
 IsRefusedAs text states (Patterns fault) = IsRefused text states fault
 IsRefusedAs text states _ = ⊥
 
--- the fault is the first one of the options; or they have none, and it is one of the text
+-- the fault is the first one of the options, or else one of the text
 abbrev pub RefusesBy : List ℕ → ℕ → Option OpenFault → OpenFault → Type 0
 RefusesBy text states (Some first) fault = fault ≡ first
 RefusesBy text states None fault = IsRefusedAs text states fault

@@ -1,4 +1,4 @@
--- Which numbers are options of a session, and which fault of them is told.
+-- Which numbers are options of a session, and which fault of them is reported.
 use Rattle.std.specs.Prelude.{ℕ, Bool, ◌&&◌, nat_le, Option, Some, None, if◌then◌else◌}
 use Rattle.go_options.specs.NumberOptions.{NumberOption, cache_option, states_option}
 use Rattle.board_doors.specs.Doors.{are_depths}
@@ -10,11 +10,11 @@ use Rattle.session_doors.specs.declared.opening.OpenFault.TheVariants.{Depths, C
 abbrev pub is_in : NumberOption → ℕ → Bool
 is_in option n = nat_le option.least n && nat_le n option.greatest
 
--- so many questions may be kept
+-- this many questions may be cached
 abbrev pub is_cache : ℕ → Bool
 is_cache = is_in cache_option
 
--- an automaton may be allowed so many states
+-- this many states may be allowed for an automaton
 abbrev pub are_states : ℕ → Bool
 are_states = is_in states_option
 

@@ -1,4 +1,4 @@
--- The numbers that tell what became of a line, and of a session that was to be opened.
+-- The numbers that say how a line was answered, and whether a session was opened.
 use Rattle.std.specs.Prelude.{ℕ, Bool, List, length, nat_lt, if◌then◌else◌}
 use Rattle.session_core.specs.Replies.{reply_bytes, reply_ends}
 use Rattle.session_core.specs.declared.reply.Reply.{Reply}
@@ -13,11 +13,11 @@ use Rattle.session_doors.specs.declared.opening.OpenFault.{OpenFault}
 use Rattle.session_doors.specs.declared.opening.OpenFault.TheVariants.{Depths, Cache, States, Patterns}
 use Rattle.session_doors.specs.declared.replies.LineReply.{LineReply}
 
--- the status of options of which the cache is out of its range
+-- the status of options whose cache is out of its range
 abbrev pub bad_cache : ℕ
 bad_cache = 21
 
--- the status of options of which the states are out of their range
+-- the status of options whose states are out of their range
 abbrev pub bad_states : ℕ
 bad_states = 22
 
@@ -25,7 +25,7 @@ bad_states = 22
 abbrev pub bad_line : ℕ
 bad_line = 23
 
--- the numbers of a text, by the room for it, and whether it ends the session
+-- the numbers of a text that may end the session, for a buffer with this much room
 abbrev pub text_reply : List ℕ → Bool → ℕ → LineReply
 text_reply text ends room = record {
   status = if nat_lt room (length text) then status_of ShortBuffer else 0;
@@ -33,7 +33,7 @@ text_reply text ends room = record {
   length = length text;
 }
 
--- the numbers of a reply to a line, by the room for its bytes
+-- the numbers of a reply to a line, for a buffer with this much room
 abbrev pub line_reply : Reply → ℕ → LineReply
 line_reply reply room = text_reply (reply_bytes reply) (reply_ends reply) room
 
@@ -41,7 +41,7 @@ line_reply reply room = text_reply (reply_bytes reply) (reply_ends reply) room
 abbrev pub without_bytes : ℕ → LineReply
 without_bytes status = record { status = status; ends = 0; length = 0 }
 
--- the reply of a handle that holds nothing
+-- the reply of an empty handle
 abbrev pub closed_reply : LineReply
 closed_reply = without_bytes closed
 
@@ -50,11 +50,11 @@ abbrev pub fault_reply : LineFault → LineReply
 fault_reply line.LineFeed = without_bytes bad_line
 fault_reply line.NoMemory = without_bytes no_memory
 
--- the reply with this status, if no session was opened
+-- the reply with this status to a text and options that opened no session
 abbrev pub unopened : ℕ → OpenReply
 unopened status = record { status = status; kind = 0; line = 0; patterns = 0 }
 
--- the reply to a text and options by which no session was opened
+-- the reply to a text and options that opened no session
 abbrev pub refused_reply : OpenFault → OpenReply
 refused_reply Depths = unopened (status_of bad_depths)
 refused_reply Cache = unopened bad_cache

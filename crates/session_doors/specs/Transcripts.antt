@@ -1,4 +1,4 @@
--- What lines that are answered one after another come to.
+-- What a session answers to lines, one after another.
 use Rattle.std.specs.Prelude.{◌≡◌, ℕ, Bool, true, false, List, [], ◌∷◌, ◌++◌, map}
 use Rattle.gtp_rules.specs.Lines.{line_of}
 use Rattle.gtp_rules.specs.Transcript.{IsRun}
@@ -13,8 +13,8 @@ use Rattle.session_doors.specs.declared.held.HeldSession.{HeldSession}
 use Rattle.session_doors.specs.Answered.{Answers, empty_files}
 use Rattle.session_doors.specs.Opened.{IsFirst}
 
--- The first session answered the texts one after another with out, and is the last one after them. Only the last of
--- them may end the session, and ended says whether it does.
+-- The session `first` answered the texts one after another with `out`, and `last` is the session after them. Only the
+-- last text may end the session, and `ended` says whether it does.
 pub data HasAnswered : HeldSession → List (List ℕ) → List ℕ → HeldSession → Bool → Type 0 where
   nothing : (held : HeldSession) → HasAnswered held [] [] held false
   next : (first mid last : HeldSession) (text : List ℕ) (texts : List (List ℕ)) (out : List ℕ) (ended : Bool)
@@ -24,7 +24,7 @@ pub data HasAnswered : HeldSession → List (List ℕ) → List ℕ → HeldSess
       → HasAnswered first (text ∷ []) (reply_bytes last.reply) last true
 
 -- what a session answers to texts from its beginning is a transcript of their lines, by the plain machine with its
--- patterns and depths, without helpers, where each file is empty
+-- patterns and depths, without helpers and with every file empty
 abbrev pub AnswersAreTranscripts : Type 0
 AnswersAreTranscripts = (patterns : List Pattern) (depths : ReadingDepths) (cache : ℕ) (first last : HeldSession)
     (texts : List (List ℕ)) (out : List ℕ) (ended : Bool)

@@ -2,11 +2,11 @@
 
 use session_core::{Engine, Reply};
 
-/// A session without helpers, and its reply to the last line.
+/// A session without helpers, and its reply to the last line, for a handle.
 #[derive(Drop)]
 pub struct HeldSession {
     /// What the session keeps.
     pub engine: Engine,
-    /// The reply to the last line; nothing before the first one.
+    /// The reply to the last line; `Nothing` before the first line.
     pub reply: Reply,
 }

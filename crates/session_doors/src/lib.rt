@@ -1,8 +1,8 @@
 //! A session of the protocol for a program in another language: without helpers, and without files.
 //!
-//! `open` makes a session of the patterns of a text, with options that are handed over as numbers; `answer` answers one
-//! line of it, and `written` writes the reply into the caller's buffer. The patterns name no helper, and each file that
-//! a line names counts as empty. `gopat_session_c` exports this behind a handle.
+//! `open` makes a session with the patterns of a text and with options that are numbers; `answer` answers one line, and
+//! `written` writes the reply into the caller's buffer. The patterns name no helper, and each file that a line names
+//! counts as empty. `gopat_session_c` exports this behind a handle.
 #![tactic(auto)]
 
 mod held;

@@ -1,4 +1,4 @@
-//! Lines that a held session answers.
+//! How a held session answers lines.
 
 ghost use Rattle.std.specs.Prelude.{◌≡◌, [], false, IfOk, IfErr};
 ghost use Rattle.gtp_rules.specs.Lines.{line_of};
@@ -18,13 +18,13 @@ const LONGEST_LINE: usize = 65_536;
 /// Why a text was not answered.
 #[derive(Clone, Copy, Debug, PartialEq, Eq)]
 pub enum LineFault {
-    /// The text has a line feed, so it is no line.
+    /// The text has a line feed, so it is not one line.
     LineFeed,
     /// There was no memory.
     NoMemory,
 }
 
-/// A session that did not answer a text, as it was before, and why it did not.
+/// A session that did not answer a text, and why; the session is as it was before.
 #[derive(Drop)]
 pub struct Unanswered {
     /// The session.
@@ -51,7 +51,7 @@ fn raw_of(text: &[u8]) -> Raw<'_>
     }
 }
 
-/// Answers a line with these helpers, of which there are none.
+/// Answers a line with `helpers`, which is empty.
 fn answer_with(alloc: Global, helpers: Helpers, session: HeldSession, text: &[u8]) -> HeldSession
     requires { helpers.slots.items ≡ [] }
     ensures { Answers session text.now result }
@@ -64,8 +64,8 @@ fn answer_with(alloc: Global, helpers: Helpers, session: HeldSession, text: &[u8
     HeldSession { engine, reply }
 }
 
-/// Answers a text as a line of the protocol, which has no line feed; or leaves the session as it was. Each file that
-/// the line names counts as empty. Takes memory.
+/// Answers `text` as a line of the protocol, if it has no line feed; else the session is as it was. Each file that the
+/// line names counts as empty. Takes memory.
 pub fn answer(alloc: Global, session: HeldSession, text: &[u8]) -> Result<HeldSession, Unanswered>
     ensures ok { IfOk result (Answers session text.now) }
     ensures line { IfOk result (λ _. has_feed text.now ≡ false) }

@@ -23,9 +23,9 @@ use std::alloc::Global;
 pub enum OpenFault {
     /// The plies, the wide plies or the tree are out of their ranges.
     Depths,
-    /// The number of questions that may be kept is out of its range.
+    /// The number of questions that may be cached is out of its range.
     Cache,
-    /// The number of states that the automaton may have is out of its range.
+    /// The number of states allowed for the automaton is out of its range.
     States,
     /// The text gives no patterns, or there was no memory.
     Patterns(PatternFault),
@@ -36,12 +36,12 @@ pub enum OpenFault {
 pub struct OpenedSession {
     /// The session.
     pub session: HeldSession,
-    /// How many patterns it has.
+    /// How many patterns the session has.
     pub patterns: usize,
 }
 
-/// A session of the patterns of a text by these options of the program, with readings in this tree; or why there is
-/// none. Takes memory.
+/// A session with the patterns of `text`, these `options` of the program and readings in `tree`, or why there is none.
+/// Takes memory.
 fn first(
     alloc: Global,
     text: &[u8],
@@ -66,8 +66,8 @@ fn first(
     })
 }
 
-/// A session of the patterns of a text with these depths, which keeps so many answers and whose automaton has at most
-/// so many states; or why there is none. Takes memory.
+/// A session with the patterns of `text` and readings of these `depths`, which caches up to `cache` questions and whose
+/// automaton has at most `states` states, or why there is none. Takes memory.
 fn first_by(
     alloc: Global,
     text: &[u8],
@@ -87,9 +87,9 @@ fn first_by(
     }
 }
 
-/// Opens a session of the patterns of a text, which name no helper, by options that are handed over as numbers; or
-/// tells the first fault: of the depths, of the cache, of the states, then of the text. Want of memory may come in
-/// place of a fault of the text. Takes memory.
+/// Opens a session with the patterns of `text`, which name no helper, and with `options`, or gives the first fault: of
+/// the depths, of the cache, of the states, then of the text. Memory may run out instead of a fault of the text. Takes
+/// memory.
 pub fn open(alloc: Global, text: &[u8], options: SessionOptions) -> Result<OpenedSession, OpenFault>
     ensures ok { IfOk result (IsOpened text.now options) }
     ensures err { IfErr result (Refuses text.now options) }

@@ -1,4 +1,4 @@
-//! Options of a session as a caller's numbers.
+//! The options of a session as numbers of a caller.
 
 ghost use Rattle.std.specs.Prelude.{◌≡◌, true};
 ghost use Rattle.match_engine.specs.ReadingDepths.{depths_of};
@@ -11,42 +11,42 @@ use go_options::{Files, Options};
 use read_rules::Depths;
 use std::alloc::Global;
 
-/// The options of a session, as a caller hands them over. Its layout is that of C, and each field may hold any number.
+/// The options of a session, as a caller gives them. The layout is that of C, and each field may hold any number.
 #[repr(C)]
 #[derive(Clone, Copy)]
 pub struct SessionOptions {
     /// How deep readings go, and in which tree.
     pub depths: DepthBytes,
-    /// How many questions may be kept with their answers: 8 to 65,536.
+    /// How many questions may be cached with their answers: 8 to 65,536.
     pub cache: u32,
     /// The most states of the automaton of the patterns: 1 to 1,000,000.
     pub states: u32,
 }
 
-/// The least number of questions that may be kept.
+/// The least number of questions that may be cached.
 const LEAST_CACHE: u32 = 8;
 
-/// The greatest number of questions that may be kept.
+/// The greatest number of questions that may be cached.
 const GREATEST_CACHE: u32 = 65_536;
 
-/// The greatest number of states that an automaton may be allowed.
+/// The greatest number of states that may be allowed for an automaton.
 const GREATEST_STATES: u32 = 1_000_000;
 
-/// Whether so many questions may be kept.
+/// Whether `cache` questions may be cached.
 pub(crate) fn is_cache(cache: u32) -> bool
     ensures { result ≡ is_cache cache }
 {
     LEAST_CACHE <= cache && cache <= GREATEST_CACHE
 }
 
-/// Whether an automaton may be allowed so many states.
+/// Whether `states` states may be allowed for an automaton.
 pub(crate) fn are_states(states: u32) -> bool
     ensures { result ≡ are_states states }
 {
     1 <= states && states <= GREATEST_STATES
 }
 
-/// The options of a session with these depths, as those of the program.
+/// The program's options with these depths, this cache and these states, and no files.
 pub(crate) fn program_options(alloc: Global, depths: Depths, cache: u32, states: u32) -> Options
     requires cache { is_cache cache ≡ true }
     requires states { are_states states ≡ true }

@@ -13,10 +13,10 @@ use gtp_cmd::{RefuseText, refusal};
 use match_doors::{CLOSED, NO_MEMORY, OpenReply};
 use session_core::Reply;
 
-/// The status of options of which the cache is out of its range.
+/// The status of options whose cache is out of its range.
 const BAD_CACHE: u8 = 21;
 
-/// The status of options of which the states are out of their range.
+/// The status of options whose states are out of their range.
 const BAD_STATES: u8 = 22;
 
 /// The status of a text that has a line feed.
@@ -45,7 +45,7 @@ fn without_bytes(status: u8) -> LineReply
     }
 }
 
-/// The reply of a handle that holds nothing.
+/// The reply of an empty handle.
 pub fn closed_reply() -> LineReply
     ensures { result ≡ closed_reply }
 {
@@ -62,7 +62,7 @@ pub fn fault_reply(fault: LineFault) -> LineReply
     }
 }
 
-/// The reply to a text and options by which no session was opened.
+/// The reply to a text and options that opened no session.
 pub fn refused_reply(fault: OpenFault) -> OpenReply
     ensures { result ≡ refused_reply fault }
 {
@@ -88,7 +88,7 @@ fn write_over(text: &[u8], out: &mut [u8])
     out[..text.len()].copy_from_slice(text);
 }
 
-/// Writes a text over the front of a buffer if there is room for it, and tells its numbers.
+/// Writes a text over the front of a buffer, if there is room for it. The reply says whether it was written.
 fn written_text(text: &[u8], ends: bool, out: &mut [u8]) -> LineReply
     ensures reply { result ≡ text_reply text.now ends (length out.old) }
     ensures over { out.new ≡ printed_over text.now out.old }
@@ -110,7 +110,7 @@ fn written_text(text: &[u8], ends: bool, out: &mut [u8]) -> LineReply
     }
 }
 
-/// Writes the bytes of a session's reply over the front of a buffer if there is room for them, and tells their numbers.
+/// Writes the bytes of a session's reply over the front of a buffer, if there is room for them.
 pub fn written(reply: &Reply, out: &mut [u8]) -> LineReply
     ensures reply { result ≡ line_reply reply.now (length out.old) }
     ensures over { out.new ≡ printed_over (reply_bytes reply.now) out.old }

@@ -11,7 +11,7 @@ use crate::tree::{begins_with_tree, next_node, tree_start};
 use go_base::Position;
 use sgf_rules::FaultKind;
 
-/// The position after the first node from an index on, if a node stands before the first `)`.
+/// The position after the first node from the index `start` on, or `pos` if no node stands before the first `)`.
 fn play_first(text: &[u8], start: usize, pos: Position) -> Result<Position, FaultKind>
     requires { start ≤ length text.now }
     ensures { result ≡ after_nodes pos (first_alone (nodes_in (tokens_from text.now start))) }
@@ -26,9 +26,9 @@ fn play_first(text: &[u8], start: usize, pos: Position) -> Result<Position, Faul
     }
 }
 
-/// The position after the setup and the moves of the record's first node, or the first fault up to there. It is the
-/// question of a problem, whose main line goes on with the solution. Faults of later nodes are not looked for, but the
-/// whole first tree has to be in the grammar. It takes no memory.
+/// The position after the setup and the moves of the record's first node, or the first fault up to there. In a problem
+/// this position is the question, and the main line goes on with the solution. Faults of later nodes are not looked
+/// for, but the whole first tree has to be in the grammar. Takes no memory.
 pub fn read_first_node(text: &[u8]) -> Result<Position, FaultKind>
     ensures { result ≡ first_position_of text.now }
 {

@@ -21,8 +21,8 @@ use sgf_rules::{FaultKind, Meaning};
 /// The size of a board without SZ.
 const USUAL_SIZE: u8 = 19;
 
-/// The size that the first SZ value of the node at an index says, and 19 where it has none; None where that value says
-/// no size.
+/// The size that the first SZ value of the node at the index `node` says, and 19 if the node has none; `None` if that
+/// value says no size.
 fn size_at(text: &[u8], node: usize) -> Option<Size>
     requires { node ≤ length text.now }
     ensures { result ≡ size_among (uses_at text.now node) }
@@ -39,7 +39,7 @@ fn size_at(text: &[u8], node: usize) -> Option<Size>
     Size::new(USUAL_SIZE)
 }
 
-/// The size of the board of a record whose tree begins at an index.
+/// The size of the board of a record whose tree begins at the index `start`.
 #[tactic(auto, using(crate::proofs::GameSteps::size_at_first))]
 pub(crate) fn record_size(text: &[u8], start: usize) -> Option<Size>
     requires { start ≤ length text.now }
@@ -51,7 +51,7 @@ pub(crate) fn record_size(text: &[u8], start: usize) -> Option<Size>
     }
 }
 
-/// Makes the move that a value says.
+/// Makes the move that `value` says, if it says one.
 fn play_move(pos: &mut Position, c: Colour, value: &[u8]) -> Result<(), FaultKind>
     ensures { Leads result pos.new (after_move pos.old c (move_in pos.old.size (said false value.now))) }
 {
@@ -66,7 +66,7 @@ fn play_move(pos: &mut Position, c: Colour, value: &[u8]) -> Result<(), FaultKin
     Ok(())
 }
 
-/// Makes the move that a value says, where it is one of a move.
+/// Makes the move that `value` says, if `meaning` is a play and the value says a move.
 fn play_by(pos: &mut Position, meaning: Meaning, value: &[u8]) -> Result<(), FaultKind>
     ensures { Leads result pos.new (after_use pos.old (meaning, said false value.now)) }
 {
@@ -76,7 +76,7 @@ fn play_by(pos: &mut Position, meaning: Meaning, value: &[u8]) -> Result<(), Fau
     }
 }
 
-/// Makes the moves of the node at an index.
+/// Makes the moves of the node whose properties begin at the index `node`.
 fn play_all(text: &[u8], node: usize, pos: &mut Position) -> Result<(), FaultKind>
     requires { node ≤ length text.now }
     ensures { Leads result pos.new (after_uses pos.old (uses_at text.now node)) }
@@ -91,7 +91,7 @@ fn play_all(text: &[u8], node: usize, pos: &mut Position) -> Result<(), FaultKin
     Ok(())
 }
 
-/// Goes through the node whose properties begin at an index: its setup, and then its moves.
+/// Applies the node whose properties begin at the index `node`: first its setup, and then its moves.
 pub(crate) fn play_node(text: &[u8], node: usize, pos: &mut Position) -> Result<(), FaultKind>
     requires { node ≤ length text.now }
     ensures { Leads result pos.new (after_node pos.old (uses_at text.now node)) }
@@ -106,7 +106,7 @@ pub(crate) fn play_node(text: &[u8], node: usize, pos: &mut Position) -> Result<
     play_all(text, node, pos)
 }
 
-/// The position after the nodes from an index on, before the first `)`.
+/// The position after the nodes that stand from the index `start` on and before the first `)`.
 fn play_nodes(text: &[u8], start: usize, pos: Position) -> Result<Position, FaultKind>
     requires { start ≤ length text.now }
     ensures { result ≡ after_nodes pos (nodes_in (tokens_from text.now start)) }
@@ -120,7 +120,7 @@ fn play_nodes(text: &[u8], start: usize, pos: Position) -> Result<Position, Faul
     Ok(now)
 }
 
-/// The position at the end of the record's main line, or its first fault. It takes no memory.
+/// The position at the end of the record's main line, or its first fault. Takes no memory.
 pub fn read_game(text: &[u8]) -> Result<Position, FaultKind>
     ensures { result ≡ game_of text.now }
 {
@@ -134,7 +134,7 @@ pub fn read_game(text: &[u8]) -> Result<Position, FaultKind>
     }
 }
 
-/// The position at the end of the record's main line, or the number of its first fault. It takes no memory.
+/// The position at the end of the record's main line, or the number of its first fault. Takes no memory.
 pub fn read(text: &[u8]) -> Result<Position, SgfError>
     ensures { result ≡ told (game_of text.now) }
 {

@@ -1,12 +1,12 @@
 //! Reading a game record: the position at the end of its main line, or after its first node, or its first fault.
 //!
-//! One pass over the tokens tells whether the text begins with a game tree; it keeps the last token's kind and a count
-//! of open trees, so a deep text costs neither stack nor memory. The main line are the nodes before the first `)`: a
-//! second pass goes through them, and through each node's values once for each of its kinds of fault. Each call meets
+//! One pass over the tokens finds whether the text begins with a game tree. It keeps the last token's kind and a count
+//! of open trees, so a text with deep trees costs neither stack nor memory. The main line is the nodes before the first
+//! `)`: a second pass goes through them, and through each node's values anew for each kind of fault. Each call meets
 //! the definitions of `sgf_rules`, and none takes memory.
 //!
-//! Who needs more of a record than its position, as the comments of a problem, cuts it into the same tokens
-//! (`tree_start`, `token_from`).
+//! A caller that needs more of a record than its position, such as the comments of a problem, can cut the record into
+//! the same tokens with `tree_start` and `token_from`.
 //!
 //! After SGF FF[4], in this project's own profile.
 #![tactic(auto)]

@@ -1,4 +1,4 @@
-//! The setup of a node: cells that its values set.
+//! The setup of a node: the cells that its values set.
 
 ghost use Rattle.std.specs.Prelude.{◌≡◌, ◌≤◌, ◌<◌, ◌*◌, MatchOption, Ok, Err, length, false, ℕ, if◌then◌else◌};
 ghost use Rattle.std.specs.List.{list_all, list_any};
@@ -18,7 +18,7 @@ use go_base::{PointSet, Position, Size};
 use go_rules::{Cell, Colour};
 use sgf_rules::{Area, FaultKind, Meaning};
 
-/// Whether a value says what it should.
+/// Whether `value` can be read: a setup has to say a rectangle, and a play a move.
 fn is_readable(size: Size, meaning: Meaning, value: &[u8]) -> bool
     ensures { result ≡ readable size (meaning, said false value.now) }
 {
@@ -29,7 +29,7 @@ fn is_readable(size: Size, meaning: Meaning, value: &[u8]) -> bool
     }
 }
 
-/// Whether each value that the node at an index uses says what it should.
+/// Whether each used value of the node at the index `node` can be read.
 pub fn is_all_readable(text: &[u8], node: usize, size: Size) -> bool
     requires { node ≤ length text.now }
     ensures { result ≡ list_all (readable size) (uses_at text.now node) }
@@ -46,7 +46,7 @@ pub fn is_all_readable(text: &[u8], node: usize, size: Size) -> bool
     true
 }
 
-/// Whether a value of the node at an index sets points.
+/// Whether a value of the node at the index `node` sets points.
 fn has_setup(text: &[u8], node: usize) -> bool
     requires { node ≤ length text.now }
     ensures { result ≡ list_any sets_points (uses_at text.now node) }
@@ -63,7 +63,7 @@ fn has_setup(text: &[u8], node: usize) -> bool
     false
 }
 
-/// Sets the cells from one point up to another, which stays as it was.
+/// Sets the cells of the points from `from` to just before `to`.
 fn fill_part(cells: &mut [Cell], from: usize, to: usize, cell: Cell)
     requires in_order { from ≤ to }
     requires inside { to ≤ length cells.old }
@@ -74,7 +74,7 @@ fn fill_part(cells: &mut [Cell], from: usize, to: usize, cell: Cell)
     }
 }
 
-/// Sets the cells of a rectangle.
+/// Sets the cells of the rectangle `area` to `cell`.
 fn fill(size: Size, cells: &mut [Cell], area: Area, cell: Cell)
     requires whole { length cells.old ≡ size * size }
     requires rows { (area.top ≤ area.bottom) × (area.bottom < size) }
@@ -93,7 +93,7 @@ fn fill(size: Size, cells: &mut [Cell], area: Area, cell: Cell)
     }
 }
 
-/// Sets the cells that a value sets.
+/// Sets the cells of the rectangle that `value` says, if `meaning` is a setup and the value says a rectangle.
 fn set_by(size: Size, cells: &mut [Cell], meaning: Meaning, value: &[u8])
     requires { length cells.old ≡ size * size }
     ensures { cells.new ≡ cells_after_use size cells.old (meaning, said false value.now) }
@@ -105,7 +105,7 @@ fn set_by(size: Size, cells: &mut [Cell], meaning: Meaning, value: &[u8])
     }
 }
 
-/// Sets the cells that the values of the node at an index set.
+/// Sets the cells that the values of the node at the index `node` set.
 fn set_all(text: &[u8], node: usize, size: Size, cells: &mut [Cell])
     requires whole { length cells.old ≡ size * size }
     requires node { node ≤ length text.now }
@@ -134,7 +134,7 @@ fn stones_of(cells: &[Cell], c: Colour) -> PointSet
     found
 }
 
-/// The position with these cells and no ban, None where some string has no liberty.
+/// The position with these cells and no ko ban, or `None` if some string has no liberty.
 fn position_with(size: Size, cells: &[Cell]) -> Option<Position>
     requires { length cells.now ≡ size * size }
     ensures { MatchOption result (position_of_cells size cells.now ≡ Err FaultKind.NoLiberty)
@@ -146,8 +146,8 @@ fn position_with(size: Size, cells: &[Cell]) -> Option<Position>
     Position::setup(size, &black, &white)
 }
 
-/// Sets up what the node at an index sets up: nothing where it has no value of AB, AW or AE, and else its cells,
-/// without a ban.
+/// Sets up the position as the node at the index `node` says. The position stays as it is if the node has no value of
+/// AB, AW or AE; else it has the new cells and no ko ban.
 pub fn set_up(text: &[u8], node: usize, pos: &mut Position) -> Result<(), FaultKind>
     requires { node ≤ length text.now }
     ensures { Leads result pos.new (after_setup pos.old (uses_at text.now node)) }

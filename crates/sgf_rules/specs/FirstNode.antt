@@ -1,4 +1,4 @@
--- The position of the first node of a record, which is the question of a problem: what follows is its solution.
+-- The position after the first node of a record. In a problem it is the question, and the later nodes are the solution.
 use Rattle.std.specs.Prelude.{ℕ, List, [], ◌∷◌, Result}
 use Rattle.std.specs.Option.{option_map}
 use Rattle.go_rules.specs.Position.{BoardState}

@@ -22,19 +22,19 @@ use Rattle.sgf_rules.specs.Points.{area_of, is_in_area, move_of, size_of}
 abbrev pub usual_size : ℕ
 usual_size = 19
 
--- the size that the first SZ value among these says, and 19 where there is none; None where that value says no size
+-- the size that the first SZ value among these says, and 19 if there is no SZ value; None if that value says no size
 unfoldable pub size_among : List Use → Option ℕ
 size_among [] = Some usual_size
 size_among ((Size, v) ∷ us) = size_of v
 size_among ((Setup cell, v) ∷ us) = size_among us
 size_among ((Play c, v) ∷ us) = size_among us
 
--- the size of the board: that of the first node
+-- the size of the board: the size that the first node says
 abbrev pub size_of_nodes : List Node → Option ℕ
 size_of_nodes [] = Some usual_size
 size_of_nodes (n ∷ ns) = size_among (uses_in n)
 
--- the value says what it should, on a board of size s: where a stone is set or played
+-- the value can be read on a board of size s: a setup says a rectangle, a play says a move, and SZ may say anything
 abbrev pub is_readable : ℕ → Use → Bool
 is_readable s (Size, v) = true
 is_readable s (Setup cell, v) = is_some (area_of s v)
@@ -46,12 +46,12 @@ is_setup (Size, v) = false
 is_setup (Setup cell, v) = true
 is_setup (Play c, v) = false
 
--- the point is in the rectangle, where there is one
+-- the point is in the rectangle, if there is one
 abbrev pub is_in_some_area : ℕ → Option Area → ℕ → Bool
 is_in_some_area s None p = false
 is_in_some_area s (Some a) p = is_in_area s a p
 
--- the value sets this point: it is one of AB, AW or AE, and its rectangle has the point
+-- the value sets the point p: the value is one of AB, AW or AE, and its rectangle has the point
 abbrev pub sets : ℕ → ℕ → Use → Bool
 sets s p (Size, v) = false
 sets s p (Setup cell, v) = is_in_some_area s (area_of s v) p
@@ -62,7 +62,7 @@ unfoldable pub with_area : ℕ → List Cell → Cell → Area → List Cell
 with_area s cells cell a =
     map (λ p. if is_in_area s a p then cell else cell_at cells p) (range_with_len 0 (s * s))
 
--- the same, where there is a rectangle
+-- the cells with the points of the rectangle, if there is one, set to a cell
 abbrev pub with_area_if : ℕ → List Cell → Cell → Option Area → List Cell
 with_area_if s cells cell None = cells
 with_area_if s cells cell (Some a) = with_area s cells cell a
@@ -78,11 +78,11 @@ unfoldable pub cells_after_uses : ℕ → List Cell → List Use → List Cell
 cells_after_uses s cells [] = cells
 cells_after_uses s cells (u ∷ us) = cells_after_uses s (cells_after_use s cells u) us
 
--- the position with these cells and no ban, where each of its strings has a liberty
+-- the position with these cells and no ko ban, or the fault NoLiberty if one of its strings has no liberty
 unfoldable pub position_with : ℕ → List Cell → Result BoardState FaultKind
 position_with s cells = if has_dead_string s cells then Err NoLiberty else Ok (board_of s cells)
 
--- the position after the values of AB, AW and AE: as before where there is none
+-- the position after the values of AB, AW and AE; the position stays as it is if there is none of them
 abbrev pub after_setup : BoardState → List Use → Result BoardState FaultKind
 after_setup pos uses =
     if list_any is_setup uses then position_with pos.size (cells_after_uses pos.size pos.cells uses) else Ok pos
@@ -92,12 +92,12 @@ pub record HasDeadSetup (pos : BoardState) (uses : List Use) : Type 0 where
   pub some_setup : list_any is_setup uses ≡ true
   pub dead : has_dead_string pos.size (cells_after_uses pos.size pos.cells uses) ≡ true
 
--- a move that was made, or the fault that it is
+-- the position after a move, or the fault IllegalPlay if the rules refuse the move
 abbrev pub or_illegal : Result BoardState Illegal → Result BoardState FaultKind
 or_illegal (Ok next) = Ok next
 or_illegal (Err e) = Err IllegalPlay
 
--- the position after a move, where a value says one
+-- the position after a move, if a value says one
 abbrev pub after_move : BoardState → Colour → Option (Option ℕ) → Result BoardState FaultKind
 after_move pos c None = Ok pos
 after_move pos c (Some at) = or_illegal (moved_to pos c at)
@@ -108,7 +108,7 @@ after_use pos (Size, v) = Ok pos
 after_use pos (Setup cell, v) = Ok pos
 after_use pos (Play c, v) = after_move pos c (move_of pos.size v)
 
--- what follows a step, where that had no fault
+-- what follows a step, if the step had no fault
 abbrev pub and_then : Result BoardState FaultKind → (BoardState → Result BoardState FaultKind)
     → Result BoardState FaultKind
 and_then (Ok next) f = f next
@@ -119,7 +119,7 @@ unfoldable pub after_uses : BoardState → List Use → Result BoardState FaultK
 after_uses pos [] = Ok pos
 after_uses pos (u ∷ us) = and_then (after_use pos u) (λ next. after_uses next us)
 
--- Of the moves that these values say one is refused: the values before it lead from the position to another, on which
+-- One of the moves that these values say is refused: the values before it lead from pos to another position, on which
 -- the rules refuse the move.
 pub record HasRefusedPlay (pos : BoardState) (uses : List Use) : Type 0 where
   pub before : List Use
@@ -146,12 +146,12 @@ unfoldable pub after_nodes : BoardState → List Node → Result BoardState Faul
 after_nodes pos [] = Ok pos
 after_nodes pos (n ∷ ns) = and_then (after_node pos (uses_in n)) (λ next. after_nodes next ns)
 
--- the position after nodes, from the empty board of this size on
+-- the position after nodes, played from the empty board of this size
 abbrev pub game_on : Option ℕ → List Node → Result BoardState FaultKind
 game_on None nodes = Err BadSize
 game_on (Some s) nodes = after_nodes (empty_board s) nodes
 
--- the position after the nodes of a main line, where there is one
+-- the position after the nodes of a main line, if there is one
 abbrev pub game_along : Option (List Node) → Result BoardState FaultKind
 game_along None = Err Grammar
 game_along (Some nodes) = game_on (size_of_nodes nodes) nodes

@@ -1,6 +1,6 @@
--- The main line of a record as it is computed: whether the tokens begin with a tree is seen from the tokens that stand
--- side by side and from the number of open trees, and the main line are the nodes before the first `)`. The law
--- `main_lines_are_of_first_trees` says that this is what the grammar says.
+-- The main line of a record as it is computed. Neighbouring tokens and the number of open trees show whether the tokens
+-- begin with a tree; the main line is the nodes before the first `)`. The law `main_lines_are_of_first_trees` says that
+-- this is what the grammar says.
 use Rattle.std.specs.Prelude.{ℕ, zero, ◌+◌, ◌-◌, Bool, true, false, ◌&&◌, ◌||◌, List, [], ◌∷◌, Option, Some, None}
 use Rattle.std.specs.Prelude.{if◌then◌else◌}
 use Rattle.sgf_rules.specs.declared.token.TokenKind.{TokenKind}
@@ -8,7 +8,7 @@ use Rattle.sgf_rules.specs.declared.token.TokenKind.TheVariants as kind
 use Rattle.sgf_rules.specs.Tokens.{Token, Open, Close, Semicolon, Name, Value, kind_of, record_tokens}
 use Rattle.sgf_rules.specs.Trees.{Node}
 
--- in a tree a token of the second kind may stand behind one of the first
+-- in a tree a token of the second kind may follow a token of the first kind
 abbrev pub may_follow : TokenKind → TokenKind → Bool
 may_follow kind.Open kind.Semicolon = true
 may_follow kind.Open _ = false
@@ -24,7 +24,7 @@ may_follow kind.Close kind.Close = true
 may_follow kind.Close _ = false
 may_follow kind.Stray _ = false
 
--- a token of this kind ends the first tree, where the last token before it stands in n subtrees
+-- a token of this kind ends the first tree, if the token before it stands in n subtrees
 abbrev pub ends_tree : TokenKind → ℕ → Bool
 ends_tree kind.Close zero = true
 ends_tree _ _ = false
@@ -35,7 +35,7 @@ depth_after kind.Open n = n + 1
 depth_after kind.Close n = n - 1
 depth_after _ n = n
 
--- behind a token of this kind in n subtrees of a tree, the tokens go on to the end of that tree
+-- the tokens after a token of this kind, which stands in n subtrees of a tree, go on to the end of that tree
 unfoldable pub goes_to_end : TokenKind → ℕ → List Token → Bool
 goes_to_end last n [] = false
 goes_to_end last n (t ∷ ts) =
@@ -47,12 +47,12 @@ abbrev pub begins_with_tree : List Token → Bool
 begins_with_tree (Open ∷ ts) = goes_to_end kind.Open 0 ts
 begins_with_tree _ = false
 
--- the values at the front
+-- the values at the front of the tokens
 abbrev pub values_in : List Token → List (List ℕ)
 values_in (Value v ∷ ts) = v ∷ values_in ts
 values_in _ = []
 
--- the properties at the front, those without a value aside
+-- the properties at the front of the tokens; names without a value are left out
 abbrev pub properties_in : List Token → Node
 properties_in (Name name ∷ (Value v ∷ ts)) =
     record { name = name; value = v; more = values_in ts } ∷ properties_in ts
@@ -67,6 +67,6 @@ nodes_in (Close ∷ ts) = []
 nodes_in (Semicolon ∷ ts) = properties_in ts ∷ nodes_in ts
 nodes_in (_ ∷ ts) = nodes_in ts
 
--- the nodes of the main line, where the record begins with a tree
+-- the nodes of the main line, if the record begins with a tree
 unfoldable pub main_line : List ℕ → Option (List Node)
 main_line text = if begins_with_tree (record_tokens text) then Some (nodes_in (record_tokens text)) else None

@@ -7,11 +7,11 @@ use Rattle.go_rules.specs.Board.{Place, point_at, row_of, column_of, smallest_si
 use Rattle.sgf_rules.specs.Bytes.{digit_zero, digit_nine, colon, small_a, small_t}
 use Rattle.sgf_rules.specs.declared.area.Area.{Area}
 
--- the row or column that a letter is, counted from `a`, where a board of size s has it
+-- the row or column that a letter names, counted from `a`, if a board of size s has it
 abbrev pub line_of : ℕ → ℕ → Option ℕ
 line_of s b = if nat_le small_a b && nat_lt b (small_a + s) then Some (b - small_a) else None
 
--- the place of two letters, the column and then the row, where it lies on a board of size s
+-- the place of two letters, first the column and then the row, if the place lies on a board of size s
 abbrev pub place_of_letters : ℕ → ℕ → ℕ → Option Place
 place_of_letters s c r =
     option_and_then (λ column. option_map (λ row. (row, column)) (line_of s r)) (line_of s c)
@@ -23,7 +23,7 @@ area_between a b =
     then Some (record { top = a.0; left = a.1; bottom = b.0; right = b.1 })
     else None
 
--- the rectangle with these corners, where both are on the board
+-- the rectangle with these corners, if both are on the board and in order
 abbrev pub area_of_corners : Option Place → Option Place → Option Area
 area_of_corners first last = option_and_then (λ a. option_and_then (area_between a) last) first
 
@@ -44,11 +44,11 @@ is_in_area s a p =
 abbrev pub largest_size_of_tt : ℕ
 largest_size_of_tt = 19
 
--- the two letters are `tt`, where that is a pass
+-- the two letters are `tt`, and s is a size on which `tt` is a pass
 abbrev pub is_written_pass : ℕ → ℕ → ℕ → Bool
 is_written_pass s c r = nat_le s largest_size_of_tt && c == small_t && r == small_t
 
--- where a value of B or W plays on a board of size s, or None for a pass; None for a value that says neither
+-- the point that a value of B or W plays on a board of size s, or Some None for a pass; None if the value says neither
 abbrev pub move_of : ℕ → List ℕ → Option (Option ℕ)
 move_of s [] = Some None
 move_of s (c ∷ (r ∷ [])) =
@@ -60,15 +60,15 @@ move_of s _ = None
 abbrev pub is_digit : ℕ → Bool
 is_digit b = nat_le digit_zero b && nat_le b digit_nine
 
--- the value of digits that follow a number
+-- the number that is written by n and then these digits
 abbrev pub value_after : ℕ → List ℕ → ℕ
 value_after n [] = n
 value_after n (d ∷ ds) = value_after (n * 10 + (d - digit_zero)) ds
 
--- the size that digits write, where a board may have it
+-- the size with this number, if a board may have it
 abbrev pub size_of_number : ℕ → Option ℕ
 size_of_number n = if nat_le smallest_size n && nat_le n largest_size then Some n else None
 
--- the size that a value of SZ says: digits of the size of a board; no digits are 0, which is no size
+-- the size that a value of SZ says: digits that write a size of a board; no digits count as 0, which is no size
 unfoldable pub size_of : List ℕ → Option ℕ
 size_of digits = if list_all is_digit digits then size_of_number (value_after 0 digits) else None

@@ -1,5 +1,5 @@
--- The tokens of a game record as they are cut from its bytes: names as long as possible, blanks passed over. The law
--- `main_lines_are_of_first_trees` says that this is how trees are written.
+-- The tokens of a game record as they are cut from its bytes: names are as long as possible, and blanks are ignored.
+-- The law `main_lines_are_of_first_trees` says that this is how trees are written.
 use Rattle.std.specs.Prelude.{ℕ, zero, suc, ◌+◌, Bool, true, false, ◌&&◌, ◌||◌, not, ◌==◌, nat_le, nat_lt, List}
 use Rattle.std.specs.Prelude.{[], ◌∷◌, length, take, drop, if◌then◌else◌}
 use Rattle.std.specs.List.{filter, list_any, prefix_len, position_or_len}
@@ -50,19 +50,19 @@ kind_of (Name name) = kind.Name
 kind_of (Value bytes) = kind.Value
 kind_of Stray = kind.Stray
 
--- how many bytes stand before the `]` that ends a value, and all of them where none does; a backslash, which may stand
--- before the first, takes the next byte as it is
+-- how many bytes stand before the `]` that ends a value, or all of them if no `]` does; a backslash takes the next byte
+-- as it is, and taken says that one takes the first byte so
 abbrev pub value_len : Bool → List ℕ → ℕ
 value_len taken [] = 0
 value_len taken (b ∷ bs) =
     if not taken && ends_value b then 0 else suc (value_len (not taken && is_backslash b) bs)
 
--- the bytes that a value says: without each backslash that takes the next byte as it is
+-- the bytes that a value says: all bytes but the backslashes that take the next byte as it is
 abbrev pub said : Bool → List ℕ → List ℕ
 said taken [] = []
 said taken (b ∷ bs) = if not taken && is_backslash b then said true bs else b ∷ said false bs
 
--- the token of a kind with these bytes between its signs
+-- the token of this kind with these bytes, which are without the brackets of a value
 abbrev pub token_of : TokenKind → List ℕ → Token
 token_of kind.Open bytes = Open
 token_of kind.Close bytes = Close
@@ -71,15 +71,15 @@ token_of kind.Name bytes = Name (filter is_capital bytes)
 token_of kind.Value bytes = Value (said false bytes)
 token_of kind.Stray bytes = Stray
 
--- the token that letters are: a name where one of them is a capital
+-- the token that letters make: a name if one of them is a capital, else a stray token
 abbrev pub letters_token : List ℕ → Token
 letters_token letters = if list_any is_capital letters then Name (filter is_capital letters) else Stray
 
--- the token of the letter b and the letters at the front of bs, and how many those are
+-- the token of the letter b and the letters at the front of bs, and the number of those letters of bs
 abbrev pub letters_at : ℕ → List ℕ → Token × ℕ
 letters_at b bs = (letters_token (b ∷ take (prefix_len is_letter bs) bs), prefix_len is_letter bs)
 
--- the value that begins behind a `[`, and how many bytes follow that; all of them where no `]` ends it
+-- the value after a `[`, and how many bytes of bs belong to it; a stray token of all bytes if no `]` ends the value
 abbrev pub value_at : List ℕ → Token × ℕ
 value_at bs =
     if nat_lt (value_len false bs) (length bs)
@@ -96,7 +96,7 @@ token_at b bs =
     else if is_letter b then letters_at b bs
     else (Stray, 0)
 
--- the tokens of these bytes, of which the first so many belong to the token before
+-- the tokens of these bytes, whose first n bytes belong to the token before
 unfoldable pub tokens_after : ℕ → List ℕ → List Token
 tokens_after n [] = []
 tokens_after (suc n) (b ∷ bs) = tokens_after n bs
@@ -107,6 +107,6 @@ tokens_after zero (b ∷ bs) =
 abbrev pub tokens_of : List ℕ → List Token
 tokens_of text = tokens_after 0 text
 
--- the tokens of a record: those from the first `(` of the text on
+-- the tokens of a record: the tokens of the text from its first `(` on
 abbrev pub record_tokens : List ℕ → List Token
 record_tokens text = tokens_of (drop (position_or_len is_open_byte text) text)

@@ -15,7 +15,7 @@ meaning_of_one b =
     else if b == capital_w then Some (Play white)
     else None
 
--- and with this name of two letters
+-- what the values of a property with this name of two letters are for
 abbrev pub meaning_of_two : ℕ → ℕ → Option Meaning
 meaning_of_two b c =
     if b == capital_s && c == capital_z then Some Size
@@ -24,7 +24,7 @@ meaning_of_two b c =
     else if b == capital_a && c == capital_e then Some (Setup Empty)
     else None
 
--- what the values of a property with this name are for, where they are used: B, W, SZ, AB, AW and AE
+-- what the values of a property with this name are for, if they are used: B, W, SZ, AB, AW and AE
 abbrev pub meaning_of : List ℕ → Option Meaning
 meaning_of (b ∷ []) = meaning_of_one b
 meaning_of (b ∷ (c ∷ [])) = meaning_of_two b c
@@ -34,12 +34,12 @@ meaning_of _ = None
 abbrev pub Use : Type 0
 Use = Meaning × List ℕ
 
--- values with what all of them are for; none where they are not used
+-- the values, each with the meaning that all of them have; no values if there is no meaning
 abbrev pub uses_under : Option Meaning → List (List ℕ) → List Use
 uses_under None values = []
 uses_under (Some m) values = map (λ v. (m, v)) values
 
--- the values of a property, where they are used
+-- the values of a property, if they are used
 abbrev pub uses_in_property : Property → List Use
 uses_in_property p = uses_under (meaning_of p.name) (p.value ∷ p.more)
 

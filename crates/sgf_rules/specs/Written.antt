@@ -1,5 +1,5 @@
--- How a record is written: what is passed over, and then the tokens of its first tree, with blanks before them. Nothing
--- here says how a text is cut into tokens.
+-- How a record is written: bytes that are ignored, and then the tokens of its first tree, with blanks before them. No
+-- definition here says how a text is cut into tokens.
 use Rattle.std.specs.Prelude.{◌≡◌, ℕ, ◌||◌, true, false, List, [], ◌∷◌, ◌++◌}
 use Rattle.std.specs.List.{filter, list_all, list_any}
 use Rattle.sgf_rules.specs.Tokens.{is_blank, is_capital, is_letter, is_open_byte, ends_value, is_backslash}
@@ -7,8 +7,8 @@ use Rattle.sgf_rules.specs.Bytes.{open_byte, close_byte, semicolon, left_bracket
 use Rattle.sgf_rules.specs.Tokens.{Token, Open, Close, Semicolon, Name, Value, Stray}
 use Rattle.sgf_rules.specs.Trees.{Node, Tree, spelled_tree, line_of_tree}
 
--- the first bytes, between `[` and `]`, say the second: a byte other than `]` and the backslash says itself, and a
--- backslash and any byte behind it say that byte
+-- the first bytes stand between `[` and `]` and say the second bytes: a byte other than `]` and the backslash says
+-- itself, and a backslash with any byte after it says that byte
 pub data Says : List ℕ → List ℕ → Type 0 where
   nothing : Says [] []
   plain : (b : ℕ) (bytes said : List ℕ) → (ends_value b || is_backslash b) ≡ false → Says bytes said
@@ -36,14 +36,14 @@ Writes bytes (Name name) = IsName name bytes
 Writes bytes (Value value) = IsBracketed value bytes
 Writes bytes Stray = ⊥
 
--- the bytes write tokens in order, with blanks before each of them, or with none
+-- the bytes write these tokens in order; blanks may stand before each token
 abbrev pub WritesAll : List ℕ → List Token → Type 0
 WritesAll bytes [] = bytes ≡ []
 WritesAll bytes (t ∷ ts) =
     (blanks : List ℕ) × (piece : List ℕ) × (more : List ℕ) × (bytes ≡ blanks ++ (piece ++ more))
     × (list_all is_blank blanks ≡ true) × Writes piece t × WritesAll more ts
 
--- the text begins with a tree: bytes without `(` are passed over, the next ones write the tree, and anything follows
+-- the text begins with a tree: bytes without `(` are ignored, the next bytes write the tree, and any bytes may follow
 pub record IsFirstTree (text : List ℕ) (first : Tree) : Type 0 where
   pub before : List ℕ
   pub written : List ℕ

@@ -1,4 +1,4 @@
-//! What the definitions come to, in the words of the grammar and of a board.
+//! What the definitions amount to, in the words of the grammar and of a board.
 
 ghost use Rattle.std.specs.Prelude.{◌≡◌, ◌↔◌, ℕ, ◌*◌, ◌<◌, List, ◌∷◌, ◌++◌, Some, None, Ok, Err, true, false};
 ghost use Rattle.std.specs.List.{list_all, list_any};
@@ -17,8 +17,8 @@ ghost use Rattle.sgf_rules.specs.Game.{size_of_nodes, is_readable, sets, cells_a
 ghost use Rattle.sgf_rules.specs.Game.{after_setup, after_nodes, game_of, and_then, HasRefusedPlay};
 ghost use Rattle.sgf_rules.specs.FirstNode.{first_position_of};
 
-/// The main line that is computed is that of the tree which the text begins with, as its bytes write it, and a text
-/// that begins with no tree has none.
+/// The computed main line is the main line of the tree that the text begins with, as the bytes of the text write it. A
+/// text that does not begin with a tree has no main line.
 pub fn main_lines_are_of_first_trees()
     ensures { (text : List ℕ) (nodes : List Node) → main_line text ≡ Some nodes ↔ IsMainLine text nodes }
 {}
@@ -28,8 +28,8 @@ pub fn a_text_has_one_first_tree()
     ensures { (text : List ℕ) (t u : Tree) → IsFirstTree text t → IsFirstTree text u → t ≡ u }
 {}
 
-/// After the setup of a node a point holds what the last value says whose rectangle has it, and where none has it, what
-/// it held before.
+/// After the setup of a node a point holds what the last value says whose rectangle has the point. If no rectangle has
+/// it, the point holds what it held before.
 pub fn the_last_value_sets_a_point()
     ensures last { (s p : ℕ) (cells : List Cell) (before after : List Use) (cell : Cell) (value : List ℕ) → p < s * s
         → sets s p (Setup cell, value) ≡ true → list_any (sets s p) after ≡ false
@@ -38,10 +38,10 @@ pub fn the_last_value_sets_a_point()
         → cell_at (cells_after_uses s cells uses) p ≡ cell_at cells p }
 {}
 
-/// A record has the fault of the first kind that applies: the grammar's exactly where it begins with no tree, the
-/// size's exactly where its main line says none, and else that of the first node that has one. A node's is a value that
-/// says nothing, else a string without a liberty after its setup, and else a play that is refused after the setup and
-/// the moves before it.
+/// A record has the fault of the first kind that applies: the grammar's exactly if the text begins with no tree, the
+/// size's exactly if its main line says no size, and else the fault of the first node that has one. The fault of a node
+/// is a value that cannot be read, else a string without a liberty after the node's setup, else a play that is refused
+/// after the setup and the moves before it.
 pub fn faults_are_by_kind()
     ensures grammar { (text : List ℕ) → (game_of text ≡ Err Grammar) ↔ ((t : Tree) → IsFirstTree text t → ⊥) }
     ensures size { (text : List ℕ) (nodes : List Node) → IsMainLine text nodes
@@ -59,8 +59,8 @@ pub fn faults_are_by_kind()
         → after_setup pos uses ≡ Ok now → (after_node pos uses ≡ Err IllegalPlay) ↔ HasRefusedPlay now uses }
 {}
 
-/// A record goes on from the position of its first node, by the other nodes of its main line; so a fault up to the
-/// first node is a fault of the record.
+/// The game of a record goes on from the position of its first node, by the other nodes of its main line. So a fault up
+/// to the first node is a fault of the record.
 pub fn records_go_on_from_their_first_node()
     ensures { (text : List ℕ) (n : Node) (ns : List Node) → IsMainLine text (n ∷ ns)
         → game_of text ≡ and_then (first_position_of text) (λ now. after_nodes now ns) }

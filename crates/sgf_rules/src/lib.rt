@@ -1,6 +1,6 @@
 //! The rules of game records as definitions: tokens, trees, the main line, and the position of a record or its first
-//! fault. The crate that reads a record cites what stands in specs/; here are the small types that the definitions
-//! speak of, and the laws that say what is computed in the words of the grammar and of a board.
+//! fault. The crate that reads a record cites the definitions in specs/. Here are the small types that the definitions
+//! speak of, and the laws that say in the words of the grammar and of a board what is computed.
 //!
 //! After SGF FF[4], in this project's own profile: the first game tree's main line, with SZ, AB, AW, AE, B and W.
 #![tactic(auto)]

@@ -11,7 +11,7 @@ square_side = 2 * largest_offset + 1
 abbrev pub offset_count : ℕ
 offset_count = square_side * square_side
 
--- the index of the first offset of ring k, which is (2k - 1) squared
+-- the index of the first offset of ring k: 0 for ring 0, and else (2k - 1) squared
 abbrev pub ring_start : ℕ → ℕ
 ring_start zero = 0
 ring_start (suc k) = (2 * k + 1) * (2 * k + 1)
@@ -25,31 +25,31 @@ ring_place k j =
     else if nat_lt j (6 * k) then (pos k, pos (5 * k) -ℤ pos j)
     else (pos (7 * k) -ℤ pos j, neg_ℤ (pos k))
 
--- the greatest ring, of those up to k, that begins at the index i or before it
+-- the greatest ring, of the rings up to k, that begins at or before the index i
 abbrev pub ring_up_to : ℕ → ℕ → ℕ
 ring_up_to zero i = 0
 ring_up_to (suc k) i = if nat_le (ring_start (suc k)) i then suc k else ring_up_to k i
 
--- the offset with the index i
+-- the offset with the index i, which is below offset_count
 unfoldable pub offset_at : ℕ → Offset
 offset_at i = ring_place (ring_up_to largest_offset i) (i - ring_start (ring_up_to largest_offset i))
 
--- the row or column a of a board of size s, if it is one
+-- the number as a row or a column of a board of size s; None if it is off the board
 abbrev pub strip_of : ℕ → ℤ → Option ℕ
 strip_of s (pos n) = if nat_lt n s then Some n else None
 strip_of s (negsuc n) = None
 
--- the point in a row and a column of a board of size s
+-- the point in a row and a column of a board of size s; None if one of them is off the board
 abbrev pub point_of : ℕ → Option ℕ → Option ℕ → Option ℕ
 point_of s None column = None
 point_of s (Some row) None = None
 point_of s (Some row) (Some column) = Some (row * s + column)
 
--- the point of a board of size s that the offset d, moved by t, leads to from the point m
+-- the point of a board of size s that the offset d, moved by t, leads to from the point m; None if it is off the board
 unfoldable pub place_at : ℕ → ℕ → ℕ → Offset → Option ℕ
 place_at s t m d = point_of s (strip_of s (pos (m / s) +ℤ (transformed t d).0))
     (strip_of s (pos (m % s) +ℤ (transformed t d).1))
 
--- the place in ring k of the offset a rows below and b columns right of the ring's first
+-- the place in ring k of the offset a rows below and b columns right of the first offset of the ring
 abbrev pub place_in : ℕ → ℕ → ℕ → ℕ
 place_in k a b = if a == 0 then b else if b == 2 * k then 2 * k + a else if a == 2 * k then 6 * k - b else 8 * k - a

@@ -6,7 +6,7 @@ ghost use Rattle.spiral.specs.Spiral.{offset_count, offset_at, strip_of, point_o
 use crate::numbering::offset;
 use go_base::{Point, Size, Transform};
 
-/// Moves a row or a column, and answers it where it lies on the board.
+/// The row or column `by` steps from `from`; `None` if it is off the board.
 fn moved(from: u8, by: i8, size: Size) -> Option<u8>
     requires { from < size }
     ensures value { result ≡ strip_of size (pos from +ℤ by) }
@@ -20,7 +20,7 @@ fn moved(from: u8, by: i8, size: Size) -> Option<u8>
     }
 }
 
-/// The point that an offset leads to from a row and a column; None exactly off the board.
+/// The point that an offset leads to from a row and a column; `None` exactly if it is off the board.
 fn stepped(row: u8, column: u8, by: (i8, i8), size: Size) -> Option<Point>
     requires row { row < size }
     requires column { column < size }
@@ -32,8 +32,8 @@ fn stepped(row: u8, column: u8, by: (i8, i8), size: Size) -> Option<Point>
     Some(row as u16 * size.get() as u16 + column as u16)
 }
 
-/// The point that an offset, moved by a transformation, leads to from the point in a row and a column; None exactly off
-/// the board.
+/// The point that an offset, moved by a transformation, leads to from the point in a row and a column; `None` exactly
+/// if it is off the board.
 pub fn place_beside(
     row: u8,
     column: u8,
@@ -51,7 +51,7 @@ pub fn place_beside(
 }
 
 /// The point that the offset of `dr` rows down and `dc` columns to the right, moved by a transformation, leads to from
-/// a point; None exactly off the board.
+/// the point `from`; `None` exactly if it is off the board.
 pub fn place_from(from: Point, t: Transform, dr: i8, dc: i8, size: Size) -> Option<Point>
     requires near { IsNear (dr, dc) }
     requires on_board { from < size * size }
@@ -62,8 +62,8 @@ pub fn place_from(from: Point, t: Transform, dr: i8, dc: i8, size: Size) -> Opti
     place_beside((from / side) as u8, (from % side) as u8, t, (dr, dc), size)
 }
 
-/// The point that the offset with an index, moved by a transformation, leads to from the anchor; None exactly off the
-/// board.
+/// The point that the offset with an index, moved by a transformation, leads to from `anchor`; `None` exactly if it is
+/// off the board.
 pub fn place(index: u16, t: Transform, anchor: Point, size: Size) -> Option<Point>
     requires index { index < offset_count }
     requires on_board { anchor < size * size }

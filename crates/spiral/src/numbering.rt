@@ -5,11 +5,11 @@ ghost use Rattle.spiral.specs.Spiral.{offset_count, offset_at};
 
 use crate::ring::{LAST_RING, in_ring, index_in_square, ring_start, ring_with};
 
-/// How many offsets there are: those with both parts from -24 to 24.
+/// How many offsets there are. Both parts of an offset are from -24 to 24.
 pub const OFFSETS: u16 = (2 * LAST_RING + 1) * (2 * LAST_RING + 1);
 
-/// The offset with an index: how many rows down and how many columns to the right it leads, each negative for the other
-/// way.
+/// The offset with an index: how many rows down and how many columns to the right it leads. A negative number leads the
+/// other way.
 pub fn offset(index: u16) -> (i8, i8)
     requires { index < offset_count }
     ensures value { result ≡ offset_at index }
@@ -19,7 +19,7 @@ pub fn offset(index: u16) -> (i8, i8)
     in_ring(k, index - ring_start(k))
 }
 
-/// The offset that comes after this one along the spiral. After the last one it is the first of the ring past it.
+/// The offset after (`dr`, `dc`) along the spiral. After the last offset comes the first offset of the ring beyond it.
 pub fn following(dr: i8, dc: i8) -> (i8, i8)
     requires { IsNear (dr, dc) }
     ensures { (i : ℕ) → i + 1 < offset_count → offset_at i ≡ (dr, dc) → result ≡ offset_at (i + 1) }

@@ -10,7 +10,7 @@ use go_base::size::MAX_OFFSET;
 /// The number of the outermost ring.
 pub const LAST_RING: u16 = MAX_OFFSET as u16;
 
-/// The index of the first offset of a ring.
+/// The index of the first offset of ring `k`.
 pub fn ring_start(k: u16) -> u16
     requires { k < largest_size }
     ensures { result ≡ start_of k }
@@ -21,7 +21,7 @@ pub fn ring_start(k: u16) -> u16
     (2 * (k - 1) + 1) * (2 * (k - 1) + 1)
 }
 
-/// The ring that has an index.
+/// The ring that has the offset with an index.
 pub fn ring_with(index: u16) -> u16
     requires { index < offset_count }
     ensures value { result ≡ ring_up_to largest_offset index }
@@ -36,7 +36,7 @@ pub fn ring_with(index: u16) -> u16
     k
 }
 
-/// The offset at a place of a ring.
+/// The offset at place `j` of ring `k`.
 pub fn in_ring(k: u16, j: u16) -> (i8, i8)
     requires ring { k < largest_size }
     requires place { j < 8 * k + 1 }
@@ -56,7 +56,7 @@ pub fn in_ring(k: u16, j: u16) -> (i8, i8)
     }
 }
 
-/// The place in ring k of the offset a rows below and b columns right of the ring's first.
+/// The place in ring `k` of the offset `a` rows below and `b` columns right of the first offset of the ring.
 fn place_in_ring(k: u16, a: u16, b: u16) -> u16
     requires ring { k < largest_size }
     requires row { a ≤ 2 * k }
@@ -75,7 +75,7 @@ fn place_in_ring(k: u16, a: u16, b: u16) -> u16
     }
 }
 
-/// How far a row or a column is from the middle one.
+/// How far the row or column `strip` is from the middle one.
 fn from_middle(strip: u16) -> u16
     requires { strip < square_side }
     ensures { result ≡ (strip - largest_offset) + (largest_offset - strip) }

@@ -1,4 +1,4 @@
--- What the code's own answer to a command is, by what the command does.
+-- How an answer of the code fits the effect of a command.
 use Rattle.std.specs.Prelude.{◌≡◌, ◌⊎◌, ℕ, true, false, List, [], None, Some}
 use Rattle.gtp_cmd.specs.declared.refusals.RefuseText.TheVariants.{OutOfMemory}
 use Rattle.sure_lines.specs.Effects.{Effect, IsExcused}
@@ -6,16 +6,16 @@ use Rattle.sure_lines.specs.declared.answer.Answer.{Answer}
 use Rattle.sure_lines.specs.declared.answer.Answer.TheVariants as answer
 use Rattle.sure_lines.specs.Machine.{Machine}
 
--- the command succeeds with this result and goes on, and the machine is this one after it
+-- the command succeeds with this result, the session goes on, and the machine is new after it
 pub record Succeeds (effect : Effect) (result : List ℕ) (new : Machine) : Type 0 where
   pub allowed : effect.refusal ≡ None
   pub told : effect.result ≡ result
   pub next : new ≡ effect.next
   pub goes_on : effect.ends ≡ false
 
--- The answer is what the command tells, and the machine is new after it; or it is an excuse that may stand in place of
--- that, and the machine is the old one. There may be no memory for the reply with a result that took some, and so that
--- is excused too.
+-- the answer is that of the effect, and the machine is new after it; or it is an excuse that may take the place of that
+-- answer, and the machine is the old one. A result that took memory must allow the excuse OutOfMemory, since there may
+-- be no memory for its reply
 abbrev pub IsAnswer : Effect → Answer → Machine → Machine → Type 0
 IsAnswer effect (answer.Told result) old new = Succeeds effect result new
 IsAnswer effect (answer.Grown result) old new =

@@ -1,4 +1,4 @@
--- What the commands do that set up a board and play on it, and that set how deep readings go.
+-- The effects of the commands that set up a board, play on it, and set how deep readings go.
 use Rattle.std.specs.Prelude.{ℕ, ◌-◌, ◌==◌, List, [], ◌∷◌, ◌++◌, length, take, Option, None, Some, is_ok}
 use Rattle.std.specs.Prelude.{if◌then◌else◌}
 use Rattle.go_rules.specs.declared.Move.{Move}
@@ -9,12 +9,13 @@ use Rattle.gtp_cmd.specs.declared.refusals.RefuseText.TheVariants.{CannotUndo}
 use Rattle.sure_lines.specs.Effects.{Effect, refused, told, growing}
 use Rattle.sure_lines.specs.Machine.{Machine, present}
 
--- a new size begins again from the empty board of that size, also if it is the present one
+-- boardsize begins again from the empty board of this size, even if it is the present size; it is refused if there is
+-- no size
 abbrev pub resized : Machine → Option ℕ → Effect
 resized old None = refused old UnacceptableSize
 resized old (Some size) = told [] (record old { game = new_game size })
 
--- the moves are played from the empty board from now on, whose size stays
+-- clear_board begins again from the empty board of the present size
 abbrev pub cleared : Machine → Effect
 cleared old = told [] (record old { game = new_game old.game.base.size })
 
@@ -22,7 +23,7 @@ cleared old = told [] (record old { game = new_game old.game.base.size })
 abbrev pub with_move : Machine → Move → Machine
 with_move old move = record old { game = record old.game { moves = old.game.moves ++ move ∷ [] } }
 
--- a move is added to the list if it is legal and the list is not full
+-- play adds the move to the list if it is legal and the list is not full; there may be no memory for it
 abbrev pub played : Machine → Move → Effect
 played old move =
     if is_ok (moved (present old) move)
@@ -30,12 +31,12 @@ played old move =
     (told [] (with_move old move)))
     else refused old IllegalMove
 
--- the last move is taken from the list
+-- undo takes the last move from the list; it is refused if there is none
 abbrev pub taken_back : Machine → List Move → Effect
 taken_back old [] = refused old CannotUndo
 taken_back old (move ∷ moves) =
     told [] (record old { game = record old.game { moves = take (length old.game.moves - 1) old.game.moves } })
 
--- readings go this deep from now on, in the same tree
+-- depths sets the plies and the wide plies of later readings; their tree stays
 abbrev pub deepened : Machine → ℕ → ℕ → Effect
 deepened old plies wide = told [] (record old { plies = plies; wide = wide })

@@ -1,4 +1,5 @@
--- What a line says to this program: what it says to gopat, but for the commands that this program does not have.
+-- What a line says to this program: the same as to gopat, except that commands that this program does not have are
+-- unknown.
 use Rattle.std.specs.Prelude.{ℕ, Bool, true, false, List, [], ◌∷◌, Option, None, Some}
 use Rattle.gtp_rules.specs.Lines.{RawLine, Line, TooLong}
 use Rattle.gtp_cmd.specs.Commands.{parsed_of}
@@ -9,7 +10,7 @@ use Rattle.gtp_cmd.specs.declared.refusals.RefuseText.TheVariants.{LineTooLong, 
 use Rattle.sure_lines.specs.Names.{is_own}
 use Rattle.sure_lines.specs.Machine.{Machine}
 
--- the words of a line from its command on, if its first word may be an id
+-- the words of a line from its command on: the first word is left out if it is an id
 abbrev pub words_from : Option ℕ → List ℕ → List (List ℕ) → List (List ℕ)
 words_from None first more = first ∷ more
 words_from (Some id) first more = more
@@ -24,7 +25,8 @@ abbrev pub names_own : List (List ℕ) → Bool
 names_own [] = false
 names_own (word ∷ more) = is_own word
 
--- what is said, if the command is one of this program's; another command is unknown, whatever its arguments are
+-- what a line says: what was parsed if its command is one of this program's; any other command is unknown, whatever its
+-- arguments are
 abbrev pub own_parsed : Bool → Parsed → Parsed
 own_parsed true said = said
 own_parsed false parsed.Nothing = parsed.Nothing
@@ -35,7 +37,7 @@ own_parsed false (parsed.Command id command) = parsed.Refused id UnknownCommand
 abbrev pub own_said : List ℕ → ℕ → Parsed
 own_said line s = own_parsed (names_own (asked_words (words_of (cleaned line)))) (parsed_of line s)
 
--- what a line says on a board of size s: one that is too long is refused
+-- what a line says on a board of size s; a line that is too long is refused
 abbrev pub heard_at : ℕ → RawLine → Parsed
 heard_at s TooLong = parsed.Refused None LineTooLong
 heard_at s (Line text) = own_said text s
@@ -44,7 +46,7 @@ heard_at s (Line text) = own_said text s
 abbrev pub heard : Machine → RawLine → Parsed
 heard machine line = heard_at machine.game.base.size line
 
--- the bytes of a line; of one that is too long none count
+-- the bytes of a line; none if the line is too long
 abbrev pub bytes_in : RawLine → List ℕ
 bytes_in TooLong = []
 bytes_in (Line text) = text

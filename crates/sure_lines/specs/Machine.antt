@@ -8,26 +8,27 @@ use Rattle.read_rules.specs.declared.question.Kind.{Kind}
 use Rattle.read_rules.specs.declared.question.ReadingQuestion.{ReadingQuestion}
 use Rattle.read_rules.specs.declared.tree.Tree.{Tree}
 
--- a first position and the moves from it, the tree that has the attacker's candidates, and the plies of readings
+-- a game (a first position and the moves from it), the tree that names the attacker's candidates, and the plies and
+-- wide plies of readings
 pub record Machine : Type 0 where
   pub game : Game
   pub tree : Tree
   pub plies : ℕ
   pub wide : ℕ
 
--- the size of the board before the first line that says one
+-- the size of the board until a line sets one
 abbrev pub first_size : ℕ
 first_size = 19
 
--- the machine of a game, whose readings have these depths
+-- the machine with this game, whose readings have these depths
 abbrev pub machine_at : Game → Depths → Machine
 machine_at game depths = record { game = game; tree = depths.tree; plies = depths.plies; wide = depths.wide }
 
--- the machine before the first line, whose readings have these depths: its board is empty
+-- the machine before the first line: the empty board, and readings with these depths
 abbrev pub first_machine : Depths → Machine
 first_machine depths = machine_at (new_game first_size) depths
 
--- the position after the moves
+-- the position after the moves of the game
 abbrev pub present : Machine → BoardState
 present machine = position_of machine.game
 

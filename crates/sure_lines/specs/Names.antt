@@ -4,7 +4,7 @@ use Rattle.std.specs.List.{list_any, join_with_byte}
 use Rattle.std.specs.Str.{bytes_eq}
 use Rattle.gtp_cmd.specs.Words.{line_feed}
 
--- the names, in the order in which they are listed
+-- the names of the commands, in the order in which they are listed
 abbrev pub own_names : List (List ℕ)
 own_names =
     codes "protocol_version"
@@ -31,6 +31,6 @@ own_names =
 abbrev pub is_own : List ℕ → Bool
 is_own word = list_any (bytes_eq word) own_names
 
--- the names, one a line
+-- the names of the commands, one on each line
 abbrev pub names_text : List ℕ
 names_text = join_with_byte line_feed own_names

@@ -1,4 +1,4 @@
--- What the commands do that ask whether a capture is sure.
+-- The effects of the commands that ask whether a capture is sure.
 use Rattle.std.specs.Prelude.{ℕ, if◌then◌else◌}
 use Rattle.go_rules.specs.Strings.{cell_at, is_stone}
 use Rattle.gtp_cmd.specs.declared.refusals.RefuseText.TheVariants.{VertexEmpty}
@@ -13,7 +13,7 @@ use Rattle.sure_lines.specs.Machine.{Machine, present, question_at}
 abbrev pub sure_reading : Machine → Kind → ℕ → Answer
 sure_reading machine kind p = sure_answer_of (question_at machine kind p) (present machine)
 
--- the sure answer is told, if a stone stands at p
+-- the sure answer is printed; refused if no stone stands at p
 abbrev pub read : Machine → Kind → ℕ → Effect
 read old kind p =
     if is_stone (cell_at (present old).cells p)

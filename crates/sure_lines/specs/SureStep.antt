@@ -1,4 +1,4 @@
--- What the machine gives for a line: the reply, what may stand in its place, and the machine after it.
+-- What the machine gives for a line: the reply, the refusals that may take its place, and the machine after it.
 use Rattle.std.specs.Prelude.{◌≡◌, ℕ, false, List, [], codes, drop}
 use Rattle.gtp_rules.specs.Lines.{RawLine}
 use Rattle.gtp_rules.specs.Steps.{Step}
@@ -22,8 +22,8 @@ use Rattle.sure_lines.specs.Replies.{word_of}
 use Rattle.sure_lines.specs.Texts.{IsTextSaid}
 use Rattle.sure_lines.specs.Machine.{Machine}
 
--- what a command of this line does to the machine, and what it tells; the file that it loads has this text, or this is
--- the proof that it tells
+-- the effect of a command of this line; the argument file is the text of the file that the command loads, or the proof
+-- that it prints
 abbrev pub effect_of : Machine → List ℕ → List ℕ → Command → Effect
 effect_of old line file command.ProtocolVersion = told (codes "2") old
 effect_of old line file command.Name = told (codes "gopat_sure") old
@@ -53,11 +53,12 @@ parsed_step old line file parsed.Nothing = record { reply = []; fallbacks = []; 
 parsed_step old line file (parsed.Refused id text) = replied id old (refused old text)
 parsed_step old line file (parsed.Command id command) = replied id old (effect_of old line file command)
 
--- the answer to a line that takes this text, or to one that takes none
+-- the answer to a line, if file is the text of the file that it loads or the proof that it prints
 abbrev pub step_on : Machine → List ℕ → RawLine → Step Machine
 step_on old file line = parsed_step old (bytes_in line) file (heard old line)
 
--- the answer to a line: that on a text which is the contents of the file that it loads, or a proof
+-- an answer to a line: the answer with some text that is the contents of the file that the line loads, or the proof
+-- that it prints
 abbrev pub step : Contents → Machine → RawLine → Step Machine → Type 0
 step contents old line given =
     (file : List ℕ) × IsTextSaid contents old (bytes_in line) (heard old line) file

@@ -17,7 +17,7 @@ use std::marker::Model;
 /// The result of a short success: at most 32 bytes.
 #[derive(Drop)]
 pub(crate) struct Brief {
-    /// Its bytes.
+    /// The bytes of the result.
     text: Short,
 }
 
@@ -33,7 +33,7 @@ impl Model for Brief {
 }
 
 impl Brief {
-    /// This text.
+    /// A result with this text.
     pub(crate) fn of(text: Short) -> Brief
         requires { length text ≤ result_room }
         ensures { result ≡ text }
@@ -41,7 +41,7 @@ impl Brief {
         Brief { text }
     }
 
-    /// The bytes.
+    /// The bytes of the result.
     pub(crate) fn as_slice(&self) -> &[u8]
         ensures text { result.now ≡ self.now }
         ensures short { length result.now ≤ result_room }
@@ -57,7 +57,7 @@ pub(crate) enum Answer {
     Told(Brief),
     /// A success with a result that took memory.
     Grown(Bytes),
-    /// There was no memory, and nothing is changed.
+    /// There was no memory, and nothing changed.
     NoMemory,
     /// A refusal.
     Refused(RefuseText),
@@ -82,7 +82,7 @@ pub(crate) fn told_text(text: Short) -> Answer
 }
 
 impl Answer {
-    /// The reply that this answer is behind an id. Takes memory for a result that did.
+    /// The reply that has this answer after the id. Takes memory if the result took memory.
     pub(crate) fn reply(self, alloc: Global, id: Option<u32>) -> Reply
         ensures { (effect : Effect) (old new : Machine) → IsAnswer effect self old new
             → MayGive (replied id old effect) (reply_bytes result) new (reply_ends result) }

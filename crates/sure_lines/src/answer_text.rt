@@ -1,4 +1,4 @@
-//! The answer to a question as it is printed.
+//! How the answer to a question is printed.
 
 ghost use Rattle.std.specs.Prelude.{◌≡◌, ◌≤◌, length, IfSome};
 ghost use Rattle.read_rules.specs.GoodMoves.{IsOnBoard};
@@ -9,7 +9,7 @@ use gtp_cmd::{Short, vertex_text};
 use itoa::Buffer;
 use read_rules::{Answer, Spot};
 
-/// A move as it is printed.
+/// The printed text of a move: a vertex or `PASS`.
 fn spot_text(size: Size, spot: Spot) -> Short
     requires { IsOnBoard size spot }
     ensures text { result ≡ spot_text size spot }
@@ -25,7 +25,7 @@ fn spot_text(size: Size, spot: Spot) -> Short
     }
 }
 
-/// An answer as it is printed: the code, and the move if there is one.
+/// The printed text of an answer: the code, and after a blank the move if there is one.
 pub(crate) fn answer_text(size: Size, answer: Answer) -> Short
     requires { IfSome answer.at (IsOnBoard size) }
     ensures text { result ≡ answer_text size answer }

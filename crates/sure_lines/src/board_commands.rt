@@ -13,7 +13,7 @@ use gtp_cmd::RefuseText;
 use read_rules::Depths;
 
 impl SureMachine {
-    /// Begins again from the empty board of this size.
+    /// Begins again from the empty board of this size; `None` is refused, since it is no size of a board.
     pub(crate) fn resize(&mut self, size: Option<Size>) -> Answer
         ensures { IsAnswer (resized self.old size) result self.old self.new }
     {
@@ -24,7 +24,7 @@ impl SureMachine {
         told(b"")
     }
 
-    /// Begins again from the empty board.
+    /// Begins again from the empty board of the present size.
     pub(crate) fn clear(&mut self) -> Answer
         ensures { IsAnswer (cleared self.old) result self.old self.new }
     {
@@ -32,7 +32,7 @@ impl SureMachine {
         told(b"")
     }
 
-    /// Adds a move.
+    /// Plays a move: adds it to the game if it is legal.
     pub(crate) fn play(&mut self, m: Move) -> Answer
         requires { IfSome m.at (λ p. p < self.old.game.base.size * self.old.game.base.size) }
         ensures { IsAnswer (played self.old m) result self.old self.new }
@@ -55,7 +55,7 @@ impl SureMachine {
         }
     }
 
-    /// Readings go this deep from now on, in the same tree.
+    /// Sets the plies and the wide plies of later readings; their tree stays.
     pub(crate) fn deepen(&mut self, plies: u8, wide: u8) -> Answer
         requires { AreDepths plies wide }
         ensures { IsAnswer (deepened self.old plies wide) result self.old self.new }

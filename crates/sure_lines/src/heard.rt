@@ -1,4 +1,5 @@
-//! What a line says to this program: what it says to gopat, but for commands that this program does not have.
+//! What a line says to this program: the same as to gopat, except that commands that this program does not have are
+//! unknown.
 
 ghost use Rattle.std.specs.Prelude.{◌≡◌, ◌≤◌, length, drop, is_some};
 ghost use Rattle.gtp_cmd.specs.Rooms.{longest_line};
@@ -13,7 +14,7 @@ use gtp_cmd::{Parsed, RefuseText, parse};
 use gtp_lex::Raw;
 use vertices::{before_comment, next_word, number};
 
-/// The greatest number of an id.
+/// The greatest id.
 const MAX_ID: u32 = 2_147_483_647;
 
 /// Whether a word is an id.
@@ -26,7 +27,7 @@ fn is_id(word: &[u8]) -> bool
     }
 }
 
-/// A line from its command on: without its id, and without its comment.
+/// A line from its command on: without its id and without its comment.
 fn from_command(line: &[u8]) -> &[u8]
     ensures { words_of (plain result.now) ≡ asked_words (words_of (cleaned line.now)) }
 {
@@ -47,7 +48,7 @@ fn names_own(text: &[u8]) -> bool
     }
 }
 
-/// What stands behind the first word of a text.
+/// The text after its first word; all of it if it has no word.
 fn behind_word(text: &[u8]) -> &[u8]
     ensures { words_of (plain result.now) ≡ drop 1 (words_of (plain text.now)) }
 {
@@ -64,7 +65,8 @@ pub(crate) fn knows_argument(line: &[u8]) -> bool
     names_own(behind_word(from_command(line)))
 }
 
-/// What is said, if the command is one of this program's or not.
+/// What a line says: `said` if its command is one of this program's; else a command or a refusal becomes the refusal of
+/// an unknown command.
 fn own_parsed(is_own: bool, said: Parsed) -> Parsed
     ensures { result ≡ own_parsed is_own said }
 {
@@ -90,7 +92,7 @@ fn said(line: &[u8], size: Size) -> Parsed
     own_parsed(names_own(from_command(line)), parse(line, size))
 }
 
-/// The bytes of a line; of one that is too long none count.
+/// The bytes of a line; none if the line is too long.
 pub(crate) fn bytes_of(raw: Raw<'_>) -> &[u8]
     ensures { result.now ≡ bytes_in (raw_line raw.entry) }
 {
@@ -100,7 +102,7 @@ pub(crate) fn bytes_of(raw: Raw<'_>) -> &[u8]
     }
 }
 
-/// What a line says on a board of this size: one that is too long is refused.
+/// What a line says on a board of this size; a line that is too long is refused.
 pub(crate) fn heard(raw: Raw<'_>, size: Size) -> Parsed
     requires { length (bytes_in (raw_line raw)) ≤ longest_line }
     ensures said { result ≡ heard_at size (raw_line raw.entry) }

@@ -1,9 +1,10 @@
 //! The machine of `gopat_sure`: protocol lines that set up a position, and questions about sure captures on it.
 //!
-//! A line means what it means to gopat, if its command is one of this program's: `boardsize`, `clear_board`, `play`,
-//! `undo`, `loadsgf`, `depths`, `attack`, `defend` and those that ask about the program. The code and the move of an
-//! answer are those of `sure_rules` on the present position. Nothing is kept from question to question. What a session
-//! puts for its lines is a transcript by this machine, by the clause of `serve`.
+//! A line means what it means to gopat if its command is one of this program's: `boardsize`, `clear_board`, `komi`,
+//! `play`, `undo`, `loadsgf`, `depths`, `attack`, `defend`, `attack_proof`, `defend_proof`, `check_proof`, and those
+//! that ask about the program. The code and the move of an answer are those of `sure_rules` on the present position.
+//! Nothing is cached from question to question. What a session writes for its lines is a transcript by this machine, as
+//! the clause of `serve` says.
 #![tactic(auto)]
 
 mod answer;

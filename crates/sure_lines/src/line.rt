@@ -26,7 +26,7 @@ use gtp_lex::Raw;
 use read_rules::Kind;
 use std::alloc::Global;
 
-/// `true` or `false`.
+/// The word `true` or `false`.
 pub(crate) fn word(known: bool) -> &'static [u8]
     ensures text { result.now ≡ word_of known }
     ensures short { length result.now ≤ 5 }
@@ -34,7 +34,7 @@ pub(crate) fn word(known: bool) -> &'static [u8]
     if known { b"true" } else { b"false" }
 }
 
-/// A success with a result that took memory, if it was found.
+/// A success with a result that took memory, or the lack of memory if there was none for it.
 fn grown(text: Result<Bytes, NoMemory>) -> Answer
     ensures { (old : Machine) (result_of : List ℕ) → IfOk text (λ bytes. bytes ≡ result_of)
         → IsAnswer (growing (told result_of old)) result old old }
@@ -46,7 +46,7 @@ fn grown(text: Result<Bytes, NoMemory>) -> Answer
 }
 
 impl SureMachine {
-    /// Does what a command says.
+    /// Carries out a command.
     fn obey<L: Loader>(
         &mut self,
         alloc: Global,
@@ -89,7 +89,8 @@ impl SureMachine {
     }
 
     /// Answers one line: the code and the move of a question are those of `sure_rules` on the present position. A file
-    /// that the line names is loaded from `files`. A refused line changes nothing, and nor does one without memory.
+    /// that the line names is loaded from `files`. A line that is refused, or for which there is no memory, changes
+    /// nothing.
     pub fn line<L: Loader>(&mut self, alloc: Global, raw: Raw<'_>, files: &mut L) -> Reply
         requires short { length (bytes_in (raw_line raw)) ≤ longest_line }
         ensures answers { Answers (step (L.contents files.old)) self.old (raw_line raw.entry) (reply_bytes result)

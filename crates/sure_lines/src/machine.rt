@@ -1,4 +1,4 @@
-//! What is kept from line to line: a game, and how deep readings go.
+//! The state from line to line: a game, and how deep readings go.
 
 ghost use Rattle.std.specs.Prelude.{◌≡◌, IfOk};
 ghost use Rattle.sure_lines.specs.Machine.{first_machine, present};
@@ -9,7 +9,7 @@ use read_rules::Depths;
 use std::alloc::Global;
 use std::marker::Model;
 
-/// The size of the board before the first line that says one.
+/// The size of the board until a line sets one.
 const FIRST_SIZE: u8 = 19;
 
 /// A game, and how deep readings go on its position, seen by contracts as the `Machine` of the definitions.
@@ -17,7 +17,7 @@ const FIRST_SIZE: u8 = 19;
 pub struct SureMachine {
     /// The position from which moves are played, and the moves.
     pub(crate) game: History,
-    /// How deep readings go, and which tree has the attacker's candidates.
+    /// How deep readings go, and the tree that names the attacker's candidates.
     pub(crate) depths: Depths,
 }
 
@@ -42,7 +42,7 @@ impl SureMachine {
         })
     }
 
-    /// The position after the moves.
+    /// The position after the moves of the game.
     pub(crate) fn position(&self) -> Position
         ensures value { result ≡ present self.now }
         ensures size { (present self.now).size ≡ self.now.game.base.size }

@@ -10,7 +10,7 @@ use go_base::{Bytes, NoMemory};
 use std::alloc::Global;
 use vertices::spells;
 
-/// The names in the order in which they are listed.
+/// The names of the commands, in the order in which they are listed.
 const NAMES: [&[u8]; 18] = [
     b"protocol_version",
     b"name",
@@ -32,7 +32,7 @@ const NAMES: [&[u8]; 18] = [
     b"check_proof",
 ];
 
-/// Whether a word is one of these names.
+/// Whether a word is one of `names`.
 fn is_among(names: &[&[u8]], word: &[u8]) -> bool
     ensures { result ≡ list_any (λ name. bytes_eq (kept word.now) name.now) names.now }
 {
@@ -46,7 +46,7 @@ pub(crate) fn is_own(word: &[u8]) -> bool
     is_among(&NAMES, word)
 }
 
-/// Puts these names, each behind a line feed.
+/// Puts the names `names` at the end of `out`, each after a line feed.
 fn put_names(out: &mut Bytes, names: &[&[u8]]) -> Result<(), NoMemory>
     ensures { OnOk result (out.new ≡ out.old ++ flat_map (λ name. line_feed ∷ name.now) names.now) }
 {
@@ -57,7 +57,7 @@ fn put_names(out: &mut Bytes, names: &[&[u8]]) -> Result<(), NoMemory>
     Ok(())
 }
 
-/// The names in their order, one a line. Takes memory.
+/// The names of the commands in their order, one on each line. Takes memory.
 pub(crate) fn names_text(alloc: Global) -> Result<Bytes, NoMemory>
     ensures { IfOk result (λ text. text ≡ names_text) }
 {

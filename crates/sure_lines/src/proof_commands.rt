@@ -22,8 +22,8 @@ use std::alloc::Global;
 use sure_proof::checks_surely;
 use write_sure::{SureProofError, sure_proof};
 
-/// The code under whose ko allowances the capture is sure of which a code tells: that of an attack itself, and of a
-/// defence the next one, which it does not have.
+/// The code under whose ko allowances the capture is sure, if `code` is the code of an answer: for an attack `code`
+/// itself, for a defence the next code, which the defence does not attain.
 fn code_of_capture(kind: Kind, code: u8) -> u8
     requires { code ≤ 3 }
     ensures { result ≡ code_of_capture kind code }
@@ -34,14 +34,14 @@ fn code_of_capture(kind: Kind, code: u8) -> u8
     }
 }
 
-/// Whether there are allowances of the code: it is 1, 2 or 3.
+/// Whether `code` has ko allowances: whether it is 1, 2 or 3.
 fn has_allowances(code: u8) -> bool
     ensures { result ≡ has_allowances code }
 {
     code > 0 && code < 4
 }
 
-/// A code, and a proof behind a blank if there is one. Takes memory.
+/// The text of a code, and of a proof after a blank if `proof` is not empty. Takes memory.
 fn proof_text(alloc: Global, code: u8, proof: &[u8]) -> Result<Bytes, NoMemory>
     ensures { IfOk result (λ text. text ≡ coded_proof code proof.now) }
 {
@@ -55,7 +55,7 @@ fn proof_text(alloc: Global, code: u8, proof: &[u8]) -> Result<Bytes, NoMemory>
     Ok(text)
 }
 
-/// A code and a proof as they are told.
+/// The answer with a code and a proof; the lack of memory if there was none for it.
 fn told_proof(alloc: Global, code: u8, proof: &[u8]) -> Answer
     ensures { (old : Machine) → IsAnswer (proof_told code proof.now old) result old old }
 {
@@ -65,7 +65,8 @@ fn told_proof(alloc: Global, code: u8, proof: &[u8]) -> Answer
     }
 }
 
-/// A code as it is told with what was found of its proof.
+/// The answer with a code and what the search for its proof found: with the proof, without one if there is none, or a
+/// refusal.
 fn told_found(alloc: Global, code: u8, found: Result<Option<Bytes>, SureProofError>) -> Answer
     ensures { (text : List ℕ) × (text ≢ [] → found ≡ Ok (Some text))
         × ((old : Machine) → IsAnswer (proof_told code text old) result old old) }
@@ -78,7 +79,7 @@ fn told_found(alloc: Global, code: u8, found: Result<Option<Bytes>, SureProofErr
     }
 }
 
-/// Whether the words of a text are a proof that the string at p is surely captured under the ko allowances of a code.
+/// Whether the words of a text are a proof that the string at `p` is surely captured under the ko allowances of `code`.
 fn is_proof(
     position: &Position,
     kind: Kind,
@@ -96,7 +97,7 @@ fn is_proof(
     checks_surely(position, kind, p, depths, code, text)
 }
 
-/// Whether both are so.
+/// Whether both are true.
 fn are_both(first: bool, second: bool) -> bool
     ensures { result ≡ (first && second) }
 {
@@ -104,7 +105,7 @@ fn are_both(first: bool, second: bool) -> bool
 }
 
 impl SureMachine {
-    /// Prints the code of a question about the string of p, and a proof of the sure capture of which it tells.
+    /// Prints the code of a question about the string of `p`, and a proof of the sure capture that this code means.
     pub(crate) fn print_proof(&self, alloc: Global, kind: Kind, p: Point) -> Answer
         requires { p < self.now.game.base.size * self.now.game.base.size }
         ensures { (text : List ℕ) × IsProofTold self.now kind p text
@@ -120,7 +121,8 @@ impl SureMachine {
         told_found(alloc, code, found)
     }
 
-    /// Tells whether the words in this part of the line are a proof of the code of a question about the string of p.
+    /// Answers whether the words in the part `tokens` of the line are a proof that the string of `p` is surely captured
+    /// under the ko allowances that belong to `code`.
     pub(crate) fn check_proof(
         &self,
         attack: bool,

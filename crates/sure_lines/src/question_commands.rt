@@ -16,7 +16,7 @@ use gtp_cmd::RefuseText;
 use read_rules::{Depths, Kind};
 use read_zones::{sure_attack, sure_defend};
 
-/// The sure answer to a question about the stone at p.
+/// The sure answer to a question about the stone at `p`.
 pub(crate) fn sure_answer(
     position: &Position,
     kind: Kind,
@@ -37,7 +37,7 @@ pub(crate) fn sure_answer(
 }
 
 impl SureMachine {
-    /// Answers a question about the string of p, if a stone stands there.
+    /// Answers a question about the string of `p`; refused if no stone stands there.
     pub(crate) fn read(&self, kind: Kind, p: Point) -> Answer
         requires { p < self.now.game.base.size * self.now.game.base.size }
         ensures { IsAnswer (read self.now kind p) result self.now self.now }

@@ -1,4 +1,4 @@
-//! The command that makes a game record the position.
+//! The command that loads a game record: its position becomes that from which moves are played.
 
 ghost use Rattle.std.specs.Prelude.{◌≡◌, ℕ, List};
 ghost use Rattle.gtp_cmd.specs.Spans.{IsSpanOf};
@@ -17,8 +17,8 @@ use std::alloc::Global;
 use std::str::from_utf8;
 
 impl SureMachine {
-    /// Makes the game record in a file the position, whose name stands in this part of the line. The name and what the
-    /// file holds take memory.
+    /// Loads the file whose name stands in the part `span` of the line, and begins again from the position of its game
+    /// record. The name and the contents of the file take memory.
     pub(crate) fn load_record<L: Loader>(
         &mut self,
         alloc: Global,
@@ -44,7 +44,7 @@ impl SureMachine {
         }
     }
 
-    /// Makes the position of a game record that from which moves are played, or tells its first fault.
+    /// Begins again from the position of a game record, or refuses it with its first fault.
     fn set_record(&mut self, contents: &[u8]) -> Answer
         ensures { IsAnswer (recorded self.old (game_of contents.now)) result self.old self.new }
     {

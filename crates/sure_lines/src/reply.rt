@@ -9,18 +9,18 @@ use gtp_cmd::{RefuseText, Short, refusal};
 /// The answer to one line.
 #[derive(Drop)]
 pub enum Reply {
-    /// The line has no words, and nothing is put.
+    /// The line has no words, and nothing is written.
     Nothing,
     /// A text that takes no memory; `quit` says whether it ends the session.
     Short { text: Short, quit: bool },
     /// A text that took memory.
     Text { bytes: Bytes },
-    /// There was no memory: the refusal `out of memory` is put, and the line counts as not sent.
+    /// There was no memory: the refusal `out of memory` is written, and the line counts as not sent.
     NoMemory { id: Option<u32> },
 }
 
 impl Reply {
-    /// A refusal.
+    /// The reply that refuses the line.
     pub(crate) fn refused(id: Option<u32>, text: RefuseText) -> Reply
         ensures { result ≡ Reply.Short (refusal_text id text) false }
     {

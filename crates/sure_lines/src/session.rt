@@ -1,4 +1,4 @@
-//! The loop of a session: the lines of a source, and their replies to a sink.
+//! The loop of a session: it reads lines from a source, and writes their replies to a sink.
 
 ghost use Rattle.std.specs.Prelude.{◌≡◌, ◌≤◌, ◌<◌, false, [], ◌∷◌, length, take, IfOk, OnOk};
 ghost use Rattle.std.specs.Io.{ReadsAtMost};
@@ -20,13 +20,13 @@ use gtp_io::{Failed, Loader, Sink, Source};
 use gtp_lex::{Lines, Raw, Taken};
 use std::alloc::Global;
 
-/// The most bytes that are asked of a source at once.
+/// How many bytes are asked of a source at once, at most.
 const PIECE: usize = 4096;
 
-/// How many bytes are too many to take.
+/// A session ends once it has taken this many bytes.
 const MOST_TAKEN: usize = 1 << 32;
 
-/// Why no more lines are answered.
+/// Why a session has ended.
 #[derive(Clone, Copy, Debug, PartialEq, Eq)]
 pub enum End {
     /// The input has ended, or a line ended the session.
@@ -35,13 +35,13 @@ pub enum End {
     InputFault,
     /// The sink failed.
     OutputFault,
-    /// More than 4,294,967,295 bytes were there to take.
+    /// The input has more than 4,294,967,295 bytes.
     InputTooLong,
-    /// There was no memory to begin with.
+    /// There was no memory to begin the session.
     NoMemory,
 }
 
-/// Puts all bytes.
+/// Writes all bytes to the sink.
 fn put_all<K: Sink>(output: &mut K, bytes: &[u8]) -> Result<(), Failed>
     ensures { OnOk result (Appends (K.written output.old) (K.written output.new) bytes.now) }
 {
@@ -53,7 +53,7 @@ fn put_all<K: Sink>(output: &mut K, bytes: &[u8]) -> Result<(), Failed>
     Ok(())
 }
 
-/// Puts the bytes of a reply: whether it ends the session.
+/// Writes the bytes of a reply, and answers `ends`, which says whether it ends the session.
 fn put_reply<K: Sink>(output: &mut K, bytes: &[u8], ends: bool) -> Result<bool, Failed>
     ensures { IfOk result (λ e. (e ≡ ends) × Appends (K.written output.old) (K.written output.new) bytes.now) }
 {
@@ -61,7 +61,7 @@ fn put_reply<K: Sink>(output: &mut K, bytes: &[u8], ends: bool) -> Result<bool, 
     Ok(ends)
 }
 
-/// Puts a reply: whether it ends the session.
+/// Writes a reply, and answers whether it ends the session.
 fn send<K: Sink>(output: &mut K, reply: Reply) -> Result<bool, Failed>
     ensures { IfOk result (λ ends. (ends ≡ reply_ends reply)
         × Appends (K.written output.old) (K.written output.new) (reply_bytes reply)) }
@@ -77,7 +77,7 @@ fn send<K: Sink>(output: &mut K, reply: Reply) -> Result<bool, Failed>
     }
 }
 
-/// Answers one line: whether it ends the session.
+/// Answers one line, and returns whether it ends the session.
 fn answer<L: Loader, K: Sink>(
     alloc: Global,
     machine: &mut SureMachine,
@@ -94,7 +94,7 @@ fn answer<L: Loader, K: Sink>(
     send(output, reply)
 }
 
-/// Answers the line that was taken: whether it ends the session.
+/// Answers the line that was taken, and returns whether it ends the session.
 fn answer_taken<L: Loader, K: Sink>(
     alloc: Global,
     machine: &mut SureMachine,
@@ -115,8 +115,8 @@ fn answer_taken<L: Loader, K: Sink>(
     }
 }
 
-/// Takes bytes up to and with the first line feed, and answers the line that it ends, if it came: how many bytes were
-/// taken, and whether the line ends the session.
+/// Takes the bytes of `rest` up to the first line feed and with it, and answers the line that it ends, if there is one.
+/// Returns how many bytes were taken, and whether the line ends the session.
 fn answer_next<L: Loader, K: Sink>(
     alloc: Global,
     machine: &mut SureMachine,
@@ -143,7 +143,8 @@ fn answer_next<L: Loader, K: Sink>(
     }
 }
 
-/// Answers the lines that end in a piece, each before the next is looked at: whether one of them ends the session.
+/// Answers the lines that end in `piece`, each before the next is looked at. Returns whether one of them ends the
+/// session.
 fn answer_piece<L: Loader, K: Sink>(
     alloc: Global,
     machine: &mut SureMachine,
@@ -170,7 +171,7 @@ fn answer_piece<L: Loader, K: Sink>(
     Ok(false)
 }
 
-/// Answers what stands behind the last line feed as a last line, if anything does.
+/// Answers the bytes after the last line feed as a last line, if there are any. Returns whether it ends the session.
 fn answer_rest<L: Loader, K: Sink>(
     alloc: Global,
     machine: &mut SureMachine,
@@ -189,7 +190,7 @@ fn answer_rest<L: Loader, K: Sink>(
     }
 }
 
-/// The next bytes, at most as many as may still be taken.
+/// Reads the next bytes of the source into `buf`, at most `room`, and returns their number.
 fn next_piece<S: Source>(input: &mut S, buf: &mut [u8], room: usize) -> Result<usize, Failed>
     requires room { 0 < room }
     requires some { 0 < length buf.old }
@@ -201,7 +202,7 @@ fn next_piece<S: Source>(input: &mut S, buf: &mut [u8], room: usize) -> Result<u
     input.next(&mut buf[..most])
 }
 
-/// Answers the lines of a source, of which nothing has come yet.
+/// Answers the lines of a source from which nothing was read yet.
 fn serve_lines<L: Loader, S: Source, K: Sink>(
     alloc: Global,
     machine: &mut SureMachine,
@@ -236,8 +237,8 @@ fn serve_lines<L: Loader, S: Source, K: Sink>(
     End::InputTooLong
 }
 
-/// Answers the lines of a source until its end, a fault, or the line that ends the session. A reply is put before the
-/// next line is looked at. At the end of the input, or after the line that ends the session, what was put is a
+/// Answers the lines of a source until its end, a fault, or the line that ends the session. A reply is written before
+/// the next line is looked at. At the end of the input, or after the line that ends the session, what was written is a
 /// transcript of the lines by the machine's step. Takes memory for the line.
 pub fn serve<L: Loader, S: Source, K: Sink>(
     alloc: Global,

@@ -1,4 +1,4 @@
--- The points on which the parts of a sure capture rest, each found on the position before the play.
+-- The points on which the parts of a sure capture rest. They are computed from the position before the play.
 use Rattle.std.specs.Prelude.{ℕ, zero, suc, ◌*◌, ◌&&◌, Bool, true, false, not, nat_lt, nat_le, List, Option, None, Some}
 use Rattle.std.specs.Prelude.{if◌then◌else◌}
 use Rattle.std.specs.Option.{option_map, option_and_then}
@@ -25,7 +25,7 @@ use Rattle.wider_rules.specs.Further.{is_weak_enemy, is_linked, few_of_attacker,
 abbrev pub Points : Type 0
 Points = set.FinSet nat_cmp
 
--- the points of the sets of the numbers below n
+-- the union of sets 0 to sets (n - 1)
 abbrev pub union_below : ℕ → (ℕ → Points) → Points
 union_below zero sets = set.empty
 union_below (suc n) sets = set.union (union_below n sets) (sets n)
@@ -40,24 +40,25 @@ first_two S = option_and_then
 unfoldable pub close_to : ℕ → List Cell → ℕ → Points
 close_to s cells q = set.union (set.union (string_at s cells q) (liberty_points s cells q)) (enemy_points s cells q)
 
--- the stones and these two liberties; if there are no two, the stones, the liberties and the enemies next to them
+-- the stones and the two given liberties; if none are given, the stones, the liberties and the enemies next to the
+-- stones
 abbrev pub shown_by : Points → Points → Points → Option (ℕ × ℕ) → Points
 shown_by stones liberties enemies None = set.union (set.union stones liberties) enemies
 shown_by stones liberties enemies (Some two) = set.insert (set.insert stones two.0) two.1
 
--- what shows whether the string of q is in atari: q, and the string with its first two liberties in reading order, or
--- with all its neighbours if it has no two
+-- the points that show whether the string of q is in atari: q, and the string with its first two liberties in reading
+-- order, or with all its neighbours if it has fewer than two liberties
 unfoldable pub shows_atari : ℕ → List Cell → ℕ → Points
 shows_atari s cells q = set.insert (shown_by (string_at s cells q) (liberty_points s cells q) (enemy_points s cells q)
     (first_two (liberty_points s cells q))) q
 
--- what shows whether the string of a neighbour is in atari; nothing beyond the edge
+-- the points that show whether the string of a neighbour is in atari; none if there is no neighbour
 abbrev pub shows_neighbour : ℕ → List Cell → Option ℕ → Points
 shows_neighbour s cells None = set.empty
 shows_neighbour s cells (Some q) = shows_atari s cells q
 
--- what a play at p rests on: p, and what shows of each neighbour whether its string is in atari. It tells whether the
--- play can be made, what it captures and which ban it leaves
+-- the points on which a play at p rests: p, and the points that show of each neighbour whether its string is in atari.
+-- They show whether the play can be made, what it captures and which ko ban it leaves
 unfoldable pub play_rests_on : ℕ → List Cell → ℕ → Points
 play_rests_on s cells p = set.insert (union_below 4 (λ side. shows_neighbour s cells (neighbour_at s p side))) p
 
@@ -66,19 +67,20 @@ abbrev pub is_open : List Cell → Colour → Option ℕ → Bool
 is_open cells c None = false
 is_open cells c (Some q) = not (same_cell (cell_at cells q) (stone_of c))
 
--- the first neighbour of p, side by side, that holds no stone of c
+-- the first neighbour of p, in the order of the sides, that holds no stone of c
 unfoldable pub open_neighbour : ℕ → List Cell → Colour → ℕ → Option ℕ
 open_neighbour s cells c p =
     option_and_then (neighbour_at s p) (first_below 4 (λ side. is_open cells c (neighbour_at s p side)))
 
--- what shows whether each neighbour of the empty point p holds a stone of one colour, and whether the other colour can
--- play there: p and a neighbour that does not; if there is none, what a play at p rests on
+-- the points that show whether each neighbour of the empty point p holds a stone of one colour, and whether the other
+-- colour can play at p: p and a neighbour that holds no such stone; if there is no such neighbour, the points on which
+-- a play at p rests
 abbrev pub wall_rests_on : ℕ → List Cell → ℕ → Option ℕ → Points
 wall_rests_on s cells p None = play_rests_on s cells p
 wall_rests_on s cells p (Some q) = set.insert (set.insert set.empty p) q
 
--- what shows whether the defender takes back the target that is taken, and where that leads. Its point shows that he does
--- not if it is the attacker's turn or the stated tree
+-- the points that show whether the defender takes back the target, which is taken, and to which position that leads. At
+-- the attacker's turn and in the stated tree he does not, and the target's point is enough
 unfoldable pub loss_rests_on : Node → BoardState → Points
 loss_rests_on node pos =
     if is_wider node.turn.tree && not node.turn.attacker_to_play
@@ -90,20 +92,20 @@ loss_rests_on node pos =
 abbrev pub all_points : ℕ → Points
 all_points s = set_below (s * s) (λ q. true)
 
--- how many liberties a target may have next to whose liberties the attacker tries the empty points if a wide ply is left:
--- two, and in the wider tree three
+-- the attacker tries the empty points next to the target's liberties, if a wide ply is left, up to this number of
+-- liberties: two, and in the wider tree three
 abbrev pub most_wide : Tree → ℕ
 most_wide Stated = 2
 most_wide Wider = netted
 
--- how many liberties an enemy string next to the target's may have whose liberties are candidates of the attacker in
--- each ply: one, and in the wider tree two
+-- the liberties of an enemy string next to the target's are candidates of the attacker in each ply up to this number:
+-- one, and in the wider tree two
 abbrev pub most_of_enemy : Tree → ℕ
 most_of_enemy Stated = 1
 most_of_enemy Wider = few_of_attacker
 
--- the first enemy stone next to the target's string, in reading order, whose string has at most so many liberties, one
--- of which is p
+-- the first enemy stone next to the target's string, in reading order, whose string has no more than most liberties,
+-- one of which is p
 unfoldable pub weak_enemy_at : ℕ → ℕ → List Cell → ℕ → ℕ → Option ℕ
 weak_enemy_at most s cells target p =
     first_below (s * s) (λ q. is_weak_enemy most s cells target q && is_liberty s cells q p)
@@ -113,13 +115,13 @@ unfoldable pub linked_at : ℕ → List Cell → ℕ → ℕ → Option ℕ
 linked_at s cells target p =
     first_below (s * s) (λ q. is_linked few_of_parted s cells target q && is_liberty s cells q p)
 
--- the first point if there is one, and the second if there is not
+-- the first point, or the second if there is no first
 abbrev pub else_point : Option ℕ → Option ℕ → Option ℕ
 else_point None second = second
 else_point (Some q) second = Some q
 
--- a stone of another string than the target's that shows that p is a candidate: of a weak enemy string; if there is none,
--- a wide ply is left and the tree is the wider one, of a linked string
+-- a stone of another string than the target's that shows that p is a candidate: a stone of a weak enemy string; or, if
+-- there is none and a wide ply is left in the wider tree, a stone of a linked string
 unfoldable pub shown_at : Turn → ℕ → List Cell → ℕ → Option ℕ
 shown_at turn s cells p = else_point (weak_enemy_at (most_of_enemy turn.tree) s cells turn.target p)
     (if nat_lt 0 turn.wide && is_wider turn.tree then linked_at s cells turn.target p else None)
@@ -129,10 +131,10 @@ abbrev pub with_string : ℕ → List Cell → ℕ → Option ℕ → Points
 with_string s cells target None = all_points s
 with_string s cells target (Some q) = set.union (close_to s cells target) (close_to s cells q)
 
--- what shows that p is a candidate of the attacker at the turn and that the target has not too many liberties. A liberty
--- of the target rests on the target's string and its neighbours, a point beside a liberty on p too, and a liberty of a
--- weak enemy string or of a linked one on that string and its neighbours too; every other candidate rests on all points
--- of the board
+-- the points that show that p is a candidate of the attacker at the turn and that the target has not too many
+-- liberties. A liberty of the target rests on the target's string and its neighbours; a point beside a liberty rests on
+-- these and on p; a liberty of a weak enemy string or of a linked string rests on these and on that string and its
+-- neighbours. Every other candidate rests on all points of the board
 unfoldable pub candidate_rests_on : Turn → BoardState → ℕ → Points
 candidate_rests_on turn pos p =
     if is_liberty pos.size pos.cells turn.target p then close_to pos.size pos.cells turn.target
@@ -141,21 +143,23 @@ candidate_rests_on turn pos p =
     then set.insert (close_to pos.size pos.cells turn.target) p
     else with_string pos.size pos.cells turn.target (shown_at turn pos.size pos.cells p)
 
--- what guards q of the zone Z: if q holds a stone of c, what shows whether its string is in atari
+-- the points that guard q: if q is in the zone Z and holds a stone of c, the points that show whether its string is in
+-- atari; else none
 abbrev pub guard_at : ℕ → List Cell → Colour → Points → ℕ → Points
 guard_at s cells c Z q =
     if set.contains Z q && same_cell (cell_at cells q) (stone_of c) then shows_atari s cells q else set.empty
 
--- what shows of each string of c with a stone in Z whether it is in atari
+-- the points that show, of each string of c with a stone in Z, whether it is in atari
 unfoldable pub guard_of : ℕ → List Cell → Colour → Points → Points
 guard_of s cells c Z = union_below (s * s) (guard_at s cells c Z)
 
--- these liberties, if there are no two
+-- the liberties, if there are fewer than two; else none
 abbrev pub last_of : Points → Option (ℕ × ℕ) → Points
 last_of liberties None = liberties
 last_of liberties (Some two) = set.empty
 
--- the reply that q of Z asks for: q if it is empty, and the only liberty of its string if it holds a stone of c
+-- the reply that q asks for, if q is in Z: q if it is empty; if it holds a stone of c, the only liberty of its string,
+-- if it has only one
 abbrev pub asked_at : ℕ → List Cell → Colour → Points → ℕ → Points
 asked_at s cells c Z q =
     if set.contains Z q && same_cell (cell_at cells q) Empty then set.insert set.empty q
@@ -163,6 +167,7 @@ asked_at s cells c Z q =
     then last_of (liberty_points s cells q) (first_two (liberty_points s cells q))
     else set.empty
 
--- the replies that Z asks for: its empty points, and the only liberty of each string of c that has a stone in Z
+-- the replies that Z asks for: its empty points, and the only liberty of each string of c in atari that has a stone in
+-- Z
 unfoldable pub asked_of : ℕ → List Cell → Colour → Points → Points
 asked_of s cells c Z = union_below (s * s) (asked_at s cells c Z)

@@ -17,67 +17,70 @@ use Rattle.read_proof.specs.Proves.{child_after}
 use Rattle.sure_rules.specs.Nodes.{is_attackers, is_gone, is_taken_for_good, has_too_many, target_of}
 use Rattle.sure_proof.specs.Rests.{Points, play_rests_on, loss_rests_on, candidate_rests_on, guard_of, asked_of}
 
--- what words proved: the words behind the proof, and the points on which it rests
+-- the result of reading a proof: the words that follow it, and the points on which it rests
 pub record Proved : Type 0 where
   pub rest : List Word
   pub zone : Points
 
--- these words behind the proof, and these points
+-- a proof that is followed by the words rest and rests on the points zone
 abbrev pub proved_by : List Word → Points → Proved
 proved_by rest zone = record { rest = rest; zone = zone }
 
--- how the first of these words prove that the target is surely captured at a node; nothing if they do not
+-- a function that reads, at the front of words, a proof that the target is surely captured at a node; nothing if the
+-- words do not begin with one
 abbrev pub Prover : Type 0
 Prover = Node → BoardState → List Word → Option Proved
 
--- the same with further points
+-- the same proof, resting on the points more as well
 abbrev pub with_points : Points → Proved → Proved
 with_points more found = record { rest = found.rest; zone = set.union more found.zone }
 
--- the words behind the first, if this is it
+-- the words after the first, if the first is this word
 abbrev pub behind_word : Word → List Word → Option (List Word)
 behind_word word [] = None
 behind_word word (first ∷ rest) = if bytes_eq first word then Some rest else None
 
--- the move is to p
+-- the move is a play at p
 abbrev pub is_to : Option (Option ℕ) → ℕ → Bool
 is_to None p = false
 is_to (Some None) p = false
 is_to (Some (Some q)) p = q == p
 
--- the words behind the first, if it is the vertex of p on a board of size s
+-- the words after the first, if the first is the vertex of p on a board of size s
 abbrev pub behind_vertex : ℕ → ℕ → List Word → Option (List Word)
 behind_vertex s p [] = None
 behind_vertex s p (first ∷ rest) = if is_to (target_named s first) p then Some rest else None
 
--- `.` proves that the target is captured if it is taken and cannot be taken back, and rests on what shows this
+-- `.` proves that the target is captured if it is taken and cannot be taken back; the proof rests on the points that
+-- show this
 abbrev pub by_capture : Node → BoardState → List Word → Option Proved
 by_capture node pos rest = if is_taken_for_good node pos then Some (proved_by rest (loss_rests_on node pos)) else None
 
 -- the vertex of the target's point proves a sure capture if the defender takes back there and the proof of the child
--- follows. It rests on what shows where this leads, and on what the proof of the child rests on
+-- follows. The proof rests on the points that show to which position this leads, and on the points of the child's proof
 abbrev pub by_back : Prover → Node → BoardState → Word → Option (Node × BoardState) → List Word → Option Proved
 by_back prove node pos word None rest = None
 by_back prove node pos word (Some child) rest = if is_to (target_named pos.size word) (target_of node)
     then option_map (with_points (loss_rests_on node pos)) (prove child.0 child.1 rest)
     else None
 
--- a vertex proves a sure capture if the attacker can play there and the proof of the child follows. It rests on what
--- shows that the point is a candidate, on what the play rests on, and on what the proof of the child rests on
+-- a vertex proves a sure capture if the attacker can play there and the proof of the child follows. The proof rests on
+-- the points that show that the point is a candidate, on those of the play, and on those of the child's proof
 abbrev pub by_child : Prover → Node → BoardState → ℕ → Option (Node × BoardState) → List Word → Option Proved
 by_child prove node pos p None rest = None
 by_child prove node pos p (Some child) rest =
     option_map (with_points (set.union (candidate_rests_on node.turn pos p) (play_rests_on pos.size pos.cells p)))
     (prove child.0 child.1 rest)
 
--- so it does if the word is the vertex of a candidate that can be played
+-- a word proves a sure capture if it is the vertex of a candidate that can be played and the proof of the child follows
 abbrev pub by_move : Prover → Node → BoardState → Option (Option ℕ) → List Word → Option Proved
 by_move prove node pos None rest = None
 by_move prove node pos (Some None) rest = None
 by_move prove node pos (Some (Some p)) rest = by_child prove node pos p (child_after node pos (At p)) rest
 
--- the words behind one reply, and the points so far with those on which the reply rests: what the play rests on, and
--- if it can be played, which its vertex says, what the proof of its child rests on
+-- the words after one reply, and the points so far with those on which the reply rests. A reply that cannot be played
+-- has no words and rests on the points of the play. A reply that can be played has its vertex and the proof of its
+-- child, and rests on the points of that proof too
 abbrev pub at_reply : Prover → BoardState → ℕ → Option (Node × BoardState) → Proved → Option Proved
 at_reply prove pos p None so_far =
     Some (record { rest = so_far.rest; zone = set.union so_far.zone (play_rests_on pos.size pos.cells p) })
@@ -85,7 +88,7 @@ at_reply prove pos p (Some child) so_far =
     option_map (with_points (set.union so_far.zone (play_rests_on pos.size pos.cells p)))
     (option_and_then (prove child.0 child.1) (behind_vertex pos.size p so_far.rest))
 
--- the same of some replies, one after another
+-- the words after several replies, one after another, and the points so far with those on which these replies rest
 abbrev pub at_replies : Prover → Node → BoardState → List ℕ → Proved → Option Proved
 at_replies prove node pos [] so_far = Some so_far
 at_replies prove node pos (p ∷ more) so_far =
@@ -99,12 +102,12 @@ points_in s Z = filter (set.contains Z) (range_with_len 0 (s * s))
 abbrev pub replies_to : Node → BoardState → Points → List ℕ
 replies_to node pos Z = points_in pos.size (asked_of pos.size pos.cells (other (mover_of node.turn)) Z)
 
--- the words behind the `;` that ends the replies
+-- the words after the `;` that ends the replies
 abbrev pub at_end : Proved → Option Proved
 at_end found = option_map (λ rest. record { rest = rest; zone = found.zone }) (behind_word (codes ";") found.rest)
 
--- the words behind the replies that the pass's zone asks for and the `;` that ends them; the proof rests on the zone, on
--- what guards it, and on what the replies rest on
+-- the words after the replies that the zone of the pass asks for and the `;` that ends them; the proof rests on that
+-- zone, on the points that guard it, and on the points of the replies
 abbrev pub behind_pass : Prover → Node → BoardState → Proved → Option Proved
 behind_pass prove node pos passed =
     option_and_then at_end (at_replies prove node pos (replies_to node pos passed.zone)
@@ -119,8 +122,8 @@ abbrev pub by_replies : Prover → Node → BoardState → List Word → Option 
 by_replies prove node pos rest =
     option_and_then (behind_pass prove node pos) (prove (next_node node (allowance_of node)) (pass pos) rest)
 
--- what the first word proves with plies left: a vertex at the attacker's turn, if the target stands and has not too many
--- liberties; at the defender's turn `*`, or the vertex of the target's point if he takes back
+-- what the first word proves if a ply is left: at the attacker's turn it is a vertex, and the target stands and has not
+-- too many liberties; at the defender's turn it is `*`, or the vertex of the target's point if he takes back
 abbrev pub by_turn : Prover → Node → BoardState → Word → List Word → Option Proved
 by_turn prove node pos word rest =
     if is_attackers node
@@ -129,7 +132,8 @@ by_turn prove node pos word rest =
     else if bytes_eq word (codes "*") then by_replies prove node pos rest
     else by_back prove node pos word (taking_back node pos) rest
 
--- the proof, in front of these words, that with n plies left the target is surely captured at the node
+-- the proof with which the words begin, that the target is surely captured at the node with n plies left; nothing if
+-- they do not begin with one
 unfoldable pub proves_surely : ℕ → Prover
 proves_surely n node pos [] = None
 proves_surely zero node pos (word ∷ rest) = if bytes_eq word (codes ".") then by_capture node pos rest else None
@@ -137,6 +141,6 @@ proves_surely (suc n) node pos (word ∷ rest) =
     if bytes_eq word (codes ".") then by_capture node pos rest
     else by_turn (proves_surely n) node pos word rest
 
--- the words prove that with n plies left the target is surely captured at the node: no word is left behind the proof
+-- the words are a proof that the target is surely captured at the node with n plies left, and no word follows the proof
 abbrev pub IsSureProof : ℕ → Node → BoardState → List Word → Type 0
 IsSureProof n node pos words = option_map (λ (found : Proved). found.rest) (proves_surely n node pos words) ≡ Some []

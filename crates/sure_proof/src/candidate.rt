@@ -1,4 +1,4 @@
-//! What shows that a point is a candidate of the attacker, and that the target has not too many liberties.
+//! The points that show that a point is a candidate of the attacker, and that the target has not too many liberties.
 
 ghost use Rattle.std.specs.Prelude.{◌≡◌, ◌*◌, ◌<◌, ◌&&◌, ◌==◌, not, nat_lt, nat_le, IsTrue, IfSome, ℕ, true, false, Some};
 ghost use Rattle.std.specs.FinSet as set;
@@ -21,7 +21,7 @@ use go_base::sides::neighbour;
 use go_base::{Cell, Point, PointSet, Position, Size};
 use read_rules::{Node, Tree, Turn};
 
-/// So many liberties at most has a linked string whose liberties the attacker tries.
+/// How many liberties a linked string may have whose liberties the attacker tries.
 const FEW_OF_PARTED: u16 = 2;
 
 /// All points of a board.
@@ -35,7 +35,7 @@ fn all_points(size: Size) -> PointSet
     points
 }
 
-/// Whether the point at a side of q is in the set.
+/// Whether `q` has a neighbour at this side and the neighbour is in `points`.
 fn has_side(size: Size, points: &PointSet, q: Point, side: u8) -> bool
     requires on_board { q < size * size }
     requires side { side < 4 }
@@ -48,7 +48,7 @@ fn has_side(size: Size, points: &PointSet, q: Point, side: u8) -> bool
     }
 }
 
-/// Whether some neighbour of q is in the set.
+/// Whether some neighbour of `q` is in `points`.
 fn is_beside(pos: &Position, points: &PointSet, q: Point) -> bool
     requires { q < pos.now.size * pos.now.size }
     ensures { result ≡ any_below (pos.now.size * pos.now.size)
@@ -63,7 +63,7 @@ fn is_beside(pos: &Position, points: &PointSet, q: Point) -> bool
     false
 }
 
-/// Whether p is empty and next to one of these liberties of the target.
+/// Whether `p` is empty and next to one of the target's `liberties`.
 fn is_empty_beside(pos: &Position, target: Point, liberties: &PointSet, p: Point) -> bool
     requires on_board { p < pos.now.size * pos.now.size }
     requires liberties { liberties.now ≡ liberty_points pos.now.size pos.now.cells target }
@@ -73,14 +73,15 @@ fn is_empty_beside(pos: &Position, target: Point, liberties: &PointSet, p: Point
     pos.cell(p) == Cell::Empty && beside
 }
 
-/// Whether all three are so.
+/// Whether all three are true.
 fn are_all(first: bool, second: bool, third: bool) -> bool
     ensures { result ≡ ((first && second) && third) }
 {
     first && second && third
 }
 
-/// How many liberties a target may have next to whose liberties the empty points are tried if a wide ply is left.
+/// The attacker tries the empty points next to the target's liberties if a wide ply is left and the target has at most
+/// this number of liberties.
 fn most_wide(tree: Tree) -> u16
     ensures { result ≡ most_wide tree }
 {
@@ -90,8 +91,8 @@ fn most_wide(tree: Tree) -> u16
     }
 }
 
-/// Whether p is a wide candidate by these liberties of the target: a wide ply is left, they are few, and p is empty and
-/// next to one of them.
+/// Whether `p` is a wide candidate by the target's `liberties`: a wide ply is left, the liberties are few, and `p` is
+/// empty and next to one of them.
 fn is_wide(pos: &Position, turn: Turn, liberties: &PointSet, p: Point) -> bool
     requires on_board { p < pos.now.size * pos.now.size }
     requires liberties { liberties.now ≡ liberty_points pos.now.size pos.now.cells turn.target }
@@ -107,7 +108,8 @@ fn is_wide(pos: &Position, turn: Turn, liberties: &PointSet, p: Point) -> bool
     )
 }
 
-/// How many liberties an enemy string next to the target's may have whose liberties are candidates in each ply.
+/// The liberties of an enemy string next to the target's are candidates in each ply if the string has at most this
+/// number of them.
 fn most_of_enemy(tree: Tree) -> u16
     ensures { result ≡ most_of_enemy tree }
 {
@@ -117,14 +119,14 @@ fn most_of_enemy(tree: Tree) -> u16
     }
 }
 
-/// Whether both are so.
+/// Whether both are true.
 fn are_both(first: bool, second: bool) -> bool
     ensures { result ≡ (first && second) }
 {
     first && second
 }
 
-/// Whether the string of q has at most so many liberties, one of which is p.
+/// Whether the string of `q` has at most `most` liberties, one of which is `p`.
 fn has_few(pos: &Position, most: u16, q: Point, p: Point) -> bool
     requires on_board { q < pos.now.size * pos.now.size }
     requires point { p < pos.now.size * pos.now.size }
@@ -136,8 +138,8 @@ fn has_few(pos: &Position, most: u16, q: Point, p: Point) -> bool
     are_both(liberties.count() <= most, liberties.has(p))
 }
 
-/// Whether q is one of these enemies next to the target's string, and its string has at most so many liberties, one of
-/// which is p.
+/// Whether `q` is one of `enemies`, the enemy stones next to the target's string, and its string has at most `most`
+/// liberties, one of which is `p`.
 fn is_weak_at(
     pos: &Position,
     target: Point,
@@ -156,7 +158,8 @@ fn is_weak_at(
     enemies.has(q) && has_few(pos, most, q, p)
 }
 
-/// The first enemy stone next to the target's string whose string has at most so many liberties, one of which is p.
+/// The first enemy stone next to the target's string, in reading order, whose string has at most `most` liberties, one
+/// of which is `p`.
 fn weak_enemy_at(pos: &Position, target: Point, most: u16, p: Point) -> Option<Point>
     requires target { target < pos.now.size * pos.now.size }
     requires point { p < pos.now.size * pos.now.size }
@@ -173,7 +176,8 @@ fn weak_enemy_at(pos: &Position, target: Point, most: u16, p: Point) -> Option<P
     None
 }
 
-/// Whether q holds a stone of the target's colour next to a liberty of the target, of another string than the target's.
+/// Whether `q` holds a stone of the target's colour that is next to a liberty of the target and not of its string.
+/// `found` is the target's string.
 fn is_friend(pos: &Position, target: Point, found: &Found, q: Point) -> bool
     requires target { target < pos.now.size * pos.now.size }
     requires on_board { q < pos.now.size * pos.now.size }
@@ -190,7 +194,8 @@ fn is_friend(pos: &Position, target: Point, found: &Found, q: Point) -> bool
     are_all(own, beside, !found.stones.has(q))
 }
 
-/// Whether q is a stone of a string linked to the target that has at most two liberties, one of which is p.
+/// Whether `q` is a stone of a string linked to the target that has at most two liberties, one of which is `p`. `found`
+/// is the target's string.
 fn is_linked_at(pos: &Position, target: Point, found: &Found, q: Point, p: Point) -> bool
     requires target { target < pos.now.size * pos.now.size }
     requires on_board { q < pos.now.size * pos.now.size }
@@ -204,7 +209,8 @@ fn is_linked_at(pos: &Position, target: Point, found: &Found, q: Point, p: Point
     is_friend(pos, target, found, q) && has_few(pos, FEW_OF_PARTED, q, p)
 }
 
-/// The first stone of a string linked to the target that has at most two liberties, one of which is p.
+/// The first stone, in reading order, of a string linked to the target that has at most two liberties, one of which is
+/// `p`.
 fn linked_at(pos: &Position, target: Point, p: Point) -> Option<Point>
     requires target { target < pos.now.size * pos.now.size }
     requires point { p < pos.now.size * pos.now.size }
@@ -221,8 +227,8 @@ fn linked_at(pos: &Position, target: Point, p: Point) -> Option<Point>
     None
 }
 
-/// A stone of another string than the target's that shows that p is a candidate: of a weak enemy string, or if a wide
-/// ply is left in the wider tree of a linked one.
+/// A stone of another string than the target's that shows that `p` is a candidate: a stone of a weak enemy string; or,
+/// if there is none and a wide ply is left in the wider tree, a stone of a linked string.
 #[tactic(auto, unfolding(crate::specs::Rests::shown_at))]
 fn shown_at(pos: &Position, turn: Turn, p: Point) -> Option<Point>
     requires target { turn.target < pos.now.size * pos.now.size }
@@ -243,8 +249,8 @@ fn shown_at(pos: &Position, turn: Turn, p: Point) -> Option<Point>
     }
 }
 
-/// The string of the target and that of `other`, each with all its neighbours; all points of the board if there is no
-/// `other`.
+/// The string of the target and the string of `other`, each with all its neighbours; all points of the board if `other`
+/// is `None`.
 fn with_string(pos: &Position, target: Point, other: Option<Point>) -> PointSet
     requires target { target < pos.now.size * pos.now.size }
     requires other { IfSome other (λ q. q < pos.now.size * pos.now.size) }
@@ -260,7 +266,8 @@ fn with_string(pos: &Position, target: Point, other: Option<Point>) -> PointSet
     }
 }
 
-/// What shows that p is a candidate of the attacker at the turn, and that the target has not too many liberties.
+/// The points that show that `p` is a candidate of the attacker at the turn, and that the target has not too many
+/// liberties.
 pub(crate) fn candidate_rests_on(pos: &Position, turn: Turn, p: Point) -> PointSet
     requires target { turn.target < pos.now.size * pos.now.size }
     requires on_board { p < pos.now.size * pos.now.size }
@@ -279,7 +286,8 @@ pub(crate) fn candidate_rests_on(pos: &Position, turn: Turn, p: Point) -> PointS
     with_string(pos, turn.target, shown_at(pos, turn, p))
 }
 
-/// The points on which it rests that p is a candidate of the attacker, and that the target has not too many liberties.
+/// The zone of a candidate: on every position that agrees at these points `p` is a candidate of the attacker, and the
+/// target has not too many liberties.
 pub fn candidate_shown(pos: &Position, node: Node, p: Point) -> PointSet
     requires target { node.turn.target < pos.now.size * pos.now.size }
     requires turn { is_attackers node ≡ true }

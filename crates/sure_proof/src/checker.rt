@@ -13,8 +13,8 @@ use read_proof::codes::{first_node, question_on};
 use read_rules::{Depths, Kind, Node};
 use vertices::next_word;
 
-/// Whether the text is a proof that the target is surely captured at the node with `plies` plies left, and nothing
-/// stands behind it. If it is, the target is surely captured. Takes no memory.
+/// Whether the text is a proof that the target is surely captured at the node with `plies` plies left, with no word
+/// behind the proof. If the answer is true, the target is surely captured. Takes no memory.
 pub fn check_node(pos: &Position, node: Node, plies: u8, text: &[u8]) -> bool
     requires target { node.turn.target < pos.now.size * pos.now.size }
     ensures proof { IsTrue result ↔ IsSureProof plies node pos.now (words_in text.now) }
@@ -28,9 +28,10 @@ pub fn check_node(pos: &Position, node: Node, plies: u8, text: &[u8]) -> bool
     }
 }
 
-/// Whether the text is a proof that the string at `target` is surely captured with these depths, under the ko allowances
-/// of a code: for an attack the attacker plays first, and for a defence the defender. If it is, the string is surely
-/// captured there: a sure attack has at least this code, and a defence does not have it. Takes no memory.
+/// Whether the text is a proof that the string at `target` is surely captured with these depths, under the ko
+/// allowances of `code`: for an attack the attacker plays first, and for a defence the defender. If the answer is true,
+/// the string is surely captured so. For a code from 1 to 3, a sure attack then has at least this code, and a sure
+/// defence has a smaller one. Takes no memory.
 pub fn checks_surely(
     pos: &Position,
     of: Kind,

@@ -1,4 +1,5 @@
-//! The replies that the zone of the defender's pass asks for, and what guards it against the others.
+//! The replies that the zone of the defender's pass asks for, and the points that guard the zone against every other
+//! reply.
 
 ghost use Rattle.std.specs.Prelude.{◌≡◌, ◌*◌, ◌<◌};
 ghost use Rattle.std.specs.FinSet as set;
@@ -9,7 +10,8 @@ ghost use Rattle.sure_proof.specs.Rests.{first_two, last_of, guard_at, guard_of,
 use crate::shown::{first_two, shows_atari};
 use go_base::{Cell, Colour, Point, PointSet, Position};
 
-/// What guards q of the zone: if q holds a stone of c, what shows whether its string is in atari.
+/// The points that guard `q`: if `q` is in the zone and holds a stone of `c`, the points that show whether its string
+/// is in atari; else none.
 fn guard_at(pos: &Position, c: Colour, zone: &PointSet, q: Point) -> PointSet
     requires on_board { q < pos.now.size * pos.now.size }
     requires small { q < largest_points }
@@ -22,7 +24,7 @@ fn guard_at(pos: &Position, c: Colour, zone: &PointSet, q: Point) -> PointSet
     }
 }
 
-/// What shows of each string of c with a stone in the zone whether it is in atari.
+/// The points that show, of each string of `c` with a stone in the zone, whether it is in atari.
 #[tactic(auto, unfolding(crate::specs::Rests::guard_of))]
 pub(crate) fn guard_of(pos: &Position, c: Colour, zone: &PointSet) -> PointSet
     ensures { result ≡ guard_of pos.now.size pos.now.cells c zone.now }
@@ -34,7 +36,7 @@ pub(crate) fn guard_of(pos: &Position, c: Colour, zone: &PointSet) -> PointSet
     points
 }
 
-/// These liberties, if there are no two.
+/// The liberties, if there are fewer than two; else none.
 fn last_of(liberties: PointSet) -> PointSet
     ensures { result ≡ last_of liberties (first_two liberties) }
 {
@@ -54,8 +56,8 @@ pub(crate) fn one_point(p: Point) -> PointSet
     points
 }
 
-/// The reply that q of the zone asks for: q if it is empty, and the only liberty of its string if it holds a stone of
-/// c.
+/// The reply that `q`, if it is in the zone, asks for: `q` if it is empty; if it holds a stone of `c`, the only liberty
+/// of its string, if it has only one.
 fn asked_at(pos: &Position, c: Colour, zone: &PointSet, q: Point) -> PointSet
     requires on_board { q < pos.now.size * pos.now.size }
     requires small { q < largest_points }
@@ -70,8 +72,8 @@ fn asked_at(pos: &Position, c: Colour, zone: &PointSet, q: Point) -> PointSet
     PointSet::new()
 }
 
-/// The replies that the zone asks for: its empty points, and the only liberty of each string of c that has a stone in
-/// it.
+/// The replies that the zone asks for: its empty points, and the only liberty of each string of `c` in atari that has a
+/// stone in the zone.
 #[tactic(auto, unfolding(crate::specs::Rests::asked_of))]
 pub(crate) fn asked_of(pos: &Position, c: Colour, zone: &PointSet) -> PointSet
     ensures { result ≡ asked_of pos.now.size pos.now.cells c zone.now }

@@ -10,8 +10,9 @@ ghost use Rattle.sure_rules.specs.SureTree.{surely_wins};
 ghost use Rattle.sure_rules.specs.Zones.{IsZone};
 ghost use Rattle.sure_proof.specs.SureProofs.{Proved, proves_surely};
 
-/// A string that words prove to be surely captured is surely captured, and the points on which the proof rests are a
-/// zone: on every position that agrees there, in cells and bans, it is surely captured with the same plies.
+/// If words prove that a string is surely captured, it is surely captured. The points on which the proof rests are a
+/// zone: on every position that agrees at them, in cells and ko bans, the string is surely captured with the same
+/// plies.
 pub fn sure_proofs_are_sound()
     ensures won { (n : ℕ) (node : Node) (pos : BoardState) (words : List Word) (found : Proved) → IsPosition pos
         → node.turn.target < pos.size * pos.size → proves_surely n node pos words ≡ Some found

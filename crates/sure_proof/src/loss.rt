@@ -1,4 +1,4 @@
-//! What shows whether the defender takes back a stone that is taken, and where that leads.
+//! The points that show whether the defender takes back a target that is taken, and to which position that leads.
 
 ghost use Rattle.std.specs.Prelude.{◌≡◌, ◌*◌, ◌<◌, IfSome};
 ghost use Rattle.std.specs.FinSet as set;
@@ -12,7 +12,7 @@ use go_base::sides::neighbour;
 use go_base::{Colour, Point, PointSet, Position};
 use read_rules::Node;
 
-/// Whether there is a neighbour at a side of p, and it holds no stone of c.
+/// Whether `p` has a neighbour at this side, and the neighbour holds no stone of `c`.
 fn is_open(pos: &Position, p: Point, side: u8, c: Colour) -> bool
     requires on_board { p < pos.now.size * pos.now.size }
     requires side { side < 4 }
@@ -24,7 +24,7 @@ fn is_open(pos: &Position, p: Point, side: u8, c: Colour) -> bool
     }
 }
 
-/// The first neighbour of p, side by side, that holds no stone of c.
+/// The first neighbour of `p`, in the order of the sides, that holds no stone of `c`.
 fn open_neighbour(pos: &Position, p: Point, c: Colour) -> Option<Point>
     requires { p < pos.now.size * pos.now.size }
     ensures value { result ≡ open_neighbour pos.now.size pos.now.cells c p }
@@ -38,8 +38,8 @@ fn open_neighbour(pos: &Position, p: Point, c: Colour) -> Option<Point>
     None
 }
 
-/// What shows whether each neighbour of the empty point p holds a stone of c, and whether the other colour can play
-/// there.
+/// The points that show whether each neighbour of the empty point `p` holds a stone of `c`, and whether the other
+/// colour can play at `p`.
 fn wall_rests_on(pos: &Position, p: Point, c: Colour) -> PointSet
     requires on_board { p < pos.now.size * pos.now.size }
     requires small { p < largest_points }
@@ -55,7 +55,7 @@ fn wall_rests_on(pos: &Position, p: Point, c: Colour) -> PointSet
     }
 }
 
-/// What shows whether the defender takes back the target that is taken, and where that leads.
+/// The points that show whether the defender takes back the target, which is taken, and to which position that leads.
 #[tactic(auto, unfolding(crate::specs::Rests::loss_rests_on))]
 pub(crate) fn loss_rests_on(pos: &Position, node: Node) -> PointSet
     requires on_board { node.turn.target < pos.now.size * pos.now.size }

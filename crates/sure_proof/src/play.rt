@@ -1,4 +1,4 @@
-//! What a play rests on.
+//! The points on which the result of a play rests.
 
 ghost use Rattle.std.specs.Prelude.{◌≡◌, ◌*◌, ◌<◌};
 ghost use Rattle.go_rules.specs.Board.{largest_points};
@@ -9,7 +9,8 @@ use crate::shown::shows_atari;
 use go_base::sides::neighbour;
 use go_base::{Point, PointSet, Position};
 
-/// What shows whether the string of the neighbour on one side of p is in atari; nothing beyond the edge.
+/// The points that show whether the string of the neighbour of `p` at this side is in atari; none if the board ends
+/// there.
 fn shows_side(pos: &Position, p: Point, side: u8) -> PointSet
     requires on_board { p < pos.now.size * pos.now.size }
     requires side { side < 4 }
@@ -21,7 +22,8 @@ fn shows_side(pos: &Position, p: Point, side: u8) -> PointSet
     }
 }
 
-/// What a play at p rests on: p, and what shows of each neighbour whether its string is in atari.
+/// The points on which a play at `p` rests: `p`, and the points that show of each neighbour whether its string is in
+/// atari.
 #[tactic(auto, unfolding(crate::specs::Rests::play_rests_on))]
 pub(crate) fn play_rests_on(pos: &Position, p: Point) -> PointSet
     requires on_board { p < pos.now.size * pos.now.size }

@@ -1,4 +1,4 @@
-//! The replies for which a text has to give proofs.
+//! The replies for which a proof has to give proofs of their own.
 
 ghost use Rattle.std.specs.Prelude.{◌≡◌, ◌*◌, ◌<◌, None, Some, MatchOption};
 ghost use Rattle.go_rules.specs.Play.{pass};
@@ -15,8 +15,8 @@ use go_base::{PointSet, Position};
 use read_proof::children::passed;
 use read_rules::Node;
 
-/// The replies that the proof of the node after the defender's pass asks for, which stands in front of the text, with
-/// `plies` plies left after the pass; none if no such proof stands there.
+/// The replies that a proof of the node after the defender's pass asks for, with `plies` plies left after the pass.
+/// `text` begins with that proof; `None` if it does not.
 pub fn replies_asked(pos: &Position, node: Node, plies: u8, text: &[u8]) -> Option<PointSet>
     requires target { node.turn.target < pos.now.size * pos.now.size }
     ensures { MatchOption result

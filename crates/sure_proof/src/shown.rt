@@ -1,4 +1,4 @@
-//! What shows whether a string is in atari.
+//! The points that show whether a string is in atari.
 
 ghost use Rattle.std.specs.Prelude.{◌≡◌, ◌*◌, ◌<◌, IfSome};
 ghost use Rattle.go_rules.specs.Board.{largest_points};
@@ -19,7 +19,7 @@ pub(crate) fn first_two(points: &PointSet) -> Option<(Point, Point)>
     Some((first, second))
 }
 
-/// The string of p, its liberties and the enemy stones next to it.
+/// The string of `p`, its liberties and the enemy stones next to it.
 pub(crate) fn string_of(pos: &Position, p: Point) -> Found
     requires { p < pos.now.size * pos.now.size }
     ensures stones { result.stones ≡ string_at pos.now.size pos.now.cells p }
@@ -29,7 +29,7 @@ pub(crate) fn string_of(pos: &Position, p: Point) -> Found
     flood(&mut pos.board(), p)
 }
 
-/// The string of q and all its neighbours.
+/// The string of `q` and all its neighbours.
 #[tactic(auto, unfolding(crate::specs::Rests::close_to))]
 pub(crate) fn close_to(pos: &Position, q: Point) -> PointSet
     requires { q < pos.now.size * pos.now.size }
@@ -45,7 +45,8 @@ pub(crate) fn close_to(pos: &Position, q: Point) -> PointSet
     stones
 }
 
-/// The stones of a string and its first two liberties; if it has no two, the stones and all their neighbours.
+/// The stones of the string `found` and its first two liberties; if it has fewer than two, the stones and all their
+/// neighbours.
 fn shown_by(found: Found) -> PointSet
     ensures { result ≡ shown_by found.stones found.liberties found.enemies (first_two found.liberties) }
 {
@@ -67,8 +68,8 @@ fn shown_by(found: Found) -> PointSet
     stones
 }
 
-/// What shows whether the string of q is in atari: q, and its string with the first two liberties, or with all its
-/// neighbours if it has no two.
+/// The points that show whether the string of `q` is in atari: `q`, and its string with its first two liberties, or
+/// with all its neighbours if it has fewer than two liberties.
 pub(crate) fn shows_atari(pos: &Position, q: Point) -> PointSet
     requires on_board { q < pos.now.size * pos.now.size }
     requires small { q < largest_points }

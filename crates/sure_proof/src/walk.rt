@@ -1,5 +1,5 @@
-//! The walk over a proof: it reads the text from the left, a word at a node, and gathers the points on which the proof
-//! rests.
+//! The walk over a proof: it reads the text from the left, one word for each node, and gathers the points on which the
+//! proof rests.
 
 ghost use Rattle.std.specs.Prelude.{◌≡◌, ◌*◌, ◌<◌, ◌||◌, None, Some, MatchOption};
 ghost use Rattle.go_rules.specs.Board.{largest_points};
@@ -22,7 +22,7 @@ use read_proof::taking_back::{is_captured, taking_back};
 use read_rules::{Node, Spot};
 use vertices::{next_word, spells, target_named};
 
-/// Whether the target has more liberties than the attacker may play at.
+/// Whether the target has so many liberties that the attacker may not play at it.
 #[tactic(auto, unfolding(read_rules::specs::GameTree::has_many_liberties))]
 fn has_too_many(pos: &Position, node: Node) -> bool
     requires { node.turn.target < pos.now.size * pos.now.size }
@@ -48,7 +48,8 @@ fn is_taken_for_good(pos: &Position, node: Node) -> bool
     is_captured(pos, node) && taking_back(pos, node).is_none()
 }
 
-/// The text behind `.`, if the target is taken and cannot be taken back. The proof rests on what shows this.
+/// Answers `text`, which follows a `.`, if the target is taken and cannot be taken back. `zone` becomes the points that
+/// show this.
 fn capture_proved<'a>(
     pos: &Position,
     node: Node,
@@ -67,8 +68,8 @@ fn capture_proved<'a>(
     Some(text)
 }
 
-/// The text behind the proof of the node after the attacker's play at p, with `plies` plies left there, and the points
-/// on which the play and this proof rest.
+/// The text behind a proof of the node after the attacker's play at `p`, with `plies` plies left there. `zone` becomes
+/// the points on which the play and this proof rest.
 #[cycle(proof)]
 fn play_proved<'a>(
     pos: &Position,
@@ -93,7 +94,8 @@ fn play_proved<'a>(
     Some(left)
 }
 
-/// The text behind the proof of the node after the attacker's move, which is named, with `plies` plies left there.
+/// The text behind a proof of the node after the attacker's move `at`, with `plies` plies left there; `None` if `at` is
+/// no play on the board.
 #[cycle(proof)]
 fn move_proved<'a>(
     pos: &Position,
@@ -115,8 +117,8 @@ fn move_proved<'a>(
     play_proved(pos, node, plies, p, text, zone)
 }
 
-/// The text behind one reply, with `plies` plies left after it: if it can be made, its vertex comes, and the proof of
-/// the node after it. The points on which it rests come to the zone.
+/// The text behind the reply at `p`, with `plies` plies left after it: if it can be made, its vertex and the proof of
+/// the node after it stand in the text, else nothing does. The points on which the reply rests are added to `zone`.
 #[cycle(proof)]
 fn reply_proved<'a>(
     pos: &Position,
@@ -145,8 +147,8 @@ fn reply_proved<'a>(
     }
 }
 
-/// The text behind the replies that are asked for, one after another, with `plies` plies left after each. The points on
-/// which they rest come to the zone.
+/// The text behind the replies at the points of `asked`, one after another, with `plies` plies left after each. The
+/// points on which these replies rest are added to `zone`.
 #[cycle(proof)]
 fn replies_proved<'a>(
     pos: &Position,
@@ -172,8 +174,8 @@ fn replies_proved<'a>(
     Some(left)
 }
 
-/// The text behind the proof of the node after the defender's pass, with `plies` plies left there, and behind the
-/// replies that its zone asks for and the `;` that ends them.
+/// The text behind the proof of the node after the defender's pass, with `plies` plies left there, the replies that its
+/// zone asks for, and the `;` that ends them. `zone` becomes the points on which all this rests.
 #[cycle(proof)]
 fn defence_proved<'a>(
     pos: &Position,
@@ -197,8 +199,9 @@ fn defence_proved<'a>(
     Some(rest)
 }
 
-/// The text behind the proof of the node after the defender's play that takes back, if he can and the word is the vertex
-/// of the target's point, with `plies` plies left there, and the points on which this play and the proof rest.
+/// The text behind a proof of the node after the defender's play that takes back, with `plies` plies left there, if he
+/// can take back and `word` is the vertex of the target's point. `zone` becomes the points on which this play and the
+/// proof rest.
 #[cycle(proof)]
 fn back_proved<'a>(
     pos: &Position,
@@ -224,8 +227,8 @@ fn back_proved<'a>(
     Some(left)
 }
 
-/// The text behind what the first word proves with `plies` plies left after the move: a vertex at the attacker's turn;
-/// at the defender's `*`, or the vertex of the target's point if he takes back.
+/// The text behind a proof whose first word is `word`, with `plies` plies left after the move. At the attacker's turn
+/// the word is a vertex; at the defender's turn it is `*`, or the vertex of the target's point if he takes back.
 #[cycle(proof)]
 fn turn_proved<'a>(
     pos: &Position,
@@ -251,8 +254,8 @@ fn turn_proved<'a>(
     back_proved(pos, node, plies, word, text, zone)
 }
 
-/// The text behind the proof, in front of it, that with `plies` plies left the target is surely captured at the node,
-/// and the points on which the proof rests in place of the zone.
+/// The text behind the proof with which `text` begins: a proof that the target is surely captured at the node with
+/// `plies` plies left. `None` if it does not begin with one. `zone` becomes the points on which the proof rests.
 #[cycle(proof)]
 pub(crate) fn proved<'a>(
     pos: &Position,

@@ -9,7 +9,7 @@ ghost use Rattle.sure_proof.specs.SureProofs.{is_to, behind_word, behind_vertex}
 use go_base::{Point, Size};
 use vertices::{next_word, spells, target_named};
 
-/// The text behind the first word, if it is `;`.
+/// The text behind the first word, if that word is `;`.
 pub(crate) fn behind_end(text: &[u8]) -> Option<&[u8]>
     ensures { MatchOption result (behind_word (codes ";") (words_in text.now) ≡ None)
         (λ left. behind_word (codes ";") (words_in text.now) ≡ Some (words_in left.now)) }
@@ -21,7 +21,7 @@ pub(crate) fn behind_end(text: &[u8]) -> Option<&[u8]>
     Some(rest)
 }
 
-/// Whether the word is the vertex of p.
+/// Whether the word is the vertex of `p`.
 pub(crate) fn is_vertex(word: &[u8], size: Size, p: Point) -> bool
     ensures { result ≡ is_to (target_named size (kept word.now)) p }
 {
@@ -31,7 +31,7 @@ pub(crate) fn is_vertex(word: &[u8], size: Size, p: Point) -> bool
     }
 }
 
-/// The text behind the first word, if it is the vertex of p.
+/// The text behind the first word, if that word is the vertex of `p`.
 pub(crate) fn behind_vertex(text: &[u8], size: Size, p: Point) -> Option<&[u8]>
     ensures { MatchOption result (behind_vertex size p (words_in text.now) ≡ None)
         (λ left. behind_vertex size p (words_in text.now) ≡ Some (words_in left.now)) }

@@ -1,5 +1,5 @@
-//! Worked rows of printed proofs of sure captures: small positions, a text, and whether it is a proof. There is no code
-//! here but tests, so that the checker is not proved once more for them.
+//! Worked rows of printed proofs of sure captures: small positions, a text, and whether it is a proof. The crate holds
+//! only tests, so that the checker is not proved again for them.
 #![tactic(auto)]
 
 #[cfg(test)]

@@ -12,29 +12,29 @@ use vertices::vertex_named;
 
 /// A text about a question on a position.
 struct Row {
-    /// What it shows.
+    /// What the row shows.
     name: &'static str,
     /// The size of the board.
     size: u8,
     /// Black's stones.
     black: &'static str,
-    /// White's stones, played after black's; the last one may leave a ban.
+    /// White's stones, played after black's; the last one may leave a ko ban.
     white: &'static str,
-    /// Who plays first.
+    /// The kind of question: the attacker plays first for `Attack`, the defender for `Defend`.
     of: Kind,
-    /// The vertex of the stone.
+    /// The vertex of the target.
     target: &'static str,
     /// The plies, and how many of them are wide.
     depths: (u8, u8),
     /// The code under whose ko allowances the proof is read.
     code: u8,
-    /// The text.
+    /// The text that is checked.
     text: &'static str,
-    /// Whether it is a proof.
+    /// Whether the text is a proof.
     proves: bool,
 }
 
-/// Rows by what they show.
+/// Rows, each named by what it shows.
 static ROWS: [Row; 22] = [
     Row {
         name: "a stone in the corner is taken",
@@ -302,7 +302,7 @@ static ROWS: [Row; 22] = [
     },
 ];
 
-/// Rows in the wider tree, where a lone stone that is taken may be taken back.
+/// Rows in the wider tree, in which a lone stone that is taken may be taken back.
 static WIDER_ROWS: [Row; 11] = [
     Row {
         name: "a lone stone is taken back and captured again",
@@ -446,7 +446,7 @@ fn vertex(size: Size, name: &str) -> Option<Point>
     if p < size.points() { Some(p) } else { None }
 }
 
-/// The point of a vertex where a stone stands.
+/// The point of a vertex, if a stone stands there.
 fn stone(position: &Position, name: &str) -> Option<Point>
     ensures on_board { IfSome result (λ p. p < position.now.size * position.now.size) }
     ensures stone { IfSome result (λ p. cell_at position.now.cells p ≢ Cell.Empty) }
@@ -458,7 +458,7 @@ fn stone(position: &Position, name: &str) -> Option<Point>
     Some(p)
 }
 
-/// The position with these stones more.
+/// The position after plays of this colour at the vertices `names`.
 fn with_stones(position: Position, colour: Colour, names: &str) -> Option<Position> {
     let mut position = position;
     for name in names.split_whitespace() {
@@ -478,7 +478,7 @@ fn position(row: &Row) -> Option<Position> {
     )
 }
 
-/// Whether the checker says of the row's text in the tree what the row says.
+/// Whether the checker, in this tree, answers about the row's text what the row says.
 fn is_right(row: &Row, tree: Tree) -> Option<bool> {
     let position = position(row)?;
     let target = stone(&position, row.target)?;

@@ -1,6 +1,6 @@
--- Play against every defence, told by moves alone. Nothing here speaks of game trees or of candidates: two sides move
--- in turn, and the one that defends a stone may answer as it likes. Where the question is asked in the wider tree, a
--- lone stone counts as taken only if it cannot be taken back at once.
+-- Play against every defence, described by moves alone. Nothing here speaks of game trees or of candidates: two sides
+-- move in turn, and the side that defends a stone may answer as it likes. In the wider tree a lone stone counts as
+-- taken only if it cannot be taken back at once.
 use Rattle.std.specs.Prelude.{◌≡◌, ℕ, ◌-◌, ◌*◌, ◌<◌, ◌≤◌, true, List, [], ◌∷◌, length, Ok, Err, if◌then◌else◌}
 use Rattle.go_rules.specs.declared.Cell.TheVariants.{Empty}
 use Rattle.go_rules.specs.declared.Colour.{Colour}
@@ -20,15 +20,15 @@ use Rattle.read_rules.specs.Turns.{mover_of}
 use Rattle.read_rules.specs.Answer.{is_attack, own_allowance, other_allowance}
 use Rattle.sure_rules.specs.Nodes.{other_allowance_of}
 
--- where two sides stand in their game: the position, whose turn it is, and how often the side to play, and the other
--- side, may still play where the ko ban alone forbids it
+-- the standing of a game between two sides: the position, whose turn it is, and how often the side to play, and the
+-- other side, may still ignore the ko ban
 pub record Standing : Type 0 where
   pub board : BoardState
   pub to_play : Colour
   pub allowance : ℕ
   pub other_allowance : ℕ
 
--- after a move to this board that leaves its mover this allowance, the other side is to play
+-- the standing after a move to this board that leaves its mover the allowance left: the other side is to play
 abbrev pub turned : Standing → BoardState → ℕ → Standing
 turned here board left = record {
   board = board;
@@ -37,8 +37,8 @@ turned here board left = record {
   other_allowance = left;
 }
 
--- the side to play may make the move, and it leads to there: it passes; it makes a legal play; or it plays where the ko
--- ban alone forbids it, which takes one of its allowance
+-- the side to play may make the move, and it leads to there: the side passes; it makes a legal play; or it makes a play
+-- that only the ko ban forbids, which takes one of its allowances
 pub data IsMove (here : Standing) : Spot → Standing → Type 0 where
   passes : IsMove here Pass (turned here (pass here.board) here.allowance)
   plays : (p : ℕ) (new : BoardState) → p < here.board.size * here.board.size
@@ -47,8 +47,8 @@ pub data IsMove (here : Standing) : Spot → Standing → Type 0 where
       → play here.board here.to_play p ≡ Err Ko → play_free here.board here.to_play p ≡ Ok new
       → 0 < here.allowance → IsMove here (At p) (turned here new (here.allowance - 1))
 
--- these moves, the newest first, lead from the start to here: each may be made, the other side than the defender plays
--- stones, and the defender answers the moves so far by his reply to them
+-- these moves, the newest first, lead from the start to here: each may be made, the attacker plays stones, and the
+-- defender answers the moves so far by his reply to them
 pub data IsGame (defender : Colour) (reply : List Spot → Spot) (start : Standing) : List Spot → Standing → Type 0 where
   begins : IsGame defender reply start [] start
   attacks : {moves : List Spot} {here there : Standing} → IsGame defender reply start moves here
@@ -58,7 +58,7 @@ pub data IsGame (defender : Colour) (reply : List Spot → Spot) (start : Standi
       → here.to_play ≡ defender → IsMove here (reply moves) there
       → IsGame defender reply start (reply moves ∷ moves) there
 
--- wherever it is the defender's turn, his reply to the moves so far is a move that he may make
+-- whenever it is the defender's turn, his reply to the moves so far is a move that he may make
 abbrev pub IsDefence : Colour → (List Spot → Spot) → Standing → Type 0
 IsDefence defender reply start = (moves : List Spot) (here : Standing) → IsGame defender reply start moves here
     → here.to_play ≡ defender → (there : Standing) × IsMove here (reply moves) there
@@ -78,13 +78,13 @@ pub record IsTakenForGood (target : ℕ) (defender : Colour) (here : Standing) :
   pub empty : cell_at here.board.cells target ≡ Empty
   pub kept : CanTakeBack target defender here → ⊥
 
--- what is to be reached in a tree: in the stated one the target's point is empty; in the wider one the stone is taken
--- and cannot be taken back at once
+-- what the attacker has to reach in a tree: in the stated tree the target's point is empty; in the wider tree the stone
+-- is taken and cannot be taken back at once
 abbrev pub IsTaken : Tree → ℕ → Colour → Standing → Type 0
 IsTaken Stated target defender here = cell_at here.board.cells target ≡ Empty
 IsTaken Wider target defender here = IsTakenForGood target defender here
 
--- against this reply some game of at most n moves ends where the stone is taken
+-- against this reply some game of at most n moves ends with the stone taken
 pub record IsTakenAgainst (tree : Tree) (n target : ℕ) (defender : Colour) (start : Standing)
     (reply : List Spot → Spot) : Type 0 where
   pub moves : List Spot
@@ -126,7 +126,7 @@ pub record IsPlanWithin (tree : Tree) (n target : ℕ) (defender : Colour) (star
 abbrev pub HasPlanWithin : Tree → ℕ → ℕ → Colour → Standing → Type 0
 HasPlanWithin tree n target defender start = (plan : List Spot → ℕ) × IsPlanWithin tree n target defender start plan
 
--- where the two sides stand at a node
+-- the standing at a node
 abbrev pub standing_at : Node → BoardState → Standing
 standing_at node pos = record {
   board = pos;
@@ -135,8 +135,8 @@ standing_at node pos = record {
   other_allowance = other_allowance_of node;
 }
 
--- where a question begins under the ko allowances of a code: on the position, and with the side to play that is asked
--- about, the attacker in an attack and the defender in a defence
+-- the standing at which a question begins under the ko allowances of a code: on the position, and with the side to play
+-- that is asked about, the attacker in an attack and the defender in a defence
 abbrev pub start_of : ReadingQuestion → BoardState → ℕ → Standing
 start_of q pos code = record {
   board = pos;

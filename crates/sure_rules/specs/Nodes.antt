@@ -32,7 +32,7 @@ is_taken_for_good node pos = is_gone node pos && is_none (taking_back node pos)
 abbrev pub has_too_many : Node → BoardState → Bool
 has_too_many node pos = has_many_liberties node.turn pos
 
--- how often the side that is not to play may still play where the ban alone forbids it
+-- how often the side that is not to play may still ignore the ko ban
 abbrev pub other_allowance_of : Node → ℕ
 other_allowance_of node = if node.turn.attacker_to_play then node.defender_ko else node.attacker_ko
 

@@ -37,7 +37,7 @@ pub record SurelySucceeds (n : ℕ) (node : Node) (pos : BoardState) (p : ℕ) :
   pub child : IsChild node pos p next new
   pub outcome : surely_wins n next new ≡ is_attackers node
 
--- p is the first point in reading order that succeeds, and no pass does
+-- p is the first point in reading order that succeeds, and the pass does not succeed
 pub record IsFirstSurePoint (n : ℕ) (node : Node) (pos : BoardState) (p : ℕ) : Type 0 where
   pub no_pass : pass_holds n node pos ≡ false
   pub succeeds : SurelySucceeds n node pos p

@@ -11,7 +11,7 @@ use Rattle.read_rules.specs.declared.node.Node.{Node}
 use Rattle.read_rules.specs.GameTree.{allowance_of, next_node, child_of, some_child, each_child, taking_back}
 use Rattle.sure_rules.specs.Nodes.{is_attackers, is_gone, is_taken_for_good, has_too_many, in_wider_tree}
 
--- p is tried: at the attacker's turn it is a candidate, at the defender's a point of the board
+-- p is tried: at the attacker's turn it is a candidate, at the defender's turn a point of the board
 abbrev pub is_tried : Node → BoardState → ℕ → Bool
 is_tried node pos p = if is_attackers node then is_candidate node.turn pos p else nat_lt p (pos.size * pos.size)
 
@@ -20,9 +20,9 @@ abbrev pub tried_points : Node → BoardState → List ℕ
 tried_points node pos = filter (is_tried node pos) (range_with_len 0 (pos.size * pos.size))
 
 -- with n plies left the target is surely captured: it is taken already, and if the defender can take back, a ply is
--- left for it and it is surely captured after that too; or it is the attacker's turn, the target has not too many
--- liberties, and some candidate leads to a node at which it is surely captured; or it is the defender's turn, and the
--- pass and each play on the board that can be made lead to nodes at which it is surely captured
+-- left for that and the target is surely captured afterwards too; or it is the attacker's turn, the target has not too
+-- many liberties, and some candidate leads to a node at which it is surely captured; or it is the defender's turn, and
+-- the pass and each play on the board that can be made lead to nodes at which it is surely captured
 unfoldable pub surely_wins : ℕ → Node → BoardState → Bool
 surely_wins zero node pos = is_taken_for_good node pos
 surely_wins (suc n) node pos = if is_gone node pos
@@ -33,14 +33,15 @@ surely_wins (suc n) node pos = if is_gone node pos
     else surely_wins n (next_node node (allowance_of node)) (pass pos)
     && list_all (λ p. each_child (surely_wins n) (child_of node pos p)) (tried_points node pos)
 
--- what holds of each node to which a move leads at the node: to the pass and to each play on the board at the
+-- below is true of each node to which a move leads at the node: to the pass and to each play on the board at the
 -- defender's turn, and to each candidate at the attacker's
 pub record IsAfterEachMove (below : Node → BoardState → Type 0) (node : Node) (pos : BoardState) : Type 0 where
   pub passed : is_attackers node ≡ false → below (next_node node (allowance_of node)) (pass pos)
   pub played : (p : ℕ) (next : Node) (new : BoardState) → IsTrue (is_tried node pos p)
       → child_of node pos p ≡ Some (next, new) → below next new
 
--- within n plies from here the target is nowhere taken so that in the wider tree the defender could take it back
+-- within n plies from here the target is never taken in such a way that the defender could take it back in the wider
+-- tree
 abbrev pub IsNeverTakenBack : ℕ → Node → BoardState → Type 0
 IsNeverTakenBack zero node pos = taking_back (in_wider_tree node) pos ≡ None
 IsNeverTakenBack (suc n) node pos = (taking_back (in_wider_tree node) pos ≡ None)

@@ -1,5 +1,5 @@
--- Zones: the points that a sure capture rests on, and the rules by which one is found. A reply of the defender that
--- changes nothing in the zone of his pass loses as the pass does, so only the others have to be read.
+-- Zones: the points that a sure capture rests on, and the rules by which a zone is found. A reply of the defender that
+-- changes nothing in the zone of his pass loses as the pass does, so only the other replies have to be read.
 use Rattle.std.specs.Prelude.{◌≡◌, ℕ, ◌*◌, ◌<◌, Bool, false, IsTrue}
 use Rattle.go_rules.specs.declared.Cell.TheVariants.{Empty}
 use Rattle.go_rules.specs.Strings.{cell_at}
@@ -34,17 +34,17 @@ pub record IsTakenZone (node : Node) (pos : BoardState) (Z : ℕ → Bool) : Typ
   pub point : IsTrue (Z (target_of node))
   pub kept : WhereverAgrees pos Z (λ here. (next : Node) (made : BoardState) → TakesBack node here next made → ⊥)
 
--- Z shows that to take back does not save a target that is taken: it contains the target's point, and on every position
--- that agrees with this one on Z, where the defender can take back, the target is surely captured at the child, with n
+-- Z shows that taking back does not save a target that is taken: it contains the target's point, and on every position
+-- that agrees with this one on Z, if the defender can take back, the target is surely captured at the child, with n
 -- plies left
 pub record IsTakingBackZone (n : ℕ) (node : Node) (pos : BoardState) (Z : ℕ → Bool) : Type 0 where
   pub point : IsTrue (Z (target_of node))
   pub fails : WhereverAgrees pos Z (λ here. (next : Node) (made : BoardState) → TakesBack node here next made
       → IsTrue (surely_wins n next made))
 
--- Z shows that one play of the attacker captures: on every position that agrees on Z, the target has not too many
--- liberties, the point is a candidate, and the play there leads to the same next node and to a position that agrees with
--- the new one on a zone of that node
+-- Z shows that one play of the attacker captures: on every position that agrees with this one on Z, the target has not
+-- too many liberties, the point is a candidate, and the play there leads to the same next node and to a position that
+-- agrees with the new one on a zone of that node
 pub record IsPlayZone (n : ℕ) (node : Node) (pos : BoardState) (Z : ℕ → Bool) : Type 0 where
   pub point : ℕ
   pub next : Node
@@ -56,9 +56,10 @@ pub record IsPlayZone (n : ℕ) (node : Node) (pos : BoardState) (Z : ℕ → Bo
       × AgreeOn (points_of after) new made)
   pub zone : IsZone n next new after
 
--- Z shows that no reply of the defender holds: it contains a zone of the node after his pass; each empty point of that
--- zone is a reply that is read, and so is, on every position that agrees on Z, the only liberty of an attacker's string
--- that has a stone in it; and on every such position each reply that is read and can be made fails
+-- Z shows that no reply of the defender holds: it contains a zone of the node after his pass. A reply is read at each
+-- empty point of that zone, and, on every position that agrees with this one on Z, at the only liberty of an attacker's
+-- string that has a stone in that zone. On each position that agrees with this one on Z, each reply that is read and
+-- can be made fails
 pub record IsReplyZone (n : ℕ) (node : Node) (pos : BoardState) (Z : ℕ → Bool) : Type 0 where
   pub passed : ℕ → Bool
   pub is_read : ℕ → Bool

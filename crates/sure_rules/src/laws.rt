@@ -24,8 +24,8 @@ ghost use Rattle.sure_rules.specs.Zones.{IsZone, IsTakenZone, IsTakingBackZone, 
 use read_rules::Kind;
 
 /// The four rules of a sure capture, in their order. The attacker plays a candidate; the defender passes, or plays
-/// anywhere on the board. A target that is taken is surely captured, but where the defender can take back the lone
-/// stone only if a ply is left for it and the capture is sure after it too.
+/// anywhere on the board. A target that is taken is surely captured. If the defender can take back the lone stone, it
+/// is only surely captured if a ply is left for taking back and the capture is sure afterwards too.
 pub fn sure_captures_are_by_four_rules()
     ensures captured { (n : ℕ) (node : Node) (pos : BoardState) → IsTrue (is_gone node pos)
         → ((next : Node) (new : BoardState) → TakesBack node pos next new → ⊥)
@@ -45,8 +45,8 @@ pub fn sure_captures_are_by_four_rules()
         IsTrue (surely_wins (n + 1) node pos) ↔ EveryReplyFails n node pos }
 {}
 
-/// What is surely captured is captured in the game tree of a reading: a sure yes of an attack is a yes, with at least
-/// its code, and a string that is surely not to be saved is not saved by a reading.
+/// What is surely captured is captured in the game tree of a reading. So a sure attack is an attack, with at least its
+/// code, and a string that is surely not to be saved is not saved by a reading.
 pub fn sure_captures_are_captures()
     ensures node { (n : ℕ) (node : Node) (pos : BoardState) → IsTrue (surely_wins n node pos)
         → IsTrue (attacker_wins n node pos) }
@@ -57,10 +57,10 @@ pub fn sure_captures_are_captures()
 {}
 
 /// A sure capture stays sure with more plies; if the attacker may ignore the ko ban more often, or the defender less
-/// often; and if the attacker tries further candidates, with more wide plies, or in the wider tree. There a string of
-/// two stones or more stays surely captured, and so does a lone stone that, wherever it is taken, cannot be taken
-/// back: since in the wider tree a stone that is taken back at once, by a snapback or a ko, does not count as
-/// captured, the capture of a lone stone may be sure in the stated tree alone.
+/// often; and if the attacker tries further candidates, with more wide plies, or in the wider tree. In the wider tree a
+/// string of two stones or more stays surely captured, and so does a lone stone that can never be taken back. The wider
+/// tree does not count a stone as captured that is taken back at once, by a snapback or a ko, so the capture of a lone
+/// stone may be sure in the stated tree alone.
 pub fn sure_captures_stay_sure()
     ensures more_plies { (n : ℕ) (node : Node) (pos : BoardState) → IsTrue (surely_wins n node pos)
         → IsTrue (surely_wins (n + 1) node pos) }
@@ -72,11 +72,11 @@ pub fn sure_captures_stay_sure()
         → IsTrue (surely_wins n node pos) → IsTrue (surely_wins m more pos) }
 {}
 
-/// A sure capture stands against every defence: whatever the defender answers, by moves that he may make, some game
-/// of at most so many moves takes the stone; in the wider tree it ends where the stone is taken and cannot be taken
-/// back at once. The sides move in turn, and each may play where the ko ban alone forbids it as often as its
-/// allowance says. A sure attack takes the stone under the allowances of its code; a string that is surely not to be
-/// saved is taken under those of every code, whatever the defender plays first.
+/// A sure capture stands against every defence: whatever the defender answers, by moves that he may make, some game of
+/// at most as many moves as plies are left takes the stone. In the wider tree the game ends when the stone is taken and
+/// cannot be taken back at once. The sides move in turn, and each may ignore the ko ban as often as its allowance says.
+/// A sure attack takes the stone under the allowances of its code. A string that is surely not to be saved is taken
+/// under the allowances of every code, whatever the defender plays first.
 pub fn sure_captures_stand_against_every_defence()
     ensures node { (n : ℕ) (node : Node) (pos : BoardState) → IsTrue (surely_wins n node pos)
         → IsTakenAnyway node.turn.tree n (target_of node) (defender_of node) (standing_at node pos) }
@@ -87,9 +87,9 @@ pub fn sure_captures_stand_against_every_defence()
         → IsTakenAnyway q.tree q.plies q.target q.colour (start_of q pos code) }
 {}
 
-/// A sure capture has a plan: a point for each list of moves so far, such that in every game in which the attacker
-/// plays by it, and the defender as he likes, the plan's move may be made and the stone is taken within so many
-/// moves.
+/// A sure capture has a plan, which names a point for each list of moves so far. In every game in which the attacker
+/// plays by the plan, and the defender as he likes, the plan's move may be made, and the stone is taken within as many
+/// moves as plies are left.
 pub fn sure_captures_have_a_plan()
     ensures node { (n : ℕ) (node : Node) (pos : BoardState) → IsTrue (surely_wins n node pos)
         → HasPlanWithin node.turn.tree n (target_of node) (defender_of node) (standing_at node pos) }
@@ -100,8 +100,9 @@ pub fn sure_captures_have_a_plan()
         → HasPlanWithin q.tree q.plies q.target q.colour (start_of q pos code) }
 {}
 
-/// The codes of a sure answer by their ko allowances of attacker and defender, each code within the one below it, the
-/// greatest of them, and the first move that attains it.
+/// The ko allowances of attacker and defender under which each code of a sure answer is attained. A question that
+/// attains a code attains the codes below it. The code of the answer is the greatest that is attained, and its move is
+/// the first that attains it.
 pub fn sure_answers_are_by_codes()
     ensures attack_3 { (q : ReadingQuestion) (pos : BoardState) → q.kind ≡ Kind.Attack
         → surely_attains q pos 3 ≡ surely_wins q.plies (node_under q 0 1) pos }
@@ -135,11 +136,11 @@ pub fn sure_answers_are_by_codes()
 
 /// A zone of a sure capture is a set of points on which it rests: on every position that agrees there, in cells and
 /// bans, the target is surely captured with the same plies. A target that is taken rests on its own point and on what
-/// shows that it is not taken back; where it can be, on what the capture after that rests on. At the attacker's turn
-/// a capture rests on what shows one play of his, and on what its child rests on. At the defender's turn it rests on
-/// what the pass rests on and on the replies that are read: those at an empty point of that zone, and those at the
-/// only liberty of an attacker's string that has a stone in it. Every other reply changes nothing there, since what a
-/// play captures had its only liberty at the point of the play.
+/// shows that it is not taken back; if it can be taken back, on what the capture afterwards rests on. At the attacker's
+/// turn a capture rests on what shows one play of his, and on what its child rests on. At the defender's turn it rests
+/// on what the capture after the pass rests on, and on the replies that are read: those at an empty point of the pass's
+/// zone, and those at the only liberty of an attacker's string that has a stone in that zone. Every other reply changes
+/// nothing in that zone, since what a play captures had its only liberty at the point of the play.
 pub fn zones_are_by_rules()
     ensures itself { (n : ℕ) (node : Node) (pos : BoardState) (Z : ℕ → Bool) → IsPosition pos → IsZone n node pos Z
         → IsTrue (surely_wins n node pos) }

@@ -1,6 +1,5 @@
-//! Worked rows of sure captures: small positions, what the tree of a reading answers there, and what is sure; and
-//! sessions of `gopat_sure` in memory. There is no code here but tests, so that the readers are not proved once more for
-//! them.
+//! Worked rows of sure captures: small positions, the answer of the plain game tree, and the sure answer; and sessions
+//! of `gopat_sure` in memory. The crate holds only tests, so that the readers are not proved again for them.
 #![tactic(auto)]
 
 #[cfg(test)]

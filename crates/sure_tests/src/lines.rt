@@ -4,21 +4,21 @@ use gtp_io::{Feed, Page, Shelf};
 use std::alloc::Global;
 use sure_lines::{Depths, End, SureMachine, serve};
 
-/// The most bytes that the source gives at once.
+/// How many bytes the source gives at once, at most.
 const PIECE: usize = 7;
 
-/// The most bytes that the sink takes, and takes at once.
+/// How many bytes the sink takes at most, in all and at once.
 const ROOM: usize = 1000;
 
-/// The name of the one file.
+/// The name of the only file that can be loaded.
 const NAME: &str = "corner.sgf";
 
-/// A stone in the corner: black A1, white B2.
+/// The game record in the file: a stone in the corner, black A1 and white B2.
 const RECORD: &[u8] = b"(;SZ[5]AB[ae]AW[bd])";
 
-/// Lines, the numbers of the calls of source and sink that fail, what is put, and how the session ends.
+/// A session: its lines, the calls of source and sink that fail, the bytes that are written, and how the session ends.
 struct Row {
-    /// What it shows.
+    /// What the session shows.
     name: &'static str,
     /// The bytes of the lines.
     lines: &'static [u8],
@@ -26,13 +26,13 @@ struct Row {
     input_fails: &'static [u64],
     /// The numbers of the calls of the sink that fail.
     output_fails: &'static [u64],
-    /// The bytes that are put.
+    /// The bytes that are written to the sink.
     put: &'static [u8],
     /// How the session ends.
     end: End,
 }
 
-/// Sessions by what they show.
+/// Sessions, each named by what it shows.
 static ROWS: [Row; 9] = [
     Row {
         name: "a last line without a line feed is answered",
@@ -111,7 +111,7 @@ static ROWS: [Row; 9] = [
     },
 ];
 
-/// The shelf with the one file.
+/// The loader in memory, with the only file.
 fn shelf(alloc: Global) -> Option<Shelf> {
     let mut names = Vec::new(alloc);
     names.push(String::from_str(alloc, NAME).ok()?).ok()?;
@@ -120,7 +120,7 @@ fn shelf(alloc: Global) -> Option<Shelf> {
     Some(Shelf::new(names, contents, Vec::new(alloc)))
 }
 
-/// Whether a row's session puts what it says, and ends so.
+/// Whether the session of a row writes the bytes and has the end that the row says.
 fn is_right(alloc: Global, row: &Row) -> Option<bool> {
     let mut machine = SureMachine::new(alloc, Depths::new(10, 2)?).ok()?;
     let mut feed = Feed::new(

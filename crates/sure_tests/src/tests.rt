@@ -1,5 +1,6 @@
-//! Sure answers on small positions, beside those of the tree. Both are from a second plain program, which tries every
-//! move by the definition alone, as one of the two readers does; the other reads by zones, and can read deeper.
+//! Sure answers on small positions, beside the answers of the plain game tree. Both are from a second plain program,
+//! which tries every move by the definition alone, as the reader `read_sure` does; the reader `read_zones` reads by
+//! zones, and can read deeper.
 
 ghost use Rattle.std.specs.Prelude.{◌≡◌, ◌≢◌, ◌*◌, ◌<◌, IfSome};
 ghost use Rattle.go_rules.specs.Strings.{cell_at};
@@ -13,23 +14,23 @@ use vertices::vertex_named;
 
 /// A question on a position, and its two answers.
 struct Row {
-    /// What it shows.
+    /// What the row shows.
     name: &'static str,
     /// The size of the board.
     size: u8,
     /// Black's stones.
     black: &'static str,
-    /// White's stones, played after black's; the last one may leave a ban.
+    /// White's stones, played after black's; the last one may leave a ko ban.
     white: &'static str,
     /// What is asked.
     kind: Kind,
-    /// The vertex of the stone.
+    /// The vertex of the target.
     target: &'static str,
     /// The plies, and how many of them are wide.
     depths: (u8, u8),
-    /// The tree whose candidates are tried.
+    /// The tree that names the candidates.
     tree: Tree,
-    /// The code of the reading in that tree.
+    /// The code of the plain reading in that tree.
     code: u8,
     /// The sure code.
     sure: u8,
@@ -37,7 +38,7 @@ struct Row {
     at: &'static str,
 }
 
-/// Rows by what they show.
+/// Rows, each named by what it shows.
 static ROWS: [Row; 23] = [
     Row {
         name: "a stone in the corner is taken whatever black plays",
@@ -340,8 +341,8 @@ static ROWS: [Row; 23] = [
     },
 ];
 
-/// Rows that are too deep to try every reply. Their codes are from a second plain program that finds zones by another
-/// rule, and so is each move, by its answers after every play.
+/// Rows that are too deep for a program that tries every reply. Their codes are from a second plain program that finds
+/// zones by another rule; each move is from its answers after every play.
 static DEEP_ROWS: [Row; 5] = [
     Row {
         name: "a net holds for nine plies",
@@ -418,7 +419,7 @@ fn vertex(size: Size, name: &str) -> Option<Point>
     if p < size.points() { Some(p) } else { None }
 }
 
-/// The point of a vertex where a stone stands.
+/// The point of a vertex, if a stone stands there.
 fn stone(position: &Position, name: &str) -> Option<Point>
     ensures on_board { IfSome result (λ p. p < position.now.size * position.now.size) }
     ensures stone { IfSome result (λ p. cell_at position.now.cells p ≢ Cell.Empty) }
@@ -430,7 +431,7 @@ fn stone(position: &Position, name: &str) -> Option<Point>
     Some(p)
 }
 
-/// The position with these stones more.
+/// The position after plays of this colour at the vertices `names`.
 fn with_stones(position: Position, colour: Colour, names: &str) -> Option<Position> {
     let mut position = position;
     for name in names.split_whitespace() {
@@ -450,7 +451,7 @@ fn position(row: &Row) -> Option<Position> {
     )
 }
 
-/// The move that is written so, a vertex or `PASS`; nothing if no move is written.
+/// The move that `name` writes, a vertex or `PASS`; `None` if it writes no move.
 fn spot(size: Size, name: &str) -> Option<Spot> {
     if name == "PASS" {
         return Some(Spot::Pass);
@@ -469,7 +470,7 @@ fn asked(row: &Row, position: &Position) -> Option<(Point, Depths)>
     Some((target, depths))
 }
 
-/// The answer that a row wants.
+/// The sure answer that a row expects.
 fn wanted(row: &Row, size: Size) -> Answer {
     Answer {
         code: row.sure,
@@ -477,7 +478,7 @@ fn wanted(row: &Row, size: Size) -> Answer {
     }
 }
 
-/// Whether the reading in the tree has the row's code.
+/// Whether the plain reading in the row's tree has the row's code.
 fn is_told(row: &Row, position: &Position) -> Option<bool> {
     let (target, depths) = asked(row, position)?;
     let told = match row.kind {
@@ -487,7 +488,7 @@ fn is_told(row: &Row, position: &Position) -> Option<bool> {
     Some(told.code == row.code)
 }
 
-/// Whether the row's sure answer is found by trying every reply.
+/// Whether `read_sure`, which tries every reply, finds the row's sure answer.
 fn is_found_by_every_reply(row: &Row, position: &Position) -> Option<bool> {
     let (target, depths) = asked(row, position)?;
     let sure = match row.kind {
@@ -497,7 +498,7 @@ fn is_found_by_every_reply(row: &Row, position: &Position) -> Option<bool> {
     Some(sure == wanted(row, position.size()))
 }
 
-/// Whether the row's sure answer is found by zones.
+/// Whether `read_zones` finds the row's sure answer.
 fn is_found_by_zones(row: &Row, position: &Position) -> Option<bool> {
     let (target, depths) = asked(row, position)?;
     let sure = match row.kind {
@@ -507,7 +508,7 @@ fn is_found_by_zones(row: &Row, position: &Position) -> Option<bool> {
     Some(sure == wanted(row, position.size()))
 }
 
-/// Whether the row's question has its two answers, and the sure one is found in both ways.
+/// Whether the row's question has both of its answers, and both readers find the sure one.
 fn is_right(row: &Row) -> Option<bool> {
     let position = position(row)?;
     Some(
@@ -517,7 +518,7 @@ fn is_right(row: &Row) -> Option<bool> {
     )
 }
 
-/// Whether the deep row's question has its two answers, the sure one by zones.
+/// Whether a deep row's question has both of its answers; only `read_zones` reads the sure one.
 fn is_right_deep(row: &Row) -> Option<bool> {
     let position = position(row)?;
     Some(is_told(row, &position)? && is_found_by_zones(row, &position)?)

@@ -1,4 +1,4 @@
-//! What texts come to.
+//! What the readers make of texts.
 mod databases;
 mod expressions;
 mod nesting;
@@ -7,7 +7,7 @@ mod records;
 
 use std::alloc::{AllocError, Global};
 
-/// A text that is one part over and over.
+/// A text of `count` copies of `part`.
 fn repeated(alloc: Global, count: usize, part: &[u8]) -> Result<Vec<u8>, AllocError> {
     let mut text = Vec::new(alloc);
     for _ in 0..count {

@@ -31,13 +31,13 @@ pub record LeastOf (s : ℕ) (cells : List Cell) (q r : ℕ) : Type 0 where
   pub inside : is_in_string s cells q r ≡ true
   pub least : (k : ℕ) → k < r → is_in_string s cells q k ≡ false
 
--- new has the members of old and the least point of the string of q; an empty q has no string, so nothing comes
+-- new has the points of old and the least point of the string of q; an empty q has no string, so no point comes
 pub record AddsLeast (s : ℕ) (cells : List Cell) (q : ℕ) (old new : set.FinSet nat_cmp) : Type 0 where
   pub kept : (r : ℕ) → set.contains old r ≡ true → set.contains new r ≡ true
   pub only : (r : ℕ) → set.contains new r ≡ true → (set.contains old r ≡ true) ⊎ LeastOf s cells q r
   pub all : (r : ℕ) → LeastOf s cells q r → set.contains new r ≡ true
 
--- the set has the least point of the string of each point seen
+-- least has the least point of the string of each point in seen
 abbrev pub KnowsLeast : ℕ → List Cell → set.FinSet nat_cmp → set.FinSet nat_cmp → Type 0
 KnowsLeast s cells seen least = (q : ℕ) → set.contains seen q ≡ true → (r : ℕ) → LeastOf s cells q r
     → set.contains least r ≡ true

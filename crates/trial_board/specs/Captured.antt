@@ -1,4 +1,4 @@
--- The points of the stones that trial moves took, one after another in one row for all moves.
+-- The points of the stones that trial moves took, kept one after another in one row for all moves.
 use Rattle.std.specs.Prelude.{ℕ, zero, suc, ◌+◌, ◌*◌, List, slice_index_or}
 use Rattle.std.specs.Ordering.{nat_cmp}
 use Rattle.std.specs.FinSet as set
@@ -6,7 +6,7 @@ use Rattle.go_rules.specs.declared.Cell.{Cell}
 use Rattle.go_rules.specs.Below.{count_below}
 use Rattle.go_rules.specs.Strings.{cell_at, is_stone}
 
--- how many stones can be taken: those of a full board of the largest size, and one for each trial move
+-- how many stones can be taken: the stones of a full board of the largest size, and one for each trial move
 abbrev pub most_captured : ℕ
 most_captured = 825
 

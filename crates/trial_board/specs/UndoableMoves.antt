@@ -20,7 +20,7 @@ pub record UndoableMove : Type 0 where
   pub first : ℕ
   pub taken : ℕ
 
--- the move that was made at a point
+-- the move that this mover made at the point; nobody makes a pass
 abbrev pub made_of : Mover → ℕ → TrialMove
 made_of Nobody at = Pass
 made_of by_black at = Play (record { colour = Black; at = at; dropped = false })
@@ -40,37 +40,37 @@ abbrev pub mover_of : TrialMove → Mover
 mover_of Pass = Nobody
 mover_of (Play m) = player m.colour m.dropped
 
--- where the move was made
+-- the point of the move; 0 for a pass
 abbrev pub place_of : TrialMove → ℕ
 place_of Pass = 0
 place_of (Play m) = m.at
 
--- the ban on a play at a point
+-- the ban on a play at the point by the banned colour; None if no one is banned
 abbrev pub ban_of : Banned → ℕ → Option (ℕ × Colour)
 ban_of no_one at = None
 ban_of bans_black at = Some (at, Black)
 ban_of bans_white at = Some (at, White)
 
--- who is banned
+-- who is banned by a ban on the colour
 abbrev pub on_colour : Colour → Banned
 on_colour Black = bans_black
 on_colour White = bans_white
 
--- whom the ban is on
+-- whom the ban is on; no one without a ban
 abbrev pub banned_of : Option (ℕ × Colour) → Banned
 banned_of None = no_one
 banned_of (Some b) = on_colour b.1
 
--- where the ban is
+-- the point of the ban; 0 without a ban
 abbrev pub ban_place_of : Option (ℕ × Colour) → ℕ
 ban_place_of None = 0
 ban_place_of (Some b) = b.0
 
--- what the fields keep
+-- the kept move that the fields stand for
 abbrev pub kept_move : Inside → UndoableMove
 kept_move a = record { made = made_of a.by a.at; ban = ban_of a.banned a.ban_at; first = a.first; taken = a.taken }
 
--- a point that says nothing is the first
+-- the point of a pass is 0, and so is the point of no ban
 pub record IsPlain (a : Inside) : Type 0 where
   pub at : place_of (made_of a.by a.at) ≡ a.at
   pub ban_at : ban_place_of (ban_of a.banned a.ban_at) ≡ a.ban_at
@@ -86,7 +86,7 @@ fields_of k = record {
   banned = banned_of k.ban;
 }
 
--- who made the move comes back
+-- mover_of gives back the mover that made_of was given
 mover_back : (by : Mover) (at : ℕ) → mover_of (made_of by at) ≡ by
 mover_back Nobody at = refl
 mover_back by_black at = refl
@@ -94,13 +94,13 @@ mover_back by_white at = refl
 mover_back BlackAgainstBan at = refl
 mover_back WhiteAgainstBan at = refl
 
--- whom the ban is on comes back
+-- banned_of gives back the banned one that ban_of was given
 banned_back : (banned : Banned) (at : ℕ) → banned_of (ban_of banned at) ≡ banned
 banned_back no_one at = refl
 banned_back bans_black at = refl
 banned_back bans_white at = refl
 
--- the fields with these points and movers
+-- the fields of a with these points, mover and banned one
 fields : Inside → ℕ → ℕ → Mover → Banned → Inside
 fields a at ban_at by banned = record {
   at = at;
@@ -111,7 +111,7 @@ fields a at ban_at by banned = record {
   banned = banned;
 }
 
--- the fields come back from what they keep
+-- the kept move determines its fields
 pub fields_of-kept_move : (a : Inside) → IsPlain a → fields_of (kept_move a) ≡ a
 unfolding fields
 fields_of-kept_move a h =

@@ -1,4 +1,4 @@
-//! The enemy strings next to a string, on a board whose cells are told one by one.
+//! The enemy strings next to a string, on a board that is read cell by cell.
 
 ghost use Rattle.std.specs.Prelude.{◌≡◌, ◌*◌, ◌<◌};
 ghost use Rattle.go_rules.specs.Board.{largest_points};
@@ -12,7 +12,7 @@ use go_base::points::PointSet;
 use go_base::size::Point;
 use go_base::view::View;
 
-/// Adds the least point of the string of q, unless the string was seen.
+/// Adds the least point of the string of `q` to `least`, unless the string was seen before.
 fn add_least<V: View>(board: &mut V, q: Point, seen: &mut PointSet, least: &mut PointSet)
     requires on_board { q < V.rows board.old * V.rows board.old }
     requires small { q < largest_points }
@@ -36,7 +36,7 @@ fn add_least<V: View>(board: &mut V, q: Point, seen: &mut PointSet, least: &mut 
     }
 }
 
-/// The least point of each enemy string next to the string of p, none if p is empty.
+/// The least point of each enemy string next to the string of `p`; none if `p` is empty.
 pub(crate) fn boundary_of<V: View>(board: &mut V, p: Point) -> PointSet
     requires { p < V.rows board.old * V.rows board.old }
     ensures looks { Looks V.cells V.asks board.old board.new anywhere }

@@ -1,4 +1,4 @@
-//! The points of the stones that trial moves took, one after another in one row for all moves.
+//! The points of the stones that trial moves took, kept one after another in one row for all moves.
 
 ghost use Rattle.std.specs.Prelude.{◌≡◌, ℕ, ◌+◌, ◌<◌, ◌≤◌, IsTrue, length, replicate, slice_index_or};
 ghost use Rattle.std.specs.FinSet as set;
@@ -9,7 +9,7 @@ use crate::moves::MAX_TRIAL_MOVES;
 use go_base::points::PointSet;
 use go_base::size::{MAX_POINTS, Point};
 
-/// How many stones the standing moves can have taken: those of a full board, and one for each move.
+/// How many stones the standing moves can have taken: the stones of a full board, and one for each move.
 pub const MAX_CAPTURED: usize = MAX_POINTS + MAX_TRIAL_MOVES;
 
 /// A row with no point in use.
@@ -19,7 +19,7 @@ pub fn nothing_captured() -> [Point; MAX_CAPTURED]
     [0; MAX_CAPTURED]
 }
 
-/// Writes the points into the row, one after another from the place `first` on.
+/// Writes the points into `row`, one after another from the place `first` on.
 fn note_each(row: &mut [Point; MAX_CAPTURED], first: u16, points: &PointSet)
     requires row_whole { length row.old ≡ most_captured }
     requires small { (q : ℕ) → IsTrue (set.contains points.now q) → q < largest_points }
@@ -37,8 +37,8 @@ fn note_each(row: &mut [Point; MAX_CAPTURED], first: u16, points: &PointSet)
     }
 }
 
-/// Writes the points into the row, one after another from the place `first` on. Most moves take nothing, so that is
-/// asked first.
+/// Writes the points into `row`, one after another from the place `first` on. Most moves take no stone, so this case is
+/// tested first.
 pub fn note(row: &mut [Point; MAX_CAPTURED], first: u16, points: &PointSet)
     requires row_whole { length row.old ≡ most_captured }
     requires small { (q : ℕ) → IsTrue (set.contains points.now q) → q < largest_points }
@@ -52,7 +52,7 @@ pub fn note(row: &mut [Point; MAX_CAPTURED], first: u16, points: &PointSet)
     }
 }
 
-/// The n points in the row from the place `first` on.
+/// The `n` points in `row` from the place `first` on.
 pub fn points_in(row: &[Point; MAX_CAPTURED], first: u16, n: u16) -> PointSet
     requires within { first + n ≤ length row.now }
     requires small { (q : ℕ) → IsTrue (set.contains (points_in row.now first n) q) → q < largest_points }

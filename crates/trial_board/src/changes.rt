@@ -20,15 +20,16 @@ use go_base::{Cell, Colour};
 /// changes of one position give equal positions.
 #[derive(Clone, Copy, Debug, PartialEq, Eq)]
 pub struct Changes {
-    /// A bit for each point: it is set where a black stone was put, and where a stone was taken away.
+    /// A bit for each point: it is set if a black stone was put there, or if a stone was taken away there.
     pub black: [u64; WORDS],
-    /// The same for white stones; so a point with both bits is empty, and one with none is as the position has it.
+    /// A bit for each point: it is set if a white stone was put there, or if a stone was taken away there. So a point
+    /// with both bits is empty, and a point with neither is as in the position.
     pub white: [u64; WORDS],
     /// The ban after the moves.
     pub ban: Option<(Point, Colour)>,
 }
 
-/// Sets the bit of p.
+/// Sets the bit of `p`.
 fn mark(words: &mut [u64; WORDS], p: Point)
     requires { p < largest_points }
     ensures here { is_marked words.new p ≡ true }
@@ -38,7 +39,7 @@ fn mark(words: &mut [u64; WORDS], p: Point)
 }
 
 impl Changes {
-    /// No cell, and this ban.
+    /// Changes of no cell, with the ban `ban`.
     pub fn of_ban(ban: Option<(Point, Colour)>) -> Changes
         ensures none { (q : ℕ) → told_at result q ≡ None }
         ensures ban { result.ban ≡ ban }
@@ -50,7 +51,7 @@ impl Changes {
         }
     }
 
-    /// Notes the cell of p, if no other was noted of it.
+    /// Notes that `p` holds `cell`, if no other cell was noted for `p`.
     fn put(&mut self, p: Point, cell: Cell)
         requires { p < largest_points }
         ensures here { (told_at self.old p ≡ None) ⊎ (told_at self.old p ≡ Some cell) → told_at self.new p ≡ Some cell }
@@ -67,7 +68,7 @@ impl Changes {
         }
     }
 
-    /// Notes the cell of p, where one was put there.
+    /// Notes the cell that was put at `p`, if one was put there.
     fn note(&mut self, known: &[Known; MAX_POINTS], p: Point)
         requires { p < largest_points }
         ensures touched { (touched : ℕ → Bool) → TellsPut known.now touched self.old
@@ -92,7 +93,7 @@ impl Changes {
         }
     }
 
-    /// Notes the cells of the point where the move was made and of the stones that it took.
+    /// Notes the cells of the point where the move was made and of the points of the stones that it took.
     fn note_move(
         &mut self,
         known: &[Known; MAX_POINTS],
@@ -113,8 +114,8 @@ impl Changes {
     }
 }
 
-/// What the first `standing` of the kept moves changed, by the cells that were put, with the ban after them. It looks
-/// at no point.
+/// What the first `standing` of the moves in `kept` changed, by the cells that were put, with the ban after them. It
+/// looks at no point of the position.
 pub fn changes_of(
     known: &[Known; MAX_POINTS],
     kept: &[Undo; MAX_TRIAL_MOVES],

@@ -2,13 +2,13 @@
 
 use go_base::Cell;
 
-/// What is known of a point: nothing yet, the cell that the look told, or the one that trial moves put there.
+/// What is known of a point: nothing yet, the cell that the look gave, or the cell that trial moves put there.
 #[derive(Clone, Copy)]
 pub enum Known {
     /// Nothing is known.
     NotAsked,
-    /// The look told this cell.
+    /// The look gave this cell.
     Seen(Cell),
-    /// This cell was put there.
+    /// Trial moves put this cell there.
     Put(Cell),
 }

@@ -36,19 +36,21 @@ use go_base::{Cell, Colour, Look};
 use std::marker::Model;
 
 /// A position with trial moves that can be taken back, GNU Go's `trymove` and `popgo`. It holds its view of the
-/// position, and asks it for a point only when a string or a play needs it. A move is kept by what it took, so that
-/// taking it back puts the captured stones again; everything is kept in place, in some 5 KB, and nothing takes memory.
+/// position, and asks it for a point only if a string or a play needs it. The stones that a move took are kept, so that
+/// taking it back puts them again. Everything is kept in place, in some 5 KB, and nothing takes memory.
 pub struct Trial<L: Look> {
-    /// The view, what it told so far, and what the standing moves put over it.
+    /// The view, the cells that it gave so far, and what the standing moves put over it.
     board: Overlay<L>,
     /// The ban after the newest move; before the first move the view is asked.
     ban: Option<(Point, Colour)>,
-    /// The first `standing` of these are the moves that stand, the oldest first, each with what it took and the ban
-    /// before it.
+    /// The first `standing` of these are the moves that stand, the oldest first, each with the stones that it took and
+    /// the ban before it.
     kept: [Undo; MAX_TRIAL_MOVES],
+    /// How many moves stand.
     standing: u8,
     /// The first `captured` of these are the points of the stones that the standing moves took, move by move.
     row: [Point; MAX_CAPTURED],
+    /// How many stones the standing moves took.
     captured: u16,
     /// How many plays were tried.
     trials: u64,
@@ -67,7 +69,7 @@ impl<L: Look> Model for Trial<L> {
         IsStanding (L.seen t.board.look) t.board.known t.ban t.kept t.row t.captured t.standing };
 }
 
-/// Whether a play is refused that a ban forbids, or not.
+/// Whether a play is refused for the ban: it is banned, and `allow` does not let the ban be dropped.
 fn is_refused(banned: bool, allow: bool) -> bool
     ensures { result ≡ (banned && not allow) }
 {
@@ -75,7 +77,7 @@ fn is_refused(banned: bool, allow: bool) -> bool
 }
 
 impl<L: Look> Trial<L> {
-    /// The position that the view shows, with no trial moves. It is built where it is to stand.
+    /// The position that the view shows, with no trial moves. It is built in place.
     #[inline(always)]
     pub fn new(look: L) -> Self
         ensures { result ≡ record { look = look; moves = []; count = 0 } }
@@ -91,7 +93,7 @@ impl<L: Look> Trial<L> {
         }
     }
 
-    /// Hands the view back as it is now.
+    /// Returns the view as it is now.
     pub fn finish(self) -> L
         ensures { result ≡ self.look }
     {
@@ -115,14 +117,14 @@ impl<L: Look> Trial<L> {
         self.board.size()
     }
 
-    /// How many plays were tried, refused ones among them; it stops at the greatest number.
+    /// How many plays were tried, refused plays included. The count stops at the greatest number.
     pub fn trials(&self) -> u64
         ensures { result ≡ self.now.count }
     {
         self.trials
     }
 
-    /// What stands at p after the trial moves, which lead to a position.
+    /// What stands at `p` after the trial moves, which lead to a position.
     pub fn cell(&mut self, p: Point) -> Cell
         requires { p < (L.shows self.old.look).size * (L.shows self.old.look).size }
         ensures stays { Stays L.shows L.seen self.old self.new }
@@ -138,7 +140,7 @@ impl<L: Look> Trial<L> {
         self.board.at(p)
     }
 
-    /// The string of p, its liberties and the enemy stones next to it; all three sets are empty if p is.
+    /// The string of `p`, its liberties and the enemy stones next to it. All three sets are empty if `p` is empty.
     pub fn string(&mut self, p: Point) -> Found
         requires { p < (L.shows self.old.look).size * (L.shows self.old.look).size }
         ensures stays { Stays L.shows L.seen self.old self.new }
@@ -161,7 +163,7 @@ impl<L: Look> Trial<L> {
         flood(&mut self.board, p)
     }
 
-    /// The least point of each enemy string next to the string of p, none if p is empty.
+    /// The least point of each enemy string next to the string of `p`; none if `p` is empty.
     pub fn boundary(&mut self, p: Point) -> PointSet
         requires { p < (L.shows self.old.look).size * (L.shows self.old.look).size }
         ensures stays { Stays L.shows L.seen self.old self.new }
@@ -178,7 +180,7 @@ impl<L: Look> Trial<L> {
         boundary_of(&mut self.board, p)
     }
 
-    /// The liberties of the string of p, none if p is empty.
+    /// The liberties of the string of `p`; none if `p` is empty.
     pub fn liberties(&mut self, p: Point) -> PointSet
         requires { p < (L.shows self.old.look).size * (L.shows self.old.look).size }
         ensures stays { Stays L.shows L.seen self.old self.new }
@@ -195,8 +197,8 @@ impl<L: Look> Trial<L> {
         liberties_of(&mut self.board, p)
     }
 
-    /// The liberties of the string of p, none if p is empty, if they are at most `most`; else more points than
-    /// `most`, and the string has more liberties than `most` too. No more of it is searched once it has shown so many.
+    /// The liberties of the string of `p` if it has at most `most`; none if `p` is empty. If the string has more, the
+    /// result has more points than `most`, and the search stops once it has seen so many.
     pub fn some_liberties(&mut self, p: Point, most: u16) -> PointSet
         requires { p < (L.shows self.old.look).size * (L.shows self.old.look).size }
         ensures stays { Stays L.shows L.seen self.old self.new }
@@ -214,8 +216,8 @@ impl<L: Look> Trial<L> {
         found.liberties
     }
 
-    /// The liberties of the string of p and the last liberties of the enemy strings next to it, both none if p is
-    /// empty.
+    /// The liberties of the string of `p` and the last liberties of the enemy strings next to it. Both sets are empty
+    /// if `p` is empty.
     pub fn surroundings(&mut self, p: Point) -> Surroundings
         requires { p < (L.shows self.old.look).size * (L.shows self.old.look).size }
         ensures stays { Stays L.shows L.seen self.old self.new }
@@ -237,7 +239,7 @@ impl<L: Look> Trial<L> {
         surroundings_of(&mut self.board, p)
     }
 
-    /// Whether the ban is on this play.
+    /// Whether the ban forbids `c` to play at `p`.
     pub fn bans(&mut self, c: Colour, p: Point) -> bool
         requires { p < (L.shows self.old.look).size * (L.shows self.old.look).size }
         ensures stays { Stays L.shows L.seen self.old self.new }
@@ -254,8 +256,8 @@ impl<L: Look> Trial<L> {
         is_banned(self.ban, c, p)
     }
 
-    /// What the standing moves changed of the position, None exactly if no move stands: the ban of the position is
-    /// not told then. It looks at no point.
+    /// What the standing moves changed of the position; `None` exactly if no move stands, as the ban of the position is
+    /// not known then. It looks at no point.
     pub fn changes(&self) -> Option<Changes>
         ensures none { IsNone result ↔ (self.now.moves ≡ []) }
         ensures over { (pos : BoardState) → Agrees (L.seen self.now.look) pos
@@ -283,8 +285,8 @@ impl<L: Look> Trial<L> {
         self.ban = None;
     }
 
-    /// Takes the last trial move back, with its captures and its ban; false exactly if no trial move is left. It
-    /// looks at no point.
+    /// Takes the last trial move back, with its captures and its ban. The answer is false exactly if no trial move is
+    /// left. It looks at no point.
     pub fn back(&mut self) -> bool
         ensures some { result ≡ is_some_move self.old.moves }
         ensures moves { self.new ≡ record self.old { moves = tail self.old.moves } }
@@ -307,7 +309,8 @@ impl<L: Look> Trial<L> {
         self.trials = self.trials.saturating_add(1);
     }
 
-    /// Puts a stone with no regard to the ban, if that is no suicide.
+    /// Puts a stone of `c` at `p` with no regard to the ban, unless that is suicide. The answer is whether the stone
+    /// was put.
     fn put(&mut self, c: Colour, p: Point, dropped: bool) -> bool
         requires room { length self.old.moves < most_moves }
         requires on_board { p < (L.shows self.old.look).size * (L.shows self.old.look).size }
@@ -345,9 +348,10 @@ impl<L: Look> Trial<L> {
         }
     }
 
-    /// Plays c at p, and with `allow` also if the ban alone forbids it. Refused are, in this order, a play on a
-    /// stone, one that the ban forbids without `allow`, and suicide; a refused play leaves the trial moves, and counts
-    /// as tried. The trial move notes that a ban was dropped for it, exactly if the ban forbade the play.
+    /// Plays `c` at `p`; if `allow` is set, also if the ban alone forbids the play. The play is refused for the first
+    /// of these reasons: a stone stands at `p`, the ban forbids the play and `allow` is not set, or the play is
+    /// suicide. A refused play leaves the trial moves as they are, and counts as tried. The trial move notes that a ban
+    /// was dropped for it exactly if the ban forbade the play.
     pub fn play(&mut self, c: Colour, p: Point, allow: bool) -> Tried
         requires room { length self.old.moves < most_moves }
         requires on_board { p < (L.shows self.old.look).size * (L.shows self.old.look).size }

@@ -1,4 +1,4 @@
--- How long the texts are that are kept in place.
+-- How long a text may be that is kept in place.
 use Rattle.std.specs.Prelude.{ℕ}
 
 -- how many bytes a short text may have

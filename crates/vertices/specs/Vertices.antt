@@ -12,11 +12,11 @@ use Rattle.vertices.specs.Words.{number_of}
 abbrev pub column_letters : List ℕ
 column_letters = codes "ABCDEFGHJKLMNOPQRSTUVWXYZ"
 
--- the column that a letter names in either case, counted from 0
+-- the column that a letter names in either case, counted from 0; None if it names no column
 abbrev pub column_named : ℕ → Option ℕ
 column_named letter = position (λ l. l == to_ascii_uppercase letter) column_letters
 
--- the number of a row that one or two digits write
+-- the number of a row that one or two digits write; None for any other text
 abbrev pub row_number_of : List ℕ → Option ℕ
 row_number_of digits = if nat_le (length digits) 2 then number_of digits else None
 
@@ -31,7 +31,8 @@ abbrev pub vertex_of : ℕ → List ℕ → Option ℕ
 vertex_of s [] = None
 vertex_of s (letter ∷ digits) = point_of s (column_named letter) (row_number_of digits)
 
--- where a move of a board of size s goes, if the word says so: `pass` in either case is no point, a vertex is its point
+-- where a move on a board of size s goes by the word: `pass` in either case is no point, a vertex is its point, and any
+-- other word is None
 abbrev pub target_of : ℕ → List ℕ → Option (Option ℕ)
 target_of s word = if bytes_eq (str_to_ascii_lowercase word) (codes "pass") then Some None
     else option_map Some (vertex_of s word)

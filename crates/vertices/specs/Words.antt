@@ -17,7 +17,7 @@ line_feed = 10
 abbrev pub blank : ℕ
 blank = 32
 
--- the byte with which a comment begins
+-- the byte that begins a comment
 abbrev pub hash : ℕ
 hash = 35
 
@@ -33,7 +33,7 @@ is_kept b = (nat_le blank b && not (b == delete)) || (b == tab || b == line_feed
 abbrev pub kept : List ℕ → List ℕ
 kept text = filter is_kept text
 
--- a tab counts as a blank
+-- the byte, with a blank in place of a tab
 abbrev pub blank_for_tab : ℕ → ℕ
 blank_for_tab b = if b == tab then blank else b
 
@@ -41,24 +41,24 @@ blank_for_tab b = if b == tab then blank else b
 abbrev pub plain : List ℕ → List ℕ
 plain text = map blank_for_tab (kept text)
 
--- the line as its words are read: what stands before its first `#`, without the bytes that are dropped, a blank for
--- each tab
+-- the line as it is parsed into words: what stands before its first `#`, without the bytes that are dropped, with a
+-- blank in place of each tab
 abbrev pub cleaned : List ℕ → List ℕ
 cleaned line = plain (before_first (λ b. b == hash) line)
 
--- the text has a byte
+-- the text is not empty
 abbrev pub has_bytes : List ℕ → Bool
 has_bytes [] = false
 has_bytes (b ∷ bs) = true
 
--- the words of a text: the parts between its blanks that have a byte
+-- the words of a text: the parts between its blanks that are not empty
 abbrev pub words_of : List ℕ → List (List ℕ)
 words_of text = filter has_bytes (slice_split (λ b. b == blank) text)
 
--- the word is of digits alone
+-- the word is not empty, and each of its bytes is a digit
 abbrev pub is_number : List ℕ → Bool
 is_number word = has_bytes word && list_all is_ascii_digit word
 
--- the number that a word of digits alone writes, whatever its length; none where the word has another byte
+-- the number that a word of digits writes, of any length; None if the word is empty or has another byte
 abbrev pub number_of : List ℕ → Option ℕ
 number_of word = if is_number word then Some (digits_value 10 word) else None

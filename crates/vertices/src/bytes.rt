@@ -1,4 +1,4 @@
-//! The bytes that a reader of lines drops, and those that part words.
+//! The bytes of a line that are dropped, and the bytes that separate words.
 
 ghost use Rattle.std.specs.Prelude.{◌≡◌};
 ghost use Rattle.vertices.specs.Words.{is_kept};
@@ -13,21 +13,21 @@ const TAB: u8 = b'\t';
 /// The control byte above the letters.
 const DELETE: u8 = 127;
 
-/// Whether a byte is kept: it is no control byte, or it is a tab or a line feed.
+/// Whether the byte `b` is kept: it is no control byte, or it is a tab or a line feed.
 pub fn is_kept(b: u8) -> bool
     ensures { result ≡ is_kept b }
 {
     b >= b' ' && b != DELETE || b == TAB || b == LINE_FEED
 }
 
-/// Whether a byte parts words.
+/// Whether the byte `b` separates words: it is a blank or a tab.
 pub fn is_separator(b: u8) -> bool
     ensures { result ≡ is_parting b }
 {
     b == b' ' || b == TAB
 }
 
-/// Whether a byte stands in the front of no word: it is dropped, or it parts words.
+/// Whether no word begins with the byte `b`: it is dropped, or it separates words.
 pub fn is_skipped(b: u8) -> bool
     ensures { result ≡ is_skipped b }
 {

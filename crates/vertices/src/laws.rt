@@ -1,4 +1,5 @@
-//! What the definitions of specs/ mean together: the function is a law, which is its contract, and does nothing.
+//! What the definitions of specs/ mean together. The function is a law: its contract is what is proved, and it does
+//! nothing.
 
 ghost use Rattle.std.specs.Prelude.{◌≡◌, ℕ, ◌*◌, ◌<◌, Some};
 ghost use Rattle.go_rules.specs.Board.{IsSize};

@@ -7,10 +7,10 @@ ghost use Rattle.vertices.specs.RawWords.{large, capped};
 
 use crate::bytes::is_kept;
 
-/// What stands for itself and for every number above it, as none that is asked for is as large.
+/// The number that stands for itself and every larger number, as no number that is asked for is as large.
 const LARGE: u64 = 2_147_483_648;
 
-/// A number with one more digit.
+/// The number `value` with one more digit, or `LARGE` if that is smaller.
 fn with_digit(value: Option<u32>, digit: u8) -> u32
     requires digit { is_ascii_digit digit ≡ true }
     requires small { IfSome value (λ n. n ≤ large) }
@@ -20,8 +20,8 @@ fn with_digit(value: Option<u32>, digit: u8) -> u32
     grown.min(LARGE) as u32
 }
 
-/// The number that a word of digits alone writes. A number from 2147483648 on is told as
-/// 2147483648.
+/// The number that a word of digits writes; `None` if the word is empty or has another byte. A number above 2147483648
+/// is returned as 2147483648.
 pub fn number(word: &[u8]) -> Option<u32>
     ensures { result ≡ capped (number_of (kept word.now)) }
 {

@@ -1,4 +1,4 @@
-//! A short text in place.
+//! Short texts that are kept in place.
 
 ghost use Rattle.std.specs.Prelude.{◌≡◌, ◌+◌, ◌≤◌, [], ◌++◌, length, take};
 ghost use Rattle.vertices.specs.Rooms.{short_room};
@@ -26,7 +26,7 @@ impl Model for Short {
     ghost invariant = { λ s. s.len ≤ short_room };
 }
 
-/// Writes a text over the bytes from a place on.
+/// Writes `more` over the bytes from `place` on.
 pub fn write_at(bytes: &mut [u8], place: usize, more: &[u8])
     requires { place + length more.now ≤ length bytes.old }
     ensures { take (place + length more.now) bytes.new ≡ take place bytes.old ++ more.now }
@@ -35,7 +35,7 @@ pub fn write_at(bytes: &mut [u8], place: usize, more: &[u8])
 }
 
 impl Short {
-    /// The text without a byte.
+    /// The empty text.
     pub fn new() -> Short
         ensures { result ≡ [] }
     {
@@ -45,7 +45,7 @@ impl Short {
         }
     }
 
-    /// A short text of these bytes.
+    /// The short text with these bytes.
     pub fn of(bytes: &[u8]) -> Short
         requires { length bytes.now ≤ short_room }
         ensures { result ≡ bytes.now }
@@ -55,7 +55,7 @@ impl Short {
         text
     }
 
-    /// Puts a text at the end, for which there is room.
+    /// Appends `more`, for which there is room.
     pub fn extend(&mut self, more: &[u8])
         requires { length self.old + length more.now ≤ short_room }
         ensures { self.new ≡ self.old ++ more.now }

@@ -12,7 +12,7 @@ use crate::words::{byte_count, first_byte, spells_in_either_case};
 use go_base::{Point, Size};
 use itoa::Buffer;
 
-/// The number of a row that one or two digits write.
+/// The number of a row that one or two digits write; `None` for any other text.
 fn row_number(digits: &[u8]) -> Option<u32>
     ensures { result ≡ capped (row_number_of (kept digits.now)) }
 {
@@ -22,7 +22,8 @@ fn row_number(digits: &[u8]) -> Option<u32>
     number(digits)
 }
 
-/// The point in a column and in the row of this number, counted from below.
+/// The point in the column `column` and in the row of the number `number`; `None` if it is off the board. Row 1 is the
+/// bottom row.
 fn point(size: Size, column: u8, number: u32) -> Option<Point>
     ensures { result ≡ point_of size (Some column) (Some number) }
 {
@@ -33,7 +34,7 @@ fn point(size: Size, column: u8, number: u32) -> Option<Point>
     size.point(rows - number as u8, column)
 }
 
-/// The point that a word names.
+/// The point that `word` names on a board of this size; `None` if the word is no vertex of the board.
 pub fn vertex_named(word: &[u8], size: Size) -> Option<Point>
     ensures { result ≡ vertex_of size (kept word.now) }
 {
@@ -43,7 +44,8 @@ pub fn vertex_named(word: &[u8], size: Size) -> Option<Point>
     point(size, column, number)
 }
 
-/// Where a move goes by a word: the pass, which is no point, or a vertex.
+/// Where a move goes by `word`: `Some(None)` for `pass`, the point for a vertex of the board, and `None` for any other
+/// word.
 pub fn target_named(word: &[u8], size: Size) -> Option<Option<Point>>
     ensures { result ≡ target_of size (kept word.now) }
 {

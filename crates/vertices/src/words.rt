@@ -1,5 +1,5 @@
-//! The words of a line, read in place: a word is handed out with the bytes that are dropped still in it, and the calls
-//! on words pass over them.
+//! The words of a line, read in place. A word is returned with the bytes that are dropped still in it, and the calls on
+//! words pass over these bytes.
 
 ghost use Rattle.std.specs.Prelude.{◌≡◌, ℕ, List, ◌<◌, ◌≤◌, ◌==◌, ◌∷◌, [], false, MatchOption, length, drop, map};
 ghost use Rattle.std.specs.Prelude.{slice_index};
@@ -10,7 +10,7 @@ ghost use Rattle.vertices.specs.RawWords.{is_skipped, is_parting, cased};
 
 use crate::bytes::{is_kept, is_separator, is_skipped};
 
-/// How many bytes stand before the first `#` of a line.
+/// How many bytes stand before the first `#` of a line; all of them if there is none.
 fn comment_start(line: &[u8]) -> usize
     ensures first { result ≡ position_or_len (λ b. b == hash) line.now }
     ensures bound { result ≤ length line.now }
@@ -23,14 +23,14 @@ fn comment_start(line: &[u8]) -> usize
     line.len()
 }
 
-/// What stands before the first `#` of a line.
+/// What stands before the first `#` of a line; the whole line if there is none.
 pub fn before_comment(line: &[u8]) -> &[u8]
     ensures { result.now ≡ before_first (λ b. b == hash) line.now }
 {
     &line[..comment_start(line)]
 }
 
-/// How many bytes stand before the first word.
+/// How many bytes of `text` stand before its first word.
 fn skipped(text: &[u8]) -> usize
     ensures bound { result ≤ length text.now }
     ensures words { words_of (plain (drop result text.now)) ≡ words_of (plain text.now) }
@@ -44,7 +44,7 @@ fn skipped(text: &[u8]) -> usize
     text.len()
 }
 
-/// How many bytes stand before the first one that parts words.
+/// How many bytes of `text` stand before the first byte that separates words.
 fn word_len(text: &[u8]) -> usize
     ensures first { result ≡ position_or_len is_parting text.now }
     ensures bound { result ≤ length text.now }
@@ -57,7 +57,7 @@ fn word_len(text: &[u8]) -> usize
     text.len()
 }
 
-/// The first word of a text without a comment, and what follows it.
+/// The first word of a text without a comment, and what follows it; `None` if the text has no word.
 pub fn next_word(text: &[u8]) -> Option<(&[u8], &[u8])>
     ensures { MatchOption result (words_of (plain text.now) ≡ [])
         (λ found. words_of (plain text.now) ≡ kept found.0.now ∷ words_of (plain found.1.now)) }
@@ -70,7 +70,7 @@ pub fn next_word(text: &[u8]) -> Option<(&[u8], &[u8])>
     Some((&rest[..len], &rest[len..]))
 }
 
-/// What is left of a name behind a byte, where the name begins with it.
+/// What follows the byte `b` in `name`, if `name` begins with it; else `None`.
 fn behind(name: &[u8], b: u8) -> Option<&[u8]>
     ensures { MatchOption result ((bs : List ℕ) → bytes_eq (b ∷ bs) name.now ≡ false)
         (λ left. name.now ≡ b ∷ left.now) }
@@ -81,8 +81,7 @@ fn behind(name: &[u8], b: u8) -> Option<&[u8]>
     }
 }
 
-/// Whether a word is the name, where the word may be in either case if the flag says so; the name is then in lower
-/// case.
+/// Whether `word` is `name`. If `either_case` is set, `word` may be in either case, and `name` is in lower case.
 fn spells_in(word: &[u8], name: &[u8], either_case: bool) -> bool
     ensures { result ≡ bytes_eq (map (cased either_case) (kept word.now)) name.now }
 {
@@ -104,21 +103,21 @@ fn spells_in(word: &[u8], name: &[u8], either_case: bool) -> bool
     left.is_empty()
 }
 
-/// Whether a word is the name.
+/// Whether `word` is `name`.
 pub fn spells(word: &[u8], name: &[u8]) -> bool
     ensures { result ≡ bytes_eq (kept word.now) name.now }
 {
     spells_in(word, name, false)
 }
 
-/// Whether a word is the name in either case; the name is in lower case.
+/// Whether `word` is `name` in either case. `name` is in lower case.
 pub fn spells_in_either_case(word: &[u8], name: &[u8]) -> bool
     ensures { result ≡ bytes_eq (str_to_ascii_lowercase (kept word.now)) name.now }
 {
     spells_in(word, name, true)
 }
 
-/// The first byte of a word, and what follows it.
+/// The first byte of `word` that is kept, and what follows it; `None` if no byte is kept.
 pub fn first_byte(word: &[u8]) -> Option<(u8, &[u8])>
     ensures { MatchOption result (kept word.now ≡ []) (λ found. kept word.now ≡ found.0 ∷ kept found.1.now) }
 {
@@ -130,7 +129,7 @@ pub fn first_byte(word: &[u8]) -> Option<(u8, &[u8])>
     None
 }
 
-/// How many bytes a word has.
+/// How many bytes of `word` are kept.
 pub fn byte_count(word: &[u8]) -> usize
     ensures { result ≡ length (kept word.now) }
 {

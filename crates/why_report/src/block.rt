@@ -1,4 +1,4 @@
-//! What a person is told of a try: its reason, the drawing, and the constraint with its values.
+//! The report on a try as text: its reason, the drawing, and the constraint with its values.
 use crate::drawing::put_drawing;
 use crate::expression::put_values;
 use crate::placing::{point_from, turned};
@@ -9,16 +9,16 @@ use match_reasons::constraint_values;
 use pat_types::{LabelAt, NoMemory};
 use std::alloc::{AllocError, Global};
 
-/// How many parts hold before the constraint is asked.
+/// The number of parts that come before the constraint.
 const BEFORE_CONSTRAINT: u8 = 4;
 
-/// Puts the name of an entry, the number of its line, and the colour for which it is tried.
+/// Prints the name of an entry, its line number, and the colour for which it is tried.
 pub fn put_entry(page: &mut String, entry: Entry<'_>, colour: Colour) -> Result<(), AllocError> {
     put_name(page, entry.pattern.name.as_slice())?;
     write!(page, "@{}, {}", entry.line, colour_name(colour))
 }
 
-/// Puts the entry, the colour, the point and the transformation of a try.
+/// Prints the entry, the colour, the point and the transformation of a try.
 fn put_heading(page: &mut String, setting: Setting<'_>, tried: &Try<'_>) -> Result<(), AllocError> {
     put_entry(page, tried.entry, tried.colour)?;
     page.push_str(" at ")?;
@@ -26,7 +26,7 @@ fn put_heading(page: &mut String, setting: Setting<'_>, tried: &Try<'_>) -> Resu
     write!(page, ", transformation {}: ", tried.transform.get())
 }
 
-/// Puts a label and its point.
+/// Prints a label and its point.
 fn put_label(
     page: &mut String,
     setting: Setting<'_>,
@@ -43,7 +43,7 @@ fn put_label(
     }
 }
 
-/// Puts a line with the point of each label; none if there is no label.
+/// Prints a line with the point of each label; no line if there is no label.
 fn put_labels(page: &mut String, setting: Setting<'_>, tried: &Try<'_>) -> Result<(), AllocError> {
     let labels = tried.entry.pattern.labels.as_slice();
     if labels.is_empty() {
@@ -59,7 +59,7 @@ fn put_labels(page: &mut String, setting: Setting<'_>, tried: &Try<'_>) -> Resul
     page.push_str("\n")
 }
 
-/// Puts the constraint with the values of its parts, if there is one.
+/// Prints the constraint with the values of its parts, if there is one.
 fn put_constraint(
     page: &mut String,
     alloc: Global,
@@ -85,7 +85,7 @@ fn put_constraint(
     Ok(())
 }
 
-/// Puts a line with the reason of a try.
+/// Prints a line with the reason of a try.
 pub fn put_line(page: &mut String, setting: Setting<'_>, tried: &Try<'_>) -> Result<(), NoMemory> {
     put_heading(page, setting, tried)?;
     put_words(page, setting, tried)?;
@@ -93,8 +93,8 @@ pub fn put_line(page: &mut String, setting: Setting<'_>, tried: &Try<'_>) -> Res
     Ok(())
 }
 
-/// Puts what a person is told of a try: a line with its reason, the drawing beside the board, and if the parts before
-/// the constraint hold, the points of the labels and the constraint with the value of each part.
+/// Prints the report on a try: a line with its reason, and the drawing beside the board. If the parts before the
+/// constraint hold, the points of the labels and the constraint with the value of each part follow.
 pub fn put_block(
     page: &mut String,
     alloc: Global,

@@ -1,4 +1,4 @@
-//! A diagram as it was turned, beside the part of the board on which it was laid.
+//! Draws a diagram as it was turned, beside the part of the board on which it was laid.
 use crate::placing::{Spot, point_from, turned};
 use crate::tries::{Setting, Try};
 use crate::words::letter_of;
@@ -10,17 +10,18 @@ use std::alloc::{AllocError, Global};
 /// A cell of the turned drawing.
 #[derive(Clone, Copy)]
 struct Square {
-    /// Where it lies from the star.
+    /// The offset of the cell from the star.
     spot: Spot,
-    /// The letter of the diagram, `#` for an edge.
+    /// The letter of the diagram; `#` for an edge.
     drawn: char,
-    /// What stands there: `O` a stone of the friend, `X` one of the enemy, `.` none, `#` off the board.
+    /// What the board has at the cell: `O` a stone of the friend, `X` a stone of the enemy, `.` no stone, `#` off the
+    /// board.
     there: char,
-    /// Whether it is the cell that does not fit.
+    /// Whether this is the cell that does not fit.
     fails: bool,
 }
 
-/// The rectangle that the turned drawing takes.
+/// The rectangle around the turned drawing, as offsets from the star.
 #[derive(Clone, Copy)]
 struct Frame {
     top: i16,
@@ -29,7 +30,7 @@ struct Frame {
     right: i16,
 }
 
-/// What stands at a point, as a letter of a diagram.
+/// A cell of the board as a letter of a diagram.
 fn stone_letter(cell: Cell, friend: Colour) -> char {
     if cell == Cell::Empty {
         '.'
@@ -40,7 +41,7 @@ fn stone_letter(cell: Cell, friend: Colour) -> char {
     }
 }
 
-/// What stands so far from the star of a try.
+/// What the board has at the offset `spot` from the star of a try, as a letter; `#` off the board.
 fn there(setting: Setting<'_>, tried: &Try<'_>, spot: Spot) -> char {
     let size = setting.position.size();
     match point_from(size, tried.at, spot) {
@@ -49,7 +50,7 @@ fn there(setting: Setting<'_>, tried: &Try<'_>, spot: Spot) -> char {
     }
 }
 
-/// Whether the cell of this row and column of the drawing is the one that does not fit.
+/// Whether the cell in this `row` and `column` of the drawing is the cell that does not fit.
 fn is_misfit(misfit: Option<Misfit>, row: i16, column: i16) -> bool {
     match misfit {
         Some(misfit) => i16::from(misfit.row) == row && i16::from(misfit.column) == column,
@@ -57,7 +58,7 @@ fn is_misfit(misfit: Option<Misfit>, row: i16, column: i16) -> bool {
     }
 }
 
-/// The cell that does not fit, if this is why.
+/// The cell that does not fit, if this is the reason of the try.
 fn misfit_of(tried: &Try<'_>) -> Option<Misfit> {
     match tried.reason {
         Some(Reason::Misfit(misfit)) => Some(misfit),
@@ -65,7 +66,7 @@ fn misfit_of(tried: &Try<'_>) -> Option<Misfit> {
     }
 }
 
-/// The cell of this row and column of the drawing, as it was turned; `None` if nothing is drawn there.
+/// The cell in this `row` and `column` of the drawing, after turning; `None` if nothing is drawn there.
 fn square_of(setting: Setting<'_>, tried: &Try<'_>, row: i16, column: i16) -> Option<Square> {
     let pattern = tried.entry.pattern;
     let drawn = match drawn_in(pattern, row, column) {
@@ -82,7 +83,7 @@ fn square_of(setting: Setting<'_>, tried: &Try<'_>, row: i16, column: i16) -> Op
     })
 }
 
-/// The cells of the drawing, as they were turned, in the reading order of the file.
+/// The cells of the drawing, after turning, in the reading order of the file.
 fn squares(
     alloc: Global,
     setting: Setting<'_>,
@@ -103,7 +104,7 @@ fn squares(
     Ok(all)
 }
 
-/// The least rectangle with the star and these cells.
+/// The smallest rectangle with the star and these cells.
 fn frame_of(squares: &[Square]) -> Frame {
     let mut frame = Frame {
         top: 0,
@@ -122,7 +123,7 @@ fn frame_of(squares: &[Square]) -> Frame {
     frame
 }
 
-/// The cell at this place, if one is drawn there.
+/// The cell at this offset from the star, if one is drawn there.
 fn square_at(squares: &[Square], row: i16, column: i16) -> Option<Square> {
     for square in squares {
         if square.spot.row == row && square.spot.column == column {
@@ -132,8 +133,8 @@ fn square_at(squares: &[Square], row: i16, column: i16) -> Option<Square> {
     None
 }
 
-/// Puts a row of the diagram or of the board: a mark before each cell, and one behind the last, which a row of the
-/// board has for a bracket alone. The mark is a blank, but brackets stand round the cell that fails.
+/// Prints a row of the diagram, or of the board if `is_board`. Before each cell is a blank, or a bracket next to the
+/// cell that fails. Behind the last cell is a closing bracket if it fails; else a blank in a row of the diagram.
 fn put_row(
     page: &mut String,
     squares: &[Square],
@@ -170,8 +171,8 @@ fn put_row(
     })
 }
 
-/// Puts the diagram as it was turned, and right of it the same part of the board, in the letters of diagrams: `O` for
-/// the friend's stones, `X` for the enemy's; `#` is off the board. Brackets stand round the cell that does not fit.
+/// Prints the diagram as it was turned, and to its right the same part of the board, in the letters of diagrams: `O`
+/// for the friend's stones, `X` for the enemy's; `#` is off the board. Brackets enclose the cell that does not fit.
 pub fn put_drawing(
     page: &mut String,
     alloc: Global,

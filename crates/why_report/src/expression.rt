@@ -1,10 +1,10 @@
-//! A constraint as a text, and the values of its parts.
+//! Prints a constraint as text, and the values of its parts.
 use pat_types::{
     Arg, Expr, Function, MovesFunction, Op, PairFunction, PointFunction, PointsFunction,
 };
 use std::alloc::AllocError;
 
-/// How tight a sign binds; operators bind less.
+/// How tightly a sign binds; operators bind less tightly.
 const SIGN_LEVEL: u8 = 6;
 
 /// The name of a function of one point.
@@ -34,7 +34,7 @@ fn pair_name(function: PairFunction) -> &'static str {
     }
 }
 
-/// The name of a function of points.
+/// The name of a function of several points.
 fn points_name(function: PointsFunction) -> &'static str {
     match function {
         PointsFunction::OSomewhere => "o_somewhere",
@@ -52,7 +52,7 @@ fn moves_name(function: MovesFunction) -> &'static str {
     }
 }
 
-/// The name of a function, by which an expression calls it.
+/// The name of a function, as an expression calls it.
 pub fn function_name(function: Function) -> &'static str {
     match function {
         Function::OfPoint(function) => point_name(function),
@@ -62,7 +62,7 @@ pub fn function_name(function: Function) -> &'static str {
     }
 }
 
-/// How tight an operator binds, and how it is written.
+/// How tightly an operator binds, and how it is written.
 fn operator(op: Op) -> (u8, &'static str) {
     match op {
         Op::Or => (1, " || "),
@@ -78,7 +78,7 @@ fn operator(op: Op) -> (u8, &'static str) {
     }
 }
 
-/// Puts an argument.
+/// Prints an argument.
 fn put_argument(page: &mut String, arg: Arg) -> Result<(), AllocError> {
     match arg {
         Arg::Label(letter) => page.push(char::from(letter)),
@@ -87,7 +87,7 @@ fn put_argument(page: &mut String, arg: Arg) -> Result<(), AllocError> {
     }
 }
 
-/// Puts a call.
+/// Prints a call.
 fn put_call(page: &mut String, function: Function, args: &[Arg]) -> Result<(), AllocError> {
     page.push_str(function_name(function))?;
     page.push('(')?;
@@ -100,7 +100,7 @@ fn put_call(page: &mut String, function: Function, args: &[Arg]) -> Result<(), A
     page.push(')')
 }
 
-/// Puts an expression in a place that takes it without parentheses if it binds as tight as `least`.
+/// Prints an expression, in parentheses if it binds less tightly than `least`.
 fn put_binding(page: &mut String, expr: &Expr, least: u8) -> Result<(), AllocError> {
     match expr {
         Expr::Num(n) => write!(page, "{n}"),
@@ -125,13 +125,12 @@ fn put_binding(page: &mut String, expr: &Expr, least: u8) -> Result<(), AllocErr
     }
 }
 
-/// Puts an expression as a text that spells it, with the parentheses that it needs and a blank on each side of an
-/// operator.
+/// Prints an expression as text, with only the parentheses that it needs, and a blank on each side of an operator.
 pub fn put_expression(page: &mut String, expr: &Expr) -> Result<(), AllocError> {
     put_binding(page, expr, 0)
 }
 
-/// How many parts an expression has.
+/// The number of parts of an expression.
 pub(crate) fn part_count(expr: &Expr) -> usize {
     match expr {
         Expr::Num(_) => 1,
@@ -144,7 +143,8 @@ pub(crate) fn part_count(expr: &Expr) -> usize {
     }
 }
 
-/// Puts a line of a part: its value in six places, or `-` if it is not needed, and the part, set in by its depth.
+/// Prints the line of a part: its value in nine columns, or `-` if it is not needed, and the part, indented by its
+/// `depth`.
 fn put_part(
     page: &mut String,
     expr: &Expr,
@@ -162,8 +162,8 @@ fn put_part(
     page.push_str("\n")
 }
 
-/// Puts the lines of the parts of an expression that stands this deep: the whole first, then its left side, then its
-/// right side. The values stand in the order of `constraint_values::values`.
+/// Prints the lines of the parts of an expression at this `depth`: first the whole, then its left side, then its right
+/// side. The values are in the order of `constraint_values::values`.
 fn put_parts(
     page: &mut String,
     expr: &Expr,
@@ -192,8 +192,8 @@ fn put_parts(
     }
 }
 
-/// Puts a line for each part of an expression, with its value or `-` if it is not needed. The values stand in the order
-/// of `constraint_values::values`.
+/// Prints a line for each part of an expression, with its value, or `-` if the value is not needed. The values are in
+/// the order of `constraint_values::values`.
 pub fn put_values(
     page: &mut String,
     expr: &Expr,

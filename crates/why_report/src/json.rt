@@ -1,4 +1,4 @@
-//! What a program is told of a try: an object of JSON on a line.
+//! The report on a try for programs: an object of JSON on one line.
 use crate::expression::put_expression;
 use crate::parts::part_name;
 use crate::placing::vertex_bytes;
@@ -10,10 +10,10 @@ use pat_types::{Drawn, Expr, NoMemory};
 use read_rules::{Answer, Spot};
 use std::alloc::{AllocError, Global};
 
-/// How many parts hold in a match.
+/// The number of parts that hold in a match.
 const ALL_PARTS: u8 = 6;
 
-/// Puts a byte of a text.
+/// Prints a byte of a JSON text.
 fn put_byte(page: &mut String, byte: u8) -> Result<(), AllocError> {
     match byte {
         b'"' => page.push_str("\\\""),
@@ -23,7 +23,7 @@ fn put_byte(page: &mut String, byte: u8) -> Result<(), AllocError> {
     }
 }
 
-/// Puts a text of JSON; a byte that is no sign of ASCII is the character of its number.
+/// Prints a text of JSON. A byte that is not printable ASCII becomes the character with its number.
 pub fn put_text(page: &mut String, text: &[u8]) -> Result<(), AllocError> {
     page.push('"')?;
     for byte in text {
@@ -32,12 +32,12 @@ pub fn put_text(page: &mut String, text: &[u8]) -> Result<(), AllocError> {
     page.push('"')
 }
 
-/// Puts a vertex as a text.
+/// Prints a vertex as a text of JSON.
 fn put_point(page: &mut String, size: Size, at: Point) -> Result<(), AllocError> {
     put_text(page, vertex_bytes(size, at).as_slice())
 }
 
-/// What stands in a cell, as a letter of a diagram.
+/// A cell of the board as a letter of a diagram.
 fn cell_text(cell: Cell, friend: Colour) -> &'static str {
     if cell == Cell::Empty {
         "."
@@ -48,7 +48,7 @@ fn cell_text(cell: Cell, friend: Colour) -> &'static str {
     }
 }
 
-/// Puts the cell that does not fit.
+/// Prints the cell that does not fit.
 fn put_misfit(
     page: &mut String,
     size: Size,
@@ -74,7 +74,7 @@ fn put_misfit(
     }
 }
 
-/// Puts why a play is refused.
+/// Prints why a play is refused.
 fn put_illegal(page: &mut String, why: Illegal) -> Result<(), AllocError> {
     let why = match why {
         Illegal::Occupied => "occupied",
@@ -84,7 +84,7 @@ fn put_illegal(page: &mut String, why: Illegal) -> Result<(), AllocError> {
     write!(page, ",\"why\":\"{why}\"")
 }
 
-/// Puts an attack.
+/// Prints an attack: its code and its first move.
 fn put_attack(page: &mut String, size: Size, attack: Answer) -> Result<(), AllocError> {
     write!(page, ",\"code\":{},\"move\":", attack.code)?;
     match attack.at {
@@ -94,7 +94,7 @@ fn put_attack(page: &mut String, size: Size, attack: Answer) -> Result<(), Alloc
     }
 }
 
-/// The parts of an expression, in the order of `constraint_values::values`.
+/// Prints the parts of an expression, in the order of `constraint_values::values`.
 fn put_parts(
     page: &mut String,
     expr: &Expr,
@@ -123,7 +123,7 @@ fn put_parts(
     page.push_str(if is_last { "" } else { "," })
 }
 
-/// Puts the values of the parts of the constraint, if there is one.
+/// Prints the values of the parts of the constraint, if there is one.
 fn put_constraint(
     page: &mut String,
     alloc: Global,
@@ -150,7 +150,7 @@ fn put_constraint(
     Ok(())
 }
 
-/// Puts the name of the helper that this field names.
+/// Prints the name of the helper in the item number `field`.
 fn put_helper(page: &mut String, tried: &Try<'_>, field: usize) -> Result<(), AllocError> {
     page.push_str(",\"helper\":")?;
     match tried.entry.pattern.items.as_slice().get(field) {
@@ -159,7 +159,7 @@ fn put_helper(page: &mut String, tried: &Try<'_>, field: usize) -> Result<(), Al
     }
 }
 
-/// Puts what is told of the part that fails.
+/// Prints the members about the part that fails.
 fn put_reason(
     page: &mut String,
     alloc: Global,
@@ -180,7 +180,7 @@ fn put_reason(
     Ok(())
 }
 
-/// Puts what a program is told of a try: an object on a line of its own.
+/// Prints the report on a try: an object on a line of its own.
 pub fn put_json(
     page: &mut String,
     alloc: Global,

@@ -1,8 +1,8 @@
-//! Why a pattern does not match, told to its author: a try at a point under a transformation, the words of its reason,
-//! the diagram as it was turned beside the board, the constraint with the value of each part, and the same as JSON.
+//! Shows an author why a pattern does not match: the reason of a try at a point under a transformation, in words, the
+//! turned diagram beside the board, and the constraint with the value of each part; all this as text or as JSON.
 //!
-//! The reason of a try is the first part of the definition of a match that fails, by `match_reasons`; no clause speaks
-//! of the words and the drawings.
+//! The reason of a try is the first part of the definition of a match that fails, as `match_reasons` finds it; no
+//! clause speaks of the words and the drawings.
 #![tactic(auto)]
 
 mod block;

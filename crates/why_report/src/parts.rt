@@ -1,9 +1,9 @@
-//! The parts of a match, and how they are called.
+//! The parts of a match, and their names.
 
-/// How many parts a match has.
+/// The number of parts of a match.
 pub const PARTS: usize = 6;
 
-/// How the part of this number is called; for `PARTS`, a match.
+/// The name of the part with this number; `match` for `PARTS`.
 pub fn part_name(part: usize) -> &'static str {
     match part {
         0 => "diagram",

@@ -1,9 +1,9 @@
-//! Where the cells of a diagram lie, once it is turned.
+//! The places of the cells of a diagram after turning.
 use go_base::{Point, Size, Transform};
 use pat_types::{Pattern, anchor};
 use vertices::{Short, vertex_text};
 
-/// The greatest distance of two rows or of two columns.
+/// The greatest distance between two rows or two columns of a board.
 const FARTHEST: i16 = 24;
 
 /// A row and a column, counted from the star or from the corner of the board.
@@ -22,8 +22,8 @@ pub(crate) fn vertex_bytes(size: Size, at: Point) -> Short {
     }
 }
 
-/// Where a cell of the drawing lies from the star, once the diagram is turned. No cell of a pattern lies farther from
-/// it than the points of a board from each other.
+/// The offset from the star of the cell in this `row` and `column` of the drawing, after turning. No cell of a pattern
+/// is farther from the star than two points of a board can be from each other.
 pub(crate) fn turned(pattern: &Pattern, transform: Transform, row: i16, column: i16) -> Spot {
     let down = row.saturating_sub(i16::from(pattern.star.0));
     let right = column.saturating_sub(i16::from(pattern.star.1));
@@ -37,7 +37,7 @@ pub(crate) fn turned(pattern: &Pattern, transform: Transform, row: i16, column: 
     }
 }
 
-/// The point that lies so far from another one; `None` off the board.
+/// The point at this `offset` from the point `at`; `None` off the board.
 pub(crate) fn point_from(size: Size, at: Point, offset: Spot) -> Option<Point> {
     let side = u16::from(size.get());
     let row = offset.row.saturating_add((at / side) as i16);
@@ -48,7 +48,8 @@ pub(crate) fn point_from(size: Size, at: Point, offset: Spot) -> Option<Point> {
     size.point(row as u8, column as u8)
 }
 
-/// The point of a pattern's star, if the cell from which its diagram is read lies at a point; `None` off the board.
+/// The point of a pattern's star, if the cell where reading of its diagram begins is at the point `from`; `None` off
+/// the board.
 pub fn star_from(
     pattern: &Pattern,
     transform: Transform,

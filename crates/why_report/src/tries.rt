@@ -10,25 +10,25 @@ use match_reasons::{Reason, first_reason};
 use pat_types::Pattern;
 use read_rules::Depths;
 
-/// Where patterns are tried.
+/// The position on which patterns are tried, and the depths.
 #[derive(Clone, Copy)]
 pub struct Setting<'a> {
     /// The position before the move.
     pub position: &'a Position,
-    /// How deep readings go.
+    /// The depths of readings.
     pub depths: Depths,
 }
 
 /// An entry of a pattern file.
 #[derive(Clone, Copy)]
 pub struct Entry<'a> {
-    /// What it says.
+    /// The pattern of the entry.
     pub pattern: &'a Pattern,
-    /// The number of its Pattern line, counted from 1.
+    /// The line number of its Pattern line, counted from 1.
     pub line: u64,
 }
 
-/// A try of an entry for a colour, at a point under a transformation, and why it is no match.
+/// A try of an entry for a colour, at a point under a transformation, with the reason why it is no match.
 #[derive(Clone, Copy)]
 pub struct Try<'a> {
     /// The entry.
@@ -74,8 +74,8 @@ pub fn tried<'a>(
     }
 }
 
-/// How many of the six parts of a match hold before the one that fails: the diagram, the move, the stone's safety,
-/// class `n`, the constraint and the helpers; all six for a match.
+/// The number of parts of a match that hold before the first that fails, in this order: the diagram, the move, the
+/// stone's safety, class `n`, the constraint, the helpers. It is 6 for a match.
 pub fn parts_held(reason: Option<Reason>) -> u8 {
     match reason {
         Some(Reason::Misfit(_)) => 0,

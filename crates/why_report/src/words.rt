@@ -1,4 +1,4 @@
-//! The words of a reason.
+//! The reason of a try, in words.
 use crate::placing::vertex_bytes;
 use crate::tries::{Setting, Try};
 use go_base::{Cell, Colour, Illegal, Point, Size};
@@ -15,7 +15,7 @@ pub fn colour_name(colour: Colour) -> &'static str {
     }
 }
 
-/// The letter of a diagram.
+/// The character for a letter of a diagram.
 pub(crate) fn letter_of(letter: Letter) -> char {
     match letter {
         Letter::Friend => 'O',
@@ -28,7 +28,7 @@ pub(crate) fn letter_of(letter: Letter) -> char {
     }
 }
 
-/// Puts a name, or another text of ASCII.
+/// Prints a name, or another ASCII text.
 pub fn put_name(page: &mut String, name: &[u8]) -> Result<(), AllocError> {
     for byte in name {
         page.push(char::from(*byte))?;
@@ -36,12 +36,12 @@ pub fn put_name(page: &mut String, name: &[u8]) -> Result<(), AllocError> {
     Ok(())
 }
 
-/// Puts a vertex.
+/// Prints a vertex.
 pub fn put_vertex(page: &mut String, size: Size, at: Point) -> Result<(), AllocError> {
     put_name(page, vertex_bytes(size, at).as_slice())
 }
 
-/// What stands at a point, in words.
+/// The words for a cell of the board.
 fn cell_words(cell: Cell, friend: Colour) -> &'static str {
     if cell == Cell::Empty {
         "is empty"
@@ -52,14 +52,14 @@ fn cell_words(cell: Cell, friend: Colour) -> &'static str {
     }
 }
 
-/// Puts where a cell of the drawing stands, counted from 1; 0 is an edge above or on the left.
+/// Prints the row and the column of a cell of the drawing, counted from 1; 0 is an edge above or on the left.
 fn put_cell(page: &mut String, misfit: &Misfit) -> Result<(), AllocError> {
     let row = i16::from(misfit.row).saturating_add(1);
     let column = i16::from(misfit.column).saturating_add(1);
     write!(page, "row {row}, column {column} ")
 }
 
-/// Puts what is drawn in a cell, and what is there instead.
+/// Prints what is drawn in a cell, and what the board has there instead.
 fn put_misfit(
     page: &mut String,
     size: Size,
@@ -85,7 +85,7 @@ fn put_misfit(
     }
 }
 
-/// Why a play is refused.
+/// The words for why a play is refused.
 fn illegal_words(why: Illegal) -> &'static str {
     match why {
         Illegal::Occupied => "a stone stands there",
@@ -94,7 +94,7 @@ fn illegal_words(why: Illegal) -> &'static str {
     }
 }
 
-/// Puts an attack: its code and its first move.
+/// Prints an attack: its code and its first move.
 fn put_attack(page: &mut String, size: Size, attack: Answer) -> Result<(), AllocError> {
     write!(page, "code {}", attack.code)?;
     match attack.at {
@@ -107,7 +107,7 @@ fn put_attack(page: &mut String, size: Size, attack: Answer) -> Result<(), Alloc
     }
 }
 
-/// Puts the helper that this field names.
+/// Prints the helper in the item number `field`, which says no.
 fn put_helper(page: &mut String, tried: &Try<'_>, field: usize) -> Result<(), AllocError> {
     match tried.entry.pattern.items.as_slice().get(field) {
         Some(item) => {
@@ -119,7 +119,7 @@ fn put_helper(page: &mut String, tried: &Try<'_>, field: usize) -> Result<(), Al
     }
 }
 
-/// Puts why a try is no match, in words, or that it matches.
+/// Prints in words why a try is no match, or that it matches.
 pub fn put_words(
     page: &mut String,
     setting: Setting<'_>,

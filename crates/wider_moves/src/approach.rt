@@ -1,4 +1,4 @@
-//! Approach: the enemy strings that stand in the way where a stone of the defender's would be cramped.
+//! Approach: the enemy strings that stand in the way at a point where a defender's stone would be cramped.
 
 ghost use Rattle.std.specs.Prelude.{◌≡◌, ℕ, ◌*◌, ◌<◌, ◌&&◌, ◌||◌, IsTrue, nat_lt};
 ghost use Rattle.std.specs.FinSet as set;
@@ -23,13 +23,13 @@ use go_base::size::Point;
 use go_base::{Cell, Look};
 use trial_board::Trial;
 
-/// How many liberties an enemy string has at most that stands in the way, or beside which it does.
+/// The bound on the liberties of an enemy string that stands in the way, and of the enemy string next to the target.
 const FEW_IN_THE_WAY: u16 = 2;
 
 /// How many points a cramped stone reaches at most.
 const FEW_REACHED: u16 = 1;
 
-/// The stone of the other colour; nothing where there is no stone.
+/// A stone of the other colour; an empty cell stays empty.
 fn foe_of(cell: Cell) -> Cell
     ensures { result ≡ foe_of cell }
 {
@@ -40,7 +40,7 @@ fn foe_of(cell: Cell) -> Cell
     }
 }
 
-/// The neighbours of l at which this cell stands.
+/// The neighbours of `l` that hold `cell`.
 fn neighbours_with<L: Look>(board: &mut Trial<L>, cell: Cell, l: Point) -> PointSet
     requires { l < (L.shows board.old.look).size * (L.shows board.old.look).size }
     ensures stays { Stays L.shows L.seen board.old board.new }
@@ -54,7 +54,7 @@ fn neighbours_with<L: Look>(board: &mut Trial<L>, cell: Cell, l: Point) -> Point
     found
 }
 
-/// The points that a stone of this colour reaches that is played at l.
+/// The points that a stone `own` reaches if it is played at `l`.
 fn reached<L: Look>(board: &mut Trial<L>, own: Cell, l: Point) -> PointSet
     requires { l < (L.shows board.old.look).size * (L.shows board.old.look).size }
     ensures stays { Stays L.shows L.seen board.old board.new }
@@ -72,7 +72,7 @@ fn reached<L: Look>(board: &mut Trial<L>, own: Cell, l: Point) -> PointSet
     found
 }
 
-/// Whether a stone of this colour that is played at l takes something.
+/// Whether a stone `own` takes a string if it is played at `l`.
 fn takes_some<L: Look>(board: &mut Trial<L>, own: Cell, l: Point) -> bool
     requires { l < (L.shows board.old.look).size * (L.shows board.old.look).size }
     ensures stays { Stays L.shows L.seen board.old board.new }
@@ -87,7 +87,7 @@ fn takes_some<L: Look>(board: &mut Trial<L>, own: Cell, l: Point) -> bool
     last_liberties(board, &foes).has(l)
 }
 
-/// Whether a stone of this colour that is played at l is cramped: it takes nothing, and it reaches at most one point.
+/// Whether a stone `own` is cramped if it is played at `l`: it takes nothing, and it reaches at most one point.
 fn is_cramped<L: Look>(board: &mut Trial<L>, own: Cell, l: Point) -> bool
     requires { l < (L.shows board.old.look).size * (L.shows board.old.look).size }
     ensures stays { Stays L.shows L.seen board.old board.new }
@@ -103,7 +103,7 @@ fn is_cramped<L: Look>(board: &mut Trial<L>, own: Cell, l: Point) -> bool
     !takes_some(board, own, l)
 }
 
-/// Adds the enemy stones next to l if a stone of this colour that is played there is cramped.
+/// Adds the enemy stones next to `l` to `found` if a stone `own` would be cramped at `l`.
 fn add_in_the_way<L: Look>(board: &mut Trial<L>, own: Cell, l: Point, found: &mut PointSet)
     requires { l < (L.shows board.old.look).size * (L.shows board.old.look).size }
     ensures stays { Stays L.shows L.seen board.old board.new }
@@ -120,7 +120,7 @@ fn add_in_the_way<L: Look>(board: &mut Trial<L>, own: Cell, l: Point, found: &mu
     }
 }
 
-/// The enemy stones next to those of the points at which a stone of this colour is cramped.
+/// The enemy stones next to a point of `points` at which a stone `own` would be cramped.
 fn beside_cramped<L: Look>(board: &mut Trial<L>, own: Cell, points: &PointSet) -> PointSet
     requires { (l : ℕ) → IsTrue (set.contains points.now l)
         → l < (L.shows board.old.look).size * (L.shows board.old.look).size }
@@ -143,8 +143,8 @@ fn beside_cramped<L: Look>(board: &mut Trial<L>, own: Cell, points: &PointSet) -
     found
 }
 
-/// The enemy stones that stand in the way of the target's side: next to a liberty of a weak enemy string at which its
-/// stone would be cramped.
+/// The enemy stones that stand in the way of the target's side: they are next to a liberty of a weak enemy string, and
+/// a stone of the target's colour would be cramped at that liberty.
 fn in_the_way<L: Look>(board: &mut Trial<L>, target: Point) -> PointSet
     requires { target < (L.shows board.old.look).size * (L.shows board.old.look).size }
     ensures stays { Stays L.shows L.seen board.old board.new }
@@ -160,7 +160,7 @@ fn in_the_way<L: Look>(board: &mut Trial<L>, target: Point) -> PointSet
     beside_cramped(board, own, &weak.liberties)
 }
 
-/// The points of Approach: the liberties of the strings with at most two whose stones stand in the way.
+/// The points of Approach: the liberties of the strings that stand in the way and have at most two liberties.
 pub(crate) fn approach<L: Look>(board: &mut Trial<L>, target: Point) -> PointSet
     requires { target < (L.shows board.old.look).size * (L.shows board.old.look).size }
     ensures stays { Stays L.shows L.seen board.old board.new }

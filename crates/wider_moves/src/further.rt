@@ -1,4 +1,4 @@
-//! The further candidates of a target, by whose turn it is and whether a wide ply is left.
+//! The further candidates of a target, at either side's turn, with a wide ply left or without.
 
 ghost use Rattle.std.specs.Prelude.{◌≡◌, ℕ, ◌*◌, ◌<◌, true, false};
 ghost use Rattle.std.specs.FinSet as set;
@@ -17,20 +17,20 @@ use go_base::points::PointSet;
 use go_base::size::Point;
 use trial_board::Trial;
 
-/// How many liberties an enemy string next to the target's may have that the attacker strengthens, or that is next to a
-/// string in atari which either side may play for.
+/// The attacker strengthens an enemy string next to the target's if it has at most this many liberties. Rescue and Save
+/// also ask this of the string next to a string in atari.
 const FEW_OF_ATTACKER: u16 = 2;
 
-/// How many liberties an enemy string next to the target's may have that the defender presses.
+/// The defender presses an enemy string next to the target's if it has at most this many liberties.
 const FEW_OF_DEFENDER: u16 = 4;
 
-/// How many liberties a linked string may have that the attacker keeps from the target.
+/// The attacker keeps a linked string from the target if it has at most this many liberties.
 const FEW_OF_PARTED: u16 = 2;
 
-/// How many liberties a linked string may have that the defender joins.
+/// The defender joins a linked string if it has at most this many liberties. Cut looks beside these strings too.
 const FEW_OF_LINKED: u16 = 4;
 
-/// Beside and Rescue, the attacker's of every ply.
+/// Beside and Rescue: the attacker's further candidates of every ply.
 fn always_for_attacker<L: Look>(board: &mut Trial<L>, target: Point) -> PointSet
     requires on_board { target < (L.shows board.old.look).size * (L.shows board.old.look).size }
     ensures stays { Stays L.shows L.seen board.old board.new }
@@ -47,7 +47,7 @@ fn always_for_attacker<L: Look>(board: &mut Trial<L>, target: Point) -> PointSet
     found
 }
 
-/// Net and Link, the attacker's of a wide ply, by the target's liberties.
+/// Net and Link: the attacker's further candidates of a wide ply. `liberties` are the target's.
 fn wide_for_attacker<L: Look>(board: &mut Trial<L>, target: Point, liberties: &PointSet) -> PointSet
     requires on_board { target < (L.shows board.old.look).size * (L.shows board.old.look).size }
     requires liberties { (pos : BoardState) → Agrees (L.seen board.old.look) pos
@@ -65,7 +65,7 @@ fn wide_for_attacker<L: Look>(board: &mut Trial<L>, target: Point, liberties: &P
     found
 }
 
-/// Save and Cut, the defender's of every ply, by the target's liberties.
+/// Save and Cut: the defender's further candidates of every ply. `liberties` are the target's.
 fn always_for_defender<L: Look>(
     board: &mut Trial<L>,
     target: Point,
@@ -89,7 +89,7 @@ fn always_for_defender<L: Look>(
     found
 }
 
-/// Beside, Join, Cover and Approach, the defender's of a wide ply, by the target's liberties.
+/// Beside, Join, Cover and Approach: the defender's further candidates of a wide ply. `liberties` are the target's.
 fn wide_for_defender<L: Look>(board: &mut Trial<L>, target: Point, liberties: &PointSet) -> PointSet
     requires on_board { target < (L.shows board.old.look).size * (L.shows board.old.look).size }
     requires liberties { (pos : BoardState) → Agrees (L.seen board.old.look) pos
@@ -112,7 +112,7 @@ fn wide_for_defender<L: Look>(board: &mut Trial<L>, target: Point, liberties: &P
     found
 }
 
-/// The further candidates of every ply, by whose turn it is and the target's liberties.
+/// The further candidates of every ply, at the attacker's turn or the defender's. `liberties` are the target's.
 fn of_every_ply<L: Look>(
     board: &mut Trial<L>,
     target: Point,
@@ -137,7 +137,7 @@ fn of_every_ply<L: Look>(
     }
 }
 
-/// The further candidates of a wide ply alone, by whose turn it is and the target's liberties.
+/// The further candidates of a wide ply only, at the attacker's turn or the defender's. `liberties` are the target's.
 fn of_a_wide_ply<L: Look>(
     board: &mut Trial<L>,
     target: Point,
@@ -162,12 +162,13 @@ fn of_a_wide_ply<L: Look>(
     }
 }
 
-/// The further candidates of a target. In every ply these are, at the attacker's turn, Beside by strings with at most
-/// two liberties and Rescue, and at the defender's turn Save and Cut. Where a wide ply is left there are also, at the
-/// attacker's turn, Net and Link, and at the defender's Beside by strings with at most four, Join, Cover and Approach.
+/// The further candidates of a target. In every ply they are the points of Beside by strings with at most two liberties
+/// and of Rescue at the attacker's turn, and the points of Save and Cut at the defender's turn. If a wide ply is left,
+/// Net and Link come in at the attacker's turn, and Beside by strings with at most four liberties, Join, Cover and
+/// Approach at the defender's turn.
 ///
-/// The caller gives the target's liberties. The trial moves stay as they were, no play is tried, and it takes no
-/// memory. The choice of these points is this project's own.
+/// `liberties` are the target's. The trial moves stay as they were, no play is tried, and it takes no memory. The
+/// choice of these points is this project's own.
 pub fn further_candidates<L: Look>(
     board: &mut Trial<L>,
     target: Point,

@@ -18,7 +18,8 @@ use trial_board::Trial;
 /// How many liberties a string in atari has.
 const IN_ATARI: u16 = 1;
 
-/// Adds the liberty of the string of r if it has just one. No more of the string is searched once it has shown two.
+/// Adds the last liberty of the string of `r` to `found` if the string is in atari. The search stops at the second
+/// liberty.
 fn add_last_liberty<L: Look>(board: &mut Trial<L>, r: Point, found: &mut PointSet)
     requires { r < (L.shows board.old.look).size * (L.shows board.old.look).size }
     ensures stays { Stays L.shows L.seen board.old board.new }
@@ -35,7 +36,7 @@ fn add_last_liberty<L: Look>(board: &mut Trial<L>, r: Point, found: &mut PointSe
     }
 }
 
-/// The points that are the one liberty of the string of a stone of the set.
+/// The points that are the last liberty of a string at one of `points`.
 pub(crate) fn last_liberties<L: Look>(board: &mut Trial<L>, points: &PointSet) -> PointSet
     requires { (r : ℕ) → IsTrue (set.contains points.now r)
         → r < (L.shows board.old.look).size * (L.shows board.old.look).size }

@@ -1,8 +1,9 @@
-//! The further candidates of a target, found on a trial board: what the wider tree tries beyond the stated one. The
-//! walk over the sides of points by which they are found finds the empty sides for every tree.
+//! The further candidates of a target, found on a trial board: the moves that the wider tree tries and the stated tree
+//! does not. The module `sides` finds the neighbours of points that hold a given cell; every tree uses it to find the
+//! empty neighbours.
 //!
-//! The answer is stated over every position that agrees with what was seen afterwards; it leaves the trial moves as
-//! they were and takes no memory.
+//! The contracts state the answer for every position that agrees with what was seen afterwards. The search leaves the
+//! trial moves as they were and takes no memory.
 #![tactic(auto)]
 
 mod approach;

@@ -1,4 +1,4 @@
-//! The sets of further candidates, and the strings by which they are found.
+//! The sets of further candidates, and the strings that give these sets.
 
 ghost use Rattle.std.specs.Prelude.{◌≡◌, ℕ, ◌*◌, ◌<◌, ◌&&◌, IsTrue, nat_lt};
 ghost use Rattle.std.specs.FinSet as set;
@@ -20,25 +20,25 @@ use go_base::size::Point;
 use go_base::{Cell, Look};
 use trial_board::Trial;
 
-/// How many liberties a target has around which the attacker tries a net.
+/// The attacker tries a net around a target with exactly this many liberties.
 const NETTED: u16 = 3;
 
-/// How many liberties at least an enemy string has around which the defender tries a net.
+/// The defender tries a net around an enemy string with at least this many liberties.
 const LEAST_OF_COVERED: u16 = 2;
 
-/// And how many it may have.
+/// The defender tries a net around an enemy string with at most this many liberties.
 const FEW_OF_COVERED: u16 = 3;
 
 /// What stands around the enemy strings next to a target that have few liberties.
 #[derive(Drop)]
 pub(crate) struct WeakEnemies {
-    /// Their liberties, which are the points of Beside.
+    /// The liberties of the weak enemy strings, which are the points of Beside.
     pub liberties: PointSet,
-    /// The stones next to them of the target's colour that are not of its string.
+    /// The stones of the target's colour next to the weak enemy strings that are not of the target's string.
     pub allies: PointSet,
 }
 
-/// The points of Net: the empty neighbours of the target's liberties, which the caller gives, if these are three.
+/// The points of Net: the empty neighbours of `liberties`, which are the target's, if there are exactly three.
 pub(crate) fn net<L: Look>(board: &mut Trial<L>, liberties: &PointSet) -> PointSet
     requires { (l : ℕ) → IsTrue (set.contains liberties.now l)
         → l < (L.shows board.old.look).size * (L.shows board.old.look).size }
@@ -56,7 +56,7 @@ pub(crate) fn net<L: Look>(board: &mut Trial<L>, liberties: &PointSet) -> PointS
     PointSet::new()
 }
 
-/// The points of Beside for enemy strings with at most so many liberties, and the allies next to these strings.
+/// The points of Beside for enemy strings with at most `most` liberties, and the allies next to these strings.
 pub(crate) fn weak_enemies<L: Look>(board: &mut Trial<L>, target: Point, most: u16) -> WeakEnemies
     requires { target < (L.shows board.old.look).size * (L.shows board.old.look).size }
     ensures stays { Stays L.shows L.seen board.old board.new }
@@ -81,7 +81,7 @@ pub(crate) fn weak_enemies<L: Look>(board: &mut Trial<L>, target: Point, most: u
     }
 }
 
-/// The stones of the target's colour next to its liberties, which the caller gives, that are not of its string.
+/// The stones of the target's colour next to one of its `liberties` that are not of the target's string.
 fn near_friends<L: Look>(board: &mut Trial<L>, target: Point, liberties: &PointSet) -> PointSet
     requires on_board { target < (L.shows board.old.look).size * (L.shows board.old.look).size }
     requires liberties { (pos : BoardState) → Agrees (L.seen board.old.look) pos
@@ -104,8 +104,8 @@ fn near_friends<L: Look>(board: &mut Trial<L>, target: Point, liberties: &PointS
     friends.difference(&stones)
 }
 
-/// The liberties of the linked strings with at most so many, which are the points of Join and of Link, and the enemy
-/// stones next to these strings.
+/// The liberties of the linked strings with at most `most` liberties, which are the points of Join and of Link, and the
+/// enemy stones next to these strings. `liberties` are the target's.
 pub(crate) fn linked_strings<L: Look>(
     board: &mut Trial<L>,
     target: Point,
@@ -129,7 +129,7 @@ pub(crate) fn linked_strings<L: Look>(
     around_strings(board, 0, most, &friends)
 }
 
-/// The liberties of the enemy strings next to the target that have two or three.
+/// The liberties of the enemy strings that are next to the target and have two or three liberties.
 fn covered_liberties<L: Look>(board: &mut Trial<L>, target: Point) -> PointSet
     requires { target < (L.shows board.old.look).size * (L.shows board.old.look).size }
     ensures stays { Stays L.shows L.seen board.old board.new }
@@ -148,8 +148,8 @@ fn covered_liberties<L: Look>(board: &mut Trial<L>, target: Point) -> PointSet
     covered.liberties
 }
 
-/// The points of Cover: the empty neighbours of the liberties of the enemy strings next to the target that have two or
-/// three.
+/// The points of Cover: the empty neighbours of the liberties of an enemy string that is next to the target and has two
+/// or three liberties.
 pub(crate) fn cover<L: Look>(board: &mut Trial<L>, target: Point) -> PointSet
     requires { target < (L.shows board.old.look).size * (L.shows board.old.look).size }
     ensures stays { Stays L.shows L.seen board.old board.new }

@@ -1,4 +1,4 @@
-//! The points next to given points at which a given cell stands.
+//! The neighbours of given points that hold a given cell.
 
 ghost use Rattle.std.specs.Prelude.{◌≡◌, ℕ, ◌*◌, ◌<◌, ◌&&◌, ◌||◌, IsTrue, if◌then◌else◌};
 ghost use Rattle.std.specs.FinSet as set;
@@ -18,7 +18,7 @@ use go_base::size::Point;
 use go_base::{Cell, Look};
 use trial_board::Trial;
 
-/// Adds q where this cell stands there.
+/// Adds `q` to `found` if `q` holds `cell`.
 fn add_where<L: Look>(board: &mut Trial<L>, cell: Cell, q: Point, found: &mut PointSet)
     requires on_board { q < (L.shows board.old.look).size * (L.shows board.old.look).size }
     requires small { q < largest_points }
@@ -33,7 +33,7 @@ fn add_where<L: Look>(board: &mut Trial<L>, cell: Cell, q: Point, found: &mut Po
     }
 }
 
-/// Adds the neighbours of l at which this cell stands. The trial moves stay as they were, and it takes no memory.
+/// Adds the neighbours of `l` that hold `cell` to `found`. The trial moves stay as they were, and it takes no memory.
 pub fn add_sides<L: Look>(board: &mut Trial<L>, cell: Cell, l: Point, found: &mut PointSet)
     requires { l < (L.shows board.old.look).size * (L.shows board.old.look).size }
     ensures stays { Stays L.shows L.seen board.old board.new }
@@ -51,7 +51,7 @@ pub fn add_sides<L: Look>(board: &mut Trial<L>, cell: Cell, l: Point, found: &mu
     }
 }
 
-/// Adds the points next to a point of the set at which this cell stands. The trial moves stay as they were, and it
+/// Adds each neighbour of a point of `points` that holds `cell` to `found`. The trial moves stay as they were, and it
 /// takes no memory.
 pub fn add_sides_of<L: Look>(
     board: &mut Trial<L>,
@@ -76,7 +76,7 @@ pub fn add_sides_of<L: Look>(
     }
 }
 
-/// The points next to a point of the set at which this cell stands.
+/// Each neighbour of a point of `points` that holds `cell`.
 pub(crate) fn sides_of<L: Look>(board: &mut Trial<L>, cell: Cell, points: &PointSet) -> PointSet
     requires { (l : ℕ) → IsTrue (set.contains points.now l)
         → l < (L.shows board.old.look).size * (L.shows board.old.look).size }

@@ -1,4 +1,4 @@
-//! What stands around strings with few liberties, each of which is searched once.
+//! What stands around strings whose number of liberties is in a given range. Each string is searched once.
 
 ghost use Rattle.std.specs.Prelude.{◌≡◌, ℕ, ◌*◌, ◌<◌, ◌&&◌, ◌||◌, IsTrue, nat_le};
 ghost use Rattle.std.specs.FinSet as set;
@@ -17,23 +17,24 @@ use go_base::points::PointSet;
 use go_base::size::Point;
 use trial_board::Trial;
 
-/// What stands around strings.
+/// The liberties of some strings, and the enemy stones next to them.
 #[derive(Drop)]
 pub(crate) struct Around {
-    /// Their liberties.
+    /// The liberties of the strings.
     pub liberties: PointSet,
-    /// The enemy stones next to them.
+    /// The enemy stones next to the strings.
     pub enemies: PointSet,
 }
 
-/// Whether the number lies between the two others, which are let in.
+/// Whether `n` is at least `least` and at most `most`.
 fn lies_between(least: u16, most: u16, n: u16) -> bool
     ensures { result ≡ (nat_le least n && nat_le n most) }
 {
     least <= n && n <= most
 }
 
-/// Adds what stands around the string of q if it has at least and at most so many liberties, and tells its stones.
+/// Adds what stands around the string of `q` to `found` if it has at least `least` and at most `most` liberties.
+/// Returns the stones of the string in any case.
 fn add_string<L: Look>(
     board: &mut Trial<L>,
     least: u16,
@@ -68,8 +69,9 @@ fn add_string<L: Look>(
     stones
 }
 
-/// The liberties of those strings of the points that have at least and at most so many, and the enemy stones next to
-/// these strings. Each string is searched once: its stones are taken off the points that are left.
+/// The liberties of the strings at `points` that have at least `least` and at most `most` liberties, and the enemy
+/// stones next to these strings. Each string is searched once: its stones are removed from the points that are left to
+/// look at.
 pub(crate) fn around_strings<L: Look>(
     board: &mut Trial<L>,
     least: u16,

@@ -1,4 +1,4 @@
--- A stone that would be cramped: where it is played it takes nothing, and it reaches at most one point.
+-- A cramped stone: a stone that takes nothing when it is played, and that reaches at most one point.
 use Rattle.std.specs.Prelude.{ℕ, ◌*◌, ◌==◌, ◌&&◌, ◌||◌, Bool, not, nat_lt, List}
 use Rattle.go_rules.specs.declared.Cell.{Cell}
 use Rattle.go_rules.specs.declared.Cell.TheVariants.{Empty, Black, White}
@@ -7,20 +7,20 @@ use Rattle.go_rules.specs.Strings.{is_liberty}
 use Rattle.go_base.specs.Surroundings.{is_only_liberty}
 use Rattle.wider_rules.specs.Strings.{holds_next}
 
--- the stone of the other colour; nothing where there is no stone
+-- a stone of the other colour; an empty cell stays empty
 abbrev pub foe_of : Cell → Cell
 foe_of Empty = Empty
 foe_of Black = White
 foe_of White = Black
 
--- x is reached by a stone of this colour that is played at l: x is an empty neighbour of l, or another point than l
--- that is a liberty of a string of its colour next to l
+-- x is reached by a stone of this colour that is played at l: x is an empty neighbour of l; or x is a liberty, other
+-- than l itself, of a string of this colour next to l
 unfoldable pub is_reached : ℕ → List Cell → Cell → ℕ → ℕ → Bool
 is_reached s cells own l x =
     (any_below (s * s) (λ q. holds_next s cells own l q && is_liberty s cells q x) && not (x == l))
     || holds_next s cells Empty l x
 
--- a stone of this colour that is played at l takes something: l is the one liberty of a string of the other colour next
+-- a stone of this colour that is played at l takes a string: l is the last liberty of a string of the other colour next
 -- to l
 unfoldable pub takes_some : ℕ → List Cell → Cell → ℕ → Bool
 takes_some s cells own l =

@@ -1,11 +1,13 @@
--- Where the further candidates lie, and all that must be looked at to find them: the neighbourhood of the target's
--- point, taken so many times. The first has the target's string, its liberties and the enemy stones next to it.
+-- Where the further candidates lie, and every point that a search for them may look at: the neighbourhood of the
+-- target's point, taken up to four times. The first area has the target's string, its liberties and the enemy stones
+-- next to it.
 use Rattle.std.specs.Prelude.{ℕ, Bool, List, if◌then◌else◌}
 use Rattle.go_rules.specs.declared.Cell.{Cell}
 use Rattle.go_rules.specs.Neighbourhood.{neighbourhood_of}
 use Rattle.go_base.specs.Views.{alone}
 
--- p is in the neighbourhood of the target's point: it is that point, or a stone of its string, or a neighbour of one
+-- p is in the neighbourhood of the target's point: it is that point, or a stone of its string, or a neighbour of such a
+-- stone
 abbrev pub first_area : ℕ → List Cell → ℕ → ℕ → Bool
 first_area s cells target = neighbourhood_of s cells (alone target)
 

@@ -1,4 +1,4 @@
--- What the steps of the search for further candidates gather at one point.
+-- What the steps of the search for further candidates find at one point.
 use Rattle.std.specs.Prelude.{ℕ, ◌*◌, ◌&&◌, Bool, not, nat_lt, nat_le, List}
 use Rattle.go_rules.specs.declared.Cell.{Cell}
 use Rattle.go_rules.specs.Board.{are_neighbours}
@@ -6,20 +6,20 @@ use Rattle.go_rules.specs.Below.{any_below}
 use Rattle.go_rules.specs.Strings.{cell_at, same_cell, is_in_string, is_liberty, liberties}
 use Rattle.go_rules.specs.BesideStrings.{is_enemy, is_beside_string}
 
--- p is a neighbour of l on the board, and this cell stands there
+-- p is a neighbour of l on the board, and p holds this cell
 unfoldable pub holds_next : ℕ → List Cell → Cell → ℕ → ℕ → Bool
 holds_next s cells cell l p =
     (nat_lt p (s * s) && same_cell (cell_at cells p) cell) && are_neighbours s l p
 
--- the string of q has no fewer liberties than the one number and no more than the other
+-- the string of q has at least `least` and at most `most` liberties
 abbrev pub has_between : ℕ → ℕ → ℕ → List Cell → ℕ → Bool
 has_between least most s cells q = nat_le least (liberties s cells q) && nat_le (liberties s cells q) most
 
--- p is a liberty of the string of q, which has so many: no fewer than the one number, no more than the other
+-- p is a liberty of the string of q, which has at least `least` and at most `most` liberties
 unfoldable pub is_few_liberty : ℕ → ℕ → ℕ → List Cell → ℕ → ℕ → Bool
 is_few_liberty least most s cells q p = has_between least most s cells q && is_liberty s cells q p
 
--- r is an enemy stone on the board next to the string of q, which has so many liberties
+-- r is an enemy stone on the board next to the string of q, which has at least `least` and at most `most` liberties
 unfoldable pub is_few_enemy : ℕ → ℕ → ℕ → List Cell → ℕ → ℕ → Bool
 is_few_enemy least most s cells q r =
     has_between least most s cells q

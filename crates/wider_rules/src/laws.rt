@@ -11,14 +11,16 @@ ghost use Rattle.wider_rules.specs.FurtherInWords.{IsNetAt, IsEnemyBeside, IsWea
 ghost use Rattle.wider_rules.specs.FurtherInWords.{IsCoveredAt, IsApproachAt, IsFurther};
 ghost use Rattle.wider_rules.specs.FurtherAreas.{second_area, third_area, fourth_area, near_further};
 
-/// Each set by strings, liberties and neighbours: Net is the empty neighbours of the liberties of a target with exactly
-/// three; Beside the liberties of an enemy string next to the target with at most so many; Rescue the one liberty of a
-/// string that is next to an enemy string with at most two and is not the target's own; Join the liberties of a linked
-/// string, which is another of the target's colour, next to a liberty of the target, with at most so many; Cut the one
-/// liberty of an enemy string next to a linked one with at most four; Cover the empty neighbours of the liberties of an
-/// enemy string next to the target with two or three; Approach the liberties of an enemy string with at most two that
-/// is next to a point where a stone of the target's colour would be cramped, if that point is a liberty of an enemy
-/// string next to the target with at most two. Save is Rescue, and Link is Join by strings with at most two.
+/// Each set by strings, liberties and neighbours. Net is the empty neighbours of the liberties of a target with exactly
+/// three liberties. Beside is the liberties of an enemy string next to the target with at most `most` liberties. Rescue
+/// is the last liberty of a string in atari that is next to a weak enemy string, which has at most two liberties and is
+/// next to the target, and that is not the target's string. A linked string is another string of the target's colour
+/// next to a liberty of the target. Join is the liberties of a linked string with at most `most` liberties. Cut is the
+/// last liberty of an enemy string in atari next to a linked string with at most four liberties. Cover is the empty
+/// neighbours of the liberties of an enemy string next to the target with two or three liberties. Approach is the
+/// liberties of an enemy string with at most two liberties that is next to a point where a stone of the target's colour
+/// would be cramped, if that point is a liberty of an enemy string next to the target with at most two liberties. Save
+/// has the points of Rescue, and Link those of Join by strings with at most two liberties.
 pub fn further_sets_are_by_strings()
     ensures net { (s : ℕ) (cells : List Cell) (target p : ℕ) → target < s * s →
         IsTrue (is_net s cells target p) ↔ ((l : ℕ) × IsNetAt s cells target l p) }
@@ -44,17 +46,17 @@ pub fn further_sets_are_by_strings()
         ↔ ((q : ℕ) × (l : ℕ) × (r : ℕ) × IsApproachAt s cells target q l r p) }
 {}
 
-/// A further candidate of every ply is, at the attacker's turn, one of Beside by strings with at most two liberties or
-/// of Rescue, and at the defender's turn one of Save or of Cut. Where a wide ply is left there are, at the attacker's
-/// turn, Net and Link, and at the defender's Beside by strings with at most four, Join by such strings, Cover and
-/// Approach.
+/// A further candidate of every ply is, at the attacker's turn, a point of Beside by strings with at most two liberties
+/// or of Rescue, and at the defender's turn a point of Save or of Cut. If a wide ply is left, the points of Net and
+/// Link come in at the attacker's turn, and at the defender's turn those of Beside by strings with at most four
+/// liberties, of Join by strings with at most four liberties, of Cover and of Approach.
 pub fn further_candidates_are_by_strings()
     ensures further { (wide attacker_to_play : Bool) (s : ℕ) (cells : List Cell) (target p : ℕ) → target < s * s →
         IsTrue (is_further wide attacker_to_play s cells target p)
         ↔ IsFurther wide attacker_to_play s cells target p }
 {}
 
-/// A further candidate is an empty point of the board, and an empty point has none.
+/// A further candidate is an empty point of the board. A target whose point is empty has no further candidates.
 pub fn further_candidates_are_empty_points()
     ensures on_board { (wide attacker_to_play : Bool) (s : ℕ) (cells : List Cell) (target p : ℕ) → target < s * s
         → IsTrue (is_further wide attacker_to_play s cells target p) → p < s * s }
@@ -64,8 +66,9 @@ pub fn further_candidates_are_empty_points()
         → cell_at cells target ≡ Cell.Empty → is_further wide attacker_to_play s cells target p ≡ false }
 {}
 
-/// Where the sets lie: Net and Beside in the neighbourhood of the target's point taken twice; Rescue, Join, which Save
-/// and Link go by too, and Cover in that taken three times; Cut and Approach in that taken four times.
+/// Where the sets lie. Net and Beside lie in the neighbourhood of the target's point taken twice; Rescue, Join and
+/// Cover in the neighbourhood taken three times, and so do Save and Link, which are sets of the same definitions; Cut
+/// and Approach in the neighbourhood taken four times.
 pub fn further_candidates_lie_near()
     ensures net { (s : ℕ) (cells : List Cell) (target p : ℕ) → target < s * s
         → IsTrue (is_net s cells target p) → IsTrue (second_area s cells target p) }

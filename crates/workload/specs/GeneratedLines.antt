@@ -1,31 +1,31 @@
--- The generated protocol lines: two lines that set the board up, and then as many lines as were asked for. A recurrence
--- of numbers chooses the vertex of each line, and the place of the line in its sixteen chooses what it asks.
+-- The generated protocol lines: two lines that set up the board, and then as many lines as were asked for. A recurrence
+-- of numbers chooses the vertex of each line, and the place of the line in its round of sixteen chooses the command.
 use Rattle.std.specs.Prelude.{ℕ, ◌+◌, ◌*◌, ◌/◌, ◌%◌, ◌^◌, ◌==◌, zero, suc, List, [], ◌∷◌, ◌++◌, if◌then◌else◌, codes}
 use Rattle.std.specs.List.{flat_map}
 use Rattle.vertices.specs.Vertices.{vertex_text}
 
--- how many rows the board of the generated lines has
+-- how many rows the board has on which the generated lines play
 abbrev pub rows : ℕ
 rows = 9
 
--- the number that follows a number
+-- the number after the number x in the recurrence
 abbrev pub next_number : ℕ → ℕ
 next_number x = (x * 1103515245 + 12345) % 2 ^ 31
 
--- the number of line i, from the number n of the lines
+-- the number of line i; the recurrence begins with n, the count of the lines
 unfoldable pub number_of_line : ℕ → ℕ → ℕ
 number_of_line n zero = n
 number_of_line n (suc i) = next_number (number_of_line n i)
 
--- the point of a number
+-- the point that a number chooses
 abbrev pub point_of_number : ℕ → ℕ
 point_of_number x = x / 65536 % (rows * rows)
 
--- the colour of line i: black where i is odd
+-- the colour of line i: black if i is odd, else white
 abbrev pub colour_of_line : ℕ → List ℕ
 colour_of_line i = if i % 2 == 1 then codes "b" else codes "w"
 
--- line i with this number, by its place in the sixteen lines of a round
+-- line i with the number x; its place in the round of sixteen lines chooses the command
 unfoldable pub line_with : ℕ → ℕ → List ℕ
 line_with i x =
     if i % 16 == 4 then codes "undo"
@@ -38,16 +38,16 @@ line_with i x =
 abbrev pub line_at : ℕ → ℕ → List ℕ
 line_at n i = line_with i (number_of_line n i)
 
--- the lines of n that follow line i, of which there are k
+-- the k lines after line i, if n lines are generated
 unfoldable pub lines_after : ℕ → ℕ → ℕ → List (List ℕ)
 lines_after n i zero = []
 lines_after n i (suc k) = line_at n (i + 1) ∷ lines_after n (i + 1) k
 
--- the lines that set the board up
+-- the lines that set up the board
 abbrev pub opening_lines : List (List ℕ)
 opening_lines = codes "boardsize 9" ∷ codes "depths 5 1" ∷ []
 
--- all lines, of which n are generated
+-- all lines: the lines that set up the board, and then n generated lines
 abbrev pub generated_lines : ℕ → List (List ℕ)
 generated_lines n = opening_lines ++ lines_after n 0 n
 
@@ -59,6 +59,6 @@ ended line = line ++ codes "\n"
 abbrev pub text_of : List (List ℕ) → List ℕ
 text_of lines = flat_map ended lines
 
--- the bytes of all lines
+-- the bytes of all lines, if n lines are generated
 abbrev pub generated_text : ℕ → List ℕ
 generated_text n = text_of (generated_lines n)

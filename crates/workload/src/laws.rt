@@ -1,9 +1,9 @@
-//! What the generated lines come to: each function is a law, which is its contract, and does nothing.
+//! A law of the generated lines. The function's contract says it, and its body does nothing.
 
 ghost use Rattle.std.specs.Prelude.{ℕ, ◌<◌, ◌≤◌, ◌^◌, length};
 ghost use Rattle.workload.specs.GeneratedLines.{generated_text};
 
-/// As many lines as may be generated have fewer bytes than the longest input.
+/// At most 100,000 lines may be generated, and they have fewer than 2^32 bytes.
 pub fn generated_lines_fit_the_input()
     ensures { (n : ℕ) → n ≤ 100000 → length (generated_text n) < 2 ^ 32 }
 {}

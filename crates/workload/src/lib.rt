@@ -1,7 +1,7 @@
-//! A source of generated protocol lines, by which the program may be run and measured without an input.
+//! A source of generated protocol lines. With it the program can be run and measured without an input.
 //!
-//! `Workload::new(n)` has two lines that set the board up and then n lines of plays, readings, matches and undos, which
-//! a recurrence chooses. Its bytes left are `generated_text`, it takes no memory and it never fails.
+//! `Workload::new(n)` gives two lines that set up the board, and then n lines of plays, readings, matches and undos,
+//! which a recurrence chooses. Its bytes left are `generated_text`. It takes no memory and never fails.
 #![tactic(auto)]
 
 pub mod laws;

@@ -7,10 +7,10 @@ ghost use Rattle.workload.specs.GeneratedLines.{rows, text_of};
 use go_base::Size;
 use vertices::{Short, vertex_text};
 
-/// How many rows the board has.
+/// How many rows the board has on which the generated lines play.
 const ROWS: u8 = 9;
 
-/// The number that follows a number.
+/// The number after the number `x` in the recurrence.
 pub(crate) fn next_number(x: u32) -> u32
     ensures value { result ≡ next_number x }
     ensures small { result < 2 ^ 31 }
@@ -18,14 +18,14 @@ pub(crate) fn next_number(x: u32) -> u32
     ((u64::from(x) * 1_103_515_245 + 12_345) % 0x8000_0000) as u32
 }
 
-/// The size of the board.
+/// The size of the board on which the generated lines play.
 fn size() -> Size
     ensures { result ≡ rows }
 {
     Size::new(ROWS).unwrap()
 }
 
-/// The line with the vertex of a point behind it.
+/// The line with the vertex of a point appended.
 fn with_vertex(mut line: Short, point: u8) -> Short
     requires point { point < rows * rows }
     requires room { length line ≤ 20 }
@@ -36,7 +36,7 @@ fn with_vertex(mut line: Short, point: u8) -> Short
     line
 }
 
-/// The line with the colour of line i behind it.
+/// The line with the colour of line `i` appended.
 fn with_colour(mut line: Short, i: u32) -> Short
     requires { length line ≤ 20 }
     ensures text { result ≡ line ++ colour_of_line i }
@@ -46,7 +46,7 @@ fn with_colour(mut line: Short, i: u32) -> Short
     line
 }
 
-/// The line with a blank behind it.
+/// The line with a blank appended.
 fn with_blank(mut line: Short) -> Short
     requires { length line ≤ 20 }
     ensures { result ≡ line ++ codes " " }
@@ -55,7 +55,7 @@ fn with_blank(mut line: Short) -> Short
     line
 }
 
-/// Line i with this number, without its line feed.
+/// Line `i` with the number `x`, without its line feed.
 #[tactic(auto, unfolding(crate::specs::GeneratedLines::line_with))]
 fn bare_line(i: u32, x: u32) -> Short
     ensures text { result ≡ line_with i x }
@@ -71,7 +71,7 @@ fn bare_line(i: u32, x: u32) -> Short
     }
 }
 
-/// Line i with this number and its line feed.
+/// Line `i` with the number `x`, and with its line feed.
 pub(crate) fn line(i: u32, x: u32) -> Short
     ensures text { result ≡ ended (line_with i x) }
     ensures some { 0 < length result }
@@ -81,7 +81,7 @@ pub(crate) fn line(i: u32, x: u32) -> Short
     line
 }
 
-/// The lines that set the board up.
+/// The lines that set up the board.
 pub(crate) fn opening() -> Short
     ensures { result ≡ text_of opening_lines }
 {

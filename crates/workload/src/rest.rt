@@ -1,4 +1,4 @@
-//! The bytes that are left of the generated lines.
+//! The bytes of the generated lines that no call has given yet.
 ghost use Rattle.std.specs.Prelude.{◌≡◌, ◌+◌, ◌-◌, ◌<◌, ◌≤◌, ◌++◌, [], drop, length, min, take};
 ghost use Rattle.workload.specs.GeneratedLines.{generated_text};
 ghost use Rattle.workload.specs.Remaining.{AreMade, left_from};
@@ -6,8 +6,8 @@ ghost use Rattle.workload.specs.Remaining.{AreMade, left_from};
 use crate::lines::{line, next_number, opening};
 use vertices::Short;
 
-/// How many lines there are and how many were made, and what is left of the last of these. The lines that set the board
-/// up come before the first that is made.
+/// How many lines there are, how many of them were made, and what is left of the last made line. The lines that set up
+/// the board stand before the first made line.
 #[derive(Drop)]
 pub(crate) struct Rest {
     lines: u32,
@@ -17,7 +17,7 @@ pub(crate) struct Rest {
     at: usize,
 }
 
-/// Copies the next bytes of `bytes` from `at` on to the front of `buf`.
+/// Copies the bytes of `bytes` from `at` on to the front of `buf`, and returns how many.
 fn copy_piece(bytes: &[u8], at: usize, buf: &mut [u8]) -> usize
     requires { at ≤ length bytes.now }
     ensures bound { result ≤ length buf.new }
@@ -31,7 +31,7 @@ fn copy_piece(bytes: &[u8], at: usize, buf: &mut [u8]) -> usize
 }
 
 impl Rest {
-    /// All of n lines.
+    /// All bytes of `n` lines and of the lines that set up the board.
     pub(crate) fn new(n: u32) -> Rest
         ensures made { AreMade result.lines result.made result.number result.line result.at }
         ensures left { left_from result.lines result.made result.line result.at ≡ generated_text n }
@@ -45,7 +45,7 @@ impl Rest {
         }
     }
 
-    /// Makes the next line.
+    /// Makes the next line; the last one was given whole.
     fn next_line(&mut self)
         requires made { AreMade self.old.lines self.old.made self.old.number self.old.line self.old.at }
         requires more { self.old.made < self.old.lines }
@@ -61,7 +61,7 @@ impl Rest {
         self.at = 0;
     }
 
-    /// Makes the next line where nothing is left of the last.
+    /// Makes the next line if nothing is left of the last one and there is a next one.
     pub(crate) fn ready(&mut self)
         requires { AreMade self.old.lines self.old.made self.old.number self.old.line self.old.at }
         ensures made { AreMade self.new.lines self.new.made self.new.number self.new.line self.new.at }
@@ -75,7 +75,7 @@ impl Rest {
         }
     }
 
-    /// Gives what is left of the last line, as far as the buffer holds it.
+    /// Gives what is left of the last line, as many bytes as `buf` holds, and returns how many.
     pub(crate) fn give(&mut self, buf: &mut [u8]) -> usize
         requires { AreMade self.old.lines self.old.made self.old.number self.old.line self.old.at }
         ensures made { AreMade self.new.lines self.new.made self.new.number self.new.line self.new.at }

@@ -1,4 +1,4 @@
-//! The source.
+//! The source of generated lines.
 ghost use Rattle.std.specs.Prelude.{◌≡◌, Some, false, is_err};
 ghost use Rattle.std.specs.Io.{ReadsAtMost};
 ghost use Rattle.std.specs.Io.KnownBytes.{ReadConsumes};
@@ -9,8 +9,8 @@ use crate::rest::Rest;
 use gtp_io::{Failed, Source};
 use std::marker::Model;
 
-/// A source of generated lines, which never fails and takes no memory. A call gives bytes of one line at most, but for
-/// the first lines, which set the board up and count as one.
+/// A source of generated lines. It never fails and takes no memory. One call gives bytes of one line only; the lines
+/// that set up the board count as one here.
 #[derive(Drop)]
 pub struct Workload {
     rest: Rest,
@@ -28,7 +28,7 @@ impl Model for Workload {
 }
 
 impl Workload {
-    /// The lines that set the board up, and then n lines.
+    /// A source of the lines that set up the board and of `n` lines after them.
     pub fn new(n: u32) -> Workload
         ensures { result ≡ record { left = generated_text n; piece = 0 } }
     {

@@ -1,4 +1,4 @@
--- What is the same under each of the asked ko allowances, and what is written once for all of them.
+-- Answers that are the same under each of the asked ko allowances, and words that are written once for all of them.
 use Rattle.std.specs.Prelude.{◌≡◌, ◌≢◌, ℕ, Bool, true, false, List, ◌∷◌, Option, Some, None}
 use Rattle.std.specs.Prelude.{Result, Ok, if◌then◌else◌, not, ◌==◌}
 use Rattle.go_rules.specs.Position.{BoardState}
@@ -18,7 +18,7 @@ use Rattle.write_proof.specs.declared.alike.Common.TheVariants.{Move, Nothing, D
 use Rattle.write_proof.specs.declared.text.NoRoom.{NoRoom}
 use Rattle.write_proof.specs.Printed.{behind_blanks, Puts}
 
--- no two allowances are in the set
+-- at most one allowance is in the set
 abbrev pub IsOne : Allowances → Type 0
 IsOne asked = (ko other : Ko) → has asked ko ≡ true → has asked other ≡ true → ko ≡ other
 
@@ -28,18 +28,18 @@ only defender_may = record { defender = true; neither = false; attacker = false 
 only neither_may = record { defender = false; neither = true; attacker = false }
 only attacker_may = record { defender = false; neither = false; attacker = true }
 
--- the allowance of a code, for a question of this kind: under code 3 the other side may ignore the ban, under code 1
--- the side that is asked about, and under others neither
+-- the allowance of a code, for an attack or a defence: under code 3 the other side may ignore the ban, under code 1 the
+-- side that is asked about, and under other codes neither
 abbrev pub ko_under : Bool → ℕ → Ko
 ko_under attack code = if code == 3 then own_ko (not attack) else if code == 1 then own_ko attack else neither_may
 
--- the test is true of each asked allowance, or of none; nothing is said where it may differ
+-- the test is true of each asked allowance if Always is told, and of none if Never is told; Differs says nothing
 abbrev pub IsTold : Allowances → Told → (Ko → Bool) → Type 0
 IsTold asked Always test = (ko : Ko) → has asked ko ≡ true → test ko ≡ true
 IsTold asked Never test = (ko : Ko) → has asked ko ≡ true → test ko ≡ false
 IsTold asked Differs test = Unit {0}
 
--- under each asked allowance this is the first move, or there is none; nothing is said where it may differ
+-- under each asked allowance this is the first move, or there is none; Differs says nothing
 abbrev pub IsCommon : Allowances → Common → (Ko → Option Spot) → Type 0
 IsCommon asked (Move spot) first = (ko : Ko) → has asked ko ≡ true → Some spot ≡ first ko
 IsCommon asked Nothing first = (ko : Ko) → has asked ko ≡ true → None ≡ first ko
@@ -51,8 +51,8 @@ IsMoveOn size (Move spot) = IsOnBoard size spot
 IsMoveOn size Nothing = Unit {0}
 IsMoveOn size differs = Unit {0}
 
--- unless it was told that they are not the same, the words that were put are those under each asked allowance, each
--- behind a blank
+-- unless the result is false, which says that the words may differ, what was put is the words under each asked
+-- allowance, each after a blank
 abbrev pub PutsAlike : Allowances → List ℕ → (Ko → List Word) → List ℕ → Result Bool NoRoom → Type 0
 PutsAlike asked old words new result = result ≢ Ok false → (ko : Ko) → has asked ko ≡ true
     → Puts old (behind_blanks (words ko)) new result

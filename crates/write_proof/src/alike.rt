@@ -1,4 +1,4 @@
-//! The first move of a node under each of the asked ko allowances at once, where it is the same under all of them.
+//! The first move of a node under all of the asked ko allowances at once, if it is the same under each of them.
 
 ghost use Rattle.std.specs.Prelude.{◌≡◌, ◌≢◌, ◌+◌, ◌<◌, true, not, length};
 ghost use Rattle.trial_board.specs.Trials.{Stays, most_moves};
@@ -18,29 +18,29 @@ use read_tree::memory::Memory;
 use read_tree::tree::{pass_saves, succeeds};
 use trial_board::Trial;
 
-/// What the asked allowances tell of a move together.
+/// Whether a move gives the side to play its way, under all of the asked allowances together.
 #[derive(Clone, Copy, Debug, PartialEq, Eq)]
 pub enum Told {
-    /// It gives the side to play its way under each.
+    /// The move gives the side to play its way under each asked allowance.
     Always,
-    /// It does under none.
+    /// The move does not give the side to play its way under any asked allowance.
     Never,
-    /// It does under some of them alone.
+    /// The move gives the side to play its way under some asked allowances and not under others.
     Differs,
 }
 
-/// What the asked allowances have in common.
+/// The first move of a node, under all of the asked allowances together.
 #[derive(Clone, Copy, Debug, PartialEq, Eq)]
 pub enum Common {
-    /// Under each of them this is the first move.
+    /// This is the first move under each asked allowance.
     Move(Spot),
-    /// There is none under any.
+    /// There is no first move under any asked allowance.
     Nothing,
-    /// It is not the same under all.
+    /// The first move may differ between the asked allowances.
     Differs,
 }
 
-/// Whether the only one of the asked is that of the side to play, the attacker or not.
+/// Whether `asked` holds no allowance but that of the side to play, which is the attacker if `attacker`.
 pub fn is_own_alone(asked: Allowances, attacker: bool) -> bool
     ensures { result ≡ not (has_some (without asked (own_where attacker true))) }
 {
@@ -49,7 +49,7 @@ pub fn is_own_alone(asked: Allowances, attacker: bool) -> bool
         .has_some()
 }
 
-/// What the asked tell, by those under which the move gives the side to play its way.
+/// What the allowances `asked` tell of a move, if `good` are those under which it gives the side to play its way.
 pub fn told_by(asked: Allowances, good: Allowances) -> Told
     ensures told { IsTold asked result (has good) }
     ensures one { IsOne asked → result ≢ Told.Differs }
@@ -63,7 +63,8 @@ pub fn told_by(asked: Allowances, good: Allowances) -> Told
     Told::Never
 }
 
-/// What they tell of the defender's pass, with `plies` plies left after it. The attacker does not pass.
+/// What the allowances `asked` tell of the defender's pass, with `plies` plies left after it. The attacker does not
+/// pass, so at his turn the answer is `Never`.
 fn pass_told<L: Look>(
     board: &mut Trial<L>,
     turn: Turn,
@@ -85,7 +86,7 @@ fn pass_told<L: Look>(
     told_by(asked, good)
 }
 
-/// What they tell of a play at p.
+/// What the allowances `asked` tell of a play at `p`, with `plies` plies left after it.
 fn play_told<L: Look>(
     board: &mut Trial<L>,
     turn: Turn,
@@ -106,8 +107,8 @@ fn play_told<L: Look>(
     told_by(asked, good)
 }
 
-/// The first candidate in reading order that gives the side to play its way, where it is the same under each of the
-/// asked.
+/// The first candidate in reading order that gives the side to play its way with `plies` plies left after it, if it is
+/// the same under each allowance of `asked`.
 fn first_point<L: Look>(
     board: &mut Trial<L>,
     turn: Turn,
@@ -136,8 +137,8 @@ fn first_point<L: Look>(
     Common::Nothing
 }
 
-/// The first move that gives the side to play its way with `plies` plies left after it, where it is the same under each
-/// of the asked: the defender's pass before all points, and then the candidates in reading order.
+/// The first move that gives the side to play its way with `plies` plies left after it, if it is the same under each
+/// allowance of `asked`. The defender's pass is tried before all points, then the candidates in reading order.
 pub fn first_alike<L: Look>(
     board: &mut Trial<L>,
     turn: Turn,

@@ -28,7 +28,8 @@ pub fn letter(won: bool) -> &'static [u8]
     if won { b"W" } else { b"N" }
 }
 
-/// The allowance of a code, for a question of this kind, alone.
+/// The set of one allowance, that of `code`: under code 3 the other side may ignore the ko ban, under code 1 the side
+/// that is asked about, and under other codes neither. The attacker is asked about if `attack`.
 fn allowance_under(attack: bool, code: u8) -> Allowances
     ensures { result ≡ only (ko_under attack code) }
 {
@@ -39,8 +40,8 @@ fn allowance_under(attack: bool, code: u8) -> Allowances
     }
 }
 
-/// Writes the letter and the first proof of a claim, where it is the same under each asked ko allowance. Else it
-/// answers false.
+/// Writes the letter and the first proof of a claim, and answers true, if the proof is the same under each asked ko
+/// allowance. If it may differ, the answer is false.
 pub fn write_claim<L: Look>(
     board: &mut Trial<L>,
     question: &ReadingQuestion,
@@ -74,7 +75,7 @@ pub fn write_claim<L: Look>(
     )
 }
 
-/// Writes the letter and the first proof of what a proof of the code claims under the allowances of another code.
+/// Writes the letter and the first proof of what a proof of `code` claims under the allowances of `more`.
 fn write_under<L: Look>(
     board: &mut Trial<L>,
     question: &ReadingQuestion,
@@ -102,7 +103,7 @@ fn write_under<L: Look>(
     }
 }
 
-/// Writes the first proof of the code: what is claimed under the codes from 3 down to it, or to 1.
+/// Writes the first proof of `code`: what it claims under the allowances of each code from 3 down to `code`, or to 1.
 pub fn write_all<L: Look>(
     board: &mut Trial<L>,
     question: &ReadingQuestion,

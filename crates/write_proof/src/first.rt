@@ -27,15 +27,15 @@ use read_tree::{Allowances, attack, defend};
 use std::alloc::Global;
 use trial_board::Trial;
 
-/// From how many plies on a table remembers the nodes of a proof.
+/// With this many plies or more, a table remembers the nodes of a proof.
 const PLIES_WITH_TABLE: u8 = 12;
 
 /// The code of a question, and the first proof of it as it is printed.
 #[derive(Debug, Drop)]
 pub struct Proof {
-    /// The code.
+    /// The code of the question: 3, 2, 1 or 0.
     pub code: u8,
-    /// The words of its first proof, with one blank between each two.
+    /// The words of the first proof of the code, with one blank between each two.
     pub text: Bytes,
 }
 
@@ -54,8 +54,8 @@ fn code_of(pos: &Position, of: Kind, target: Point, depths: Depths) -> u8
     }
 }
 
-/// Puts the words of the first proof of code 0 behind a text, each behind a blank, if its three parts are the same.
-/// Else it answers false and puts nothing.
+/// Puts the words of the first proof of code 0 at the end of `out`, each after a blank, and answers true, if its three
+/// parts are the same. If they may differ, it answers false and puts nothing.
 fn alike_words<L: Look>(
     board: &mut Trial<L>,
     question: &ReadingQuestion,
@@ -87,8 +87,8 @@ fn alike_words<L: Look>(
     }
 }
 
-/// Puts the words of the first proof of the code behind a text, each behind a blank; those of code 0 at once, if its
-/// parts are the same.
+/// Puts the words of the first proof of `code` at the end of `out`, each after a blank. For code 0 it finds one part
+/// and puts it three times, if the parts are the same.
 fn words_on<L: Look>(
     board: &mut Trial<L>,
     question: &ReadingQuestion,
@@ -114,7 +114,8 @@ fn words_on<L: Look>(
     }
 }
 
-/// The same for a position. The table remembers the nodes of the whole proof.
+/// Puts the words of the first proof of `code` on a position at the end of `out`, each after a blank. `table` remembers
+/// the nodes of the whole proof.
 fn words_with(
     pos: &Position,
     question: &ReadingQuestion,
@@ -140,7 +141,8 @@ fn words_with(
     words
 }
 
-/// The same with a table, which is made here: it is large, and a short proof is not to pay for it.
+/// Puts the words of the first proof of `code` at the end of `out`, with a table. The table is made here: it is large,
+/// and a short proof shall not pay for it.
 #[inline(never)]
 fn words_with_table(
     pos: &Position,
@@ -158,7 +160,8 @@ fn words_with_table(
     words_with(pos, question, code, &mut table, out)
 }
 
-/// The same with a table where there are plies enough, and else without one.
+/// Puts the words of the first proof of `code` at the end of `out`, with a table if the question has at least
+/// `PLIES_WITH_TABLE` plies.
 fn words_of(
     pos: &Position,
     question: &ReadingQuestion,
@@ -177,11 +180,11 @@ fn words_of(
     words_with_table(pos, question, code, out)
 }
 
-/// Writes the first proof of the code of an attack on the string at `target`, or of its defence, into an empty text,
-/// behind one blank, and tells the code.
+/// Writes the first proof of the code of an attack on the string at `target`, or of its defence, into the empty text
+/// `out`, after one blank, and answers the code.
 ///
-/// The proof takes `.` wherever it will do, else the play that takes back if the defender can, else the first move in
-/// reading order that will do, the pass before all points, and else `*`. `NoRoom` exactly if it has more than 60,000
+/// The word of a node is `.` if it proves the claim; else the play that takes back, if the defender can; else the first
+/// move that proves it, the pass before all points; and else `*`. `NoRoom` exactly if the proof has more than 60,000
 /// bytes. Takes no memory.
 pub fn write_first(
     pos: &Position,
@@ -215,7 +218,7 @@ pub fn write_first(
     }
 }
 
-/// The text without its first byte.
+/// The bytes of `text` without the first.
 fn without_first(alloc: Global, text: &Text) -> Result<Bytes, NoMemory>
     requires { 0 < length text.now }
     ensures { IfOk result (λ new. new ≡ drop 1 text.now) }
@@ -227,9 +230,9 @@ fn without_first(alloc: Global, text: &Text) -> Result<Bytes, NoMemory>
 
 /// The code of an attack on the string at `target`, or of its defence, with these depths, and the first proof of it.
 ///
-/// The proof takes `.` wherever it will do, else the play that takes back if the defender can, else the first move in
-/// reading order that will do, the pass before all points, and else `*`. `TooLong` exactly where it has more than
-/// 60,000 bytes, if memory lasts. Takes memory.
+/// The word of a node is `.` if it proves the claim; else the play that takes back, if the defender can; else the first
+/// move that proves it, the pass before all points; and else `*`. `TooLong` exactly if the proof has more than 60,000
+/// bytes, unless memory runs out. Takes memory.
 pub fn first_proof(
     alloc: Global,
     pos: &Position,

@@ -1,7 +1,7 @@
 //! Printed proofs of readings: the code of an attack or a defence, and the first proof of it.
 //!
-//! `read_proof` says what a proof is, and checks one without the reader. Here the reader finds one: at each node it is
-//! asked which move is the first that will do. `docs/PROOFS_OF_READINGS.md` explains a proof word by word.
+//! `read_proof` says what a proof is, and checks one without the reader. Here the reader finds a proof: at each node it
+//! is asked for the first move that proves the claim. `docs/PROOFS_OF_READINGS.md` explains a proof word by word.
 #![tactic(auto)]
 
 mod alike;

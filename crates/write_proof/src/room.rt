@@ -9,10 +9,10 @@ use vertices::write_at;
 /// How many bytes a printed proof may have, with a blank before its first word.
 pub(crate) const MAX_BYTES: usize = 60_001;
 
-/// A text of at most 60,001 bytes in place, seen as their list. It takes no memory but its own.
+/// A text of at most 60,001 bytes in place, seen as the list of its bytes. It takes no memory but its own.
 #[derive(Drop)]
 pub struct Text {
-    /// The text, and some bytes behind it.
+    /// The bytes of the text, and behind them bytes that do not count.
     bytes: [u8; MAX_BYTES],
     /// How many bytes the text has.
     len: usize,
@@ -30,7 +30,7 @@ impl Model for Text {
 }
 
 impl Text {
-    /// The text without a byte.
+    /// The empty text.
     pub fn new() -> Text
         ensures { result ≡ [] }
     {
@@ -47,7 +47,7 @@ impl Text {
         &self.bytes[..self.len]
     }
 
-    /// Puts bytes at the end, for which there is room.
+    /// Puts the bytes `more` at the end of the text, which must have room for them.
     pub(crate) fn extend(&mut self, more: &[u8])
         requires { length self.old + length more.now ≤ most_bytes }
         ensures { self.new ≡ self.old ++ more.now }

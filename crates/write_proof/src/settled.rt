@@ -12,8 +12,8 @@ use go_base::{Cell, Look};
 use read_rules::{Node, Turn};
 use trial_board::Trial;
 
-/// Whether so many liberties of the target are more than the attacker can fill with `plies` plies left, or than he may
-/// play at.
+/// Whether `liberties` liberties of the target are more than the attacker can fill with `plies` plies left, or so many
+/// that he may not play at it.
 fn are_too_many(turn: Turn, plies: u8, liberties: u16) -> bool
     ensures { result ≡ (if turn.attacker_to_play then nat_lt ((plies + 1) / 2) liberties
         || (nat_lt 4 liberties || ((turn.wide == 0) && nat_lt (most_narrow turn.tree) liberties))
@@ -26,7 +26,7 @@ fn are_too_many(turn: Turn, plies: u8, liberties: u16) -> bool
     }
 }
 
-/// Whether the claim, that the attacker wins or that he does not, is settled with `plies` plies left. It is the same
+/// Whether the claim, that the attacker wins or that he does not, is settled with `plies` plies left. The answer holds
 /// under each ko allowance under which the defender cannot take back.
 pub fn is_settled<L: Look>(board: &mut Trial<L>, turn: Turn, plies: u8, won: bool) -> bool
     requires target { turn.target < (L.shows board.old.look).size * (L.shows board.old.look).size }

@@ -15,8 +15,8 @@ use read_tree::Allowances;
 use read_tree::taking_back::{is_walled_in, may_take_back};
 use trial_board::Trial;
 
-/// What the asked allowances tell of taking back: the target is a lone stone that was just taken, and a play at its
-/// point takes stones. Only in the wider tree can the defender take back.
+/// What the allowances `asked` tell of taking back: the target was a lone stone that was just taken, and the defender
+/// can play at its point. Only in the wider tree can the defender take back.
 pub fn back_told<L: Look>(board: &mut Trial<L>, turn: Turn, asked: Allowances) -> Told
     requires target { IsPointOf L.shows board.old turn.target }
     ensures stays { Stays L.shows L.seen board.old board.new }

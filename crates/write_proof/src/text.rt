@@ -1,4 +1,4 @@
-//! A text that grows word by word, each behind a blank, until it is too long.
+//! Putting words at the end of a text, each after a blank, as long as there is room.
 
 ghost use Rattle.std.specs.Prelude.{◌≡◌, ◌≤◌, [], ◌∷◌, length};
 ghost use Rattle.read_rules.specs.GoodMoves.{IsOnBoard};
@@ -12,13 +12,13 @@ use read_rules::Spot;
 use thiserror::Error;
 use vertices::vertex_text;
 
-/// Why a proof is not told.
+/// Why a proof is not answered.
 #[derive(Clone, Copy, Debug, PartialEq, Eq, Error)]
 pub enum ProofError {
-    /// It has more than 60,000 bytes.
+    /// The proof has more than 60,000 bytes.
     #[error("proof too long")]
     TooLong,
-    /// There was no memory for it.
+    /// There was no memory for the proof.
     #[error("out of memory")]
     NoMemory,
 }
@@ -27,7 +27,7 @@ pub enum ProofError {
 #[derive(Clone, Copy, Debug, PartialEq, Eq)]
 pub struct NoRoom;
 
-/// Puts bytes behind a text, if there is room for them.
+/// Puts the bytes `more` at the end of `out`, if there is room for them.
 pub fn put(out: &mut Text, more: &[u8]) -> Result<(), NoRoom>
     requires { length out.old ≤ most_bytes }
     ensures { Puts out.old more.now out.new result }
@@ -39,7 +39,7 @@ pub fn put(out: &mut Text, more: &[u8]) -> Result<(), NoRoom>
     Ok(())
 }
 
-/// Puts a word behind a blank.
+/// Puts a blank and a word at the end of `out`.
 pub fn put_word(out: &mut Text, word: &[u8]) -> Result<(), NoRoom>
     requires { length out.old ≤ most_bytes }
     ensures { Puts out.old (behind_blanks (word.now ∷ [])) out.new result }
@@ -48,7 +48,7 @@ pub fn put_word(out: &mut Text, word: &[u8]) -> Result<(), NoRoom>
     put(out, word)
 }
 
-/// Puts the word of a move behind a blank.
+/// Puts a blank and the word of a move at the end of `out`.
 pub fn put_move(out: &mut Text, size: Size, spot: Spot) -> Result<(), NoRoom>
     requires room { length out.old ≤ most_bytes }
     requires on_board { IsOnBoard size spot }

@@ -7,7 +7,7 @@ ghost use Rattle.write_proof.specs.Room.{most_bytes};
 use crate::room::Text;
 use crate::text::{NoRoom, put};
 
-/// Puts a part three times behind a text.
+/// Puts `part` three times at the end of `out`.
 pub fn put_thrice(out: &mut Text, part: &[u8]) -> Result<(), NoRoom>
     requires { length out.old ≤ most_bytes }
     ensures { Puts out.old (part.now ++ (part.now ++ part.now)) out.new result }

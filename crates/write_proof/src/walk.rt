@@ -1,5 +1,5 @@
-//! The first proof of a claim at a node under each of the asked ko allowances, where it is the same under all of them.
-//! It is written once, on one board with trial moves from its first word to its last.
+//! Writes the first proof of a claim at a node once for all of the asked ko allowances, if it is the same under each of
+//! them. One board with trial moves serves the whole proof.
 
 ghost use Rattle.std.specs.Prelude.{◌≡◌, ◌≢◌, ◌+◌, ◌<◌, ◌≤◌, [], ◌∷◌, codes, length, Ok, None, true, false};
 ghost use Rattle.std.specs.Option.{option_to_list};
@@ -28,7 +28,7 @@ use read_tree::making::{Made, make};
 use read_tree::memory::Memory;
 use trial_board::Trial;
 
-/// The node of a turn where neither side may ignore the ban.
+/// The node of a turn at which neither side may ignore the ko ban.
 fn node_of(turn: Turn) -> Node
     ensures { result ≡ under turn neither_may }
 {
@@ -39,7 +39,7 @@ fn node_of(turn: Turn) -> Node
     }
 }
 
-/// Writes that a claim is settled, which it then is under each allowance.
+/// Writes `.`, which says that the claim is settled, and answers true.
 fn put_dot(out: &mut Text) -> Result<bool, NoRoom>
     requires { length out.old ≤ most_bytes }
     ensures puts { Puts out.old (behind_blanks (codes "." ∷ [])) out.new result }
@@ -49,8 +49,8 @@ fn put_dot(out: &mut Text) -> Result<bool, NoRoom>
     Ok(true)
 }
 
-/// Writes the first proof of the claim at the child after the defender's pass, or tells that it is not the same under
-/// each asked allowance.
+/// Writes the first proof of the claim at the child after the defender's pass; the answer is false if the proof may
+/// differ between the asked allowances. At the attacker's turn it writes nothing and answers true.
 #[cycle(write)]
 fn write_pass<L: Look>(
     board: &mut Trial<L>,
@@ -81,8 +81,8 @@ fn write_pass<L: Look>(
     done
 }
 
-/// Writes that at the child after the play at p, where it can be played. A play that the ban alone forbids leads to a
-/// child under one allowance alone.
+/// Writes the first proof of the claim at the child after the play at `p`, if `p` can be played; the answer is false if
+/// the proof may differ. A play that the ko ban alone forbids leads to a child under the mover's own allowance alone.
 #[cycle(write)]
 fn write_play<L: Look>(
     board: &mut Trial<L>,
@@ -126,7 +126,8 @@ fn write_play<L: Look>(
     }
 }
 
-/// Writes those at the children after the candidates that can be played.
+/// Writes the first proofs of the claim at the children after the candidates that can be played; the answer is false if
+/// one of them may differ between the asked allowances.
 #[cycle(write)]
 fn write_plays<L: Look>(
     board: &mut Trial<L>,
@@ -160,7 +161,8 @@ fn write_plays<L: Look>(
     Ok(true)
 }
 
-/// Writes the word of the first move that will do and the first proof of the claim at the child to which it leads.
+/// Writes the word of the first move that gives the side to play its way, and the first proof of the claim at the child
+/// to which it leads; the answer is false if they may differ between the asked allowances.
 #[cycle(write)]
 fn write_move<L: Look>(
     board: &mut Trial<L>,
@@ -196,8 +198,8 @@ fn write_move<L: Look>(
     }
 }
 
-/// Writes the word of the play at the target's point and the first proof of the claim at the child to which it leads,
-/// where it can be played: there the defender takes back.
+/// Writes the word of the play at the target's point, by which the defender takes back, and, if it can be played, the
+/// first proof of the claim at the child to which it leads.
 #[cycle(write)]
 fn write_back<L: Look>(
     board: &mut Trial<L>,
@@ -224,8 +226,8 @@ fn write_back<L: Look>(
     write_play(board, turn, asked, turn.target, plies, won, memory, out)
 }
 
-/// Writes the first proof of the claim at a node at which the defender cannot take back under any of the asked ko
-/// allowances, with `plies` plies left, at least one.
+/// Writes the first proof of the claim at a node with `plies` plies left, at least one, if the defender cannot take
+/// back there under any asked ko allowance.
 #[cycle(write)]
 fn write_moves<L: Look>(
     board: &mut Trial<L>,
@@ -264,9 +266,9 @@ fn write_moves<L: Look>(
     write_plays(board, turn, asked, plies - 1, won, memory, out)
 }
 
-/// Writes the first proof of the claim at the node, with `plies` plies left, each word behind a blank, where it is the
-/// same under each asked ko allowance. Else it answers false, and what is written then counts for nothing. The table
-/// remembers attacker's nodes over the position that the view shows.
+/// Writes the first proof of the claim at the node with `plies` plies left, each word after a blank, and answers true,
+/// if the proof is the same under each asked ko allowance. If it may differ, the answer is false, and what was written
+/// counts for nothing. The table in `memory` remembers attacker's nodes over the position that the view shows.
 #[cycle(write)]
 pub fn write<L: Look>(
     board: &mut Trial<L>,

@@ -1,18 +1,18 @@
-//! Why a proof of a sure capture is not told.
+//! Why no proof of a sure capture is answered.
 
 use go_base::NoMemory;
 use thiserror::Error;
 
-/// Why a proof of a sure capture is not told.
+/// Why no proof of a sure capture is answered.
 #[derive(Clone, Copy, Debug, PartialEq, Eq, Error)]
 pub enum SureProofError {
-    /// It has more than 60,000 bytes.
+    /// The proof has more than 60,000 bytes.
     #[error("proof too long")]
     TooLong,
-    /// There was no memory for it.
+    /// There was no memory for the proof.
     #[error("out of memory")]
     NoMemory,
-    /// The checker did not accept the text that was found.
+    /// The search found no text, or the checker did not accept the text that it found.
     #[error("no proof found")]
     NotFound,
 }

@@ -6,17 +6,17 @@ use crate::refusal::SureProofError;
 use go_base::{Bytes, Point, Size};
 use vertices::vertex_text;
 
-/// How many bytes a proof may have.
+/// How many bytes a proof may have at most.
 const MAX_BYTES: usize = 60_000;
 
-/// Whether a text is not too long.
+/// Whether the text has at most 60,000 bytes.
 pub(crate) fn is_short(text: &[u8]) -> bool
     ensures { IsTrue result ↔ (length text.now ≤ 60000) }
 {
     text.len() <= MAX_BYTES
 }
 
-/// The bytes behind the first so many; nothing if the text has fewer.
+/// The bytes of `text` after the first `count`; none if it has fewer.
 pub(crate) fn behind(text: &[u8], count: usize) -> &[u8] {
     if count > text.len() {
         return b"";
@@ -24,7 +24,7 @@ pub(crate) fn behind(text: &[u8], count: usize) -> &[u8] {
     &text[count..]
 }
 
-/// Puts bytes behind a text that is not too long.
+/// Puts the bytes `more` at the end of `out`, if `out` is not too long yet.
 fn put(out: &mut Bytes, more: &[u8]) -> Result<(), SureProofError> {
     if !is_short(out.as_slice()) {
         return Err(SureProofError::TooLong);
@@ -32,7 +32,7 @@ fn put(out: &mut Bytes, more: &[u8]) -> Result<(), SureProofError> {
     Ok(out.extend(more)?)
 }
 
-/// Puts a word behind a text, and a blank between them.
+/// Puts a word at the end of `out`, after a blank if `out` is not empty.
 pub(crate) fn put_word(out: &mut Bytes, word: &[u8]) -> Result<(), SureProofError> {
     if !out.as_slice().is_empty() {
         put(out, b" ")?;
@@ -40,7 +40,7 @@ pub(crate) fn put_word(out: &mut Bytes, word: &[u8]) -> Result<(), SureProofErro
     put(out, word)
 }
 
-/// Puts the vertex of p behind a text.
+/// Puts the vertex of `p` at the end of `out`, after a blank if `out` is not empty.
 pub(crate) fn put_vertex(out: &mut Bytes, size: Size, p: Point) -> Result<(), SureProofError>
     requires { p < size * size }
 {

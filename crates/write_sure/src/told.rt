@@ -1,4 +1,4 @@
-//! The proof of a sure capture, as it is told.
+//! The proof of a sure capture: written by the walk, and accepted by the checker.
 
 ghost use Rattle.std.specs.Prelude.{◌≡◌, ◌≢◌, ◌↔◌, ◌*◌, ◌<◌, ◌≤◌, Ok, None, IfOk, IfSome, IsTrue, false, length};
 ghost use Rattle.go_rules.specs.Strings.{cell_at};
@@ -43,7 +43,8 @@ fn accepted(alloc: Global, pos: &Position, node: Node, plies: u8) -> Result<Byte
     Ok(text)
 }
 
-/// A proof that the target is surely captured at the node, with `plies` plies left; none exactly if it is not.
+/// A proof that the target is surely captured at the node, with `plies` plies left; `Ok(None)` exactly if it is not
+/// surely captured.
 fn node_proof(
     alloc: Global,
     pos: &Position,
@@ -64,13 +65,13 @@ fn node_proof(
     }
 }
 
-/// A proof that the string at `target` is surely captured with these depths, under the ko allowances of a code: for an
-/// attack the attacker plays first, and for a defence the defender. None exactly if the string is not surely captured
-/// there.
+/// A proof that the string at `target` is surely captured with these depths, under the ko allowances of `code`: for an
+/// attack the attacker plays first, and for a defence the defender. `Ok(None)` exactly if the string is not surely
+/// captured so.
 ///
-/// A text that is told is a proof, since `sure_proof` accepts it; that one is found for each sure capture, if it is not
-/// too long and there is memory, is tested and not proved. If the attacker plays first, it begins with the first move in
-/// reading order that will do. Takes memory.
+/// Each text that is answered is a proof, since the crate `sure_proof` accepts it. That a text is found for each sure
+/// capture, if it is not too long and there is memory, is tested and not proved. If the attacker plays first, the text
+/// begins with the first move in reading order that surely captures. Takes memory.
 pub fn sure_proof(
     alloc: Global,
     pos: &Position,

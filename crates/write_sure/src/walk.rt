@@ -1,4 +1,4 @@
-//! The walk down a sure capture: it writes a word at each node.
+//! The walk down a sure capture: it writes one word for each node.
 
 ghost use Rattle.std.specs.Prelude.{◌*◌, ◌<◌};
 
@@ -12,7 +12,7 @@ use read_rules::{Node, Spot};
 use read_zones::zone_of;
 use sure_proof::replies_asked;
 
-/// Whether the attacker's play at p is one of his candidates, and surely captures with `plies` plies left after it.
+/// Whether the attacker's play at `p` is one of his candidates, and surely captures with `plies` plies left after it.
 fn captures(pos: &Position, node: Node, p: Point, plies: u8) -> bool
     requires { node.turn.target < pos.now.size * pos.now.size }
 {
@@ -22,7 +22,8 @@ fn captures(pos: &Position, node: Node, p: Point, plies: u8) -> bool
     }
 }
 
-/// The first of these points, in reading order, at which the attacker's play surely captures.
+/// The first of `points`, in reading order, at which the attacker's play surely captures with `plies` plies left after
+/// it.
 fn capture_among(pos: &Position, node: Node, points: &PointSet, plies: u8) -> Option<Point>
     requires { node.turn.target < pos.now.size * pos.now.size }
 {
@@ -36,7 +37,8 @@ fn capture_among(pos: &Position, node: Node, points: &PointSet, plies: u8) -> Op
     None
 }
 
-/// The first of the other points, in reading order, at which the attacker's play surely captures.
+/// The first point of the board, in reading order, that is not in `points` and at which the attacker's play surely
+/// captures with `plies` plies left after it.
 fn capture_outside(pos: &Position, node: Node, points: &PointSet, plies: u8) -> Option<Point>
     requires { node.turn.target < pos.now.size * pos.now.size }
 {
@@ -48,7 +50,7 @@ fn capture_outside(pos: &Position, node: Node, points: &PointSet, plies: u8) -> 
     None
 }
 
-/// Whether a neighbour of p is one of these points.
+/// Whether some neighbour of `p` is in `points`.
 fn is_beside(size: Size, points: &PointSet, p: Point) -> bool
     requires { p < size * size }
 {
@@ -65,7 +67,7 @@ fn is_beside(size: Size, points: &PointSet, p: Point) -> bool
     false
 }
 
-/// These points and their neighbours.
+/// The points of `points` and their neighbours.
 fn with_neighbours(size: Size, points: &PointSet) -> PointSet {
     let mut wider = PointSet::new();
     for p in 0..size.points() {
@@ -76,8 +78,8 @@ fn with_neighbours(size: Size, points: &PointSet) -> PointSet {
     wider
 }
 
-/// A point at which the attacker's play surely captures. The liberties of the target come first, and then the points
-/// next to them: it rests on few points that these are candidates, and so few replies are asked for.
+/// A point at which the attacker's play surely captures. The liberties of the target are tried first, and then the
+/// points next to them: few points show that these are candidates, and so the proof asks for few replies.
 fn nearest_capture(pos: &Position, node: Node, plies: u8) -> Option<Point>
     requires { node.turn.target < pos.now.size * pos.now.size }
 {
@@ -92,8 +94,8 @@ fn nearest_capture(pos: &Position, node: Node, plies: u8) -> Option<Point>
     }
 }
 
-/// Writes the vertex of p, and the proof at the child to which the mover's play there leads; nothing if it cannot be
-/// made.
+/// Writes the vertex of `p`, and the proof of the child to which the mover's play there leads; nothing if the play
+/// cannot be made.
 #[cycle(write)]
 fn write_play(
     pos: &Position,
@@ -116,7 +118,7 @@ fn write_play(
     }
 }
 
-/// Writes the replies that are asked for, each with the proof at its child.
+/// Writes the replies at the points of `asked`, each with the proof of its child.
 #[cycle(write)]
 fn write_replies(
     pos: &Position,
@@ -135,7 +137,7 @@ fn write_replies(
     Ok(())
 }
 
-/// Writes the proof at the defender's turn, with `plies` plies left after his move.
+/// Writes the proof of a node at the defender's turn, with `plies` plies left after his move.
 #[cycle(write)]
 fn write_defence(
     pos: &Position,
@@ -156,7 +158,7 @@ fn write_defence(
     put_word(out, b";")
 }
 
-/// Writes the proof at the attacker's turn, with `plies` plies left after his move.
+/// Writes the proof of a node at the attacker's turn, with `plies` plies left after his move.
 #[cycle(write)]
 fn write_attack(
     pos: &Position,
@@ -172,7 +174,8 @@ fn write_attack(
     }
 }
 
-/// Writes the proof at a node at which the target is taken: `.`, or the play that takes it back and the proof after it.
+/// Writes the proof of a node at which the target is taken: `.`, or, if the defender can take it back, the vertex of
+/// that play and the proof of its child.
 #[cycle(write)]
 fn write_taken(pos: &Position, node: Node, plies: u8, out: &mut Bytes) -> Result<(), SureProofError>
     requires { node.turn.target < pos.now.size * pos.now.size }
@@ -189,7 +192,7 @@ fn write_taken(pos: &Position, node: Node, plies: u8, out: &mut Bytes) -> Result
     }
 }
 
-/// Writes the proof at a node at which the target is surely captured, with `plies` plies left.
+/// Writes the proof of a node at which the target is surely captured, with `plies` plies left.
 #[cycle(write)]
 fn write_node(pos: &Position, node: Node, plies: u8, out: &mut Bytes) -> Result<(), SureProofError>
     requires { node.turn.target < pos.now.size * pos.now.size }
@@ -207,8 +210,8 @@ fn write_node(pos: &Position, node: Node, plies: u8, out: &mut Bytes) -> Result<
     }
 }
 
-/// Writes the proof at the first node, at which the target is surely captured. If the attacker is to play, it begins
-/// with the first point in reading order at which his play surely captures.
+/// Writes the proof of the first node, at which the target is surely captured. If the attacker is to play, the proof
+/// begins with the first point in reading order at which his play surely captures.
 pub(crate) fn write_first(
     pos: &Position,
     node: Node,

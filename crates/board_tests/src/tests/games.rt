@@ -8,7 +8,7 @@ use std::panic::Expect;
 use std::process::Abort;
 use std::test::Fail;
 
-/// Makes a play.
+/// Makes a play, whose point is on the board.
 fn put(rt: &impl Abort, history: &mut History, play: Play) -> Result<(), HistoryError> {
     let (colour, row, column) = play;
     let at = history.size().point(row, column).expect(rt, "on the board");

@@ -7,7 +7,7 @@ use go_base::{
 };
 use std::panic::Expect;
 
-/// Why the play on the position is refused, and None if it is done or its place is off the board.
+/// Why the play on the position is refused; `None` if it is legal or its place is off the board.
 fn refusal(position: &Position, play: Play) -> Option<Illegal> {
     let (colour, row, column) = play;
     let p = on(position, row, column)?;
@@ -23,7 +23,7 @@ fn drawn(cell: Cell) -> u8 {
     }
 }
 
-/// Whether the rows of the position, one after another, are the drawing.
+/// Whether `drawing` has the rows of the position, one after another.
 fn shows(position: &Position, drawing: &[u8]) -> bool {
     let points = position.size().points();
     for p in 0..points {
@@ -56,7 +56,7 @@ fn the_transformations_are_the_table(rt: HostRuntime) {
     assert!(rt; Transform::new(8).is_none());
 }
 
-/// Plays on a board of so many rows, the drawing after the last one, and the ban that it leaves.
+/// Plays on a board of `rows` rows, the drawing after the last play, and the ban that it leaves.
 struct Drawing {
     name: &'static str,
     rows: u8,
@@ -81,7 +81,7 @@ const KO_OF_FOUR_ROWS: [Play; 8] = [
     (Black, 1, 2),
 ];
 
-/// A stone that takes one stone and has more than one liberty leaves no ban; nor does one that takes two.
+/// Drawings after plays. A stone leaves no ban if it takes one stone and has more than one liberty, or if it takes two.
 static DRAWINGS: [Drawing; 12] = [
     Drawing {
         name: "a stone in the corner is taken",
@@ -268,7 +268,7 @@ fn plays_give_the_drawings_and_the_bans(rt: HostRuntime) {
     }
 }
 
-/// A play behind others on a board of so many rows, and why it is refused.
+/// A play after others on a board of `rows` rows, and why it is refused.
 struct Refused {
     name: &'static str,
     rows: u8,
@@ -324,7 +324,7 @@ fn plays_are_refused(rt: HostRuntime) {
     }
 }
 
-/// The plays of that ko, after which white may not play at the second point of the second row, point 5.
+/// The plays of the ko on four rows, after which white may not play at the second point of the second row, point 5.
 static BANNED: [Play; 8] = KO_OF_FOUR_ROWS;
 
 #[test]
@@ -335,7 +335,7 @@ fn a_ban_ends_with_a_pass_and_can_be_dropped(rt: HostRuntime) {
     assert!(rt; position.pass().play(White, 5).is_ok(), "after a pass");
 }
 
-/// Whether the set has just these points, which are given in their order.
+/// Whether the set has the points of `points` and no other. They are given in reading order.
 fn has_just(set: &PointSet, points: &[Point]) -> bool {
     let mut least = 0;
     for &p in points {
@@ -364,7 +364,7 @@ fn strings_and_liberties_are_told(rt: HostRuntime) {
 /// The plays before the watch was asked.
 static WATCHED: [Play; 1] = [(Black, 0, 0)];
 
-/// Plays on a board of so many rows, and whether what was asked of the watch is there as it was.
+/// Plays on a board of a number of rows, and whether the facts of the watch hold after them.
 static CHANGED: [(&str, u8, &[Play], bool); 4] = [
     ("the position itself", 3, &[(Black, 0, 0)], true),
     (
@@ -422,7 +422,7 @@ fn sets_of_points_grow_meet_and_differ(rt: HostRuntime) {
     assert!(rt; has_just(&points.difference(&others), &[624]));
 }
 
-/// Plays on a board of so many rows, and how many points a colour may play at then.
+/// Plays on a board of `rows` rows, and how many points a colour may play at after them.
 struct Legal {
     name: &'static str,
     rows: u8,

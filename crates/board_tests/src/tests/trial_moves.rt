@@ -8,7 +8,7 @@ use std::panic::Expect;
 use std::process::Abort;
 use trial_board::{Changes, Trial, Tried};
 
-/// The point of the board with this number. On five rows C3 is 12 and D3 is 13.
+/// The point `n` of the board. On five rows C3 is 12 and D3 is 13.
 fn numbered(size: Size, n: u8) -> Point
     ensures { result < size * size }
 {
@@ -79,8 +79,8 @@ fn no_move_stands_once_each_is_taken_back(rt: HostRuntime) {
     let _look = board.finish();
 }
 
-/// The numbers of the points of a black play, a white one and a black one on an empty board of five rows, and whether
-/// they change the same as those of the first row.
+/// The numbers of the points of a black play, a white play and a black play on an empty board of five rows, and whether
+/// they change the same as the plays of the first row.
 static ORDERS: [(&str, [u8; 3], bool); 4] = [
     ("the same plays", [1, 0, 5], true),
     ("the order of the plays is left out", [5, 0, 1], true),
@@ -88,7 +88,7 @@ static ORDERS: [(&str, [u8; 3], bool); 4] = [
     ("a stone that was not taken too", [1, 9, 5], false),
 ];
 
-/// What a black play, a white one and a black one at the points of these numbers change.
+/// What a black play, a white play and a black play at the points of these numbers change.
 fn changed(rt: &impl Abort, position: &Position, name: &str, numbers: [u8; 3]) -> Option<Changes> {
     let size = position.size();
     let [first, second, third] = numbers;

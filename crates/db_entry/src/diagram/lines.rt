@@ -1,4 +1,4 @@
-//! What a further line does to a main diagram.
+//! How a further line changes what is kept of a main diagram.
 
 ghost use Rattle.go_rules.specs.Board.{largest_size};
 ghost use Rattle.std.specs.Prelude.{◌≡◌, ◌∷◌, [], ◌++◌, ◌&&◌, ◌||◌, not, nat_lt, nat_le, ℕ, List, OnOk, OnErr, IfErr};
@@ -52,7 +52,7 @@ fn is_too_large(bytes: usize, lines: usize) -> bool
     bytes > LONGEST || lines >= LONGEST
 }
 
-/// The shape of the first row, or else of the top edge, after a further line.
+/// The shape of the first row, or of the top edge if there is no row, after a further line of the shape `now`.
 fn shape_after(
     shape: Option<Shape>,
     rows: usize,
@@ -88,7 +88,7 @@ fn rows_after(rows: usize, row: bool) -> usize
     if row { rows + 1 } else { rows }
 }
 
-/// Puts the letters of a row at the end.
+/// Puts the letters of a row at the end of `letters`.
 fn push_inner(letters: &mut Letters, inner: &[u8]) -> Result<(), NoMemory>
     ensures { OnOk result (letters.new ≡ letters.old ++ filter_map letter_of inner.now) }
 {
@@ -100,7 +100,7 @@ fn push_inner(letters: &mut Letters, inner: &[u8]) -> Result<(), NoMemory>
     Ok(())
 }
 
-/// Puts the letters of a line at the end, if it is a row.
+/// Puts the letters of a line at the end of `letters`, if the line is a row.
 fn push_row(letters: &mut Letters, row: bool, word: &[u8]) -> Result<(), NoMemory>
     ensures { OnOk result (letters.new ≡ letters.old ++ (if row then letters_of_row word.now else [])) }
 {
@@ -111,7 +111,7 @@ fn push_row(letters: &mut Letters, row: bool, word: &[u8]) -> Result<(), NoMemor
 }
 
 impl Diagram {
-    /// The first fault of a further line of so many bytes.
+    /// The first fault of a further line of this many bytes, if it has one.
     fn fault(&self, line: DiagramLine, bytes: usize) -> Option<FaultKind>
         ensures { result ≡ kept_fault self.now line bytes }
     {
@@ -131,7 +131,7 @@ impl Diagram {
         ])
     }
 
-    /// Reads a further line. After an `Err` nothing is known of the diagram.
+    /// Reads a further line. After an `Err` nothing is known of the diagram, except that its `lines` are unchanged.
     pub fn line(&mut self, word: &[u8]) -> Result<(), LineError>
         ensures ok { OnOk result ((words : List (List ℕ)) → Draws self.old words →
             (diagram_fault words word.now ≡ None) × Draws self.new (words ++ word.now ∷ [])) }

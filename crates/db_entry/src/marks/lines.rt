@@ -1,4 +1,4 @@
-//! What a further line does to a constraint diagram.
+//! How a further line changes what is kept of a constraint diagram.
 
 ghost use Rattle.go_rules.specs.Board.{largest_size};
 ghost use Rattle.std.specs.Prelude.{◌≡◌, ◌≤◌, ◌<◌, get_or, ◌==◌, ◌&&◌, ◌||◌, ◌+◌, ℕ, List, [], ◌∷◌, ◌++◌, length};
@@ -28,7 +28,7 @@ fn may_stand_over(m: u8, w: u8) -> bool
     w == m || (is_label(w) && letter(m).is_some())
 }
 
-/// Whether a word repeats a main line, but for labels over its letters.
+/// Whether `word` repeats the main line `main`, apart from labels over its letters.
 fn repeats(main: &[u8], word: &[u8]) -> bool
     ensures { result ≡ word_repeats main.now word.now }
 {
@@ -49,7 +49,7 @@ fn names(labels: &[LabelAt], b: u8) -> bool
     labels.iter().any(|l| l.letter == b)
 }
 
-/// Whether no two labels have one letter.
+/// Whether no two labels have the same letter.
 fn are_apart(labels: &[LabelAt]) -> bool
     ensures { result ≡ apart labels.now }
 {
@@ -61,7 +61,7 @@ fn are_apart(labels: &[LabelAt]) -> bool
     true
 }
 
-/// Puts the labels of a line at the end; its first byte stands in column 0.
+/// Puts the labels of a line at the end of `labels`; the first byte of the line stands in column 0.
 fn push_from(labels: &mut Labels, row: u8, main: &[u8], word: &[u8]) -> Result<(), NoMemory>
     requires same { length main.now ≡ length word.now }
     requires short { length main.now ≤ 255 }
@@ -79,7 +79,7 @@ fn push_from(labels: &mut Labels, row: u8, main: &[u8], word: &[u8]) -> Result<(
     Ok(())
 }
 
-/// Puts the labels of a line at the end.
+/// Puts the labels of a line at the end of `labels`; a `|` at the front of the line is no column.
 fn push_labels(labels: &mut Labels, row: u8, main: &[u8], word: &[u8]) -> Result<(), NoMemory>
     requires same { length main.now ≡ length word.now }
     requires short { length main.now ≤ 255 }
@@ -91,7 +91,7 @@ fn push_labels(labels: &mut Labels, row: u8, main: &[u8], word: &[u8]) -> Result
     }
 }
 
-/// The word at an index.
+/// The word at the index `i`.
 fn word_at<'a>(words: &[&'a [u8]], i: usize) -> &'a [u8]
     requires { i < length words.now }
     ensures { result.now ≡ get_or (map (λ f. f.now) words.now) i [] }
@@ -107,7 +107,7 @@ fn rows_after(rows: u8, row: bool) -> u8
 }
 
 impl Marks {
-    /// Reads a further line under main lines of these words. After an `Err` nothing is known of the labels.
+    /// Reads a further line under a main diagram with the words `mains`. After an `Err` nothing is known of the labels.
     pub fn line(&mut self, mains: &[&[u8]], word: &[u8]) -> Result<(), LineError>
         requires short { (k : ℕ) → length (get_or (map (λ f. f.now) mains.now) k []) ≤ largest_size }
         requires few { length mains.now ≤ largest_size }

@@ -48,7 +48,7 @@ fn empty_marks(alloc: Global) -> Marks
     }
 }
 
-/// The entry that a Pattern line begins.
+/// The draft of the entry that a Pattern line begins.
 pub fn begin<'a>(alloc: Global, line: &[u8]) -> Result<Draft<'a>, NoMemory>
     ensures begun { IfOk result (λ d. (k : KeptLine) → k.bytes ≡ line.now → Drafts d (begun_with k)) }
     ensures unjudged { IfOk result (λ d. IsUnjudged d) }
@@ -57,7 +57,7 @@ pub fn begin<'a>(alloc: Global, line: &[u8]) -> Result<Draft<'a>, NoMemory>
     Ok(named(alloc, name))
 }
 
-/// The entry of this name of which no further line was read.
+/// The draft of an entry with this name, of which no further line has been read.
 fn named<'a>(alloc: Global, name: Bytes) -> Draft<'a>
     ensures begun { (k : KeptLine) → name ≡ name_on k.bytes → Drafts result (begun_with k) }
     ensures unjudged { IsUnjudged result }
@@ -73,7 +73,7 @@ fn named<'a>(alloc: Global, name: Bytes) -> Draft<'a>
     }
 }
 
-/// What stands for an entry before the first Pattern line: it has no name, and no line of it was read.
+/// The draft that stands for no entry, before the first Pattern line: it has no name, and no line of it has been read.
 pub fn nameless<'a>(alloc: Global) -> Draft<'a>
     ensures begun { (k : KeptLine) → name_on k.bytes ≡ [] → Drafts result (begun_with k) }
     ensures unjudged { IsUnjudged result }
@@ -149,7 +149,7 @@ impl<'a> Draft<'a> {
         Ok(())
     }
 
-    /// Judges the expression, if there is one.
+    /// Judges the expression, if there is one: parses it and keeps it as the constraint.
     pub fn judge(&mut self, alloc: Global) -> Result<(), DbError>
         ensures ok { OnOk result ((b : Block) → Drafts self.old b → (expression_kind b ≡ None) × Drafts self.new b) }
         ensures judged { OnOk result (self.old.constraint ≡ None → IsJudged self.new) }
@@ -169,7 +169,7 @@ impl<'a> Draft<'a> {
     }
 }
 
-/// What is kept of the expression lines, with one line more of this number and with this text.
+/// What is kept of the expression lines after one more line with this number and this text.
 fn with_line(
     alloc: Global,
     kept: Option<ExpressionText>,
@@ -197,7 +197,7 @@ fn with_line(
     }
 }
 
-/// The error that a fault of an expression is told as, where the expression begins at the line of this number.
+/// The error that a fault of an expression is reported as, if the expression begins at the line of this number.
 fn error_of(line: u64, e: ConsError) -> DbError
     ensures { result ≡ expression_error line e }
 {

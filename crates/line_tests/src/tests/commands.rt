@@ -1,4 +1,4 @@
-//! What lines say, row by row, and the bytes of replies.
+//! What lines of the protocol say, row by row, and the bytes of replies.
 
 mod lines;
 mod moves;
@@ -14,12 +14,12 @@ use std::process::Abort;
 /// How many bytes a line may have.
 const LONGEST_LINE: usize = 65_536;
 
-/// A command that the rows ask for, in the words of `Command`, which may not stand in a table.
+/// The commands that the rows ask for. They are named as in `Command`, which cannot stand in a table itself.
 enum Asks {
     Name,
     KnownCommand(bool),
     Quit,
-    /// `BoardSize` with a number that is no size.
+    /// `BoardSize` with a number that is no size of a board.
     NoSize,
     Play(Colour, Option<Point>),
     IsLegal(Colour, Option<Point>),
@@ -45,11 +45,11 @@ enum Asks {
 /// What a line says.
 enum Says {
     Nothing,
-    /// Arguments are missing or malformed.
+    /// An argument is missing or malformed.
     Malformed,
-    /// No command is named.
+    /// No word of the line names a command.
     Unknown,
-    /// An id, and no command.
+    /// The line is an id, and names no command.
     IdAlone(u32),
     Command(Asks),
     IdAndCommand(u32, Asks),
@@ -58,7 +58,7 @@ enum Says {
 /// What is special about a line, the line, and what it says.
 type Row = (&'static str, &'static str, Says);
 
-/// The command that is asked for.
+/// The command that a row asks for.
 fn command(asks: &Asks) -> Command {
     match *asks {
         Asks::Name => Command::Name,
@@ -92,7 +92,7 @@ fn command(asks: &Asks) -> Command {
     }
 }
 
-/// What a line says, as it is parsed.
+/// What a line says, as `parse` answers it.
 fn parsed(says: &Says) -> Parsed {
     match says {
         Says::Nothing => Parsed::Nothing,
@@ -119,7 +119,7 @@ fn parsed(says: &Says) -> Parsed {
     }
 }
 
-/// Reads lines on a board of so many rows.
+/// Compares what lines say on a board of `rows` rows with what the rows of the table have.
 fn compare(rt: &impl Abort, rows: u8, lines: &[Row]) {
     let size = Size::new(rows).expect(rt, "the size is one of a board");
     for (name, line, want) in lines {

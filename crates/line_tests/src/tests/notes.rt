@@ -1,11 +1,12 @@
-//! The lines as they are printed.
+//! The notes of a run as they are printed.
 
 use gtp_io::Page;
 use run_notes::{Counts, Links, Sent, put_notes};
 use std::test::Fail;
 use vertices::Short;
 
-/// Notes on a page that takes so many bytes of a call and fails at a call, none if it is 0, and what comes of them.
+/// Notes on a page that takes at most `most` bytes a call, and fails at the call `fails`, or at none if it is 0; and
+/// what the page then holds.
 struct Noted {
     name: &'static str,
     connections: u64,
@@ -15,7 +16,7 @@ struct Noted {
     want: &'static [u8],
 }
 
-/// Notes of two readings.
+/// Notes of a run with two readings.
 static NOTED: [Noted; 5] = [
     Noted {
         name: "without connections all other lines go out",

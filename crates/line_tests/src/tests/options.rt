@@ -1,10 +1,10 @@
-//! Words and what they give, as `clap` 4 takes them.
+//! Words of a command line and the options that they give, as `clap` 4 reads them.
 use go_options::{Files, Options, OptionsError, read_options};
 use std::alloc::Global;
 use std::process::Abort;
 use std::test::Fail;
 
-/// Words of a command line, by what they show, and the options that they give.
+/// Words of a command line, named by what they show, and the options that they give.
 struct Given {
     name: &'static str,
     words: &'static [&'static str],
@@ -17,7 +17,7 @@ struct Given {
     files: &'static [&'static str],
 }
 
-/// What no words give.
+/// The options that an empty command line gives.
 const DEFAULTS: Given = Given {
     name: "no words give the defaults",
     words: &[],
@@ -30,7 +30,7 @@ const DEFAULTS: Given = Given {
     files: &[],
 };
 
-/// Words that are taken.
+/// Words that the command line takes.
 static GIVEN: [Given; 6] = [
     DEFAULTS,
     Given {
@@ -83,7 +83,7 @@ static GIVEN: [Given; 6] = [
     },
 ];
 
-/// Words that are refused, by what is wrong with them.
+/// Words that the command line refuses, named by what is wrong with them.
 static REFUSED: [(&str, &[&str]); 43] = [
     ("a depth is given twice", &["--depth=3", "--depth=3"]),
     ("a flag is given twice", &["--stats", "--stats"]),
@@ -147,7 +147,7 @@ fn options_of(alloc: Global, words: &[&str]) -> Result<Options, OptionsError> {
     read_options(alloc, owned.as_slice())
 }
 
-/// Compares all but the files.
+/// Compares all options but the names of files.
 fn compare_values(rt: &impl Abort, options: &Options, given: &Given) {
     let name = given.name;
     assert!(rt; options.depth == given.depth, "{name}");
@@ -175,7 +175,7 @@ fn words_give_their_options(rt: HostRuntime) -> Result<(), Fail> {
     Ok(())
 }
 
-/// Whether words are refused as words that are wrong.
+/// Whether the command line refuses the words as wrong options.
 fn are_refused(alloc: Global, words: &[&str]) -> bool {
     match options_of(alloc, words) {
         Ok(_) => false,

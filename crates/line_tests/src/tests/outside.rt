@@ -1,4 +1,4 @@
-//! What no contract tells: that calls find memory, and what the objects over the system do.
+//! What no contract says: that calls find memory, and what the streams and files of the system do.
 use gtp_io::{
     Failed, Feed, FileLoader, LoadError, Loader, Page, Shelf, Sink, Source, StdSink, StdSource,
     SureFeed, SurePage, SureShelf,
@@ -30,7 +30,7 @@ impl Write for Broken {
     }
 }
 
-/// A writer that takes one byte of a call, and counts how often it was flushed.
+/// A writer that takes one byte a call, and counts how often it was flushed.
 #[derive(Drop)]
 struct OneByOne {
     bytes: Vec<u8>,
@@ -52,10 +52,10 @@ impl Write for OneByOne {
     }
 }
 
-/// What the calls of a source give, one behind the other, each to a buffer of eight bytes.
+/// What is special about a call of a source with a buffer of eight bytes, and what the call gives. Calls come in order.
 type Given = (&'static str, Result<usize, Failed>);
 
-/// Calls of a feed of five bytes, by three, of which the second fails.
+/// Calls of a feed of five bytes that gives at most three a call, and whose second call fails.
 static FEED: [Given; 4] = [
     ("a piece", Ok(3)),
     ("the call that is listed", Err(Failed)),
@@ -63,16 +63,16 @@ static FEED: [Given; 4] = [
     ("the end of the bytes", Ok(0)),
 ];
 
-/// Calls of a feed of five bytes, by four, that never fails.
+/// Calls of a feed of five bytes that gives at most four a call, and never fails.
 static SURE_FEED: [Given; 1] = [("a piece of a feed that never fails", Ok(4))];
 
-/// Calls of the standard source of a reader of four bytes.
+/// Calls of the standard source over a reader of four bytes.
 static READER: [Given; 2] = [("all bytes of a reader", Ok(4)), ("its end", Ok(0))];
 
-/// Calls of the standard source of a reader that fails.
+/// Calls of the standard source over a reader that fails.
 static BROKEN_READER: [Given; 1] = [("a reader that fails", Err(Failed))];
 
-/// Takes the bytes of a source call by call.
+/// Compares what the calls of a source give, one call after another.
 fn compare_given(rt: &impl Abort, source: &mut impl Source, calls: &[Given]) {
     let mut buf = [0u8; 8];
     for &(name, want) in calls {
@@ -80,10 +80,10 @@ fn compare_given(rt: &impl Abort, source: &mut impl Source, calls: &[Given]) {
     }
 }
 
-/// What is put on a sink by its calls, one behind the other, and how many bytes each takes.
+/// What is special about a call of a sink, what is put, and how many bytes the call takes. Calls come in order.
 type Taken = (&'static str, &'static [u8], Result<usize, Failed>);
 
-/// Calls of a page with room for five bytes, by three, of which the second fails.
+/// Calls of a page with room for five bytes that takes at most three a call, and whose second call fails.
 static PAGE: [Taken; 4] = [
     ("a piece", b"name", Ok(3)),
     ("the call that is listed", b"name", Err(Failed)),
@@ -94,26 +94,26 @@ static PAGE: [Taken; 4] = [
 /// Calls of the page that never fails.
 static SURE_PAGE: [Taken; 1] = [("a page that never fails", b"name", Ok(4))];
 
-/// Calls of the standard sink of a list of bytes.
+/// Calls of the standard sink over a list of bytes.
 static WRITER: [Taken; 1] = [("all bytes of a piece", b"name", Ok(4))];
 
-/// Calls of the standard sink of a writer that fails.
+/// Calls of the standard sink over a writer that fails.
 static BROKEN_WRITER: [Taken; 1] = [("a writer that fails", b"name", Err(Failed))];
 
-/// Calls of the standard sink of a writer that takes one byte of a call.
+/// Calls of the standard sink over a writer that takes one byte a call.
 static ONE_BY_ONE: [Taken; 2] = [
     ("a sink tells how many bytes were taken", b"name", Ok(1)),
     ("the next byte", b"ame", Ok(1)),
 ];
 
-/// Puts pieces on a sink call by call.
+/// Compares how many bytes the calls of a sink take, one call after another.
 fn compare_taken(rt: &impl Abort, sink: &mut impl Sink, calls: &[Taken]) {
     for &(name, piece, want) in calls {
         assert!(rt; sink.put(piece) == want, "{name}");
     }
 }
 
-/// A feed of five bytes, by three, whose second call fails.
+/// A feed of five bytes that gives at most three a call, and whose second call fails.
 fn feed(alloc: Global) -> Result<Feed, AllocError> {
     let fails = Vec::from_slice(alloc, &[2])?;
     Ok(Feed::new(Vec::from_slice(alloc, b"name\n")?, 3, fails))
@@ -158,7 +158,7 @@ fn standard_sinks_flush_each_time(rt: HostRuntime) {
     assert!(rt; writer.flushes == 2);
 }
 
-/// Names and the contents that stand by them on a shelf.
+/// The names of this list, and the contents under them.
 fn shelved(alloc: Global, list: &[(&str, &[u8])]) -> Result<(Vec<String>, Vec<Vec<u8>>), Fail> {
     let mut names = Vec::new(alloc);
     let mut contents = Vec::new(alloc);
@@ -169,10 +169,10 @@ fn shelved(alloc: Global, list: &[(&str, &[u8])]) -> Result<(Vec<String>, Vec<Ve
     Ok((names, contents))
 }
 
-/// What stands on the shelves.
+/// The names and contents on the shelves.
 static SHELVED: [(&str, &[u8]); 3] = [("a", b"one"), ("b", b"two"), ("a", b"three")];
 
-/// A name that is loaded behind some bytes, and what is loaded then, unless the load fails.
+/// A name to load, the bytes before its contents, and all bytes that come, or `None` if the load fails.
 struct Load {
     what: &'static str,
     name: &'static str,
@@ -180,7 +180,7 @@ struct Load {
     want: Option<&'static [u8]>,
 }
 
-/// Loads from a shelf whose third call fails, one behind the other.
+/// Loads from a shelf whose third call fails, one after another.
 static FROM_SHELF: [Load; 3] = [
     Load {
         what: "the first of equal names, behind others",
@@ -218,7 +218,7 @@ static FROM_SURE_SHELF: [Load; 2] = [
     },
 ];
 
-/// Whether what is loaded is what is wanted.
+/// Whether a load gives the bytes that it should, or fails as it should.
 fn is_wanted(loaded: &Result<Vec<u8>, LoadError>, want: Option<&[u8]>) -> bool {
     match loaded {
         Ok(bytes) => want == Some(bytes.as_slice()),
@@ -226,7 +226,7 @@ fn is_wanted(loaded: &Result<Vec<u8>, LoadError>, want: Option<&[u8]>) -> bool {
     }
 }
 
-/// Loads a name, and compares.
+/// Loads a name, and compares what comes.
 fn compare_loaded(
     rt: &impl Abort,
     alloc: Global,
@@ -262,7 +262,7 @@ fn sure_shelf_is_empty_for_other_names(rt: HostRuntime) -> Result<(), Fail> {
     Ok(())
 }
 
-/// A file that is written, and a load of a path by a loader that reads so many bytes of a file.
+/// The text of a file that is written, the most bytes that the loader takes of a file, and a load.
 struct Written {
     text: &'static str,
     most: Option<usize>,
@@ -342,7 +342,7 @@ static WRITTEN: [Written; 7] = [
     },
 ];
 
-/// A loader of files that reads so many bytes of a file, or as many as it may.
+/// A loader of files that takes at most `most` bytes of a file, or as many as it may if that is `None`.
 fn file_loader<'a, R: Files + Abort>(
     rt: &'a R,
     alloc: Global,

@@ -1,9 +1,9 @@
-//! What no contract tells: that the room for a line is found, and that the limit is the one that is meant.
+//! What no contract says: that the room for a line is found, and that the limit on a line is the intended number.
 use gtp_lex::{Lines, Taken};
 use std::process::Abort;
 use std::test::Fail;
 
-// One line of letters, fed in pieces of some length, and then the line `name`.
+// A line of `letters` letters, fed in pieces of `piece` bytes; the line `name` follows it.
 struct Case {
     what: &'static str,
     letters: usize,
@@ -38,7 +38,7 @@ static CASES: [Case; 4] = [
     },
 ];
 
-/// Bytes that are fed behind the letters of a case, and how many of them are taken.
+/// Bytes that are fed after the letters of a case, and how many of them are taken.
 static ENDS: [(&str, &[u8], usize); 2] = [
     ("the line feed ends the line", b"\nname\n", 1),
     ("the line feed waits", b"name\n", 0),
@@ -54,7 +54,7 @@ fn feed_letters(rt: &impl Abort, lines: &mut Lines, case: &Case, letters: &[u8])
     }
 }
 
-/// Feeds two lines `name` behind the letters of a case, of which the first ends its line.
+/// Feeds the bytes of `ENDS` after the letters of a case; the first line feed ends the line of the letters.
 fn feed_ends(rt: &impl Abort, lines: &mut Lines, case: &Case) {
     let what = case.what;
     for &(step, bytes, count) in &ENDS {

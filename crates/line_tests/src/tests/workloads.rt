@@ -1,10 +1,10 @@
-//! The first generated lines, and the last ones for any cut into pieces.
+//! The first generated lines, and the last ones, in pieces of several lengths.
 use gtp_io::{Failed, Source};
 use std::alloc::{AllocError, Global};
 use std::test::Fail;
 use workload::Workload;
 
-/// All bytes of a source, taken by a buffer of this many bytes.
+/// All bytes of a source, taken with a buffer of `room` bytes.
 fn all_bytes(alloc: Global, source: &mut Workload, room: usize) -> Result<Vec<u8>, AllocError> {
     let mut bytes = Vec::new(alloc);
     let mut buffer = vec![in alloc; 0u8; room]?;
@@ -17,7 +17,7 @@ fn all_bytes(alloc: Global, source: &mut Workload, room: usize) -> Result<Vec<u8
     Ok(bytes)
 }
 
-/// How many lines are asked for, and all bytes that come, by buffers of each length from one up to below another.
+/// A number of lines, and all bytes that come with buffers of each length from `from` to just below `to`.
 struct Generated {
     lines: u32,
     from: usize,

@@ -7,21 +7,21 @@ use dfa_core::Automaton;
 use dfa_join::{JoinError, compile};
 use std::alloc::Global;
 
-/// A list of patterns and its automaton.
+/// A row: a list of patterns and its automaton.
 struct List {
-    /// What it shows.
+    /// What the row shows.
     name: &'static str,
     /// The text of the patterns.
     text: &'static [u8],
     /// How many rows the automaton may have.
     limit: u32,
-    /// How many rows it has, None if these are more than it may have.
+    /// How many rows the automaton has, or `None` if it would have more than `limit`.
     rows: Option<u32>,
-    /// The numbers that its rows accept, one row after the other.
+    /// The numbers that the automaton's rows accept, one row after the other.
     numbers: &'static [u16],
 }
 
-/// Small lists with the count of their states.
+/// Small lists and how many states they have.
 static LISTS: [List; 16] = [
     List {
         name: "the smallest pattern at its count",
@@ -150,14 +150,14 @@ fn ranges_follow(automaton: &Automaton) -> bool {
     end == automaton.numbers().len()
 }
 
-/// Whether the automaton of a list has the rows and the numbers that the list tells.
+/// Whether the automaton has the rows and the numbers that `list` expects.
 fn is_told(list: &List, automaton: &Automaton) -> bool {
     Some(automaton.rows()) == list.rows
         && automaton.numbers() == list.numbers
         && ranges_follow(automaton)
 }
 
-/// Whether a list has its automaton, or is refused where it tells of none.
+/// Whether the list has the automaton that it expects, or is refused if it expects none.
 fn is_right(alloc: Global, list: &List) -> Option<bool> {
     let patterns = patterns_of(alloc, list.text)?;
     if patterns.len() > 4096 {

@@ -6,8 +6,8 @@ use pat_types::Pattern;
 use std::alloc::{AllocError, Global};
 use std::test::Fail;
 
-/// Patterns of a star alone, whose worth is the first number that an item says: their items, and that worth. Choices
-/// are made among the first six.
+/// The items of patterns whose diagram is a star alone, and the worth of each: the first number that an item says.
+/// Choices are made among the first six.
 static WORTHS: [(&str, u32); 19] = [
     ("value(5)", 5),
     ("value(9)", 9),
@@ -30,8 +30,8 @@ static WORTHS: [(&str, u32); 19] = [
     ("value(1234567),value(12)", 12),
 ];
 
-/// Matches, each of a pattern by its place in that list and at a point, and the point of the choice: that of the first
-/// match of the greatest worth by its pattern and then by its point, wherever it stands.
+/// Matches, each with its pattern's place in `WORTHS` and its point, and the point of the choice: of the matches of the
+/// greatest worth, the first by its pattern and then by its point, at whatever place it stands.
 static CHOICES: [(&str, &[(u16, Point)], Option<Point>); 10] = [
     ("no match", &[], None),
     ("one match of no worth", &[(2, 40)], Some(40)),
@@ -57,7 +57,7 @@ static CHOICES: [(&str, &[(u16, Point)], Option<Point>); 10] = [
     ("none has a worth", &[(2, 7), (5, 4), (2, 1)], Some(1)),
 ];
 
-/// The text of the list.
+/// The text of the patterns in `WORTHS`.
 fn text_of_worths(alloc: Global) -> Result<Vec<u8>, AllocError> {
     let mut text = Vec::new(alloc);
     for &(items, _) in &WORTHS {
@@ -68,14 +68,14 @@ fn text_of_worths(alloc: Global) -> Result<Vec<u8>, AllocError> {
     Ok(text)
 }
 
-/// The patterns of the list, as they are read. Without a text `value` is the name of a helper.
+/// The patterns in `WORTHS`, parsed. An item `value` without a text names a helper.
 fn patterns_with_items(alloc: Global) -> Result<Vec<Pattern>, Fail> {
     let mut helper = Bytes::new(alloc);
     helper.extend(b"value")?;
     Ok(read(alloc, &text_of_worths(alloc)?, &[helper], Vec::new(alloc))?)
 }
 
-/// The point of the choice among matches of these patterns. A match is its pattern's place in the list, and its point.
+/// The point of the choice among `found`. Each match is its pattern's place in `patterns`, and its point.
 fn chosen(
     alloc: Global,
     patterns: &[Pattern],

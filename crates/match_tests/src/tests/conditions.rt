@@ -4,10 +4,10 @@ use super::rows::{MOST, Row};
 /// A move between two white stones under a third, and what is around it.
 const UNDER_THREE: &[u8] = b"Pattern P\n?X?\nX*X\n:|";
 
-/// A move at the left of a friend's stone, where an enemy's stone has to be safe too.
+/// A move on the left of a friend's stone. The played stone need not be safe, but an enemy's stone there has to be.
 const SAFE_FOR_BOTH: &[u8] = b"Pattern N\n*O\n:O,ns";
 
-/// A move at the right of a friend's stone with more than three liberties.
+/// A move on the right of a friend's stone that has more than three liberties.
 const MANY_LIBERTIES: &[u8] = b"Pattern C\nO*\n:O,s\nA*\n;lib(A)>3";
 
 /// The sample database.
@@ -47,7 +47,7 @@ X*X
 :|,s,value(5)
 ";
 
-/// What is asked for a match, on boards of 9 with black as the friend.
+/// Conditions of matches, on boards of 9 with black as the friend.
 pub(super) static CONDITIONS: [Row; 15] = [
     Row {
         name: "a stone that can be captured there is read, and refused",
@@ -119,7 +119,7 @@ pub(super) static CONDITIONS: [Row; 15] = [
         want: &[(0, 1, 9), (0, 7, 9)],
         ..MOST
     },
-    // Each of the first two moves is read for the constraint, and each of the two of `Edge1` for the stone there.
+    // The constraint needs a reading for each of its two moves, and `Edge1` one for the stone of each of its two moves.
     Row {
         name: "the sample database",
         text: SAMPLE,
@@ -138,7 +138,7 @@ pub(super) static CONDITIONS: [Row; 15] = [
         readings: 4,
         ..MOST
     },
-    // Black stands on C5: of the eight placements those at B5 are near the edge.
+    // Black stands on C5: of the eight matches of the diagram, the two with the move at B5 are near the edge.
     Row {
         name: "the second helper is asked where the first says yes",
         text: b"Pattern P\nO*\n:8,s,near_edge,no_ban",

@@ -1,17 +1,17 @@
-//! Where a diagram matches: under which transformations, and at which edges.
+//! The matches of diagrams: under which transformations, and at which edges.
 use super::rows::{MOST, Row};
 use super::{
     AT_THE_EDGE, FROM_THE_LEFT, Found, IN_THE_CORNER, OVER_THE_BOTTOM, SMALLEST, UNDER_THE_TOP,
 };
 use go_base::Colour;
 
-/// The smallest pattern with the stone of the enemy.
+/// The smallest pattern with an enemy's stone instead of the friend's.
 const AGAINST: &[u8] = b"Pattern Q\nX*\n:8,s";
 
 /// The longest row: a move in the last column of the largest board, and empty points before it.
 const LONGEST_ROW: &[u8] = b"Pattern L\n........................*\n:O,s";
 
-/// The smallest pattern around the middle of a board of 3.
+/// The matches of the smallest pattern around a stone in the middle of a board of 3.
 const AROUND_THE_MIDDLE: [Found; 8] = [
     (0, 0, 5),
     (0, 1, 7),
@@ -23,7 +23,7 @@ const AROUND_THE_MIDDLE: [Found; 8] = [
     (0, 7, 7),
 ];
 
-/// The last column of the largest board.
+/// The matches of the longest row, in the last column of the largest board.
 const LAST_COLUMN: [Found; 25] = [
     (0, 0, 24),
     (0, 0, 49),
@@ -52,7 +52,7 @@ const LAST_COLUMN: [Found; 25] = [
     (0, 0, 624),
 ];
 
-/// Where diagrams match. No class letter, constraint or item of these patterns asks for more.
+/// Matches of diagrams. No class letter, constraint or item of these patterns asks for more.
 pub(super) static DIAGRAMS: [Row; 21] = [
     Row {
         name: "the smallest pattern has eight placements around a stone in the middle",
@@ -106,7 +106,7 @@ pub(super) static DIAGRAMS: [Row; 21] = [
         black: &[40],
         ..MOST
     },
-    // The list asks for a friend's stone, the automaton for one of the enemy.
+    // The list has a friend's stone in its diagram, and the automaton one of the enemy.
     Row {
         name: "diagrams are found by the automaton given: nothing for black",
         text: SMALLEST,

@@ -8,16 +8,16 @@ use std::alloc::Global;
 use std::panic::Expect;
 use std::process::Abort;
 
-/// How many openings there are: words of nine letters, of which there are four.
+/// How many openings there are: words of nine letters out of four.
 const OPENINGS: u32 = 262_144;
 
-/// A pattern of the long list. How often it matches in the game was counted by a plain program, which compares each
-/// diagram with the board.
+/// A pattern of the long list. A plain program, which compares each diagram with the board, counted how often it
+/// matches in the game.
 struct Shape {
     /// The text of the pattern.
     text: &'static [u8],
-    /// How many rows its own automaton has: two more than the letters of the words that it accepts. With eleven or less
-    /// it accepts within an opening.
+    /// How many rows the pattern's own automaton has: two more than the letters of the words that it accepts. If there
+    /// are eleven rows or fewer, it accepts within an opening.
     rows: u32,
     /// How often it matches for black under each transformation.
     black: [usize; 8],
@@ -37,13 +37,14 @@ struct Shape {
 // O X . O X O . . X
 // . . O X . . O . .
 
-/// Its black stones.
+/// The black stones of the game.
 static BLACK: [Point; 14] = [4, 12, 20, 32, 36, 40, 48, 51, 55, 60, 64, 67, 71, 75];
 
-/// Its white stones.
+/// The white stones of the game.
 static WHITE: [Point; 14] = [2, 14, 23, 25, 31, 41, 50, 52, 56, 63, 66, 68, 74, 78];
 
-/// The long list. `Edge` and `Corner` draw an edge beside the stone that is read first, so it lies within an opening.
+/// The long list. `Edge` and `Corner` draw an edge beside the stone that is read first, so the edge lies within an
+/// opening.
 static SHAPES: [Shape; 18] = [
     Shape {
         text: b"Pattern Hane\nOX\n*?\n:8,s\n",
@@ -174,7 +175,7 @@ fn rows_and_shortcuts(alloc: Global, patterns: &[Pattern]) -> Option<(u32, Short
     Some((automaton.rows(), shortcuts))
 }
 
-/// How many openings have a row behind them that is known.
+/// How many openings have a known row after them.
 fn known_openings(shortcuts: &Shortcuts) -> u32 {
     let mut known = 0_u32;
     for number in 0..OPENINGS {
@@ -183,13 +184,13 @@ fn known_openings(shortcuts: &Shortcuts) -> u32 {
     known
 }
 
-/// The matches of these patterns in the game.
+/// The matches of `patterns` in the game.
 fn found_in_the_game(alloc: Global, patterns: &[Pattern], friend: Colour) -> Option<Vec<Found>> {
     let position = with_both(9, &BLACK, &WHITE)?;
     matches_in(alloc, patterns, &position, friend)
 }
 
-/// How many of these matches are of one pattern, under each transformation.
+/// How many of the matches in `found` belong to the pattern `number`, under each transformation.
 fn counted(found: &[Found], number: usize) -> [usize; 8] {
     let mut counts = [0_usize; 8];
     for (pattern, transform, _) in found {
@@ -201,7 +202,7 @@ fn counted(found: &[Found], number: usize) -> [usize; 8] {
     counts
 }
 
-/// How often a pattern matches for a friend under each transformation.
+/// How often the pattern of `shape` matches for a friend under each transformation.
 fn wanted(shape: &Shape, friend: Colour) -> [usize; 8] {
     match friend {
         Colour::Black => shape.black,
@@ -209,7 +210,7 @@ fn wanted(shape: &Shape, friend: Colour) -> [usize; 8] {
     }
 }
 
-/// The patterns match for the friend as often as the plain program counted.
+/// Checks that the patterns match for the friend as often as the plain program counted.
 fn check_counts(rt: &impl Abort, found: &[Found], friend: Colour) {
     for (number, shape) in SHAPES.iter().enumerate() {
         assert!(rt;
@@ -228,19 +229,19 @@ fn openings_lead_to_the_matches_of_a_plain_program(rt: HostRuntime) {
     check_counts(&rt, &white, Colour::White);
 }
 
-/// How many rows the automaton of the long list has, and how many of its openings have a row behind them that is known.
+/// How many rows the automaton of the long list has, and how many openings have a known row after them.
 fn rows_and_openings(alloc: Global) -> Option<(u32, u32)> {
     let (rows, shortcuts) = rows_and_shortcuts(alloc, &long_list(alloc)?)?;
     Some((rows, known_openings(&shortcuts)))
 }
 
-// Of the 262,144 openings, 5,336 have a word that the list accepts behind their first letter.
+// 5,336 of the 262,144 openings are not known: the list accepts a word of two letters or more that begins them.
 #[test]
 fn openings_of_the_long_list_are_known(rt: HostRuntime) {
     assert!(rt; rows_and_openings(rt.alloc()) == Some((4923, 256_808)));
 }
 
-/// How many rows the automaton of a pattern alone has; nothing if it has a table of openings.
+/// How many rows the automaton of one pattern has, or `None` if it has a table of openings.
 fn rows_alone(alloc: Global, text: &[u8]) -> Option<u32> {
     let (rows, shortcuts) = rows_and_shortcuts(alloc, &patterns_of(alloc, text)?)?;
     if shortcuts.openings.is_empty() {

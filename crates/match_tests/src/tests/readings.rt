@@ -1,4 +1,4 @@
-//! What readings tell of themselves: a fresh one its trial plays, a kept one none.
+//! The trial plays that readings report: a fresh reading has some, a cached answer has none.
 use super::{new_readings, with_both};
 use go_base::{Cell, Point, Position};
 use match_engine::Readings;
@@ -8,20 +8,20 @@ use std::test::Fail;
 /// Black D4, which has one liberty, D3.
 const IN_ATARI: Point = 48;
 
-/// The black stone.
+/// The black stone, which is in atari.
 static BLACK: [Point; 1] = [IN_ATARI];
 
-/// The white stones around it.
+/// The white stones around the black one.
 static WHITE: [Point; 3] = [47, 49, 39];
 
-/// How many plays are tried for an attack on it three plies deep, two of them wide: D3, which captures it, and C3,
-/// which comes before D3 in reading order and does not.
+/// How many plays an attack on the black stone tries, three plies deep, two of them wide: D3, which captures it, and
+/// C3, which comes before D3 in reading order and does not.
 const TRIED: u64 = 2;
 
-/// Two readings of the attack, one after the other, and how many trial plays each tells.
+/// Two readings of the attack, one after the other, and how many trial plays each reports.
 static ATTACKS: [(&str, Option<u64>); 2] = [("a fresh one", Some(TRIED)), ("a kept one", None)];
 
-/// Whether the stone is captured at D3.
+/// Whether an attack captures the black stone at D3.
 fn is_captured(readings: &mut Readings, position: &Position) -> bool {
     if IN_ATARI >= position.size().points() || position.cell(IN_ATARI) == Cell::Empty {
         return false;

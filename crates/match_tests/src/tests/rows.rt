@@ -6,14 +6,14 @@ use go_base::{Colour, Point};
 use std::alloc::Global;
 use std::process::Abort;
 
-/// A list of patterns on a board, and its matches.
+/// A row: a list of patterns on a board, and its matches.
 #[derive(Clone, Copy)]
 pub(super) struct Row {
-    /// What it shows.
+    /// What the row shows.
     pub name: &'static str,
     /// The text of the patterns.
     pub text: &'static [u8],
-    /// The text of the patterns whose automaton finds the diagrams, if these are others.
+    /// The text of the patterns whose automaton is used, if they are other patterns.
     pub others: Option<&'static [u8]>,
     /// The size of the board.
     pub side: u8,
@@ -23,15 +23,15 @@ pub(super) struct Row {
     pub white: &'static [Point],
     /// The colour for which the patterns are asked.
     pub friend: Colour,
-    /// The matches.
+    /// The expected matches.
     pub want: &'static [Found],
-    /// How many readings are made for them.
+    /// How many readings the matches need.
     pub readings: u64,
-    /// How often `near_edge` and `no_ban` are asked for them.
+    /// How often the matches ask `near_edge` and `no_ban`.
     pub calls: (u64, u64),
 }
 
-/// What most rows have: a board of 9, black as the friend, no match, and nothing asked but diagrams.
+/// What most rows have: a board of 9, black as the friend, no match, no reading and no call of a helper.
 pub(super) const MOST: Row = Row {
     name: "",
     text: b"",
@@ -45,7 +45,7 @@ pub(super) const MOST: Row = Row {
     calls: (0, 0),
 };
 
-/// What is found and asked in a row.
+/// What was found and asked in a row.
 #[derive(Drop)]
 struct Answer {
     /// The matches.
@@ -56,7 +56,7 @@ struct Answer {
     calls: (Option<u64>, Option<u64>),
 }
 
-/// What is found and asked in this row.
+/// What is found and asked in `row`.
 fn answer_to(alloc: Global, row: &Row) -> Option<Answer> {
     let position = with_both(row.side, row.black, row.white)?;
     let patterns = patterns_of(alloc, row.text)?;
@@ -73,7 +73,7 @@ fn answer_to(alloc: Global, row: &Row) -> Option<Answer> {
     })
 }
 
-/// Whether the row tells what is found and asked in it.
+/// Whether what is found and asked in `row` is what the row expects.
 fn is_right(alloc: Global, row: &Row) -> Option<bool> {
     let answer = answer_to(alloc, row)?;
     let (near_edge, no_ban) = row.calls;
@@ -85,7 +85,7 @@ fn is_right(alloc: Global, row: &Row) -> Option<bool> {
     )
 }
 
-/// The matches on each board are those of its row.
+/// Checks that the matches of each row are those that the row expects.
 fn check_rows(rt: &impl Abort, alloc: Global, rows: &[Row]) {
     for row in rows {
         assert!(rt; is_right(alloc, row) == Some(true), "{}", row.name);

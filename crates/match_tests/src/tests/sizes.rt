@@ -1,4 +1,4 @@
-//! The longest list of patterns, a large automaton and a long text: there is memory for each.
+//! The longest list of patterns, a large automaton and a long text: there is enough memory for each of them.
 use super::{Found, SMALLEST, matches_in, patterns_of, with_both};
 use dfa_join::{JoinError, compile};
 use go_base::Colour;
@@ -13,7 +13,7 @@ const PATTERN: &[u8] = b"Pattern P\nO*\n:O,s\n";
 /// A comment, with its line feed.
 const COMMENT: &[u8] = b"# a comment, of which a long text has many, and which no pattern has\n";
 
-/// A text so many times.
+/// The text, repeated `times` times.
 fn repeated(alloc: Global, text: &[u8], times: u16) -> Result<Vec<u8>, AllocError> {
     let mut all = Vec::new(alloc);
     for _ in 0..times {
@@ -22,7 +22,7 @@ fn repeated(alloc: Global, text: &[u8], times: u16) -> Result<Vec<u8>, AllocErro
     Ok(all)
 }
 
-/// Whether these are the matches of the longest list: one of each pattern, in their order, at the right of the stone.
+/// Whether `found` has one match of each pattern of the longest list, in their order, on the right of the stone.
 fn is_each_pattern(found: &[Found]) -> bool {
     for number in 0..MANY {
         if found.get(usize::from(number)) != Some(&(number, 0, 41)) {
@@ -32,7 +32,7 @@ fn is_each_pattern(found: &[Found]) -> bool {
     found.len() == usize::from(MANY)
 }
 
-/// Whether each of many patterns matches beside a stone.
+/// Whether each pattern of the longest list matches beside a stone.
 fn match_each(alloc: Global) -> Option<bool> {
     let patterns = patterns_of(alloc, &repeated(alloc, PATTERN, MANY).ok()?)?;
     let position = with_both(9, &[40], &[])?;
@@ -45,7 +45,7 @@ fn each_of_many_patterns_matches(rt: HostRuntime) {
     assert!(rt; match_each(rt.alloc()) == Some(true));
 }
 
-/// How many patterns are read of a text above a megabyte; nothing if the text is not so long.
+/// How many patterns a text above a megabyte has, or `None` if the text is not so long.
 fn patterns_after_comments(alloc: Global) -> Option<usize> {
     let mut text = repeated(alloc, COMMENT, 20_000).ok()?;
     text.extend_from_slice(SMALLEST).ok()?;
@@ -70,18 +70,18 @@ const LARGE_SQUARE: &[u8] = b"Pattern P\n?????\n?????\n??*??\n?????\n?????\n:O,s
 struct Squares {
     /// What the list shows.
     name: &'static str,
-    /// The square, without these points.
+    /// The square, in which each point admits any stone.
     square: &'static [u8],
-    /// How many patterns there are, the first with the first point of the square, in reading order.
+    /// How many patterns there are. The first refuses an enemy's stone at the first point in reading order, and so on.
     patterns: usize,
     /// How many rows the automaton may have.
     limit: u32,
-    /// How many rows it has, None if these are more than it may have.
+    /// How many rows the automaton has, or `None` if it would have more than `limit`.
     rows: Option<u32>,
 }
 
-/// The counts of rows are of a plain program. It goes through the points of the square in the order of the spiral and
-/// keeps each set of patterns that may still match: a point with a pattern of its own doubles these sets.
+/// The counts of rows come from a plain program. It goes through the points of the square in the order of the spiral
+/// and keeps each set of patterns that may still match: a point with a pattern of its own doubles these sets.
 static SQUARES: [Squares; 5] = [
     Squares {
         name: "eight points",
@@ -120,7 +120,8 @@ static SQUARES: [Squares; 5] = [
     },
 ];
 
-/// Adds the text of a square that refuses an enemy's stone at this one of its points, counted from 0.
+/// Adds the text of a square that refuses an enemy's stone at its point number `point`, counted from 0 in reading
+/// order.
 fn add_square(text: &mut Vec<u8>, square: &[u8], point: usize) -> Result<(), AllocError> {
     let mut met = 0_usize;
     for &mark in square {
@@ -142,7 +143,7 @@ fn text_of(alloc: Global, list: &Squares) -> Result<Vec<u8>, AllocError> {
     Ok(text)
 }
 
-/// Whether the automaton of a list of squares has as many rows as told, or is refused if these are too many.
+/// Whether the automaton of a list of squares has the expected rows, or is refused if they are too many.
 fn has_rows(alloc: Global, list: &Squares) -> Option<bool> {
     let patterns = patterns_of(alloc, &text_of(alloc, list).ok()?)?;
     if patterns.len() > 4096 {

@@ -1,4 +1,4 @@
-//! The first and the last indices, worked by hand.
+//! The first and the last indices of the spiral, worked by hand.
 use spiral::{OFFSETS, index, offset};
 use std::test::Fail;
 

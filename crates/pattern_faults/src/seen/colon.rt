@@ -8,16 +8,16 @@ use pat_types::NoMemory;
 use pattern_lines::{Field, Written, fields};
 use std::alloc::Global;
 
-/// The front of an entry that any item may end.
+/// The text of an entry up to its items; any item may follow.
 const BEFORE_ITEM: &[u8] = b"Pattern A\nO*\n:8,s,";
 
-/// The most class letters.
+/// The most class letters that an entry may have.
 const MOST_CLASSES: usize = 32;
 
-/// The most items.
+/// The most items that an entry may have.
 const MOST_ITEMS: usize = 16;
 
-/// The kind of the fault of an item, or 0 if it has none.
+/// The kind of the fault of an item, or 0 if it has no fault.
 fn item_kind(alloc: Global, helpers: &[Bytes], item: &[u8]) -> Result<u8, NoMemory> {
     let mut text = Vec::new(alloc);
     text.extend_from_slice(BEFORE_ITEM)?;
@@ -29,7 +29,7 @@ fn item_kind(alloc: Global, helpers: &[Bytes], item: &[u8]) -> Result<u8, NoMemo
     }
 }
 
-/// The cause of a class field that is an item with a text, or that names a helper.
+/// The cause of a class field that is an item.
 fn item_for_classes<'a>(line: &Written<'a>, mark: Field<'a>, field: Field<'a>) -> Seen<'a> {
     let cause = Cause::NoClasses {
         item: field.bytes,
@@ -38,7 +38,7 @@ fn item_for_classes<'a>(line: &Written<'a>, mark: Field<'a>, field: Field<'a>) -
     seen_at(line, field.at, cause)
 }
 
-/// The cause of a class field that is no item.
+/// The cause of a class field that is not an item.
 fn classes<'a>(line: &Written<'a>, field: Field<'a>) -> Option<Seen<'a>> {
     if field.bytes.len() > MOST_CLASSES {
         let cause = Cause::ManyClassLetters(field.bytes.len());
@@ -52,7 +52,7 @@ fn classes<'a>(line: &Written<'a>, field: Field<'a>) -> Option<Seen<'a>> {
     None
 }
 
-/// The cause of the first item with a fault of this kind.
+/// The cause of the first item with a fault of this `kind`.
 fn items<'a>(
     alloc: Global,
     helpers: &[Bytes],

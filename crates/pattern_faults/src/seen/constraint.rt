@@ -19,7 +19,7 @@ fn is_said(line: &[u8]) -> bool {
     false
 }
 
-/// Whether a line has a label where its line of the diagram has another letter.
+/// Whether `word` has this label at a byte where its line of the diagram, `drawn`, has another letter.
 fn has_label(label: u8, word: &[u8], drawn: &[u8]) -> bool {
     for (byte, letter) in word.iter().zip(drawn) {
         if *byte == label && *letter != label {
@@ -29,7 +29,7 @@ fn has_label(label: u8, word: &[u8], drawn: &[u8]) -> bool {
     false
 }
 
-/// Whether one of the lines has a label that its line of the diagram does not have.
+/// Whether one of `lines` has this label at a byte where its line of the diagram has another letter.
 fn is_above(label: u8, lines: &[Written<'_>], diagram: &[Written<'_>]) -> bool {
     for (line, drawn) in lines.iter().zip(diagram) {
         if has_label(label, line.word(), drawn.word()) {
@@ -39,7 +39,7 @@ fn is_above(label: u8, lines: &[Written<'_>], diagram: &[Written<'_>]) -> bool {
     false
 }
 
-/// The cause of a byte that differs from the diagram's, if it is none of a label.
+/// The cause of a byte that differs from the `letter` of the diagram; `None` if it is a label in its place.
 fn of_byte<'a>(byte: u8, letter: u8, is_used: bool) -> Option<Cause<'a>> {
     if !is_label(byte) {
         return Some(Cause::NoLabel {
@@ -56,7 +56,7 @@ fn of_byte<'a>(byte: u8, letter: u8, is_used: bool) -> Option<Cause<'a>> {
     None
 }
 
-/// The first byte of a line at fault, below these, and its cause.
+/// The first faulty byte of a line below the lines `above`, and its cause.
 fn first_wrong<'a>(
     above: &[Written<'a>],
     diagram: &[Written<'a>],
@@ -76,7 +76,7 @@ fn first_wrong<'a>(
     None
 }
 
-/// The cause of a line of the constraint diagram, where these stand above it.
+/// The cause of a faulty line of the constraint diagram below the lines `above`.
 fn of_line<'a>(
     above: &[Written<'a>],
     diagram: &[Written<'a>],
@@ -103,7 +103,7 @@ fn of_line<'a>(
     Some(seen_at(line, 0, cause))
 }
 
-/// The cause of a constraint diagram that does not repeat the diagram, by the number of the line at fault.
+/// The cause of a constraint diagram that does not repeat the diagram. `number` is that of the faulty line.
 pub(crate) fn repeated<'a>(lines: &[Written<'a>], number: u64) -> Option<Seen<'a>> {
     let diagram = lines.get(places_of(lines, Role::Diagram)).unwrap_or(&[]);
     let above = lines

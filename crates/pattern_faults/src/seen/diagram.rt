@@ -4,7 +4,7 @@ use super::{Seen, places_above, seen_at};
 use crate::cause::Cause;
 use pattern_lines::{Role, Written, is_letter};
 
-/// The most bytes of a line, and the most lines.
+/// The most bytes of a line of a diagram, and the most lines.
 const MOST: usize = 25;
 
 /// Whether a word seems to be an edge line.
@@ -12,7 +12,7 @@ fn is_edge(word: &[u8]) -> bool {
     word.contains(&b'-')
 }
 
-/// How often a word has a byte.
+/// How often `wanted` stands in a word.
 fn count_of(word: &[u8], wanted: u8) -> usize {
     let mut count: usize = 0;
     for byte in word {
@@ -23,13 +23,13 @@ fn count_of(word: &[u8], wanted: u8) -> usize {
     count
 }
 
-/// How many points a word has, without what is drawn beside them.
+/// The number of points of a word, without the edges at its sides.
 fn points(word: &[u8]) -> usize {
     let sides = count_of(word, b'|').saturating_add(count_of(word, b'+'));
     word.len().saturating_sub(sides)
 }
 
-/// How many stars the lines have.
+/// The number of stars in these lines.
 fn stars(lines: &[Written<'_>]) -> usize {
     let mut count: usize = 0;
     for line in lines {
@@ -38,7 +38,7 @@ fn stars(lines: &[Written<'_>]) -> usize {
     count
 }
 
-/// The index of the first byte of a word that makes it no row, if it is no edge line either, and the byte.
+/// The first byte of a word that may not stand in a row, with its index. The word is not an edge line.
 fn first_wrong(word: &[u8]) -> Option<(usize, u8)> {
     let last = word.len().saturating_sub(1);
     for (at, byte) in word.iter().enumerate() {
@@ -50,7 +50,7 @@ fn first_wrong(word: &[u8]) -> Option<(usize, u8)> {
     None
 }
 
-/// The cause of a byte that makes a line no row. A letter below a star may be a label.
+/// The cause of a byte that may not stand in a row. A letter below a star may be a label.
 fn wrong_byte<'a>(above: &[Written<'a>], byte: u8) -> Cause<'a> {
     if byte == b'|' || byte == b'+' || byte == b'-' {
         return Cause::EdgeWithin(byte);
@@ -72,7 +72,7 @@ fn no_line<'a>(above: &[Written<'a>], line: &Written<'a>) -> Seen<'a> {
     }
 }
 
-/// The cause of an edge that is out of its place.
+/// The cause of an edge in a wrong place.
 fn edge_place<'a>(above: &[Written<'a>], line: &Written<'a>) -> Seen<'a> {
     let mut has_row = false;
     let mut ends = false;
@@ -100,7 +100,7 @@ fn too_large<'a>(line: &Written<'a>) -> Seen<'a> {
     }
 }
 
-/// The cause of a line of another width.
+/// The cause of a line that is not as wide as the first line.
 fn width<'a>(above: &[Written<'a>], line: &Written<'a>) -> Seen<'a> {
     let first = match above.first() {
         Some(first) => points(first.word()),

@@ -8,10 +8,10 @@ use pat_types::NoMemory;
 use pattern_lines::{Role, Sort, Token, Written, is_letter, tokens};
 use std::alloc::Global;
 
-/// The most digits of a number.
+/// The most digits that a number may have.
 const MOST_DIGITS: usize = 6;
 
-/// Arguments, each list with one more than the one above; no function takes more than the last.
+/// Lists of arguments, each with one more than the list above. No function takes more than the last list has.
 const ARGUMENTS: [&[u8]; 12] = [
     b"()",
     b"(*)",
@@ -27,14 +27,14 @@ const ARGUMENTS: [&[u8]; 12] = [
     b"(*,*,*,*,*,*,*,*,*,*,*)",
 ];
 
-/// What is wanted next in an expression that is read from the left.
+/// What an expression, read from the left, needs next.
 #[derive(Clone, Copy, PartialEq, Eq)]
 enum Wanted {
     /// A number, a call, a sign or a parenthesis.
     Operand,
     /// An operator, a closing parenthesis or the end.
     Operator,
-    /// The parenthesis behind a function's name.
+    /// The opening parenthesis behind the name of a function.
     Arguments,
     /// The first argument, or the end of the arguments.
     FirstArgument,
@@ -44,7 +44,7 @@ enum Wanted {
     Comma,
 }
 
-/// What is seen at a word.
+/// A cause that is seen at a word.
 fn at_word<'a>(word: &Token<'a>, cause: Cause<'a>) -> Seen<'a> {
     Seen {
         place: word.place,
@@ -52,7 +52,7 @@ fn at_word<'a>(word: &Token<'a>, cause: Cause<'a>) -> Seen<'a> {
     }
 }
 
-/// The operator that may be meant by the bytes at the front, and how many of them it replaces.
+/// The operator that may be meant by the bytes at the front, and how many bytes it replaces.
 fn operator_meant(bytes: &[u8]) -> Option<(usize, &'static [u8])> {
     match bytes {
         [b'=', b'>', ..] => Some((2, b">=".as_slice())),
@@ -64,7 +64,7 @@ fn operator_meant(bytes: &[u8]) -> Option<(usize, &'static [u8])> {
     }
 }
 
-/// The cause of a word that no expression has.
+/// The cause of a word that may not stand in an expression.
 fn bad_word<'a>(word: &Token<'a>) -> Cause<'a> {
     let from = word.place.column.saturating_sub(1);
     let rest = word.place.text.get(from..).unwrap_or(word.bytes);
@@ -77,7 +77,7 @@ fn bad_word<'a>(word: &Token<'a>) -> Cause<'a> {
     }
 }
 
-/// What is wanted behind a word, or the cause why the word may not stand where this is wanted.
+/// What is wanted behind `word`, or the cause why `word` may not stand in a place that needs `wanted`.
 fn next<'a>(wanted: Wanted, word: &Token<'a>, open: usize) -> Result<Wanted, Cause<'a>> {
     match (wanted, word.sort) {
         (_, Sort::Bad) => Err(bad_word(word)),
@@ -104,7 +104,7 @@ fn next<'a>(wanted: Wanted, word: &Token<'a>, open: usize) -> Result<Wanted, Cau
     }
 }
 
-/// The cause of an expression that ends where this is wanted and so many parentheses are open.
+/// The cause of an expression that ends while something else is `wanted` or parentheses are `open`.
 fn at_end<'a>(wanted: Wanted, open: usize, last: &Token<'a>) -> Option<Seen<'a>> {
     let cause = match wanted {
         Wanted::Operand => Cause::EndsEarly,
@@ -115,7 +115,7 @@ fn at_end<'a>(wanted: Wanted, open: usize, last: &Token<'a>) -> Option<Seen<'a>>
     Some(at_word(last, cause))
 }
 
-/// The first word that makes the expression none, or what is seen of its end.
+/// The first word that breaks the grammar, or the fault at the end of the expression.
 fn unspelled<'a>(words: &[Token<'a>]) -> Option<Seen<'a>> {
     let mut wanted = Wanted::Operand;
     let mut open: usize = 0;
@@ -139,7 +139,7 @@ fn unspelled<'a>(words: &[Token<'a>]) -> Option<Seen<'a>> {
     at_end(wanted, open, &before)
 }
 
-/// Whether the word of this index is the name of a call.
+/// Whether the word at index `at` is the name of a call.
 fn is_called(words: &[Token<'_>], at: usize) -> bool {
     match (words.get(at), words.get(at.saturating_add(1))) {
         (Some(word), Some(next)) => word.sort == Sort::Name && next.sort == Sort::Open,
@@ -147,7 +147,7 @@ fn is_called(words: &[Token<'_>], at: usize) -> bool {
     }
 }
 
-/// The index behind the arguments of the call whose name has this index.
+/// The index of the parenthesis that ends the arguments of the call with its name at index `name`.
 fn end_of_arguments(words: &[Token<'_>], name: usize) -> usize {
     for (at, word) in words.iter().enumerate() {
         if at > name.saturating_add(1) && word.sort == Sort::Close {
@@ -157,7 +157,7 @@ fn end_of_arguments(words: &[Token<'_>], name: usize) -> usize {
     words.len()
 }
 
-/// Whether a call of this name with these arguments is one.
+/// Whether a function called `name` takes these `arguments`.
 fn takes(alloc: Global, name: &[u8], arguments: &[u8]) -> Result<bool, NoMemory> {
     let mut text = Vec::new(alloc);
     text.extend_from_slice(name)?;
@@ -169,7 +169,8 @@ fn takes(alloc: Global, name: &[u8], arguments: &[u8]) -> Result<bool, NoMemory>
     }
 }
 
-/// The least and the greatest number of arguments that a function takes, if there is one of this name.
+/// The least and the greatest number of arguments that a function called `name` takes; `None` if there is no such
+/// function.
 fn arity(alloc: Global, name: &[u8]) -> Result<Option<(usize, usize)>, NoMemory> {
     let mut found: Option<(usize, usize)> = None;
     for (count, arguments) in ARGUMENTS.iter().enumerate() {
@@ -181,7 +182,7 @@ fn arity(alloc: Global, name: &[u8]) -> Result<Option<(usize, usize)>, NoMemory>
     Ok(found)
 }
 
-/// The cause of a call that is at fault. A comma stands between two arguments of those given.
+/// The cause of a faulty call. `given` are its arguments with the commas between them.
 fn miscalled<'a>(
     alloc: Global,
     name: &Token<'a>,
@@ -203,7 +204,7 @@ fn miscalled<'a>(
     Ok(Some(at_word(name, cause)))
 }
 
-/// The first pass among the arguments of a call that takes none there.
+/// The first pass among the arguments of a call that does not take a pass there.
 fn stray_pass<'a>(name: &Token<'a>, given: &[Token<'a>]) -> Option<Seen<'a>> {
     let moves = name.bytes.starts_with(b"oplay_".as_slice())
         || name.bytes.starts_with(b"xplay_".as_slice());
@@ -216,7 +217,7 @@ fn stray_pass<'a>(name: &Token<'a>, given: &[Token<'a>]) -> Option<Seen<'a>> {
     None
 }
 
-/// Whether one of the constraint lines has this label.
+/// Whether one of the lines of the constraint diagram has this label.
 fn has_label(constraint: &[Written<'_>], label: u8) -> bool {
     for line in constraint {
         if is_label(label) && line.word().contains(&label) {
@@ -226,7 +227,7 @@ fn has_label(constraint: &[Written<'_>], label: u8) -> bool {
     false
 }
 
-/// The cause of a letter that is no label.
+/// The cause of a letter that is not a label.
 fn no_label<'a>(letter: u8) -> Cause<'a> {
     if is_letter(letter) {
         Cause::StoneLabel(letter)
@@ -235,7 +236,7 @@ fn no_label<'a>(letter: u8) -> Cause<'a> {
     }
 }
 
-/// The first argument of these that is a letter and no label.
+/// The first of these arguments that is a letter, but not a label.
 fn unlabelled<'a>(constraint: &[Written<'a>], given: &[Token<'a>]) -> Option<Seen<'a>> {
     for word in given {
         if word.sort != Sort::Name {
@@ -249,7 +250,7 @@ fn unlabelled<'a>(constraint: &[Written<'a>], given: &[Token<'a>]) -> Option<See
     None
 }
 
-/// The first call with a fault of this sort.
+/// The first call with the fault `wrong`.
 fn first_call<'a>(
     alloc: Global,
     words: &[Token<'a>],
@@ -273,8 +274,8 @@ fn first_call<'a>(
     Ok(None)
 }
 
-/// The text of an expression: what stands behind the `;` of its lines, joined by one blank. Nothing may stand
-/// behind a `;`.
+/// The text of an expression: the text behind the `;` of each of its lines, joined by blanks. A line may have only its
+/// `;`.
 fn joined(alloc: Global, lines: &[Written<'_>]) -> Result<Vec<u8>, NoMemory> {
     let mut text = Vec::new(alloc);
     for (at, line) in lines.iter().enumerate() {
@@ -286,7 +287,7 @@ fn joined(alloc: Global, lines: &[Written<'_>]) -> Result<Vec<u8>, NoMemory> {
     Ok(text)
 }
 
-/// The cause of an expression that is not in the grammar.
+/// The cause of an expression that breaks the grammar.
 fn no_expression<'a>(text: &[u8], first: &Written<'a>, words: &[Token<'a>]) -> Option<Seen<'a>> {
     if text.len() > 4096 {
         return Some(seen_at(first, 0, Cause::LongExpression));
@@ -297,7 +298,7 @@ fn no_expression<'a>(text: &[u8], first: &Written<'a>, words: &[Token<'a>]) -> O
     unspelled(words)
 }
 
-/// The cause of a fault of the expression of an entry with these lines.
+/// The cause of a fault in the expression of an entry with these `lines`.
 pub(crate) fn said<'a>(
     alloc: Global,
     lines: &[Written<'a>],

@@ -1,13 +1,13 @@
-//! Faults of a Pattern line, and of lines that may not stand where they stand.
+//! Faults of a Pattern line, and of lines in a wrong place.
 
 use super::{Seen, seen_at};
 use crate::cause::Cause;
 use pattern_lines::{Role, Written};
 
-/// What some editors write before the first line of a text.
+/// The bytes that some editors write before the first line of a text.
 const BYTE_ORDER_MARK: &[u8] = b"\xef\xbb\xbf";
 
-/// The cause of a line that may not stand where it stands.
+/// The cause of a line in a wrong place.
 pub(crate) fn stray<'a>(line: &Written<'a>) -> Seen<'a> {
     let cause = match (line.role, line.bytes.first()) {
         (Role::Front, _) if line.number == 1 && line.whole.starts_with(BYTE_ORDER_MARK) => {
@@ -21,7 +21,7 @@ pub(crate) fn stray<'a>(line: &Written<'a>) -> Seen<'a> {
     seen_at(line, 0, cause)
 }
 
-/// The cause of a Pattern line without a name.
+/// The cause of a Pattern line with a faulty name, if its name has a fault.
 pub(crate) fn name<'a>(line: &Written<'a>) -> Option<Seen<'a>> {
     let name = line.name();
     let before = line.bytes.len().saturating_sub(line.behind_word().len());

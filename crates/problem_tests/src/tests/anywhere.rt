@@ -1,16 +1,17 @@
-//! Verdicts on all moves of a question, and on those that the tree tries.
+//! Verdicts if all legal moves of a question are judged, and if only those that the tree tries are.
 
 use super::{Fail, Record, compare, compare_in};
 use problem_verdicts::Scope;
 
-/// Black D1 is in atari at D2. If White plays D3 or E2, Black D2 has one liberty left, the other of the two.
+/// Black D1 is in atari at D2. If White plays D3 or E2, a net, Black D2 leaves one liberty: the other of these two
+/// points.
 static TRIED: [Record; 1] = [(
     "a net is not tried",
     "(;SZ[9]AB[di]AW[ci][ei][ch]C[gopat: attack D1 depths 3 0 answer D2 only])",
     "attack D1 depths 3 0\t3\tD2\t1\tas expected",
 )];
 
-/// White A1 among black stones on three rows is dead; a lone white stone on three rows lives two plies.
+/// White A1 among black stones on a board of three rows is dead; a lone white stone there lives for two plies.
 static ANYWHERE: [Record; 6] = [
     (
         "a net does as well",

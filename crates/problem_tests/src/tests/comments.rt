@@ -1,8 +1,8 @@
-//! The line in the comment of the first node.
+//! The line `gopat:` in the comment of the first node.
 
 use super::{Fail, Record, compare};
 
-/// Where the line stands, and how it is written. Black D4 is in atari at D3.
+/// The places where the line may stand, and the forms that it may have. Black D4 is in atari at D3.
 static LINES: [Record; 12] = [
     (
         "behind other lines",

@@ -1,10 +1,10 @@
-//! How many records there are of each kind.
+//! The number of records with each verdict.
 
 use super::{Fail, usual};
 use problem_rows::{Counts, Row, row_of};
 use problem_verdicts::{Replies, Scope};
 
-/// A record of each kind, and one answer in three of them.
+/// One record for each verdict; three of them have exactly one answer.
 static RECORDS: [&str; 6] = [
     "(;SZ[9]AB[df]AW[cf][ef][de]C[gopat: attack D4 answer D3])",
     "(;SZ[9]AB[bh]AW[ai]C[gopat: attack A1 answer B1 only])",

@@ -1,4 +1,4 @@
-//! What records lack.
+//! What records lack to be problems.
 
 use super::{Fail, Record, compare};
 
@@ -112,7 +112,7 @@ static LACKS: [Record; 22] = [
     ),
 ];
 
-/// Lines with a word too many.
+/// Lines with one word too many.
 static MEANINGLESS: [Record; 2] = [
     (
         "a word behind the target",

@@ -4,8 +4,9 @@ use super::{Fail, usual};
 use problem_rows::{print_object, print_row, row_of};
 use problem_verdicts::{Replies, Scope};
 
-/// A name, against which replies an answer holds, which moves are judged, a record, and the object without a proof. In
-/// the fourth one White captures Black D1 at D2, and by the nets at D3 and E2, which the tree does not try.
+/// A name, the replies against which an answer holds, the moves that are judged, a record, and its object without a
+/// proof. In the fourth record White captures Black D1 at D2, and by the nets at D3 and E2, which the tree does not
+/// try.
 static OBJECTS: [(&str, Replies, Scope, &str, &str); 5] = [
     (
         "a.sgf",

@@ -3,14 +3,14 @@
 use super::{Fail, Record, compare, compare_against};
 use problem_verdicts::{Replies, Scope};
 
-/// What the tree says of the first question.
+/// The answer of the tree to the first question.
 static BY_THE_TREE: [Record; 1] = [(
     "a capture against the replies that are tried",
     "(;SZ[5]AB[ad][be][ce]AW[ac][bc][ed][ec][ea]C[gopat: attack A2 depths 5 2 answer C2])",
     "attack A2 depths 5 2\t3\tC2\t5\tas expected",
 )];
 
-/// What is sure. In the first question Black answers C2 at D1, where the tree does not look.
+/// The sure answers. In the first question Black answers White C2 with D1, which the tree does not try.
 static SURELY: [Record; 7] = [
     (
         "a capture that does not hold against every reply",
@@ -49,7 +49,7 @@ static SURELY: [Record; 7] = [
     ),
 ];
 
-/// A net, which is judged if every legal move is.
+/// A net, which is found if every legal move is judged.
 static SURELY_ANYWHERE: [Record; 1] = [(
     "a net does as well",
     "(;SZ[9]AB[di]AW[ci][ei][ch]C[gopat: attack D1 depths 3 0 answer D2 only])",

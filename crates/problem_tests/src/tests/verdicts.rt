@@ -1,8 +1,8 @@
-//! The verdicts.
+//! The verdicts on problems.
 
 use super::{Fail, Record, compare};
 
-/// Black D4 is in atari at D3. Two stones in the corner, black A1 between A2 and B1, and what is expected of them.
+/// Black D4 is in atari at D3, or two stones stand in the corner, or Black A1 stands between A2 and B1.
 static VERDICTS: [Record; 12] = [
     (
         "the one answer",
@@ -66,7 +66,7 @@ static VERDICTS: [Record; 12] = [
     ),
 ];
 
-/// White has two eyes, A1 and C1; a lone black stone on an empty board.
+/// White has two eyes, A1 and C1; or a lone black stone stands on an empty board.
 static SAFE: [Record; 3] = [
     (
         "a safe string",

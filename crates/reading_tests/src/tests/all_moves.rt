@@ -15,7 +15,7 @@ const TWO_EYES: Stones = (9, "A3 B3 C3 D3 E2 E1", "B1 A2 B2 C2 D2 D1");
 /// White C1 is in atari at D1, where white cannot play. Black B1 is in atari at A1.
 const KO_SAVES: Stones = (9, "A2 B1 C2 D2 E1", "B2 B3 C1");
 
-/// White has taken B1, where black may not play at once.
+/// White has taken B1 in a ko, and the ban forbids black to play at B1 at once.
 const KO_TAKEN: Stones = (9, "A2 B1 C2 D2 E1", "B2 B3 C1 A1");
 
 /// White A1 is in atari at B1 and cannot get out.
@@ -86,8 +86,8 @@ static MOVES: [MovesRow; 10] = [
     ),
 ];
 
-/// All moves at whatever point: what is special about the question, the stones, the question, its code, whether the
-/// pass is a move, and at how many points one is.
+/// All moves of a question at any point of the board: what is special about the question, the stones, the question, its
+/// code, whether the pass is a move, and at how many points a play is.
 static ANYWHERE: [(&str, Stones, Question, u8, bool, u16); 4] = [
     (
         "a dead stone waits",
@@ -124,7 +124,7 @@ static ANYWHERE: [(&str, Stones, Question, u8, bool, u16); 4] = [
 ];
 
 /// The fewest plies of a question: what is special about it, the stones, the question with the most plies, the code,
-/// and the plies.
+/// and the fewest plies, or `None` if these plies do not suffice.
 static FEWEST: [(&str, Stones, Question, u8, Option<u8>); 7] = [
     (
         "a capture at once",
@@ -172,7 +172,7 @@ static FEWEST: [(&str, Stones, Question, u8, Option<u8>); 7] = [
 ];
 
 /// A play and its refutation: what is special about it, the stones, the question, the code that the play is to attain,
-/// the play, and the first reply, which is empty where there is none.
+/// the play, and the first reply, which is empty if there is none.
 type RefutedRow = (
     &'static str,
     Stones,
@@ -276,7 +276,7 @@ fn anywhere(stones: Stones, (kind, target, plies, wide): Question) -> Option<(u8
     Some((found.code, found.pass, found.points.count()))
 }
 
-/// The fewest plies of a question with the code.
+/// The fewest plies with which a question has the code.
 fn fewest(stones: Stones, (kind, target, plies, wide): Question, code: u8) -> Option<Option<u8>> {
     let position = position(stones)?;
     let target = stone(&position, target)?;
@@ -285,7 +285,7 @@ fn fewest(stones: Stones, (kind, target, plies, wide): Question, code: u8) -> Op
     Some(plies)
 }
 
-/// Whether the named move is the first reply to the play, which is to attain the code.
+/// Whether the named move is the first reply to the row's play, which is to attain the row's code.
 fn is_refuted_by(row: &RefutedRow) -> Option<bool> {
     let &(_, stones, (kind, target, plies, wide), code, play, reply) = row;
     let position = position(stones)?;

@@ -12,13 +12,13 @@ use wider_moves::further_candidates;
 
 /// Which candidates of a target are asked for.
 pub(super) enum Which {
-    /// Those of the stated tree at the attacker's turn, with so many wide plies left.
+    /// The candidates of the stated tree at the attacker's turn, with this many wide plies left.
     All(u8),
-    /// Those that the stated tree has for a wide ply alone, at the attacker's turn.
+    /// The later candidates of the stated tree at the attacker's turn, with one wide ply left.
     Wide,
-    /// The further ones at the attacker's turn, with so many wide plies left.
+    /// The further candidates at the attacker's turn, with this many wide plies left.
     OfAttacker(u8),
-    /// The further ones at the defender's turn, with so many wide plies left.
+    /// The further candidates at the defender's turn, with this many wide plies left.
     OfDefender(u8),
 }
 
@@ -91,7 +91,7 @@ static CANDIDATES: [Row; 8] = [
     },
 ];
 
-/// The attacker's turn in the stated tree, with so many wide plies left. The candidates are the same for a target of
+/// The attacker's turn in the stated tree, with `wide` wide plies left. The candidates are the same for a target of
 /// either colour.
 fn attackers_turn(target: Point, wide: u8) -> Turn
     ensures { result.target ≡ target }
@@ -164,7 +164,7 @@ fn liberties_their_neighbours_and_captures_are_tried(rt: HostRuntime) {
     check_table(&rt, &CANDIDATES);
 }
 
-/// How many sides of a point are empty, where stones of both colours stand around C3.
+/// How many neighbours of a point are empty, on a board with stones of both colours around C3.
 fn sides(name: &str) -> Option<u16> {
     let position = position((9, "B1 C4", "C2"))?;
     let p = vertex(position.size(), name)?;
@@ -174,7 +174,7 @@ fn sides(name: &str) -> Option<u16> {
     Some(sides)
 }
 
-/// What is special about a point, its name, and how many of its sides are empty.
+/// What is special about a point, its name, and how many of its neighbours are empty.
 static SIDES: [(&str, &str, u16); 3] = [
     ("a corner beside a stone", "A1", 1),
     ("a point between stones of both colours", "C3", 2),

@@ -1,4 +1,4 @@
-//! Connections of small positions. The answers are those of the worked rows, or counted by hand, and those of a second
+//! Connections of small positions. The answers are those of the worked rows, counted by hand, or found by a second
 //! plain program.
 
 use super::{LinkQuestion, Stones, position, spot, two_stones};
@@ -7,8 +7,8 @@ use connect_rules::Linkage;
 use go_base::{Position, Size, Watch};
 use read_connect::{connect, disconnect};
 
-/// Connections of one position: what they show, the stones, and each question by what is special about it, with the
-/// move of its answer, which is empty where the side that is asked about has not its way.
+/// Connections of one position: what they show, the stones, and each question: what is special about it, and the move
+/// of its answer. The move is empty if the side that is asked about has not its way.
 struct Connections {
     name: &'static str,
     stones: Stones,
@@ -128,7 +128,7 @@ static CONNECTIONS: [Connections; 8] = [
     },
 ];
 
-/// The answer that has this move, or none.
+/// The linkage with this move; without a move, the linkage that says no.
 pub(super) fn linkage(size: Size, want: &str) -> Linkage {
     Linkage {
         yes: !want.is_empty(),
@@ -151,14 +151,14 @@ fn read(position: &Position, question: LinkQuestion) -> Option<Linkage> {
     Some(told.linkage)
 }
 
-/// Whether a question on the position of these stones is answered by this move, or by none.
+/// Whether a question on the position of these stones has the answer with the move `want`, or without a move.
 fn is_answered(stones: Stones, question: LinkQuestion, want: &str) -> Option<bool> {
     let position = position(stones)?;
     let found = read(&position, question)?;
     Some(found == linkage(position.size(), want))
 }
 
-/// What is special about the first question that has another answer; empty where each has its answer.
+/// What is special about the first question that has another answer; empty if each has its answer.
 fn first_wrong(connections: &Connections) -> &'static str {
     for &(special, question, want) in connections.rows {
         if is_answered(connections.stones, question, want) != Some(true) {

@@ -1,13 +1,13 @@
-//! Which questions are answered from what is kept, on a board of 9 by 9. The answers are those of the worked rows.
+//! Which questions are answered from the cache, on a board of 9 by 9. The answers are those of the worked rows.
 
 use super::connections::linkage;
 use super::{LinkQuestion, Stones, position, two_stones};
 use connect_rules::LinkKind::{Connect, Disconnect};
 use kept_connections::Connections;
 
-/// A step: what is special about it, the stones, the question, whose plies are set before it, whether it is answered
-/// from what is kept or not at all, the move of its answer, which is empty where the side that is asked about has not
-/// its way, and how many answers were fresh by then. No answer is refused for want of memory.
+/// A step: what is special about it, the stones, the question, whose plies are set before it, whether only the cache
+/// may answer it, the move of the answer, and how many answers were fresh by then. The move is empty if the side that
+/// is asked about has not its way, and `None` if the cache has no answer. No answer is refused for want of memory.
 struct Step {
     name: &'static str,
     stones: Stones,
@@ -20,13 +20,13 @@ struct Step {
 /// Black stones at C5 and E5.
 const JUMP: Stones = (9, "C5 E5", "");
 
-/// The same with a stone far away.
+/// Black stones at C5 and E5, and another far away, at J1.
 const DISTANT: Stones = (9, "C5 E5 J1", "");
 
-/// The same with a white stone between them.
+/// Black stones at C5 and E5, and a white stone between them, at D5.
 const CUT: Stones = (9, "C5 E5", "D5");
 
-/// Steps that follow on one another, each time from nothing kept.
+/// Steps that follow on one another. Each session begins with an empty cache.
 static SESSIONS: [&[Step]; 5] = [
     &[
         Step {
@@ -200,7 +200,7 @@ static SESSIONS: [&[Step]; 5] = [
     ],
 ];
 
-/// Whether a step gives what it says.
+/// Whether a step has the result that it says.
 fn is_right(links: &mut Connections, step: &Step) -> Option<bool> {
     let (kind, a, b, plies) = step.question;
     let position = position(step.stones)?;

@@ -8,8 +8,8 @@ use read_rules::Tree::{self, Stated, Wider};
 use std::alloc::Global;
 use write_proof::{Proof, ProofError, first_proof};
 
-/// A first proof: what it shows, the stones, the question, the tree in which it is read, its code and the text; neither
-/// where the proof is too long.
+/// A first proof: what it shows, the stones, the question, the tree in which it is read, and its code and text, or
+/// `None` if the proof is too long.
 struct Row {
     name: &'static str,
     stones: Stones,
@@ -18,7 +18,7 @@ struct Row {
     proof: Option<(u8, &'static [u8])>,
 }
 
-/// First proofs, and one that is not told.
+/// First proofs, and one that is too long to be printed.
 static FIRST_PROOFS: [Row; 13] = [
     Row {
         name: "a capture is printed",
@@ -114,7 +114,7 @@ static FIRST_PROOFS: [Row; 13] = [
     },
 ];
 
-/// Whether the proof is the one that is wanted.
+/// Whether the proof has the code and the text that are wanted.
 fn is_same(found: &Proof, want: Option<(u8, &[u8])>) -> bool {
     match want {
         Some((code, text)) => found.code == code && found.text.as_slice() == text,
@@ -122,7 +122,7 @@ fn is_same(found: &Proof, want: Option<(u8, &[u8])>) -> bool {
     }
 }
 
-/// Whether the proof that is found is the row's, or is too long where the row has none.
+/// Whether the proof that is found is the row's; if the row has none, whether the proof is too long.
 fn is_right(alloc: Global, row: &Row) -> Option<bool> {
     let (kind, name, plies, wide) = row.question;
     let position = position(row.stones)?;

@@ -1,9 +1,9 @@
-//! The order of what is kept, and what is dropped, by a question whose answer is its own number.
+//! The order of the cached answers, and which are dropped, shown with a question whose answer is its own number.
 
 use go_base::{Position, Size, Watch};
 use read_cache::{Cache, Question};
 
-/// A number, which is its own answer on each position.
+/// A number as a question; on each position its answer is the number itself.
 #[derive(Clone, Copy, PartialEq, Eq, Hash)]
 struct Number {
     n: u8,
@@ -19,17 +19,17 @@ impl Question for Number {
     ghost same = { λ p q e. Prim.search rules };
 }
 
-/// What is done with a number on the empty board of so many rows.
+/// What is done with a number on the empty board of this many rows.
 enum Step {
-    /// It is kept.
+    /// The number is cached.
     Keep(u8, u8),
-    /// It is found.
+    /// The number is found in the cache.
     Find(u8, u8),
-    /// It is not found.
+    /// The number is not found in the cache.
     Miss(u8, u8),
 }
 
-/// What is done one after another, and why it comes to that.
+/// The steps in their order, each with the reason for its result.
 static STEPS: [(Step, &str); 20] = [
     (Step::Keep(0, 9), "the first of eight"),
     (Step::Keep(1, 9), "the second of eight"),
@@ -53,24 +53,24 @@ static STEPS: [(Step, &str); 20] = [
     (Step::Miss(0, 10), "the fifth variant dropped the second"),
 ];
 
-/// The empty board of so many rows.
+/// The empty board of this many rows.
 fn empty(rows: u8) -> Option<Position> {
     Some(Position::new(Size::new(rows)?))
 }
 
-/// Keeps a number where the board has so many rows.
+/// Caches a number as the answer on the empty board of this many rows.
 fn is_kept(cache: &mut Cache<Number>, n: u8, rows: u8) -> Option<bool> {
     let position = empty(rows)?;
     let facts = Watch::new(&position).facts();
     Some(cache.keep(Number { n }, facts, n).is_ok())
 }
 
-/// Whether this is found of a number on the empty board of so many rows.
+/// Whether the cache has the answer `want` to a number on the empty board of this many rows; `None` for no answer.
 fn is_found(cache: &mut Cache<Number>, n: u8, rows: u8, want: Option<u8>) -> Option<bool> {
     Some(cache.find(&Number { n }, &empty(rows)?) == want)
 }
 
-/// Whether a step comes to what it says.
+/// Whether a step has the result that it says.
 fn is_right(cache: &mut Cache<Number>, step: &Step) -> Option<bool> {
     match step {
         Step::Keep(n, rows) => is_kept(cache, *n, *rows),

@@ -19,7 +19,7 @@ struct Row {
     won: bool,
 }
 
-/// The first nodes of the codes, nodes where no ply is left, and nodes at which the target is gone.
+/// The first nodes of the codes, nodes at which no ply is left, and nodes at which the target is gone.
 static NODES: [Row; 9] = [
     Row {
         name: "attack of a stone in atari, code 3",

@@ -1,4 +1,4 @@
-//! Proofs of small positions. Those that are true are the worked rows or were found by hand.
+//! Proofs of small positions. The true proofs are the worked rows or were found by hand.
 
 use super::{IN_ATARI, KO, Question, Stones, position, stone};
 use read_proof::check;
@@ -6,8 +6,8 @@ use read_rules::Kind::{Attack, Defend};
 use read_rules::{Depths, Tree};
 use std::process::Abort;
 
-/// Texts about the code of one question: what they show, the stones, the question and the code, and each text by what
-/// is special about it, with the trees in which it is a proof or none.
+/// Texts about the code of one question: what they show, the stones, the question and the code, and each text: what is
+/// special about it, and in which trees it is a proof or none.
 pub(super) struct Texts {
     pub(super) name: &'static str,
     pub(super) stones: Stones,
@@ -229,7 +229,7 @@ fn is_proof(texts: &Texts, tree: Tree, text: &[u8]) -> Option<bool> {
     Some(check(&position, kind, target, depths, texts.code, text))
 }
 
-/// Whether the text is a proof in each of these trees or none, as it is said.
+/// Whether the text is a proof, or none, in each of these trees as the list says.
 fn is_told(texts: &Texts, text: &[u8], trees: In) -> bool {
     for &(tree, want) in trees {
         if is_proof(texts, tree, text) != Some(want) {
@@ -239,7 +239,7 @@ fn is_told(texts: &Texts, text: &[u8], trees: In) -> bool {
     true
 }
 
-/// What is special about the first text that is not what its row says; empty where each is that.
+/// What is special about the first text that is not what its row says; empty if each is what its row says.
 fn first_wrong(texts: &Texts) -> &'static str {
     for &(special, text, trees) in texts.rows {
         if !is_told(texts, text, trees) {

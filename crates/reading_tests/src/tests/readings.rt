@@ -7,8 +7,8 @@ use read_rules::Kind::{self, Attack, Defend};
 use read_rules::Tree::{self, Stated, Wider};
 use read_tree::{Answer, attack, defend};
 
-/// Readings of one position: what they show, its stones, and each question with the tree in which it is read, the code
-/// and its move, which is empty where there is none.
+/// Readings of one position: what they show, its stones, and each question with the tree in which it is read, the code,
+/// and the move, which is empty if there is none.
 struct Readings {
     name: &'static str,
     stones: Stones,
@@ -224,8 +224,8 @@ static READINGS: [Readings; 30] = [
     },
 ];
 
-/// Questions that each rule of the wider tree decides: without the rule the answer is another, no capture for the
-/// attacker's rules and for the bound, and one for the defender's.
+/// Each rule of the wider tree decides a question: without the rule the answer is another. Without a rule of the
+/// attacker's, or without the bound, there is no capture; without a rule of the defender's there is one.
 static DECIDED: [Readings; 10] = [
     Readings {
         name: "in every ply the attacker strengthens a string with two liberties",
@@ -285,9 +285,8 @@ static DECIDED: [Readings; 10] = [
     },
 ];
 
-/// A reading in the stated tree of which the plays are counted: what it shows, its stones, the question, the code and
-/// its move, which is empty where there is none, and the least and the greatest number of plays that may be tried for
-/// it.
+/// A reading in the stated tree whose plays are counted: what it shows, its stones, the question, the code and the
+/// move, which is empty if there is none, and the least and the greatest number of plays that may be tried.
 struct Counted {
     name: &'static str,
     stones: Stones,
@@ -301,7 +300,7 @@ struct Counted {
 /// Stones of both colours around the middle.
 const CROWD: Stones = (9, "D5 E5 D7 C3", "C5 D4 E4 F6 E7 G4");
 
-/// Readings that take so many plays, and more where one thing is not seen.
+/// Readings that take this many plays, and more if one thing is overlooked.
 static COUNTED: [Counted; 12] = [
     // Each of two questions tries two plays, C3 and D3, the first two candidates in reading order. After white C3 black
     // would run at D3 to two liberties, too many for the ply that is left then, and after black C3 white may take at
@@ -325,9 +324,9 @@ static COUNTED: [Counted; 12] = [
         least: 2,
         most: 2,
     },
-    // A ladder of so many plies does not work with two plies less. So some line of it is played to its end but for the
-    // last two plies, which may be seen without a play: the turn of the defender in atari, and the play that takes the
-    // string. At each ply two moves at most are tried.
+    // A ladder of this many plies does not work with two plies less. So some line of it is played to its end, except
+    // for the last two plies, which may be seen without a play: the turn of the defender in atari, and the play that
+    // takes the string. At each ply two moves at most are tried.
     Counted {
         name: "a ladder of eleven plies takes nine plays at least",
         stones: (9, "F4", "E4 F5 G5"),
@@ -433,8 +432,8 @@ fn read(position: &Position, question: Question, tree: Tree) -> Option<(Answer, 
     Some((told.answer, told.trials))
 }
 
-/// How many plays are tried for a question on the position of these stones, where it has this code by this move, and
-/// else nothing.
+/// How many plays are tried for a question on the position of these stones, if it has this code by this move, else
+/// `None`.
 fn plays(stones: Stones, question: Question, tree: Tree, code: u8, at: &str) -> Option<u64> {
     let position = position(stones)?;
     let (found, plays) = read(&position, question, tree)?;
@@ -446,7 +445,7 @@ fn plays(stones: Stones, question: Question, tree: Tree, code: u8, at: &str) -> 
     }
 }
 
-/// The plies of the first question that has another answer; 0 where each has its answer.
+/// The plies of the first question that has another answer; 0 if each has its answer.
 fn first_wrong(readings: &Readings) -> u8 {
     for &(question, tree, code, at) in readings.rows {
         if plays(readings.stones, question, tree, code, at).is_none() {
@@ -472,7 +471,7 @@ fn each_rule_of_the_wider_tree_decides_a_question(rt: HostRuntime) {
     }
 }
 
-/// Whether a reading has its answer, with as many plays as it may take.
+/// Whether a reading has its answer, with a number of plays in the row's range.
 fn is_counted(row: &Counted) -> Option<bool> {
     let plays = plays(row.stones, row.question, Stated, row.code, row.at)?;
     Some(row.least <= plays && plays <= row.most)

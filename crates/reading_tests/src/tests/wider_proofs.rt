@@ -18,13 +18,14 @@ const BOTH: In = &[(Tree::Stated, true), (Tree::Wider, true)];
 const NEITHER: In = &[(Tree::Stated, false), (Tree::Wider, false)];
 
 /// The first proof in the wider tree that three liberties are enough without a wide ply, under one code: the defender
-/// passes, and fills the last liberty at his second turn. The attacker strengthens a stone of his with two liberties.
+/// passes, and fills the last liberty at his second turn. The attacker strengthens a stone of his that has two
+/// liberties.
 pub(super) const THREE_LIBERTIES: &[u8] = b"\
     N * PASS * E1 . C1 . PASS * . E1 . . D2 . PASS * C1 . . D2 . . \
     N * PASS * E1 . C1 . PASS * . E1 . . D2 . PASS * C1 . . D2 . . \
     N * PASS * E1 . C1 . PASS * . E1 . . D2 . PASS * C1 . . D2 . .";
 
-/// The proof of the stated tree that goes the same way, where a dot would do.
+/// A proof in the stated tree along the line of `THREE_LIBERTIES`, with words that go on although a dot would do.
 const THREE_LIBERTIES_IN_WORDS: &[u8] = b"\
     N * PASS * E1 . C1 . PASS * E1 . D2 . PASS * C1 . D2 . \
     N * PASS * E1 . C1 . PASS * E1 . D2 . PASS * C1 . D2 . \
@@ -35,8 +36,8 @@ pub(super) const FOUR_LIBERTIES: &[u8] = b"\
     W E2 * D4 * D3 * E5 . D5 . D5 * D3 . D2 . D2 * E5 . D5 . D5 * D4 * D3 . D2 . C5 * D3 . D2 . D2 * D4 . \
     D5 * D3 * E5 . C5 * D3 . D2 . D2 * E5 . D2 * D4 * E5 . D5 . D5 * D4 . D5 * E5 .";
 
-/// Texts in both trees. Where one ply is left and one wide ply, any candidate of the defender's proves that the
-/// attacker does not win, and `*` is followed by a dot for each candidate of the attacker's.
+/// Texts in both trees. If one ply and one wide ply are left, any candidate of the defender's proves that the attacker
+/// does not win, and `*` is followed by a dot for each candidate of the attacker's.
 static IN_BOTH_TREES: [Texts; 27] = [
     Texts {
         name: "the defender has the liberties of stones beside the target",

@@ -1,9 +1,9 @@
-//! The entries that are taken of texts, and their patterns.
+//! The entries of texts that are taken, and their patterns.
 
 use pattern_report::{NoMemory, Report, report_on};
 use std::alloc::Global;
 
-/// Writes the line of each entry that is taken, and behind a colon the name of each pattern.
+/// The lines of the entries that are taken, and after a colon the names of the patterns.
 fn taken(alloc: Global, text: &[u8]) -> Result<String, NoMemory> {
     let report: Report = report_on(alloc, text, &[])?;
     let mut told = String::new(alloc);
@@ -19,7 +19,7 @@ fn taken(alloc: Global, text: &[u8]) -> Result<String, NoMemory> {
     Ok(told)
 }
 
-/// Whether these entries of a text are taken.
+/// Whether `want` names exactly the entries of a text that are taken.
 fn is_taken(alloc: Global, text: &[u8], want: &str) -> bool {
     match taken(alloc, text) {
         Ok(told) => told.as_str() == want,

@@ -1,20 +1,20 @@
-//! The faults that are told of texts, one row for each cause.
+//! The faults of texts, one row for each cause.
 
 use go_base::{Bytes, NoMemory};
 use pattern_report::{Fault, Report, report_on};
 use std::alloc::{AllocError, Global};
 use std::process::Abort;
 
-/// Lines that may not stand where they stand, and Pattern lines.
+/// Lines at places where they may not stand, and Pattern lines.
 static LINES: [(&[u8], &str); 12] = [
-    // The reading goes on at the next Pattern line.
+    // After a fault, parsing continues at the next Pattern line.
     (
         b"Pattern A\nO0*\n:8,s\nPattern B\nO*\n:8,s\n Pattern C\nO*\nPattern D\nO*\n:7,s\n",
         "2 2:2 kind 6: '0' is no letter of a diagram (O X o x . ? *)\n\
          9 8:1 kind 10: no colon line, as ':8,s', stands below the diagram\n\
          11 11:2 kind 11: '7' is no mark (8 | - / \\ + X O)\n",
     ),
-    // An entry that ends too early is told at the Pattern line of the next, which tells its own fault too.
+    // An entry that ends too early is reported at the next entry's Pattern line, and the next entry's own fault too.
     (
         b"Pattern A\nO*\nPattern B\nO*\n:7,s\n",
         "3 2:1 kind 10: no colon line, as ':8,s', stands below the diagram\n\
@@ -63,7 +63,7 @@ static LINES: [(&[u8], &str); 12] = [
     ),
 ];
 
-/// Diagrams.
+/// Faults of diagrams.
 static DIAGRAMS: [(&[u8], &str); 12] = [
     (
         b"Pattern A\n:8,s\n",
@@ -118,7 +118,7 @@ static DIAGRAMS: [(&[u8], &str); 12] = [
     ),
 ];
 
-/// Colon lines.
+/// Faults of colon lines.
 static COLON_LINES: [(&[u8], &str); 9] = [
     (
         b"Pattern A\nO*\n: 7,s\n",
@@ -160,7 +160,7 @@ static COLON_LINES: [(&[u8], &str); 9] = [
     ),
 ];
 
-/// Constraint diagrams.
+/// Faults of constraint diagrams.
 static CONSTRAINTS: [(&[u8], &str); 8] = [
     (
         b"Pattern A\nO*\n:8,s\nA*\nB*\n",
@@ -196,7 +196,7 @@ static CONSTRAINTS: [(&[u8], &str); 8] = [
     ),
 ];
 
-/// Expressions of an entry with the label A, whose expression is its fifth line.
+/// Faults of expressions, in an entry with the label A whose expression is its fifth line.
 static EXPRESSIONS: [(&[u8], &str); 27] = [
     (
         b"Pattern P\nO*\n:8,s\nA*\n;lib(B)>1\n",
@@ -304,14 +304,14 @@ static EXPRESSIONS: [(&[u8], &str); 27] = [
         "5 5:17 kind 15: '?' is a pass, and oplay_attack takes none here: it may stand for a move of oplay_.. \
          and xplay_.. alone\n",
     ),
-    // A fault of a long expression is seen in its own line.
+    // A fault of a long expression is reported in its own line.
     (
         b"Pattern P\nO*\n:8,s\nA*\n;lib(A) > 1\n;&& libs(A)\n",
         "5 6:5 kind 15: no function has the name 'libs'\n",
     ),
 ];
 
-/// Writes a fault: the number of its line, the place, the kind and the cause.
+/// Writes a fault: the number of its line, its place, its kind and its cause.
 fn write_fault(lines: &mut String, fault: &Fault<'_>) -> Result<(), AllocError> {
     let place = fault.place;
     write!(lines, "{} {}:{} ", fault.line, place.line, place.column)?;
@@ -330,7 +330,7 @@ fn told(alloc: Global, text: &[u8]) -> Result<String, NoMemory> {
     Ok(lines)
 }
 
-/// Whether a text has these faults.
+/// Whether `want` has exactly the faults of a text.
 fn is_told(alloc: Global, text: &[u8], want: &str) -> bool {
     match told(alloc, text) {
         Ok(lines) => lines.as_str() == want,
@@ -338,7 +338,7 @@ fn is_told(alloc: Global, text: &[u8], want: &str) -> bool {
     }
 }
 
-/// Looks at the faults of a table.
+/// Checks the faults of each text in `rows`.
 fn compare(rt: &impl Abort, alloc: Global, rows: &[(&[u8], &str)]) {
     for &(text, want) in rows {
         assert!(rt; is_told(alloc, text, want), "{want}");
@@ -354,7 +354,7 @@ fn each_fault_has_its_cause(rt: HostRuntime) {
     compare(&rt, rt.alloc(), &EXPRESSIONS);
 }
 
-/// A text of these lines and so many entries.
+/// A text that begins with `first` and then has `count` entries.
 fn entries(alloc: Global, first: &[u8], count: usize) -> Result<Vec<u8>, AllocError> {
     let mut text = Vec::new(alloc);
     text.extend_from_slice(first)?;
@@ -383,7 +383,7 @@ fn an_entry_too_many_is_told_at_its_line_and_not_taken(rt: HostRuntime) {
     assert!(rt; taken(rt.alloc(), &text) == Some(4095));
 }
 
-/// An entry whose expression is these bytes, so many blanks and a 1, on two lines.
+/// An entry whose expression is `front`, then `blanks` blanks and a 1.
 fn long_expression(alloc: Global, front: &[u8], blanks: usize) -> Result<Vec<u8>, AllocError> {
     let mut text = Vec::new(alloc);
     text.extend_from_slice(b"Pattern A\nO*\n:8,s\n")?;

@@ -1,14 +1,14 @@
-//! Expressions that are 0 wherever their diagram fits, and near ones that are not.
+//! Expressions that are 0 whenever their diagram fits, and similar ones that are not.
 
 use pattern_report::{Caution, NoMemory, Report, parts, report_on, warnings};
 use std::alloc::{AllocError, Global};
 use std::process::Abort;
 
-/// What stands before an expression. Its labels stand at a friend's stone, an enemy's stone, an empty point, a point
-/// without an enemy's stone, one without a friend's stone, and any point.
+/// The part of an entry before its expression. Its labels stand at a friend's stone, an enemy's stone, an empty point,
+/// a point without an enemy's stone, one without a friend's stone, and any point.
 const FRONT: &[u8] = b"Pattern A\nOX.ox?*\n:-,s\nABCDEF*\n;";
 
-/// Expressions that are 0 wherever the diagram fits.
+/// Expressions that are 0 whenever the diagram fits.
 static NEVER_MET: [&str; 39] = [
     "lib(C)",
     "lib(A)==0",
@@ -51,7 +51,7 @@ static NEVER_MET: [&str; 39] = [
     "!lib(A)",
 ];
 
-/// Expressions that may have another value.
+/// Expressions that may have a value other than 0.
 static MAY_BE_MET: [&str; 33] = [
     "lib(A)",
     "lib(D)==0",
@@ -88,7 +88,7 @@ static MAY_BE_MET: [&str; 33] = [
     "!lib(D)",
 ];
 
-/// An entry with an expression.
+/// The text of an entry with this `expression`.
 fn entry(alloc: Global, expression: &str) -> Result<Vec<u8>, AllocError> {
     let mut text = Vec::new(alloc);
     text.extend_from_slice(FRONT)?;
@@ -96,7 +96,7 @@ fn entry(alloc: Global, expression: &str) -> Result<Vec<u8>, AllocError> {
     Ok(text)
 }
 
-/// How many entries of a text are taken, and how many are told as never met.
+/// How many entries of a text are taken, and how many warnings say that an expression is never met.
 fn counted(alloc: Global, text: &[u8]) -> Result<(usize, usize), NoMemory> {
     let parts = parts(alloc, text)?;
     let report: Report = report_on(alloc, text, &[])?;
@@ -109,13 +109,13 @@ fn counted(alloc: Global, text: &[u8]) -> Result<(usize, usize), NoMemory> {
     Ok((report.entries.len(), never))
 }
 
-/// The same of the entry with this expression.
+/// For the entry with this `expression`: how many entries are taken, and how many never-met warnings there are.
 fn told(alloc: Global, expression: &str) -> Result<(usize, usize), NoMemory> {
     let text = entry(alloc, expression)?;
     counted(alloc, text.as_slice())
 }
 
-/// Looks at the expressions of a table, of which each is told as often.
+/// Checks that each of `expressions` has this many never-met warnings.
 fn compare(rt: &impl Abort, alloc: Global, expressions: &[&str], times: usize) {
     for expression in expressions {
         assert!(rt; told(alloc, expression) == Ok((1, times)), "{expression}");

@@ -1,9 +1,9 @@
-//! What is told of texts to those who bring entries of GNU Go's.
+//! The notes on GNU Go's own features, for authors who port entries from GNU Go.
 
 use pattern_report::{Fault, NoMemory, Part, Report, port_notes, port_of, report_on};
 use std::alloc::{AllocError, Global};
 
-/// Writes what of GNU Go's own is told of a fault.
+/// Writes the note on GNU Go for a fault, if there is one.
 fn write_port(lines: &mut String, fault: &Fault<'_>) -> Result<(), AllocError> {
     match port_of(fault) {
         Some(port) => write!(lines, "{}: {port}\n", fault.line),
@@ -11,7 +11,7 @@ fn write_port(lines: &mut String, fault: &Fault<'_>) -> Result<(), AllocError> {
     }
 }
 
-/// Writes what of GNU Go's own is told of an entry that is taken, one place a line.
+/// Writes the notes on GNU Go for an entry that is taken, one place a line.
 fn write_notes(alloc: Global, lines: &mut String, part: Part<'_>) -> Result<(), NoMemory> {
     for note in &port_notes(alloc, part)? {
         let place = note.place;
@@ -20,7 +20,7 @@ fn write_notes(alloc: Global, lines: &mut String, part: Part<'_>) -> Result<(), 
     Ok(())
 }
 
-/// What of GNU Go's own is told of a text, one a line: of each fault, and of each place in the entries that are taken.
+/// The notes on GNU Go for a text, one a line: for each fault, and for each place in the entries that are taken.
 fn ported(alloc: Global, text: &[u8]) -> Result<String, NoMemory> {
     let report: Report = report_on(alloc, text, &[])?;
     let mut lines = String::new(alloc);
@@ -33,7 +33,7 @@ fn ported(alloc: Global, text: &[u8]) -> Result<String, NoMemory> {
     Ok(lines)
 }
 
-/// Whether this of GNU Go's own is told of a text.
+/// Whether `want` has exactly the notes on GNU Go for a text.
 fn is_ported(alloc: Global, text: &[u8], want: &str) -> bool {
     match ported(alloc, text) {
         Ok(lines) => lines.as_str() == want,
@@ -41,7 +41,7 @@ fn is_ported(alloc: Global, text: &[u8], want: &str) -> bool {
     }
 }
 
-/// Texts with what of GNU Go's own is told of them.
+/// Texts with the notes on GNU Go that they get.
 static TEXTS: [(&str, &[u8], &str); 17] = [
     (
         "a letter of another diagram of GNU Go's",

@@ -1,4 +1,4 @@
-//! What an entry adds, beside the lists without it.
+//! The states that an entry adds, compared with the list without it.
 
 use db_read::read;
 use dfa_core::Automaton;
@@ -7,7 +7,7 @@ use pat_types::Pattern;
 use pattern_states::{States, added_by_each, states_of};
 use std::alloc::{AllocError, Global};
 
-/// Entries with one diagram, with fronts in common, and with lengths of their own.
+/// Entries: some have the same diagram, some have fronts in common, and they differ in length.
 static ENTRIES: [&[u8]; 7] = [
     b"Pattern A\nOX*\n:8,s\n",
     b"Pattern B\nOX\n.*\n:8,s\n",
@@ -18,7 +18,7 @@ static ENTRIES: [&[u8]; 7] = [
     b"Pattern G\nO.?\n.*o\n?O?\n:8,s\n",
 ];
 
-/// The text of the entries but for the one at this index.
+/// The text of all entries except the one at the index `left_out`.
 fn text_without(alloc: Global, left_out: usize) -> Result<Vec<u8>, AllocError> {
     let mut text = Vec::new(alloc);
     for (index, entry) in ENTRIES.iter().enumerate() {
@@ -29,13 +29,13 @@ fn text_without(alloc: Global, left_out: usize) -> Result<Vec<u8>, AllocError> {
     Ok(text)
 }
 
-/// The patterns of the entries but for the one at this index.
+/// The patterns of all entries except the one at the index `left_out`.
 fn patterns_without(alloc: Global, left_out: usize) -> Option<Vec<Pattern>> {
     let text = text_without(alloc, left_out).ok()?;
     read(alloc, text.as_slice(), &[], Vec::new(alloc)).ok()
 }
 
-/// The automaton of patterns.
+/// The automaton of `patterns`.
 fn automaton_of(alloc: Global, patterns: &[Pattern]) -> Option<Automaton> {
     if patterns.len() > 4096 {
         return None;
@@ -43,7 +43,7 @@ fn automaton_of(alloc: Global, patterns: &[Pattern]) -> Option<Automaton> {
     compile(alloc, patterns, 1000).ok()
 }
 
-/// How many states the entries have but for the one at this index.
+/// How many states all entries have except the one at the index `left_out`.
 fn states_without(alloc: Global, left_out: usize) -> Option<u32> {
     let patterns = patterns_without(alloc, left_out)?;
     let automaton = automaton_of(alloc, patterns.as_slice())?;
@@ -57,7 +57,7 @@ fn added(alloc: Global) -> Option<Vec<u32>> {
     added_by_each(alloc, &automaton, patterns.len()).ok()
 }
 
-/// How many states the entries have without one of them, and those that it adds.
+/// How many states the entries have without the one at `index`, plus `states`, which it adds.
 fn sum_of(alloc: Global, index: usize, states: u32) -> Option<u32> {
     states_without(alloc, index)?.checked_add(states)
 }
@@ -75,7 +75,7 @@ fn an_entry_adds_what_the_list_without_it_lacks(rt: HostRuntime) {
     }
 }
 
-/// Writes how many states a list has, and how many each of the patterns adds that add most.
+/// Writes how many states a list has, and how many states each pattern adds, for those that add most.
 fn write_states(told: &mut String, states: &States) -> Result<(), AllocError> {
     match states {
         States::TooManyPatterns => told.push_str("too many patterns"),
@@ -90,7 +90,7 @@ fn write_states(told: &mut String, states: &States) -> Result<(), AllocError> {
     }
 }
 
-/// Whether this is told of the states of a text's entries, up to so many.
+/// Whether `want` is the report on the states of a text's entries, up to `limit` states.
 fn is_told(alloc: Global, text: &[u8], limit: u32, want: &str) -> Option<bool> {
     let patterns = read(alloc, text, &[], Vec::new(alloc)).ok()?;
     let states = states_of(alloc, patterns.as_slice(), limit).ok()?;
@@ -99,7 +99,7 @@ fn is_told(alloc: Global, text: &[u8], limit: u32, want: &str) -> Option<bool> {
     Some(told.as_str() == want)
 }
 
-/// Texts with limits and what is told of the states of their entries.
+/// Texts with limits and the reports on the states of their entries.
 static LISTS: [(&str, &[u8], u32, &str); 4] = [
     (
         "a star has a state before it, one behind it, and the sink",

@@ -1,11 +1,11 @@
-//! The warnings of texts, one row for each.
+//! The warnings of texts, one row for each warning.
 
 use go_base::Bytes;
 use pattern_report::{NoMemory, Report, Warning, parts, report_on, warnings};
 use std::alloc::{AllocError, Global};
 use std::process::Abort;
 
-/// Writes a warning: the place and the words.
+/// Writes a warning: its place and its words.
 fn write_warning(lines: &mut String, warning: &Warning<'_>) -> Result<(), AllocError> {
     let place = warning.place;
     write!(
@@ -28,7 +28,7 @@ fn warned(alloc: Global, text: &[u8]) -> Result<String, NoMemory> {
     Ok(lines)
 }
 
-/// Whether a text has these warnings.
+/// Whether `want` has exactly the warnings of a text.
 fn is_warned(alloc: Global, text: &[u8], want: &str) -> bool {
     match warned(alloc, text) {
         Ok(lines) => lines.as_str() == want,
@@ -36,7 +36,7 @@ fn is_warned(alloc: Global, text: &[u8], want: &str) -> bool {
     }
 }
 
-/// Lines, labels and class letters.
+/// Warnings about lines, labels and class letters.
 static LINES: [(&str, &[u8], &str); 14] = [
     (
         "letters behind the first blank of a row",
@@ -107,7 +107,7 @@ static LINES: [(&str, &[u8], &str); 14] = [
     ),
 ];
 
-/// Entries that match only where others do.
+/// Entries that match only where other entries do, and entries that do not.
 static PAIRS: [(&str, &[u8], &str); 11] = [
     (
         "where a turned entry matches the first one need not",
@@ -211,7 +211,7 @@ static VALUES: [(&str, &[u8], &str); 9] = [
     ),
 ];
 
-/// Diagrams with marks that try each of their images once, or do not.
+/// Diagrams whose marks try each of their images once, and diagrams whose marks do not.
 static MARKS: [(&str, &[u8], &str); 18] = [
     (
         "a star alone",
@@ -289,7 +289,7 @@ static MARKS: [(&str, &[u8], &str); 18] = [
     ),
 ];
 
-/// Looks at the warnings of a table.
+/// Checks the warnings of each text in `rows`.
 fn compare(rt: &impl Abort, alloc: Global, rows: &[(&str, &[u8], &str)]) {
     for &(what, text, want) in rows {
         assert!(rt; is_warned(alloc, text, want), "{what}");

@@ -1,4 +1,4 @@
-//! A session with an automaton that is not that of its patterns.
+//! A session that has one pattern and the automaton of another.
 use db_read::read;
 use dfa_join::compile;
 use go_options::read_options;
@@ -10,7 +10,7 @@ use session::{Reply, Session};
 use std::alloc::Global;
 use std::test::Fail;
 
-/// The patterns of a text.
+/// The patterns that a text defines.
 fn patterns_of(alloc: Global, text: &[u8]) -> Result<Vec<Pattern>, Fail> {
     match read(alloc, text, &[], Vec::new(alloc)) {
         Ok(patterns) => Ok(patterns),
@@ -36,7 +36,7 @@ fn session_by_another(alloc: Global) -> Result<Session, Fail> {
     Ok(Session::new(alloc, patterns, automaton, helpers, &options)?)
 }
 
-/// Lines with their replies.
+/// Lines, and the replies to them.
 static LINES: [(&str, &str); 4] = [
     ("boardsize 3", "=\n\n"),
     ("play b B2", "=\n\n"),
@@ -47,7 +47,7 @@ static LINES: [(&str, &str); 4] = [
     ),
 ];
 
-// The automaton asks for an enemy's stone if the pattern has a friend's.
+// The automaton asks for an enemy's stone at the place where the pattern asks for a friend's.
 #[test]
 fn session_answers_by_the_automaton_given(rt: HostRuntime) -> Result<(), Fail> {
     let mut session = session_by_another(rt.alloc())?;

@@ -1,12 +1,12 @@
-//! What is counted of readings and of connections.
+//! The counts of readings and of connections.
 use super::runs::{CASE, Case, Told, assert_cases, compare, run_on};
 use std::alloc::Global;
 use std::process::Abort;
 
-/// The option that asks for the counts.
+/// The option that asks for a run's counts.
 pub(super) const STATS: &[&str] = &["--stats"];
 
-/// Readings are used again where what they looked at is as it was, and with ample memory no keeping is refused.
+/// A reading is used again if what it looked at has not changed, and with ample memory every reading is cached.
 ///
 /// ```text
 /// . . O . .
@@ -14,8 +14,9 @@ pub(super) const STATS: &[&str] = &["--stats"];
 /// . . . . .
 /// ```
 ///
-/// Without a wide ply the attacker tries D3 alone. With one he tries C3 before it, in reading order: black then gets
-/// out at D3, to more liberties than the last ply can fill, which is seen without a play.
+/// Without a wide ply the attacker tries only D3. With a wide ply he tries C3 first, which comes before D3 in reading
+/// order: Black then extends to D3 and has more liberties than the last ply can fill, which the reader sees without a
+/// trial move.
 static COUNTED_READINGS: [Case<'static>; 8] = [
     Case {
         name: "a refused question counts nothing, and the first that is answered is kept for the second",
@@ -94,31 +95,32 @@ static COUNTED_READINGS: [Case<'static>; 8] = [
     },
 ];
 
-/// Nine stones that stand apart, each asked about once, and the first once more.
+/// Nine stones that stand apart, one question about each, and the first question once more.
 const NINE_READINGS: &[u8] =
     b"play b D4\nplay b D10\nplay b D16\nplay b K4\nplay b K10\nplay b K16\nplay b Q4\nplay b Q10\n\
         play b Q16\nattack D4\nattack D10\nattack D16\nattack K4\nattack K10\nattack K16\nattack Q4\n\
         attack Q10\nattack Q16\nattack D4\n";
 
-/// No lone stone is captured.
+/// The replies to `NINE_READINGS`: no lone stone is captured.
 const NINE_CODES: &[u8] =
     b"=\n\n=\n\n=\n\n=\n\n=\n\n=\n\n=\n\n=\n\n=\n\n= 0\n\n= 0\n\n= 0\n\n= 0\n\n= 0\n\n= 0\n\n= 0\n\n= 0\n\n= 0\n\n\
         = 0\n\n";
 
-/// Nine stones that stand apart, each asked about with itself. The nine readings between the connections push none out.
+/// Nine stones that stand apart, each connected with itself, and the first once more. The nine readings before the last
+/// connection push no connection out of the cache.
 const NINE_CONNECTIONS: &[u8] =
     b"play b D4\nplay b D10\nplay b D16\nplay b K4\nplay b K10\nplay b K16\nplay b Q4\nplay b Q10\n\
         play b Q16\nconnect D4 D4\nconnect D10 D10\nconnect D16 D16\nconnect K4 K4\nconnect K10 K10\n\
         connect K16 K16\nconnect Q4 Q4\nconnect Q10 Q10\nconnect Q16 Q16\nattack D4\nattack D10\nattack D16\n\
         attack K4\nattack K10\nattack K16\nattack Q4\nattack Q10\nattack Q16\nconnect D4 D4\n";
 
-/// A stone is connected with itself.
+/// The replies to `NINE_CONNECTIONS`: a stone is connected with itself.
 const NINE_JOINS: &[u8] =
     b"=\n\n=\n\n=\n\n=\n\n=\n\n=\n\n=\n\n=\n\n=\n\n= 1 PASS\n\n= 1 PASS\n\n= 1 PASS\n\n= 1 PASS\n\n= 1 PASS\n\n\
         = 1 PASS\n\n= 1 PASS\n\n= 1 PASS\n\n= 1 PASS\n\n= 0\n\n= 0\n\n= 0\n\n= 0\n\n= 0\n\n= 0\n\n= 0\n\n= 0\n\n= 0\n\
         \n= 1 PASS\n\n";
 
-/// As many questions are kept as the option says; the one used longest ago makes room for the ninth.
+/// The cache holds as many questions as the option says; the ninth takes the place of the one used longest ago.
 static MOST_KEPT: [Case<'static>; 4] = [
     Case {
         name: "eight questions are kept of nine",
@@ -158,9 +160,10 @@ static MOST_KEPT: [Case<'static>; 4] = [
     },
 ];
 
-/// Connections are used again where what they looked at is as it was, and their note stands behind that of readings.
+/// A connection is used again if what it looked at has not changed. The note of connections stands after that of
+/// readings.
 ///
-/// Black stones at C5 and E5 of 9 by 9, with D5 between them, where White cuts.
+/// The stones are Black's, at C5 and E5 of a board of nine rows, with D5 between them, where White cuts.
 static KEPT_CONNECTIONS: [Case<'static>; 7] = [
     Case {
         name: "a distant move keeps a connection",
@@ -225,7 +228,7 @@ static KEPT_CONNECTIONS: [Case<'static>; 7] = [
     },
 ];
 
-// What the rows of the three tables tell.
+// The runs of the three tables above.
 #[test]
 fn readings_and_connections_are_counted(rt: HostRuntime) {
     assert_cases(&rt, rt.alloc(), &COUNTED_READINGS);

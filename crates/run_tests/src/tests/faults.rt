@@ -1,4 +1,4 @@
-//! What happens where an object fails, and which calls are not made.
+//! What happens if the loader, the source or the sink fails, and which calls are not made.
 use super::runs::{
     CASE, Case, MANY_CALLS, Ran, TWO_FILES, WHOLE, Way, assert_cases, run_on, words,
 };
@@ -12,7 +12,7 @@ const BAD_FILE: &[File<'static>] = &[File {
     text: b"Pattern A\nOX\n:8,s\n",
 }];
 
-/// Runs in which an object fails.
+/// Runs in which the loader, the source or the sink fails.
 static FAULTS: [Case<'static>; 4] = [
     Case {
         name: "the source fails",
@@ -68,7 +68,7 @@ static FAULTS: [Case<'static>; 4] = [
     },
 ];
 
-/// Runs in which one call is set to fail that is not to be made.
+/// Runs in which a call is set to fail that must not be made.
 static UNMADE_CALLS: [Case<'static>; 9] = [
     Case {
         name: "each file is loaded once",
@@ -176,15 +176,15 @@ static UNMADE_CALLS: [Case<'static>; 9] = [
     },
 ];
 
-// What the rows of the two tables tell.
+// The runs of the two tables above.
 #[test]
 fn a_fault_ends_the_run_and_other_calls_are_not_made(rt: HostRuntime) {
     assert_cases(&rt, rt.alloc(), &FAULTS);
     assert_cases(&rt, rt.alloc(), &UNMADE_CALLS);
 }
 
-/// How a run goes whose calls move seven bytes, where this call fails: one of the object whose fault ends a run with
-/// this exit status.
+/// A run that moves seven bytes a call, and in which the call `call` fails. It is a call of the loader, the source or
+/// the sink: the one whose fault ends a run with the exit status `status`.
 fn failing(status: u8, call: u64) -> Way {
     let whole = Way { piece: 7, ..WHOLE };
     match status {
@@ -203,11 +203,11 @@ fn failing(status: u8, call: u64) -> Way {
     }
 }
 
-/// The objects that may fail, with the exit status that tells so.
+/// What may fail, and the exit status that a run then has.
 static OBJECTS: [(&str, u8); 3] = [("loader", 6), ("source", 4), ("sink", 5)];
 
-/// Runs the session where this call of the object fails, if it is made, and tells whether it is. What is out is a front
-/// of the replies, and all of them if no call fails.
+/// Runs the session with this call set to fail, and returns whether the run makes the call. The output is a front of
+/// the replies, and all of them if the call is not made.
 fn is_made(
     rt: &impl Abort,
     alloc: Global,
@@ -236,7 +236,7 @@ fn is_made(
     made
 }
 
-/// Runs the session with each call of the object failing in turn.
+/// Runs the session once for each call of the loader, the source or the sink, with that call set to fail.
 fn assert_failing(rt: &impl Abort, alloc: Global, session: &Session, object: (&str, u8)) {
     for call in 1..MANY_CALLS {
         if !is_made(rt, alloc, session, object, call) {
@@ -245,7 +245,7 @@ fn assert_failing(rt: &impl Abort, alloc: Global, session: &Session, object: (&s
     }
 }
 
-// Where a call fails, what is out is a front of the replies, and the outcome tells the fault.
+// If a call fails, the output is a front of the replies, and the outcome names the fault.
 #[test]
 fn each_call_fails_in_turn(rt: HostRuntime) {
     for session in &SESSIONS {
@@ -255,10 +255,10 @@ fn each_call_fails_in_turn(rt: HostRuntime) {
     }
 }
 
-/// The options of a run that notes its counts and its generated lines.
+/// The options of a run that writes its counts and has one generated line.
 static NOTED: [&str; 3] = ["--stats", "--generate", "1"];
 
-/// What comes of that run, seven bytes a call, where this call of the notes fails.
+/// What comes of the run with the options `NOTED`, with seven bytes a call, if the call `call` of the notes fails.
 fn noted(rt: &impl Abort, alloc: Global, call: u64) -> Ran {
     let way = Way {
         piece: 7,
@@ -268,7 +268,7 @@ fn noted(rt: &impl Abort, alloc: Global, call: u64) -> Ran {
     run_on(rt, alloc, &words(rt, alloc, &NOTED, &[]), &[], b"", way)
 }
 
-// The notes are then a front of their text, and nothing else changes.
+// If a call of the notes fails, the notes are a front of their text, and nothing else changes.
 #[test]
 fn each_call_of_the_notes_fails_in_turn(rt: HostRuntime) {
     let all = noted(&rt, rt.alloc(), 0);

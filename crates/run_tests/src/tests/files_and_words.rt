@@ -5,7 +5,7 @@ use crate::sessions::File;
 use gtp_io::{Page, SureFeed, SurePage, SureShelf};
 use session::{WordsError, run_words};
 
-/// Why the words could not be had, the exit status, and the note.
+/// Why the words of the command line are missing, the exit status, and the note.
 static UNHAD_WORDS: [(WordsError, u8, &[u8]); 2] = [
     (
         WordsError::NotText,
@@ -36,7 +36,7 @@ fn words_that_could_not_be_had_are_told(rt: HostRuntime) {
     }
 }
 
-/// Words over objects that never fail, and the exit status.
+/// What is special about the words of a run that cannot fail, the words, and the exit status.
 static SURE_RUNS: [(&str, &[&str], u8); 2] = [
     ("a word that names a file", &["file"], 0),
     ("a word that begins with a hyphen", &["file", "-h"], 2),

@@ -1,14 +1,14 @@
-//! Runs of many lines, of long replies and over large files, whose texts are made of parts.
+//! Runs of many lines, with long replies, or over large files. Their texts are put together from parts.
 use super::runs::{Ran, Told, WHOLE, Way, compare, repeated, run_on, words};
 use crate::sessions::File;
 use std::alloc::Global;
 use std::process::Abort;
 
-/// A text in parts, each of which comes so many times.
+/// The parts of a text, and how many times each part comes.
 type Parts = &'static [(usize, &'static [u8])];
 
-/// A run, by the name of what it shows: the words of the command line, what the file `p` holds, the lines, the call of
-/// the output that fails, if one is to, and what comes of it.
+/// A run, named by what it shows: the words of the command line, the text of the file `p`, the lines, the call of the
+/// output that fails, if one does, and what comes of the run.
 struct Long {
     name: &'static str,
     words: &'static [&'static str],
@@ -20,7 +20,7 @@ struct Long {
     notes: &'static [u8],
 }
 
-/// A run without lines, words and file, in which nothing fails.
+/// A run without words, file and lines, in which nothing fails.
 const LONG: Long = Long {
     name: "",
     words: &[],
@@ -32,7 +32,7 @@ const LONG: Long = Long {
     notes: b"",
 };
 
-/// The reply to `showboard` on nine lines, of 214 bytes.
+/// The reply to `showboard` on a board of nine rows: 214 bytes.
 const BOARD: &[u8] =
     b"= \n 9 . . . . . . . . .\n 8 . . . . . . . . .\n 7 . . . . . . . . .\n 6 . . . . . . . . .\n\
     \x205 . . . . . . . . .\n 4 . . . . . . . . .\n 3 . . . . . . . . .\n 2 . . . . . . . . .\n\
@@ -44,11 +44,11 @@ const MANY_PATTERNS: &[(usize, &[u8])] = &[(
     b"Pattern one_of_many_patterns_that_have_a_rather_long_name\nO*\n:8,s\n",
 )];
 
-/// What is listed of each of them: 58 bytes.
+/// The line of each of `MANY_PATTERNS` in the list of patterns: 58 bytes.
 const MANY_LISTED: &[u8] = b"one_of_many_patterns_that_have_a_rather_long_name 1x2 8 s\n";
 
-/// As many replies wait as there is room for: 128 of them, and 4096 bytes. A reply of more bytes goes out behind those
-/// that wait, as many bytes a call as the output takes.
+/// At most 128 replies wait, and at most 4096 bytes. A longer reply goes out after those that wait, as many bytes a
+/// call as the output takes.
 static WAITING_RUNS: [Long; 11] = [
     Long {
         name: "as many replies wait as there is room for, and go out in one call",
@@ -194,16 +194,16 @@ static WAITING_RUNS: [Long; 11] = [
 /// The smallest pattern.
 const SMALLEST: &[u8] = b"Pattern P\nO*\n:8,s\n";
 
-/// Plays on two lines, where Black has a stone at A1 alone, before and after them. White takes one stone and then Black
-/// takes three, first in one corner and then in the other.
+/// Moves on a board of two rows. Before them and after them Black has one stone, at A1, and White none. White takes one
+/// stone and then Black takes three, first in one corner and then in the other.
 const TAKEN_AGAIN: &[u8] = b"play w A2\nplay w B1\nplay w A1\nplay b B2\n\
     play w A2\nplay w B1\nplay w B2\nplay b A1\n";
 
-/// The plays of `TAKEN_AGAIN` in a record.
+/// The moves of `TAKEN_AGAIN` in a game record.
 const RECORDED: &[u8] = b";W[aa];W[bb];W[ab];B[ba];W[aa];W[bb];W[ba];B[ab]";
 
-/// No size makes a run give up: as many moves as a game may have, with stones taken and without, as many patterns as
-/// there may be, and a record of 20,000 moves and a megabyte.
+/// No size makes a run fail: as many moves as a game may have, with captures and without, as many patterns as there may
+/// be, and a game record of 20,000 moves and a megabyte.
 static LARGE_RUNS: [Long; 4] = [
     Long {
         name: "behind ten thousand moves no other is added, and an illegal one is told as that",
@@ -283,7 +283,7 @@ static LARGE_RUNS: [Long; 4] = [
     },
 ];
 
-/// What comes of a run over a file of this text.
+/// What comes of a run whose file holds `text`.
 fn ran_over(rt: &impl Abort, alloc: Global, run: &Long, text: &[u8]) -> Ran {
     let way = Way {
         sink_fails: run.sink_fails,
@@ -294,7 +294,7 @@ fn ran_over(rt: &impl Abort, alloc: Global, run: &Long, text: &[u8]) -> Ran {
     run_on(rt, alloc, &words, &[File { name: "p", text }], &input, way)
 }
 
-/// Makes the run, and compares all that came of it.
+/// Makes the run, and compares all that comes of it.
 fn assert_run(rt: &impl Abort, alloc: Global, run: &Long) {
     let text = repeated(rt, alloc, run.file);
     let ran = ran_over(rt, alloc, run, &text);

@@ -1,8 +1,8 @@
-//! The effects of the options.
+//! The effects of the options on runs.
 use super::runs::{CASE, Case, TWO_FILES, WHOLE, Way, assert_cases};
 use crate::sessions::File;
 
-/// The smallest pattern, with seven states.
+/// The smallest pattern; its automaton has seven states.
 const SMALLEST: &[File<'static>] = &[File {
     name: "p",
     text: b"Pattern P\nO*\n:8,s\n",
@@ -11,7 +11,7 @@ const SMALLEST: &[File<'static>] = &[File {
 /// A stone in atari at D4, and a question about it.
 const IN_ATARI: &[u8] = b"boardsize 9\nplay b D4\nplay w C4\nplay w E4\nplay w D5\ndefend D4\n";
 
-/// Generated runs, their first lines, the ranges of the options, the limit of states, and what goes out where an object
+/// Generated runs and their first lines, the ranges of the options, the limit of states, and the output if something
 /// fails.
 static OPTION_RUNS: [Case<'static>; 13] = [
     Case {

@@ -1,4 +1,4 @@
-//! The worked sessions, whole and cut into pieces; the longest line; runs that are made twice.
+//! The worked sessions, whole and cut into pieces; the longest line; and runs that are made twice.
 use super::runs::{MEMORY, PIECE, ROOM, Ran, Told, WHOLE, Way, compare, repeated, run_on, words};
 use crate::run_in_memory;
 use crate::sessions::{SESSIONS, Session};
@@ -7,10 +7,10 @@ use session::Outcome;
 use std::alloc::Global;
 use std::process::Abort;
 
-/// How many bytes a call moves at most: more than any session has, and few.
+/// The most bytes of a call: more than any session has, and then few.
 static PIECES: [usize; 9] = [4096, 1, 2, 3, 4, 5, 6, 7, 8];
 
-/// Runs the session so many bytes a call, and compares all that came of it but the bytes left.
+/// Runs the session with at most `piece` bytes a call, and compares all that comes of it but the number of bytes left.
 fn assert_session(rt: &impl Abort, alloc: Global, session: &Session, piece: usize) {
     let words = words(rt, alloc, &[], session.files);
     let way = Way { piece, ..WHOLE };
@@ -33,7 +33,7 @@ fn sessions_whole_and_in_pieces(rt: HostRuntime) {
     }
 }
 
-/// How many letters a line has, and the replies to it and to `name`.
+/// How many letters a line has, and the replies to this line and to `name`.
 static LONG_LINES: [(&str, usize, &[u8]); 2] = [
     (
         "the longest line",
@@ -64,8 +64,8 @@ fn longest_line_and_one_byte_more(rt: HostRuntime) {
     }
 }
 
-/// Runs that are made twice: lines that come so many times each, how many bytes a call moves the second time, and the
-/// checksum of what must come out.
+/// A run that is made twice: lines and how many times each comes, the most bytes of a call in the second run, and the
+/// checksum of the output.
 struct Twice {
     name: &'static str,
     options: &'static [&'static str],
@@ -74,10 +74,10 @@ struct Twice {
     checksum: u32,
 }
 
-/// The replies to the generated lines, none of which is `out of memory`, are those of a second program: the plain
-/// reader of tools/, which was given `undo`. Those of the other run were put together from the formats. In it there are
-/// boards of more bytes than may wait, and more short replies than may wait, each between others; whole pieces, in
-/// which replies wait, give the same as pieces of some bytes, in which none does.
+/// The replies to the generated lines are those of a second program, the plain reader of tools/, which was given
+/// `undo`; none of them is `out of memory`. The replies of the other run were put together from the formats. That run
+/// has boards that together have more bytes than may wait, and more short replies than may wait, among others. In large
+/// pieces replies wait and in pieces of nine bytes none does, and the output is the same.
 static RUNS_MADE_TWICE: [Twice; 2] = [
     Twice {
         name: "a long generated run repeats",
@@ -107,14 +107,14 @@ fn checksum(bytes: &[u8]) -> u32 {
     sum
 }
 
-/// What comes of the run's lines, where a call moves so many bytes.
+/// What comes of the run's lines if a call moves at most `piece` bytes.
 fn ran_by(rt: &impl Abort, alloc: Global, run: &Twice, piece: usize) -> Ran {
     let input = repeated(rt, alloc, run.lines);
     let words = words(rt, alloc, run.options, &[]);
     run_on(rt, alloc, &words, &[], &input, Way { piece, ..WHOLE })
 }
 
-/// Makes the run twice, and compares all that came of it.
+/// Makes the run twice, and compares all that comes of it.
 fn assert_twice(rt: &impl Abort, alloc: Global, run: &Twice) {
     let first = ran_by(rt, alloc, run, PIECE);
     let again = ran_by(rt, alloc, run, run.piece);

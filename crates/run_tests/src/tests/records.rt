@@ -1,4 +1,4 @@
-//! Game records that lines load.
+//! Game records that `loadsgf` lines load.
 use super::runs::{CASE, Case, assert_cases};
 use crate::sessions::File;
 
@@ -30,7 +30,7 @@ const RECORDS: &[File<'static>] = &[
     },
 ];
 
-/// What lines load, and what they are refused.
+/// Lines that load game records, and the refusals of faulty records.
 static LOADS: [Case<'static>; 4] = [
     Case {
         name: "undo stops at the loaded position",

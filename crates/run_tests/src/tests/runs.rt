@@ -1,4 +1,4 @@
-//! A run over objects in memory: what it is given, and what comes of it.
+//! A run over a feed, a page and a shelf in memory: what it is given, and what comes of it.
 use crate::sessions::File;
 use gtp_io::{Feed, Page, Shelf};
 use helpers::{Helper, NearEdge, NoBan};
@@ -12,10 +12,10 @@ pub(super) const PIECE: usize = 4096;
 /// Room for the replies of every session.
 pub(super) const ROOM: usize = 65_536;
 
-/// The longest session has fewer calls than this, also where each call moves one byte.
+/// No session has as many calls as this, even if each call moves one byte.
 pub(super) const MANY_CALLS: u64 = 400;
 
-/// What a test says that ends for want of memory.
+/// The message of a test that ends for want of memory.
 pub(super) const MEMORY: &str = "memory is found";
 
 /// Two files, each without a fault.
@@ -30,8 +30,8 @@ pub(super) const TWO_FILES: &[File<'static>] = &[
     },
 ];
 
-/// How a run is to go: how many bytes a call moves at most, how many a call of the sink takes, and which call of each
-/// object fails, counted from 1; none does if the number is 0.
+/// How a run is to go: the most bytes of a call, the most bytes that a call of the sink takes, and which call of the
+/// loader, the source, the sink and the notes fails, counted from 1; a 0 means that none does.
 #[derive(Clone, Copy)]
 pub(super) struct Way {
     pub(super) piece: usize,
@@ -52,15 +52,15 @@ pub(super) const WHOLE: Way = Way {
     notes_fail: 0,
 };
 
-/// A run, by the name of what it shows: what it is given, and all that must come of it.
+/// A run, named by what it shows: what it is given, and all that must come of it.
 #[derive(Clone, Copy)]
 pub(super) struct Case<'a> {
     pub(super) name: &'a str,
     /// The words before the names of the files.
     pub(super) options: &'a [&'a str],
-    /// The pattern files, which the words name.
+    /// The pattern files, which the words of the command line name.
     pub(super) files: &'a [File<'a>],
-    /// Files that no word names, in a run without pattern files.
+    /// Files that no word names, such as game records, in a run without pattern files.
     pub(super) records: &'a [File<'a>],
     pub(super) input: &'a [u8],
     pub(super) way: Way,
@@ -68,13 +68,13 @@ pub(super) struct Case<'a> {
     pub(super) status: u8,
     pub(super) output: &'a [u8],
     pub(super) notes: &'a [u8],
-    /// If this is not empty, the notes begin as told, go on with the number of trial plays, and end so.
+    /// If this is not empty, the notes begin with `notes`, go on with the number of trial moves, and end with this.
     pub(super) behind_trials: &'a [u8],
     /// How many bytes of the input are not taken.
     pub(super) left: usize,
 }
 
-/// A run without files and input if nothing fails, and of which nothing comes.
+/// A run without files and input, in which nothing fails and of which nothing comes.
 pub(super) const CASE: Case<'static> = Case {
     name: "",
     options: &[],
@@ -89,7 +89,7 @@ pub(super) const CASE: Case<'static> = Case {
     left: 0,
 };
 
-/// What came of one run.
+/// What came of a run.
 #[derive(Drop)]
 pub(super) struct Ran {
     pub(super) status: u8,
@@ -98,7 +98,7 @@ pub(super) struct Ran {
     pub(super) left: usize,
 }
 
-/// The words of a command line with these options that names these files.
+/// The words of a command line that has these options and names these files.
 pub(super) fn words(
     rt: &impl Abort,
     alloc: Global,
@@ -117,7 +117,7 @@ pub(super) fn words(
     words
 }
 
-/// What the files hold, one after another.
+/// The texts of the files, in order.
 fn texts(rt: &impl Abort, alloc: Global, files: &[File<'_>]) -> Vec<Vec<u8>> {
     let mut texts = Vec::new(alloc);
     for file in files {
@@ -127,7 +127,7 @@ fn texts(rt: &impl Abort, alloc: Global, files: &[File<'_>]) -> Vec<Vec<u8>> {
     texts
 }
 
-/// A shelf that holds these files, and fails at this call.
+/// A shelf that holds these files, and fails at the call `fails`.
 fn shelf(rt: &impl Abort, alloc: Global, files: &[File<'_>], fails: u64) -> Shelf {
     let names = words(rt, alloc, &[], files);
     let contents = texts(rt, alloc, files);
@@ -135,19 +135,19 @@ fn shelf(rt: &impl Abort, alloc: Global, files: &[File<'_>], fails: u64) -> Shel
     Shelf::new(names, contents, calls(rt, alloc, fails))
 }
 
-/// A list of this one call.
+/// A list that has this call alone.
 fn calls(rt: &impl Abort, alloc: Global, call: u64) -> Vec<u64> {
     Vec::from_slice(alloc, &[call]).expect(rt, MEMORY)
 }
 
-/// A feed that gives these bytes, at most so many a call, and fails at this call.
+/// A feed of these bytes that gives at most `most` a call, and fails at the call `fails`.
 fn feed(rt: &impl Abort, alloc: Global, input: &[u8], most: usize, fails: u64) -> Feed {
     assert!(rt; most > 0, "a call moves some bytes");
     let bytes = Vec::from_slice(alloc, input).expect(rt, MEMORY);
     Feed::new(bytes, most, calls(rt, alloc, fails))
 }
 
-/// A page that takes at most so many bytes a call, and fails at this call.
+/// A page that takes at most `most` bytes a call, and fails at the call `fails`.
 fn page(rt: &impl Abort, alloc: Global, most: usize, fails: u64) -> Page {
     assert!(rt; most > 0, "a call takes some bytes");
     Page::new(alloc, ROOM, most, calls(rt, alloc, fails)).expect(rt, MEMORY)
@@ -193,7 +193,7 @@ pub(super) fn run_on(
     }
 }
 
-/// What comes of the case's run.
+/// What comes of the run of a case.
 fn run_case(rt: &impl Abort, alloc: Global, case: &Case<'_>) -> Ran {
     let words = words(rt, alloc, case.options, case.files);
     if case.files.is_empty() {
@@ -203,7 +203,7 @@ fn run_case(rt: &impl Abort, alloc: Global, case: &Case<'_>) -> Ran {
     }
 }
 
-/// Whether the notes are those that the case tells.
+/// Whether the notes are those that the case has.
 fn are_notes_of(case: &Case<'_>, notes: &[u8]) -> bool {
     if case.behind_trials.is_empty() {
         notes == case.notes
@@ -212,8 +212,8 @@ fn are_notes_of(case: &Case<'_>, notes: &[u8]) -> bool {
     }
 }
 
-/// What is told of a run: its output, whether its notes are the right ones, its exit status, and how many bytes of the
-/// input are left.
+/// What must come of a run: its output, whether its notes are right, its exit status, and how many bytes of the input
+/// are left.
 #[derive(Clone, Copy)]
 pub(super) struct Told<'a> {
     pub(super) output: &'a [u8],
@@ -222,7 +222,7 @@ pub(super) struct Told<'a> {
     pub(super) left: usize,
 }
 
-/// Compares all that came of a run with what is told of it.
+/// Compares all that came of a run with what must come of it.
 pub(super) fn compare(rt: &impl Abort, name: &str, ran: &Ran, told: Told<'_>) {
     let other = if ran.output.bytes() != told.output {
         "the output"
@@ -257,7 +257,7 @@ pub(super) fn assert_cases(rt: &impl Abort, alloc: Global, cases: &[Case<'_>]) {
     }
 }
 
-/// These bytes, so many times each.
+/// These parts one after another, each repeated as often as its number says.
 pub(super) fn repeated(rt: &impl Abort, alloc: Global, parts: &[(usize, &[u8])]) -> Vec<u8> {
     let mut bytes = Vec::new(alloc);
     for (times, part) in parts {

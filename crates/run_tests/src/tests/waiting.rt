@@ -1,4 +1,4 @@
-//! Replies that wait: in which call they go out, and what is counted where one is cut.
+//! Replies that wait: in which call they go out, and what is counted if a reply is cut.
 use super::counts::STATS;
 use super::runs::{
     CASE, Case, Ran, Told, WHOLE, Way, assert_cases, compare, repeated, run_on, words,
@@ -7,11 +7,11 @@ use crate::sessions::File;
 use std::alloc::Global;
 use std::process::Abort;
 
-/// Readings of a stone, the second one kept, with a quick line between them and the third.
+/// Three readings of one stone, the second and the third of them cache hits, with a quick line before the third.
 const CUT_LINES: &[u8] = b"play b D4\nattack D4\nattack D4\nname\nattack D4\n";
 
-/// The counts at a fault are those of the line whose reply is cut. All lines are one piece, so later ones are answered
-/// before the output fails.
+/// If a reply is cut, the counts are those at the line of that reply. All lines come in one piece, so the later lines
+/// are answered before the output fails.
 static CUT_REPLIES: [Case<'static>; 10] = [
     Case {
         name: "no byte is out",
@@ -166,7 +166,7 @@ static CUT_REPLIES: [Case<'static>; 10] = [
 /// The lines of a session with connections, whose output is cut.
 const CUT_JOINS: &[u8] = b"play b D4\nconnect D4 D4\nconnect D4 D4\nname\ndisconnect D4 D4\n";
 
-/// A connection counts also where its own reply is cut, and one whose line was answered behind the cut does not.
+/// A connection counts even if its own reply is cut; a connection that was answered after the cut reply does not count.
 static CUT_CONNECTIONS: [Case<'static>; 7] = [
     Case {
         name: "the last byte before the first connection's reply",
@@ -273,7 +273,7 @@ const PATTERN: &[File<'static>] = &[File {
     text: b"Pattern P\nO*\n:8,s\n",
 }];
 
-/// Lines that come together, the call of the output that fails, and what is out then. A call that is not made cannot
+/// Lines that come together, the call of the output that fails, and the output then. A call that is not made cannot
 /// fail, so the failing call shows how the replies were put together.
 static CALLS_OF_THE_OUTPUT: [Case<'static>; 4] = [
     Case {
@@ -324,7 +324,7 @@ static CALLS_OF_THE_OUTPUT: [Case<'static>; 4] = [
     },
 ];
 
-// What the rows of the three tables tell.
+// The runs of the three tables above.
 #[test]
 fn replies_that_wait_go_out_and_are_counted(rt: HostRuntime) {
     assert_cases(&rt, rt.alloc(), &CUT_REPLIES);
@@ -332,25 +332,25 @@ fn replies_that_wait_go_out_and_are_counted(rt: HostRuntime) {
     assert_cases(&rt, rt.alloc(), &CALLS_OF_THE_OUTPUT);
 }
 
-/// Quick lines, which come before a question.
+/// Quick lines, which come before a question. They need no reading.
 const FIRST_LINES: &[u8] = b"name\nplay b D4\ndepths 1 0\n";
 
-/// The replies to them.
+/// The replies to `FIRST_LINES`.
 const FIRST_REPLIES: &[u8] = b"= gopat\n\n=\n\n=\n\n";
 
-/// A quick line, which comes behind a question, and its reply.
+/// A quick line, which comes after a question, and its reply.
 const NEXT: (&[u8], &[u8]) = (b"name\n", b"= gopat\n\n");
 
-/// A question between quick lines, and its reply. All lines come together.
+/// A question between quick lines, and the reply to it. All lines come together.
 struct Question {
     line: &'static str,
     reply: &'static str,
-    /// How many times it is asked again, each time with a quick line behind it.
+    /// How many times the line of the question comes again; the quick line then comes as often.
     again: usize,
 }
 
-/// Each line that may take long: what waits goes out before it, and its own reply goes out at once. If its answer is
-/// kept, the same line is quick when it comes again.
+/// Each line that may take long: the replies that wait go out before it, and its own reply goes out at once. If its
+/// answer is cached, the same line is quick when it comes again.
 static QUESTIONS: [Question; 11] = [
     Question {
         line: "attack D4\n",
@@ -409,7 +409,7 @@ static QUESTIONS: [Question; 11] = [
     },
 ];
 
-/// What comes of the lines around a question, if this call of the output fails.
+/// What comes of the lines around a question, if the call `sink_fails` of the output fails.
 fn ran_asking(rt: &impl Abort, alloc: Global, question: &Question, sink_fails: u64) -> Ran {
     let (line, again) = (question.line.as_bytes(), question.again);
     let (next, _) = NEXT;
@@ -429,7 +429,7 @@ fn ran_asking(rt: &impl Abort, alloc: Global, question: &Question, sink_fails: u
     run_on(rt, alloc, &words, PATTERN, &input, way)
 }
 
-/// Looks at what is out if this call of the output fails. The status is 0 if it is not made.
+/// Compares the output if the call `sink_fails` of the output fails. The status is 0 if that call is not made.
 fn assert_out(
     rt: &impl Abort,
     alloc: Global,
@@ -450,7 +450,7 @@ fn assert_out(
     compare(rt, question.line, &ran, told);
 }
 
-/// Looks at the three calls of the output: the replies before the question, its own, and all others.
+/// Compares the three calls of the output: the replies before the question, the question's own reply, and all others.
 fn assert_three_calls(rt: &impl Abort, alloc: Global, question: &Question) {
     let (reply, again) = (question.reply.as_bytes(), question.again);
     let (_, next) = NEXT;

@@ -1,4 +1,4 @@
-//! The commands that set up a board, play on it and tell of it.
+//! The commands that set up a board, play on it and answer questions about it.
 ghost use Rattle.std.specs.Prelude.{List, ◌≡◌, ◌*◌, ◌<◌, ◌≤◌, length, is_ok, IfSome};
 ghost use Rattle.go_rules.specs.declared.Move.{Move};
 ghost use Rattle.go_rules.specs.Replay.{moved};
@@ -29,7 +29,7 @@ fn digit(holds: bool) -> &'static [u8]
     if holds { b"1" } else { b"0" }
 }
 
-/// Whether a stone stands at p.
+/// Whether a stone stands at `p`.
 pub(crate) fn has_stone(board: &StringBoard, p: Point) -> bool
     requires { p < (reached board.now).size * (reached board.now).size }
     ensures { result ≡ is_stone (cell_at (reached board.now).cells p) }
@@ -41,6 +41,7 @@ pub(crate) fn has_stone(board: &StringBoard, p: Point) -> bool
 }
 
 impl Engine {
+    /// Starts again on the empty board of `size`, or refuses if no board has the size.
     pub(crate) fn resize(&mut self, size: Option<Size>) -> Answer
         ensures answer { (helpers : List SlotState) → IsAnswer
             (resized (machine_with helpers self.old) size) result
@@ -58,6 +59,7 @@ impl Engine {
         told(b"")
     }
 
+    /// Empties the board and the list of moves; the size stays.
     pub(crate) fn clear(&mut self) -> Answer
         ensures answer { (helpers : List SlotState) → IsAnswer
             (cleared (machine_with helpers self.old)) result (machine_with helpers self.new) }
@@ -71,6 +73,7 @@ impl Engine {
         told(b"")
     }
 
+    /// Keeps the text of the komi.
     pub(crate) fn keep_komi(&mut self, komi: KomiText) -> Answer
         ensures answer { (helpers : List SlotState) → IsAnswer
             (komi_kept (machine_with helpers self.old) komi) result
@@ -85,6 +88,7 @@ impl Engine {
         told(b"")
     }
 
+    /// Plays `m`, if it is legal and the list of moves is not full.
     pub(crate) fn play(&mut self, m: Move) -> Answer
         requires { IfSome m.at (λ p. p < self.old.base.size * self.old.base.size) }
         ensures answer { (helpers : List SlotState) → IsAnswer
@@ -103,6 +107,7 @@ impl Engine {
         }
     }
 
+    /// Takes the last move back.
     pub(crate) fn undo(&mut self) -> Answer
         ensures answer { (helpers : List SlotState) → IsAnswer
             (taken_back (machine_with helpers self.old) self.old.moves) result
@@ -119,7 +124,7 @@ impl Engine {
         }
     }
 
-    /// Whether the rules allow the move.
+    /// Whether the rules allow `m`.
     fn is_legal(&self, m: Move) -> bool
         requires { IfSome m.at (λ p. p < self.now.base.size * self.now.base.size) }
         ensures { result ≡ is_ok (moved (board_of self.now) m) }
@@ -130,6 +135,7 @@ impl Engine {
         }
     }
 
+    /// Prints `1` if the rules allow `m`, else `0`.
     pub(crate) fn tell_legal(&self, m: Move) -> Answer
         requires { IfSome m.at (λ p. p < self.now.base.size * self.now.base.size) }
         ensures { (helpers : List SlotState) → IsAnswer
@@ -138,6 +144,7 @@ impl Engine {
         told(digit(self.is_legal(m)))
     }
 
+    /// Prints the board.
     pub(crate) fn show_board(&self) -> Answer
         ensures { (helpers : List SlotState) → IsAnswer
             (shown (machine_with helpers self.now)) result (machine_with helpers self.now) }
@@ -145,6 +152,7 @@ impl Engine {
         grown(board_text(self.alloc, &self.position()))
     }
 
+    /// Lists the points where `colour` may play.
     pub(crate) fn list_legal(&self, colour: Colour) -> Answer
         ensures { (helpers : List SlotState) → IsAnswer
             (all_allowed (machine_with helpers self.now) colour) result
@@ -153,6 +161,7 @@ impl Engine {
         grown(legal_text(self.alloc, self.board(), colour))
     }
 
+    /// Prints the number of liberties of the string of `p`.
     pub(crate) fn count_liberties(&self, p: Point) -> Answer
         requires { p < self.now.base.size * self.now.base.size }
         ensures { (helpers : List SlotState) → IsAnswer
@@ -166,6 +175,7 @@ impl Engine {
         told_number(u32::from(board.liberties(p)))
     }
 
+    /// Lists the liberties of the string of `p`.
     pub(crate) fn find_liberties(&self, p: Point) -> Answer
         requires { p < self.now.base.size * self.now.base.size }
         ensures { (helpers : List SlotState) → IsAnswer
@@ -179,6 +189,7 @@ impl Engine {
         grown(liberties_text(self.alloc, board, p))
     }
 
+    /// Prints how many stones the moves of `colour` captured.
     pub(crate) fn count_captures(&self, colour: Colour) -> Answer
         ensures { (helpers : List SlotState) → IsAnswer
             (captures_counted (machine_with helpers self.now) colour) result

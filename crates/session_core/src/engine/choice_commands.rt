@@ -29,8 +29,8 @@ use move_choice::choose;
 use pat_types::Pattern;
 use std::alloc::Global;
 
-/// The point of the match for a friend that is chosen among those by an automaton, none if no pattern matches. The
-/// helpers that the patterns name are asked last. Takes memory.
+/// The point of the match for `friend` that is chosen among the automaton's matches, or `None` if no pattern matches.
+/// The helpers that the patterns name are asked last. Takes memory.
 fn point_by(
     alloc: Global,
     patterns: &[Pattern],
@@ -63,8 +63,8 @@ fn point_by(
 }
 
 impl Engine {
-    /// The point of the match for a friend that is chosen, none if no pattern matches. Takes memory: if there is
-    /// none, the helpers may have been asked or not.
+    /// The point of the chosen match for `friend`, or `None` if no pattern matches. Takes memory: if there is none, the
+    /// helpers may have been asked or not.
     fn chosen_point(
         &mut self,
         helpers: &mut Helpers,
@@ -94,7 +94,7 @@ impl Engine {
         )
     }
 
-    /// Tells the move for a friend that the patterns choose, and plays nothing.
+    /// Prints the move for `friend` that the patterns choose, and plays nothing.
     pub(crate) fn tell_move(&mut self, helpers: &mut Helpers, friend: Colour) -> Answer
         ensures answer { IsAnswer (move_told (matcher_of self.old)
             (machine_with (states_of state helpers.old) self.old) friend)
@@ -111,7 +111,7 @@ impl Engine {
         }
     }
 
-    /// Plays the move for a friend that the patterns choose, the pass if they choose none, and tells it.
+    /// Plays the move for `friend` that the patterns choose, a pass if they choose none, and prints it.
     pub(crate) fn make_move(&mut self, helpers: &mut Helpers, friend: Colour) -> Answer
         ensures answer { IsAnswer (move_made (matcher_of self.old)
             (machine_with (states_of state helpers.old) self.old) friend)

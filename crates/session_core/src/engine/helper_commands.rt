@@ -1,4 +1,4 @@
-//! The commands that speak of one helper.
+//! The commands that name one helper.
 ghost use Rattle.std.specs.Prelude.{◌≡◌, IfOk};
 ghost use Rattle.gtp_cmd.specs.Spans.{IsSpanOf};
 ghost use Rattle.helpers.specs.Slots.{states_of};
@@ -15,7 +15,7 @@ use helpers::Helpers;
 use itoa::Buffer;
 
 impl Engine {
-    /// The word that stands in this part of the line. Takes memory.
+    /// The word of `line` at `span`. Takes memory.
     fn word(&self, line: &[u8], span: Span) -> Result<Bytes, NoMemory>
         requires { IsSpanOf line.now span }
         ensures { IfOk result (λ word. word ≡ word_at line.now span) }
@@ -23,7 +23,7 @@ impl Engine {
         text(line, span, Bytes::new(self.alloc))
     }
 
-    /// Switches the first helper of the name off.
+    /// Switches off the first helper of the name at `span`.
     pub(crate) fn switch_off(&self, helpers: &mut Helpers, line: &[u8], span: Span) -> Answer
         requires { IsSpanOf line.now span }
         ensures { IsAnswer (switched_off (machine_with (states_of state helpers.old) self.now) (word_at line.now span))
@@ -39,7 +39,7 @@ impl Engine {
         }
     }
 
-    /// Tells how often the first helper of the name was asked.
+    /// Prints how often the first helper of the name at `span` was asked.
     pub(crate) fn tell_calls(&self, helpers: &Helpers, line: &[u8], span: Span) -> Answer
         requires { IsSpanOf line.now span }
         ensures { IsAnswer (calls_told (machine_with (states_of state helpers.now) self.now) (word_at line.now span))
@@ -57,7 +57,7 @@ impl Engine {
         }
     }
 
-    /// Takes the first helper of the name out, and drops it.
+    /// Takes out the first helper of the name at `span`, and drops it.
     pub(crate) fn drop_helper(&self, helpers: &mut Helpers, line: &[u8], span: Span) -> Answer
         requires { IsSpanOf line.now span }
         ensures { IsAnswer (dropped (machine_with (states_of state helpers.old) self.now) (word_at line.now span))

@@ -21,8 +21,8 @@ use go_base::{Cell, Point};
 use gtp_cmd::RefuseText;
 
 impl Engine {
-    /// Why a question about the strings of two points is refused: no stone stands at one of them, or the two stones
-    /// differ in colour.
+    /// Why a question about the strings of `a` and `b` is refused: no stone stands at one of these points, or the two
+    /// stones differ in colour. `None` if it is not refused.
     fn link_refusal(&self, a: Point, b: Point) -> Option<RefuseText>
         requires a { a < self.now.base.size * self.now.base.size }
         requires b { b < self.now.base.size * self.now.base.size }
@@ -57,7 +57,8 @@ impl Engine {
         self.connections = self.connections.saturating_add(1);
     }
 
-    /// Answers a question about the strings of two points, kept or read afresh, if stones of one colour stand there.
+    /// Answers a question about the strings of `a` and `b`, from the cache or afresh, if stones of one colour stand
+    /// there.
     pub(crate) fn tell_link(&mut self, kind: LinkKind, a: Point, b: Point) -> Answer
         requires a { a < self.old.base.size * self.old.base.size }
         requires b { b < self.old.base.size * self.old.base.size }
@@ -77,7 +78,7 @@ impl Engine {
         told_text(linkage_text(position.size(), linkage))
     }
 
-    /// Answers the question about the strings of two points that `work` stands for, if the answer is kept or the
+    /// Answers the question about the strings of `a` and `b` that `work` stands for, if the answer is cached or the
     /// question is refused. Else nothing is done, and `work` comes back.
     pub(crate) fn recall_link(
         &mut self,

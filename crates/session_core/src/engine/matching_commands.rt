@@ -1,4 +1,4 @@
-//! The commands that tell of patterns and of their matches.
+//! The commands that list patterns and their matches.
 ghost use Rattle.std.specs.Prelude.{◌≡◌, List};
 ghost use Rattle.helpers.specs.HelperStates.{SlotState};
 ghost use Rattle.helpers.specs.Slots.{states_of};
@@ -16,6 +16,7 @@ use go_base::Colour;
 use helpers::Helpers;
 
 impl Engine {
+    /// Lists the matches for `friend`. Takes memory.
     pub(crate) fn list_matches(&mut self, helpers: &mut Helpers, friend: Colour) -> Answer
         ensures answer { IsAnswer (matches_listed (matcher_of self.old)
             (machine_with (states_of state helpers.old) self.old) friend)
@@ -37,6 +38,7 @@ impl Engine {
         ))
     }
 
+    /// Lists the patterns. Takes memory.
     pub(crate) fn list_patterns(&self) -> Answer
         ensures { (helpers : List SlotState) → IsAnswer (patterns_listed (matcher_of self.now)
             (machine_with helpers self.now)) result (machine_with helpers self.now) }

@@ -1,4 +1,4 @@
-//! The commands that print why a reading has its code, and that check such a proof.
+//! The commands that print a proof of a reading's code, and that check one.
 ghost use Rattle.std.specs.Prelude.{◌≡◌, ◌*◌, ◌<◌, ◌≤◌, ◌++◌, ◌∷◌, List, IfOk, decimal};
 ghost use Rattle.gtp_cmd.specs.Words.{blank};
 ghost use Rattle.gtp_cmd.specs.Spans.{spanned, IsSpanOf};
@@ -18,7 +18,7 @@ use read_tree::Kind;
 use write_proof::{Proof, ProofError, first_proof};
 
 impl Engine {
-    /// Prints the first proof of the code of a question about the string of p.
+    /// Prints the first proof of the code of a question about the string of `p`.
     pub(crate) fn print_proof(&self, kind: Kind, p: Point) -> Answer
         requires { p < self.now.base.size * self.now.base.size }
         ensures { (helpers : List SlotState) → IsAnswer (proved (machine_with helpers self.now) kind p) result
@@ -35,7 +35,7 @@ impl Engine {
         }
     }
 
-    /// A code and its proof as they are printed. Takes memory.
+    /// The code and the text of `proof` as they are printed. Takes memory.
     fn proof_text(&self, proof: &Proof) -> Result<Bytes, NoMemory>
         ensures { IfOk result (λ text. text ≡ decimal proof.now.code ++ blank ∷ proof.now.text) }
     {
@@ -46,7 +46,7 @@ impl Engine {
         Ok(text)
     }
 
-    /// Tells whether the words in this part of the line are a proof of the code of a question about the string of p.
+    /// Prints whether the words of `line` at `tokens` are a proof of `code` for a question about the string of `p`.
     pub(crate) fn check_proof(
         &self,
         attack: bool,

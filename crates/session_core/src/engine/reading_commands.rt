@@ -21,7 +21,7 @@ use read_moves::Depths;
 use read_tree::Kind;
 
 impl Engine {
-    /// Counts a reading: the moves that it tried, if it was made afresh.
+    /// Counts a reading. `tried` is how many trial plays it made, if it was made afresh.
     fn count_reading(&mut self, tried: Option<u64>)
         ensures machine { (helpers : List SlotState) → machine_with helpers self.new ≡ machine_with helpers self.old }
         ensures patterns { self.new.patterns ≡ self.old.patterns }
@@ -40,7 +40,7 @@ impl Engine {
         }
     }
 
-    /// Answers a question about the string of p by a reading, kept or fresh, if a stone stands there.
+    /// Answers a question about the string of `p` by a cached or fresh reading, if a stone stands there.
     pub(crate) fn read(&mut self, kind: Kind, p: Point) -> Answer
         requires { p < self.old.base.size * self.old.base.size }
         ensures answer { (helpers : List SlotState) → IsAnswer
@@ -63,7 +63,7 @@ impl Engine {
         told_text(answer_text(position.size(), answer))
     }
 
-    /// Answers the question about the string of p that `work` stands for, if the answer is kept or the question is
+    /// Answers the question about the string of `p` that `work` stands for, if the answer is cached or the question is
     /// refused. Else nothing is done, and `work` comes back.
     #[inline(always)]
     pub(crate) fn recall(&mut self, kind: Kind, p: Point, work: Work) -> Result<Answer, Work>
@@ -91,6 +91,7 @@ impl Engine {
         Ok(told_text(answer_text(position.size(), answer)))
     }
 
+    /// Sets how deep readings go.
     pub(crate) fn deepen(&mut self, plies: u8, wide: u8) -> Answer
         requires { AreDepths plies wide }
         ensures answer { (helpers : List SlotState) → IsAnswer

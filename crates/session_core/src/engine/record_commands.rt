@@ -1,4 +1,4 @@
-//! The command that makes a game record the position.
+//! The command that loads the position of a game record.
 ghost use Rattle.std.specs.Prelude.{◌≡◌, ◌++◌, ℕ, List};
 ghost use Rattle.gtp_cmd.specs.Spans.{IsSpanOf};
 ghost use Rattle.helpers.specs.HelperStates.{SlotState};
@@ -19,8 +19,8 @@ use sgf_read::read;
 use std::str::from_utf8;
 
 impl Engine {
-    /// Makes the game record in a file the position, whose name stands in this part of the line. The name and what the
-    /// file holds take memory.
+    /// Loads the game record in the file whose name stands in `line` at `span`: moves are played from its position from
+    /// now on. The name and the contents of the file take memory.
     pub(crate) fn load_record<L: Loader>(
         &mut self,
         line: &[u8],
@@ -54,7 +54,8 @@ impl Engine {
         }
     }
 
-    /// Makes the position of a game record that from which moves are played, or tells its first fault.
+    /// Makes the position of a game record the one from which moves are played, or refuses with the record's first
+    /// fault.
     fn set_record(&mut self, contents: &[u8]) -> Answer
         ensures answer { (helpers : List SlotState) → IsAnswer
             (recorded (machine_with helpers self.old) (game_of contents.now)) result (machine_with helpers self.new) }

@@ -1,10 +1,10 @@
-//! What texts of pattern files come to: the line and the kind of their first fault.
+//! Texts of pattern files: the line and the kind of their first fault.
 
 use super::repeated;
 use db_read::{DbError, read};
 use std::alloc::{AllocError, Global};
 
-/// The realistic file of a pattern collection.
+/// A realistic pattern file.
 const REALISTIC: &[u8] = b"# sample patterns
 attribute_map general
 
@@ -26,7 +26,7 @@ OA*
 > test_attack(A)
 ";
 
-/// Texts with the line and the kind of their first fault, and line 0 where they have none.
+/// Texts with the line and the kind of their first fault, or line 0 if they have none.
 static TEXTS: [(&str, &[u8], (u64, u8)); 34] = [
     ("no text at all is a database", b"", (0, 0)),
     ("a comment alone is a database", b"# nothing", (0, 0)),
@@ -140,7 +140,7 @@ static TEXTS: [(&str, &[u8], (u64, u8)); 34] = [
     ),
 ];
 
-/// The line and the kind of a text's first fault, and line 0 where it has none.
+/// The line and the kind of a text's first fault, or line 0 if it has none.
 fn fault_of(alloc: Global, text: &[u8]) -> (u64, u8) {
     match read(alloc, text, &[], Vec::new(alloc)) {
         Ok(_) => (0, 0),
@@ -156,7 +156,7 @@ fn first_faults_of_texts(rt: HostRuntime) {
     }
 }
 
-/// The first fault of as many entries as there may be, with this line behind them.
+/// The first fault of a text with as many entries as there may be, and with this line behind them.
 fn fault_behind(alloc: Global, line: &[u8]) -> Result<(u64, u8), AllocError> {
     let mut text = repeated(alloc, 4096, b"Pattern P\nO*\n:8,s\n")?;
     text.extend_from_slice(line)?;

@@ -1,4 +1,4 @@
-//! What texts come to: the expression, printed with all parentheses, or the first fault.
+//! What texts are parsed to: the expression, printed with all parentheses, or the first fault.
 
 use cons_parse::{ConsError, parse};
 use pat_types::{Arg, Expr, Function, LabelAt, Op};
@@ -32,7 +32,7 @@ fn sign(op: Op) -> &'static str {
     }
 }
 
-/// Writes the word of a function in the code.
+/// Writes the name that a function has in the code.
 fn show_function(out: &mut String, function: Function) -> Result<(), AllocError> {
     match function {
         Function::OfPoint(f) => write!(out, "{f:?}"),
@@ -42,7 +42,7 @@ fn show_function(out: &mut String, function: Function) -> Result<(), AllocError>
     }
 }
 
-/// Writes an argument behind a full stop.
+/// Writes a full stop and then an argument.
 fn show_argument(out: &mut String, arg: Arg) -> Result<(), AllocError> {
     match arg {
         Arg::Label(letter) => write!(out, ".{letter}"),
@@ -51,7 +51,7 @@ fn show_argument(out: &mut String, arg: Arg) -> Result<(), AllocError> {
     }
 }
 
-/// Writes a call.
+/// Writes a call: the name of its function and then its arguments.
 fn show_call(out: &mut String, function: Function, args: &[Arg]) -> Result<(), AllocError> {
     show_function(out, function)?;
     for arg in args {
@@ -83,7 +83,7 @@ fn show(out: &mut String, e: &Expr) -> Result<(), AllocError> {
     }
 }
 
-/// The expression that a text spells, with all of its parentheses, or the word of its first fault in the code.
+/// The expression that a text spells, with all of its parentheses, or the name that its first fault has in the code.
 fn told(alloc: Global, text: &[u8]) -> Result<String, AllocError> {
     match parse(alloc, text, &LABELS) {
         Ok(e) => {
@@ -128,7 +128,7 @@ static EXPRESSIONS: [(&str, &str); 67] = [
         "o_somewhere(A,b,A,b,A,b,A,b)",
         "OSomewhere.65.98.65.98.65.98.65.98",
     ),
-    // Texts that are faulty.
+    // Texts with a fault.
     ("", "Syntax"),
     ("  ", "Syntax"),
     ("1 2", "Syntax"),

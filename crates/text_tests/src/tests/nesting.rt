@@ -5,21 +5,21 @@ use super::repeated;
 use cons_parse::parse;
 use std::alloc::{AllocError, Global};
 
-/// A text of many equal parts.
+/// A text of a repeated part, a middle, and another repeated part.
 struct Nest {
-    /// What it shows.
+    /// What the row shows.
     name: &'static str,
-    /// How often it opens.
+    /// How often `open` stands at the front.
     opens: usize,
-    /// What opens.
+    /// The part that is repeated at the front.
     open: &'static str,
     /// What stands in the middle.
     middle: &'static str,
-    /// How often it closes.
+    /// How often `close` stands at the end.
     closes: usize,
-    /// What closes.
+    /// The part that is repeated at the end.
     close: &'static str,
-    /// The expression, or its first fault.
+    /// The expression that the text spells, or its first fault.
     want: &'static str,
 }
 
@@ -171,13 +171,13 @@ static NESTS: [Nest; 16] = [
     },
 ];
 
-/// Expressions without a fault, which are too long to be told: a part that stands many times, and then the last one.
+/// Expressions without a fault that are too long to be printed: a part, how often it is repeated, and the last part.
 static LONG: [(&str, (usize, &str), &str); 2] = [
     ("levels end with their operand", (100, "(1)+"), "!!1"),
     ("a row of operators is no nesting", (2000, "1+"), "1"),
 ];
 
-/// Whether the text of many equal parts spells the expression of the row, or has its fault.
+/// Whether the text of the row spells its expression, or has its first fault.
 fn is_nested(alloc: Global, nest: &Nest) -> Result<bool, AllocError> {
     let mut text = repeated(alloc, nest.opens, nest.open.as_bytes())?;
     text.extend_from_slice(nest.middle.as_bytes())?;
@@ -193,7 +193,7 @@ fn nesting_limit_of_expressions(rt: HostRuntime) {
     }
 }
 
-/// Whether a part that stands many times, and then the last one, is an expression without a fault.
+/// Whether a part that is repeated `count` times, and then `last`, are an expression without a fault.
 fn is_faultless(
     alloc: Global,
     (count, part): (usize, &str),

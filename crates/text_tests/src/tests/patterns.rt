@@ -1,10 +1,10 @@
-//! What texts come to: the patterns that they spell.
+//! The patterns that texts spell.
 
 use db_read::read;
 use pat_types::{Expr, Item, LabelAt, Letter, Mark, Op, Pattern};
 use std::alloc::Global;
 
-/// What a pattern's text spells, beside what both texts have in common.
+/// A text and what its pattern has, apart from what both texts have in common.
 struct Spelled {
     /// What is special about the text.
     what: &'static str,
@@ -12,15 +12,15 @@ struct Spelled {
     text: &'static [u8],
     /// The pattern's name.
     name: &'static [u8],
-    /// Its mark.
+    /// The pattern's mark.
     mark: Mark,
-    /// Its class letters.
+    /// The pattern's class letters.
     classes: &'static [u8],
-    /// Whether its constraint compares by `>`.
+    /// Whether the pattern's constraint compares by `>`.
     more_than: bool,
 }
 
-/// Two texts with one diagram, one constraint diagram and the same items.
+/// Two texts with the same diagram, the same constraint diagram and the same items.
 static SPELLED: [Spelled; 2] = [
     Spelled {
         what: "the first word of the rest is the name, and a dash is no class letter",
@@ -40,10 +40,10 @@ static SPELLED: [Spelled; 2] = [
     },
 ];
 
-/// The letters of their diagram, in reading order.
+/// The letters of the diagram of both texts, in reading order.
 static LETTERS: [Letter; 4] = [Letter::Friend, Letter::Star, Letter::Empty, Letter::Empty];
 
-/// Their labels: a letter over a cell of the diagram, edges apart.
+/// The labels of both texts, each over a cell of the diagram; edges are not counted in its row and column.
 static LABELS: [LabelAt; 2] = [
     LabelAt {
         letter: b'A',
@@ -57,10 +57,10 @@ static LABELS: [LabelAt; 2] = [
     },
 ];
 
-/// Their items: a name, and the text between its parentheses.
+/// The items of both texts: a name, and the text between its parentheses.
 static ITEMS: [(&[u8], &[u8]); 2] = [(b"NULL", b"no text"), (b"value", b"3, 4")];
 
-/// The only pattern of a text without a fault.
+/// The pattern of a text without a fault, if it has exactly one.
 fn only_pattern(alloc: Global, text: &[u8]) -> Option<Pattern> {
     let mut patterns = read(alloc, text, &[], Vec::new(alloc)).ok()?;
     let last = patterns.pop()?;
@@ -86,7 +86,7 @@ fn is_lettered(p: &Pattern) -> bool {
     p.letters.as_slice() == LETTERS.as_slice() && p.labels.as_slice() == LABELS.as_slice()
 }
 
-/// The text of an item.
+/// The text of an item, or `no text` if it has none.
 fn text_of(item: &Item) -> &[u8] {
     match &item.text {
         Some(text) => text.as_slice(),

@@ -1,4 +1,4 @@
-//! What records come to: their faults by kind, and the positions that they lead to.
+//! What records lead to: their faults by kind, and their positions.
 
 mod bytes;
 mod faults;
@@ -14,10 +14,10 @@ use sgf_read::read;
 use std::process::Abort;
 use values::{PASSES, POINTS, SIZES};
 
-/// What is special about a record, the record, and the number of its first fault, 0 where it has none.
+/// What is special about a record, the record, and the number of its first fault, or 0 if it has none.
 type Record = (&'static str, &'static [u8], u8);
 
-/// The number of a record's first fault, 0 where it has none.
+/// The number of a record's first fault, or 0 if it has none.
 fn fault_of(record: &[u8]) -> u8 {
     match read(record) {
         Ok(_) => 0,
@@ -25,7 +25,7 @@ fn fault_of(record: &[u8]) -> u8 {
     }
 }
 
-/// Looks at the first faults of a table.
+/// Checks the first faults of a table of records.
 fn compare(rt: &impl Abort, records: &[Record]) {
     for &(what, record, kind) in records {
         assert!(rt; fault_of(record) == kind, "{what}");

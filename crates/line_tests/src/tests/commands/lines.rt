@@ -59,7 +59,7 @@ static SIZES_KOMI_AND_KNOWN_COMMANDS: [Row; 10] = [
     ),
 ];
 
-/// Lines that set a size, and how many rows it has.
+/// Lines that set a size, and how many rows the board then has.
 static SIZES: [(&str, &str, u8); 3] = [
     ("leading zeros", "boardsize 007", 7),
     ("the smallest size", "boardsize 2", 2),

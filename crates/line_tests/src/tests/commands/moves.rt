@@ -70,7 +70,7 @@ static VERTICES_OF_THE_LARGEST_BOARD: [Row; 5] = [
     ),
 ];
 
-/// On the smallest board, of two rows.
+/// Lines on the smallest board, which has two rows.
 static TWO_POINTS_TO_CONNECT: [Row; 7] = [
     (
         "two points",

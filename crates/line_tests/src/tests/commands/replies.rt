@@ -4,7 +4,7 @@ use go_base::Bytes;
 use gtp_cmd::{RefuseText, refusal, short, success};
 use std::test::Fail;
 
-/// What is special about a reply, its id, what it tells, and its bytes.
+/// What is special about a reply, its id, its result or refusal, and its bytes.
 struct Reply<T> {
     name: &'static str,
     id: Option<u32>,

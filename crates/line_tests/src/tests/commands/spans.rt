@@ -1,4 +1,4 @@
-//! Words that are told by their places in the line.
+//! Commands whose words are given by their places in the line.
 
 use super::{Asks, Row, Says, compare};
 use go_base::Bytes;
@@ -77,7 +77,7 @@ static HELPERS_THAT_ARE_NAMED: [Row; 6] = [
     ("no name to drop", "helper_drop #a", Says::Malformed),
 ];
 
-/// Words of a line, by what they are, as they stand in it and as they are told.
+/// Parts of a line: what they are, their spans, and their cleaned bytes.
 static SPANS: [(&str, Span, &[u8]); 3] = [
     ("some words", Span { from: 24, to: 31 }, b"W D3 ."),
     ("words and a comment", Span { from: 24, to: 41 }, b"W D3 . "),

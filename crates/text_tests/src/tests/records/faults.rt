@@ -1,8 +1,8 @@
-//! Which fault is told: by kind, by the place where it stands, and the first of several.
+//! Which fault is reported: by kind, by the place where it stands, and the first of several.
 
 use super::Record;
 
-/// Faults by kind and by place. Those of the main line are told, and a broken tree anywhere.
+/// Faults by kind and by place. A fault in the main line is reported, and a broken tree anywhere.
 pub(super) static KINDS: [Record; 17] = [
     ("kind 1: a tree without an end", b"(;SZ[9]", 1),
     ("kind 2 in the first node", b"(;SZ[1])", 2),
@@ -39,7 +39,7 @@ pub(super) static KINDS: [Record; 17] = [
     ("kind 1 in a second subtree", b"(;SZ[9](;)(;B))", 1),
 ];
 
-/// The first of several faults is told.
+/// Of several faults, the first is reported.
 pub(super) static SEVERAL: [Record; 9] = [
     ("1 before 2", b"(;SZ[x]", 1),
     ("1 before 3 in an earlier node", b"(;B[x];B)", 1),

@@ -1,4 +1,4 @@
-//! The positions of the first nodes of records: where the question of a problem stands.
+//! The positions after the first nodes of records. In a problem, this is the position of the question.
 
 use super::Record;
 use super::positions::{KO, is_drawn};
@@ -12,7 +12,7 @@ struct FirstNode {
     record: &'static [u8],
     /// The position, row by row from the top.
     drawing: &'static [u8],
-    /// Whether the position has a ban.
+    /// Whether the position has a ko ban.
     banned: bool,
 }
 
@@ -99,7 +99,7 @@ static FIRST_NODES: [FirstNode; 13] = [
         drawing: b"X...",
         banned: false,
     },
-    // White at B3 is taken by the play at C3, where White may not take back.
+    // Black's play at C3 takes the White stone at B3, where White may not take back.
     FirstNode {
         name: "a ban is left, and the second node does not lift it",
         record: b"(;SZ[4]AB[ba][ab][bc]AW[ca][cc][db][bb]B[cb];W[])",
@@ -108,7 +108,7 @@ static FIRST_NODES: [FirstNode; 13] = [
     },
 ];
 
-/// Records whose first nodes lead to no position, with the number of the first fault.
+/// Records whose first nodes lead to no position, each with the number of its first fault.
 static FAULTS: [Record; 8] = [
     ("no text", b"", 1),
     ("no node", b"()", 1),
@@ -136,7 +136,7 @@ static FAULTS: [Record; 8] = [
     ),
 ];
 
-/// Whether the position after the first node is the one of the row.
+/// Whether the position after the first node of the record is the one of the row.
 fn is_reached(first: &FirstNode) -> bool {
     match read_first_node(first.record) {
         Ok(position) => {
@@ -146,7 +146,7 @@ fn is_reached(first: &FirstNode) -> bool {
     }
 }
 
-/// The number of the first fault up to the first node, 0 where there is none.
+/// The number of the first fault up to the first node, or 0 if there is none.
 fn fault_of(record: &[u8]) -> u8 {
     match read_first_node(record) {
         Ok(_) => 0,

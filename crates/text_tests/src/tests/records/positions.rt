@@ -12,11 +12,11 @@ struct Line {
     record: &'static [u8],
     /// The position, row by row from the top.
     drawing: &'static [u8],
-    /// Whether the position has a ban.
+    /// Whether the position has a ko ban.
     banned: bool,
-    /// A stone of it, where White may not play.
+    /// The point of a stone of the position; White may not play there.
     stone: Point,
-    /// How many liberties the string of that stone has.
+    /// How many liberties the string of this stone has.
     liberties: u16,
 }
 
@@ -150,7 +150,7 @@ static LINES: [Line; 20] = [
         stone: 3,
         liberties: 2,
     },
-    // White at B3 is taken by the play at C3, where White may not take back.
+    // Black's play at C3 takes the White stone at B3, where White may not take back.
     Line {
         name: "a ban is left",
         record: b"(;SZ[4]AB[ba][ab][bc]AW[ca][cc][db][bb];B[cb])",
@@ -225,7 +225,7 @@ pub(super) fn is_drawn(position: &Position, drawing: &[u8]) -> bool {
     true
 }
 
-/// Whether a stone stands at the point, where White may not play, and its string has so many liberties.
+/// Whether White may not play at the point `stone`, and the string there has this many liberties.
 fn is_string(position: &Position, stone: Point, liberties: u16) -> bool {
     if stone >= position.size().points() {
         return false;
