@@ -34,23 +34,29 @@ def close(b: Position, q: int) -> set[int]:
     return stones | {x for s in stones for x in beside(b, s)}
 
 
-def first_two(b: Position, q: int) -> list[int] | None:
-    """The first two liberties of the string of q; none if it has no two."""
-    liberties = sorted(string(b, q)[1])
-    return liberties[:2] if len(liberties) >= 2 else None
+def two_within(zone: set[int], points: set[int]) -> list[int] | None:
+    """Two of these points, those in the zone before the others, each in reading order; none if there are no two."""
+    ordered = sorted(points & zone) + sorted(points - zone)
+    return ordered[:2] if len(ordered) >= 2 else None
 
 
-def shows_atari(b: Position, q: int) -> set[int]:
-    """What shows whether the string of q is in atari."""
+def shows_atari(b: Position, zone: set[int], q: int) -> set[int]:
+    """What shows whether the string of q is in atari, with liberties in the zone rather than others."""
     if b.cells[q] == EMPTY:
         return {q}
-    two = first_two(b, q)
-    return string(b, q)[0] | set(two) if two else close(b, q)
+    stones, liberties = string(b, q)
+    two = two_within(zone, liberties)
+    return stones | set(two) if two else close(b, q)
 
 
-def play_rests_on(b: Position, p: int) -> set[int]:
-    """What a play at p rests on."""
-    return {p}.union(*(shows_atari(b, q) for q in beside(b, p)))
+def play_rests_on(b: Position, colour: int, zone: set[int], p: int) -> set[int]:
+    """What a play of the colour at p rests on, if the proof of the position after it rests on the zone."""
+    has_room = any(b.cells[q] == EMPTY for q in beside(b, p))
+    shown = {p, *beside(b, p)}
+    for q in beside(b, p):
+        if b.cells[q] == other(colour) or b.cells[q] == colour and not has_room:
+            shown |= shows_atari(b, zone | {p}, q)
+    return shown
 
 
 def open_neighbour(b: Position, p: int, colour: int) -> int | None:
@@ -149,19 +155,21 @@ class Reading:
         if not self.is_wider or attacks:
             return {self.target}
         beyond = open_neighbour(b, self.target, self.attacker)
-        return play_rests_on(b, self.target) if beyond is None else {self.target, beyond}
+        if beyond is not None:
+            return {self.target, beyond}
+        return play_rests_on(b, self.defender, set(), self.target)
 
     def asked(self, b: Position, zone: set[int]) -> list[int]:
         """The replies that the zone of the pass asks for, in reading order."""
         replies = {q for q in zone if b.cells[q] == EMPTY}
         for q in zone:
-            if b.cells[q] == self.attacker and not first_two(b, q):
+            if b.cells[q] == self.attacker and len(string(b, q)[1]) < 2:
                 replies |= string(b, q)[1]
         return sorted(replies)
 
     def guard(self, b: Position, zone: set[int]) -> set[int]:
         """What guards the zone against the other replies."""
-        return set().union(*(shows_atari(b, q) for q in zone if b.cells[q] == self.attacker))
+        return set().union(*(shows_atari(b, zone, q) for q in zone if b.cells[q] == self.attacker))
 
     def write(self, b: Position, attacks: bool, plies: int, wide: int, ako: int, dko: int):
         """The first proof and the points on which it rests; none if the string is not surely captured."""
@@ -182,7 +190,8 @@ class Reading:
                 new = child(b, self.attacker, p, ako)
                 found = new and self.write(new[0], False, plies - 1, less, new[1], dko)
                 if found:
-                    points = self.candidate_rests_on(b, p, wide) | play_rests_on(b, p) | found[1]
+                    points = self.candidate_rests_on(b, p, wide) | found[1]
+                    points = points | play_rests_on(b, self.attacker, found[1], p)
                     return [go_rules.vertex_of(b.size, p)] + found[0], points
             return None
         found = self.write(go_rules.play(b, self.defender, None), True, plies - 1, less, ako, dko)
@@ -190,7 +199,6 @@ class Reading:
             return None
         words, zone = ["*"] + found[0], found[1] | self.guard(b, found[1])
         for p in self.asked(b, found[1]):
-            zone = zone | play_rests_on(b, p)
             new = child(b, self.defender, p, dko)
             if new:
                 reply = self.write(new[0], True, plies - 1, less, ako, new[1])
@@ -198,6 +206,7 @@ class Reading:
                     return None
                 words += [go_rules.vertex_of(b.size, p)] + reply[0]
                 zone = zone | reply[1]
+            zone = zone | play_rests_on(b, self.defender, zone, p)
         return words + [";"], zone
 
     def check(self, b: Position, attacks: bool, plies: int, wide: int, ako: int, dko: int, words: list[str]):
@@ -223,7 +232,8 @@ class Reading:
             if not new:
                 raise Refused("the play cannot be made")
             left, zone = self.check(new[0], False, plies - 1, less, new[1], dko, rest)
-            return left, self.candidate_rests_on(b, move.point, wide) | play_rests_on(b, move.point) | zone
+            played = play_rests_on(b, self.attacker, zone, move.point)
+            return left, self.candidate_rests_on(b, move.point, wide) | played | zone
         if word != "*":
             if not back or go_rules.move_of(b.size, word) != go_rules.Move(self.target):
                 raise Refused("no *, and the target is not taken back")
@@ -232,13 +242,13 @@ class Reading:
         left, passed = self.check(go_rules.play(b, self.defender, None), True, plies - 1, less, ako, dko, rest)
         zone = passed | self.guard(b, passed)
         for p in self.asked(b, passed):
-            zone = zone | play_rests_on(b, p)
             new = child(b, self.defender, p, dko)
             if new:
                 if not left or go_rules.move_of(b.size, left[0]) != go_rules.Move(p):
                     raise Refused("a reply is missing")
                 left, more = self.check(new[0], True, plies - 1, less, ako, new[1], left[1:])
                 zone = zone | more
+            zone = zone | play_rests_on(b, self.defender, zone, p)
         if not left or left[0] != ";":
             raise Refused("no ;")
         return left[1:], zone
