@@ -219,7 +219,8 @@ fn taken_zone(position: &Position, node: Node, plies: u8) -> Option<PointSet>
 }
 
 /// The zone of the node: the points on which it rests that the target is surely captured with `plies` plies left;
-/// `None` exactly if it is not. On every position that agrees at these points the target is surely captured too.
+/// `None` exactly if it is not. On every position that agrees at these points the target is surely captured too. The
+/// plain game tree is asked at the defender's turn alone: at the attacker's turn the nodes after his plays ask it.
 #[cycle(zones)]
 pub fn zone_of(position: &Position, node: Node, plies: u8) -> Option<PointSet>
     requires target { node.turn.target < position.now.size * position.now.size }
@@ -235,12 +236,11 @@ pub fn zone_of(position: &Position, node: Node, plies: u8) -> Option<PointSet>
     if plies == 0 {
         return None;
     }
+    if node.turn.attacker_to_play {
+        return attacker_zone(position, node, plies - 1);
+    }
     if is_lost(position, node, plies) {
         return None;
     }
-    if node.turn.attacker_to_play {
-        attacker_zone(position, node, plies - 1)
-    } else {
-        defender_zone(position, node, plies - 1)
-    }
+    defender_zone(position, node, plies - 1)
 }
