@@ -10,7 +10,7 @@ use Rattle.go_rules.specs.Position.{BoardState, is_banned}
 use Rattle.read_rules.specs.declared.node.Node.{Node}
 use Rattle.read_rules.specs.GameTree.{child_of}
 use Rattle.read_tree.specs.Nodes.{LeadsTo}
-use Rattle.read_zones.specs.Alike.{AreAlike, AreAlikeChildren}
+use Rattle.sure_proof.specs.Alike.{AreAlike, AreAlikeChildren}
 
 -- the points of a set below n
 abbrev pub below : (ℕ → Bool) → ℕ → ℕ → Bool

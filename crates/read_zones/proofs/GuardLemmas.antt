@@ -17,7 +17,7 @@ use Rattle.go_rules.proofs.Paths.{IsLiberty-from_test}
 use Rattle.go_base.specs.Views.{alone}
 use Rattle.go_rules.specs.Position.{BoardState}
 use Rattle.read_rules.specs.declared.node.Node.{Node}
-use Rattle.read_zones.specs.Alike.{IsGuarded}
+use Rattle.sure_proof.specs.Alike.{IsGuarded}
 use Rattle.read_zones.proofs.AlikeLemmas.{below, below_next}
 
 -- no point is below the first

@@ -11,7 +11,7 @@ ghost use Rattle.read_rules.specs.GameTree.{child_of};
 ghost use Rattle.read_tree.specs.Walk.{IsPointOf, OnEachAgreeing};
 ghost use Rattle.go_base.specs.Views.{alone};
 ghost use Rattle.go_rules.specs.Board.{largest_points};
-ghost use Rattle.read_zones.specs.Alike.{AreAlike, AreAlikeChildren, IsGuarded};
+ghost use Rattle.sure_proof.specs.Alike.{AreAlike, AreAlikeChildren, IsGuarded};
 
 use go_base::{Cell, Colour, Look, Point, PointSet};
 use read_rules::Node;

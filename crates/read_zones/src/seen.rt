@@ -12,7 +12,7 @@ ghost use Rattle.read_rules.specs.GameTree.{child_of, has_lost_one_stone};
 ghost use Rattle.read_tree.specs.Steps.{IsTaken};
 ghost use Rattle.sure_rules.specs.Nodes.{is_attackers, is_gone, has_too_many};
 ghost use Rattle.sure_rules.specs.Zones.{points_of, WhereverAgrees};
-ghost use Rattle.read_zones.specs.Alike.{AreAlikeChildren, AreCandidates, IsGuarded};
+ghost use Rattle.sure_proof.specs.Alike.{AreAlikeChildren, AreCandidates, IsGuarded};
 
 use crate::looks::{liberties_to_try, look_at_play, replies_to_read};
 use crate::taking::takes;

@@ -8,7 +8,7 @@ ghost use Rattle.read_rules.specs.GameTree.{child_of, can_play, some_child, each
 ghost use Rattle.sure_rules.specs.Nodes.{is_attackers, is_gone, has_too_many};
 ghost use Rattle.sure_rules.specs.SureTree.{surely_wins};
 ghost use Rattle.sure_rules.specs.Zones.{IsZone, WhereverAgrees};
-ghost use Rattle.read_zones.specs.Alike.{AreCandidates};
+ghost use Rattle.sure_proof.specs.Alike.{AreCandidates};
 
 use crate::outlook::is_lost;
 use crate::seen::{

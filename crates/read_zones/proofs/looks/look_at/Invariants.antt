@@ -5,7 +5,7 @@ use Rattle.go_rules.specs.Board.{largest_points}
 use Rattle.go_rules.specs.Position.{BoardState}
 use Rattle.go_base.specs.Facts.{Agrees}
 use Rattle.trial_board.specs.Trials.{Stays, after}
-use Rattle.read_zones.specs.Alike.{AreAlike}
+use Rattle.sure_proof.specs.Alike.{AreAlike}
 use Rattle.read_zones.proofs.AlikeLemmas.{below}
 use Rattle.read_zones.proofs.looks.look_at.Given as goal
 

@@ -6,7 +6,7 @@ use Rattle.go_rules.specs.Position.{BoardState}
 use Rattle.go_base.specs.Facts.{Agrees}
 use Rattle.trial_board.specs.Trials.{Stays, after}
 use Rattle.read_tree.specs.Walk.{IsPointOf}
-use Rattle.read_zones.specs.Alike.{IsGuarded}
+use Rattle.sure_proof.specs.Alike.{IsGuarded}
 use Rattle.read_zones.proofs.AlikeLemmas.{below}
 use Rattle.read_zones.proofs.looks.replies_to_read.Given as goal
 
