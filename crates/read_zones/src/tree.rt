@@ -11,13 +11,11 @@ ghost use Rattle.sure_rules.specs.Zones.{IsZone, WhereverAgrees};
 ghost use Rattle.sure_proof.specs.Alike.{AreCandidates};
 
 use crate::outlook::is_lost;
-use crate::seen::{
-    Shown, candidates_shown, liberties_shown, loss_shown, play_shown, replies_shown, taking_shown,
-};
+use crate::seen::{candidates_shown, liberties_shown, loss_shown, taking_shown};
 use go_base::{Cell, Point, PointSet, Position};
 use read_proof::children::{child_of, passed};
 use read_rules::Node;
-use sure_proof::candidate_shown;
+use sure_proof::{Shown, candidate_shown, play_shown, replies_shown};
 
 /// The zone that shows that the attacker's play at `p` surely captures, with `plies` plies left after it; `None` if it
 /// does not.
