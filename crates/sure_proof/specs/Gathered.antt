@@ -7,19 +7,19 @@ use Rattle.go_rules.specs.declared.Colour.{Colour}
 use Rattle.sure_proof.specs.Rests.{Points, guard_at, guard_of, asked_at, asked_of}
 
 -- each point of the first set is one of the second
-abbrev pub IsPartOf : Points → Points → Type 0
-IsPartOf S T = (p : ℕ) → set.contains S p ≡ true → set.contains T p ≡ true
+abbrev pub IsWithin : Points → Points → Type 0
+IsWithin S T = (q : ℕ) → set.contains S q ≡ true → set.contains T q ≡ true
 
 -- what the point q of Z asks for is in asked, and what guards it is in guard
 pub record IsServed (s : ℕ) (cells : List Cell) (c : Colour) (Z asked guard : Points) (q : ℕ) : Type 0 where
-  pub asks : IsPartOf (asked_at s cells c Z q) asked
-  pub guards : IsPartOf (guard_at s cells c Z q) guard
+  pub asks : IsWithin (asked_at s cells c Z q) asked
+  pub guards : IsWithin (guard_at s cells c Z q) guard
 
--- asked and guard have nothing but what Z asks for and what guards it; they have all of it for each point of Z below
--- from, and for each searched stone
+-- asked and guard have nothing but what Z asks for and what guards it. They have all that the points of Z below from and
+-- the searched stones ask for, and all that guards these
 pub record IsGathered (s : ℕ) (cells : List Cell) (c : Colour) (Z : Points) (from : ℕ) (asked guard searched : Points)
     : Type 0 where
-  pub asked_right : IsPartOf asked (asked_of s cells c Z)
-  pub guard_right : IsPartOf guard (guard_of s cells c Z)
-  pub visited : (q : ℕ) → q < from → set.contains Z q ≡ true → IsServed s cells c Z asked guard q
+  pub asked_right : IsWithin asked (asked_of s cells c Z)
+  pub guard_right : IsWithin guard (guard_of s cells c Z)
+  pub visited : (q : ℕ) → q < from → q < s * s → set.contains Z q ≡ true → IsServed s cells c Z asked guard q
   pub of_searched : (q : ℕ) → set.contains searched q ≡ true → IsServed s cells c Z asked guard q

@@ -58,9 +58,11 @@ fn add_string(pos: &Position, c: Colour, zone: &PointSet, q: Point, so_far: &mut
     requires on_board { q < pos.now.size * pos.now.size }
     requires stone { cell_at pos.now.cells q ≡ stone_of c }
     requires member { set.contains zone.now q ≡ true }
-    ensures { (from : ℕ) → IsGathered pos.now.size pos.now.cells c zone.now from so_far.old.asked so_far.old.guard so_far.old.searched
+    ensures { (from : ℕ) → IsGathered pos.now.size pos.now.cells c zone.now from
+        so_far.old.asked so_far.old.guard so_far.old.searched
         → ((r : ℕ) → from ≤ r → r < q → set.contains zone.now r ≡ false)
-        → IsGathered pos.now.size pos.now.cells c zone.now (q + 1) so_far.new.asked so_far.new.guard so_far.new.searched }
+        → IsGathered pos.now.size pos.now.cells c zone.now (q + 1)
+        so_far.new.asked so_far.new.guard so_far.new.searched }
 {
     let found = string_of(pos, q);
     so_far.asked.join(&last_of(zone, &found.liberties));
@@ -78,15 +80,19 @@ fn is_fresh(pos: &Position, c: Colour, searched: &PointSet, q: Point) -> bool
     are_both(own, !searched.has(q))
 }
 
-/// Adds what the point `q` of the zone asks for, and what guards it.
+/// Adds what the point `q` of the zone asks for, and what guards it. A point beyond the board has neither.
 fn visit(pos: &Position, c: Colour, zone: &PointSet, q: Point, so_far: &mut Gathered)
-    requires on_board { q < pos.now.size * pos.now.size }
     requires small { q < largest_points }
     requires member { set.contains zone.now q ≡ true }
-    ensures { (from : ℕ) → IsGathered pos.now.size pos.now.cells c zone.now from so_far.old.asked so_far.old.guard so_far.old.searched
+    ensures { (from : ℕ) → IsGathered pos.now.size pos.now.cells c zone.now from
+        so_far.old.asked so_far.old.guard so_far.old.searched
         → ((r : ℕ) → from ≤ r → r < q → set.contains zone.now r ≡ false)
-        → IsGathered pos.now.size pos.now.cells c zone.now (q + 1) so_far.new.asked so_far.new.guard so_far.new.searched }
+        → IsGathered pos.now.size pos.now.cells c zone.now (q + 1)
+        so_far.new.asked so_far.new.guard so_far.new.searched }
 {
+    if q >= pos.size().points() {
+        return;
+    }
     if pos.cell(q) == Cell::Empty {
         so_far.asked.add(q);
         return;
@@ -103,17 +109,14 @@ pub(crate) fn guard_zone(pos: &Position, c: Colour, zone: &PointSet) -> Guarded
     ensures asked { result.asked ≡ asked_of pos.now.size pos.now.cells c zone.now }
     ensures guard { result.guard ≡ guard_of pos.now.size pos.now.cells c zone.now }
 {
+    let _ = pos.size().points();
     let mut so_far = Gathered {
         asked: PointSet::new(),
         guard: PointSet::new(),
         searched: PointSet::new(),
     };
-    let end = pos.size().points();
     let mut from = 0;
     'points: while let Some(q) = zone.first_from(from) {
-        if q >= end {
-            break;
-        }
         visit(pos, c, zone, q, &mut so_far);
         from = q + 1;
     }

@@ -9,5 +9,5 @@ pub returns : goal.returns
 returns c = (
   proved_by (words_in c.in_ok-proved.field-0.now) c.proved.new.zone,
   rw c.passed-new.ensures at c.in_ok-proved.ensures,
-  rw (c.other.ensures, c.mover.ensures) at c.asked_of.ensures,
+  rw (c.other.ensures, c.mover.ensures) at c.guard_zone.ensures.asked,
 )
