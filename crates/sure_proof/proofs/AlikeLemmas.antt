@@ -1,5 +1,5 @@
--- On positions that agree on what a play rests on, the play leads to positions that are alike; on positions that agree on
--- what guards a zone, the same replies have to be read.
+-- On positions that agree on what a play rests on, the play leads to positions that are alike. On positions that agree
+-- on a zone and on what guards it, the same replies have to be read.
 use Rattle.std.proofs.Common.{◌≡◌, ◌∙◌, ℕ, ◌*◌, ◌<◌, ◌&&◌, true, Option, Some, None, refl, sym, ap, subst, ltb}
 use Rattle.std.proofs.lemmas.Bool.{and_from, lt-ltb}
 use Rattle.std.specs.FinSet as sets

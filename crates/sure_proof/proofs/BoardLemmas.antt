@@ -1,16 +1,16 @@
 -- The points on which a play and a zone rest are on the board.
-use Rattle.std.proofs.Common.{◌≡◌, ℕ, ◌*◌, ◌<◌, ◌&&◌, Bool, true, false, cond, List, Option, Some, None, refl, sym, subst}
+use Rattle.std.proofs.Common.{◌≡◌, ℕ, ◌*◌, ◌<◌, Bool, true, false, cond, List, Option, Some, None, refl, sym, subst}
 use Rattle.std.proofs.Common.{inl, inr}
 use Rattle.std.specs.FinSet as sets
 use Rattle.go_rules.specs.declared.Cell.{Cell}
 use Rattle.go_rules.specs.declared.Colour.{Colour}
-use Rattle.go_rules.specs.Position.{stone_of}
-use Rattle.go_rules.specs.Strings.{cell_at, same_cell, is_in_string, string_at, liberty_points}
+use Rattle.go_rules.specs.Strings.{cell_at, is_in_string, string_at, liberty_points}
 use Rattle.go_base.specs.Floods.{enemy_points}
 use Rattle.go_base.specs.Sides.{neighbour_at}
 use Rattle.go_base.proofs.SidesOfPoints.{neighbour_at-near}
-use Rattle.sure_proof.specs.Rests.{Points, union_below, two_within, close_to, shown_by, shows_atari, has_empty_neighbour}
-use Rattle.sure_proof.specs.Rests.{shows_neighbour, play_rests_on, guard_at, guard_of, asked_at, asked_of, last_of}
+use Rattle.sure_proof.specs.Rests.{Points, union_below, two_within, close_to, shown_by, shows_atari}
+use Rattle.sure_proof.specs.Rests.{has_empty_neighbour, shows_cell, shows_neighbour, play_rests_on}
+use Rattle.sure_proof.specs.Rests.{guard_at, guard_of, asked_at, asked_of, last_of}
 use Rattle.sure_proof.proofs.ShownLemmas.{liberty_in, two_within_give}
 use Rattle.sure_proof.proofs.GuardLemmas.{in_insert, in_empty, in_union_below, asked_cases, guard_cases}
 use Rattle.sure_proof.proofs.CandidateLemmas.{on_below, close_on}
@@ -38,7 +38,8 @@ module _ (s : ℕ) (cells : List Cell) where
       ]
     where
       by : (o : Option (ℕ × ℕ)) → two_within Z (liberty_points s cells q) ≡ o
-          → sets.contains (shown_by (string_at s cells q) (liberty_points s cells q) (enemy_points s cells q) o) p ≡ true
+          → sets.contains (shown_by (string_at s cells q) (liberty_points s cells q) (enemy_points s cells q) o) p
+          ≡ true
           → p < s * s
       by None is h = string_on q p h
       by (Some w) is h =
@@ -59,7 +60,7 @@ module _ (s : ℕ) (cells : List Cell) where
       by : (o : Option ℕ) → neighbour_at s p side ≡ o → sets.contains (shows_neighbour s cells c free Z o) q ≡ true
           → q < s * s
       by None is h = in_empty q h
-      by (Some r) is h = own (free && same_cell (cell_at cells r) (stone_of c)) h
+      by (Some r) is h = own (shows_cell c free (cell_at cells r)) h
         where
           r_on : r < s * s
           r_on = (neighbour_at-near s p side r on is).0

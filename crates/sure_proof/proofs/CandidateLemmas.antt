@@ -1,7 +1,6 @@
 -- What shows a candidate lies on the board, and shows it on every position that agrees there.
-use Rattle.std.proofs.Common.{◌≡◌, ◌∙◌, ◌⊎◌, ℕ, ◌*◌, ◌<◌, ◌&&◌, Bool, true, false, List, Option, Some, None}
+use Rattle.std.proofs.Common.{◌≡◌, ◌∙◌, ℕ, ◌*◌, ◌<◌, ◌&&◌, Bool, true, false, List, Option, Some, None}
 use Rattle.std.proofs.Common.{sym, ap, subst, inl, inr, eqb, ltb}
-use Rattle.std.specs.Cmp.{nat_cmp_total}
 use Rattle.std.specs.FinSet as sets
 use Rattle.std.proofs.lemmas.Bool.{cases_Bool, or_cases, and_parts, ltb-true, eqb-true}
 use Rattle.go_rules.specs.declared.Cell.{Cell}

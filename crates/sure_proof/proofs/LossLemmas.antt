@@ -40,8 +40,8 @@ loss_point node pos =
     (open_neighbour pos.size pos.cells (other node.turn.defender) (target_of node))
   where
     by : (late : Bool) (o : Option ℕ)
-        → has (cond late (wall_rests_on pos.size pos.cells (mover_of node.turn) (target_of node) o) (sets.insert sets.empty (target_of node)))
-        (target_of node) ≡ true
+        → has (cond late (wall_rests_on pos.size pos.cells (mover_of node.turn) (target_of node) o)
+        (sets.insert sets.empty (target_of node))) (target_of node) ≡ true
     by false o = insert_self (target_of node) sets.empty
     by true None = play_self pos.size pos.cells (mover_of node.turn) sets.empty (target_of node)
     by true (Some q) = insert_more (target_of node) (sets.insert sets.empty (target_of node)) q
@@ -109,12 +109,14 @@ module _ (node : Node) (pos : BoardState) (good : IsPosition pos) (on : node.tur
     -- what the play at its point rests on is among the points
     pub play_within : IsWithin (play_rests_on pos.size pos.cells (mover_of node.turn) sets.empty (target_of node)) Z
     play_within q inside =
-        wall_within q (ap (λ o. has (wall_rests_on pos.size pos.cells (mover_of node.turn) (target_of node) o) q) none_open ∙ inside)
+        wall_within q (ap (λ o. has (wall_rests_on pos.size pos.cells (mover_of node.turn) (target_of node) o) q) none_open
+        ∙ inside)
 
     -- he takes back here too
     pub back_here : is_gone node pos ≡ true → (first : BoardState) × TakesBack node pos next first
     back_here gone =
-        let child = child_here node pos here sets.empty (target_of node) Z good sound on same play_within next made back.child in (
+        let child = child_here node pos here sets.empty (target_of node) Z good sound on same play_within next made
+        back.child in (
           child.0,
           record {
             lost = record {

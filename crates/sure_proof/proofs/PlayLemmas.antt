@@ -9,7 +9,7 @@ use Rattle.go_rules.specs.declared.Colour.{Colour}
 use Rattle.go_rules.specs.Board.{are_neighbours}
 use Rattle.go_rules.specs.Strings.{cell_at, is_stone, Path, start, step, IsInString, IsLiberty}
 use Rattle.go_rules.specs.Position.{BoardState, IsPosition, board_of, other, stone_of}
-use Rattle.go_rules.specs.Play.{play, play_free, is_taken, cells_after}
+use Rattle.go_rules.specs.Play.{play_free, is_taken, cells_after}
 use Rattle.go_rules.specs.Rules.{IsOnlyLiberty, LeavesBan}
 use Rattle.go_rules.proofs.BanLaws.{ban_parts, ban_means, ban_from}
 use Rattle.go_rules.proofs.InWords.{string_itself}
@@ -248,8 +248,8 @@ module _ (s : ℕ) (p : ℕ) (c : Colour) where
       ] in
       (q, beside_liberty s b c p h.on_board h.second.cells q free.1 free.2 empty)
 
-  -- if the played stone lives by the string of a neighbour of c on the first board, and the boards show the same of that
-  -- string, it lives on the second
+  -- if the played stone lives on the first board by the string of a neighbour of c, and the boards show the same of this
+  -- string, it lives on the second board
   own_lives : (a b : List Cell) → LooksSame s a b c p → (l : ℕ)
       → IsLiberty s (cells_after s (set a p (stone_of c)) c) p l → (x y : ℕ) → x < s * s → are_neighbours s p x ≡ true
       → cell_at a x ≡ stone_of c → IsInString s a x y → are_neighbours s y l ≡ true → IsShown s a b x

@@ -13,14 +13,12 @@ use Rattle.go_rules.specs.declared.Cell.{Cell}
 use Rattle.go_rules.specs.declared.Cell.TheVariants.{Empty}
 use Rattle.go_rules.specs.declared.Colour.{Colour}
 use Rattle.go_rules.specs.Board.{are_neighbours}
-use Rattle.go_rules.specs.Strings.{cell_at, is_stone, same_cell, is_liberty, liberties, liberty_points, IsLiberty}
+use Rattle.go_rules.specs.Strings.{cell_at, is_stone, same_cell, is_liberty, liberties}
 use Rattle.go_rules.specs.Position.{BoardState, IsPosition, other, stone_of}
 use Rattle.go_rules.specs.Play.{pass}
 use Rattle.go_rules.specs.Rules.{IsOnlyLiberty}
 use Rattle.go_rules.proofs.Counts.{any_below_gives}
 use Rattle.go_rules.proofs.Paths.{IsLiberty-from_test, is_liberty-from_fact, same_cell-true, same_cell-from}
-use Rattle.go_rules.proofs.Plays.{stone_is}
-use Rattle.go_rules.proofs.OnlyLiberties.{stone_not_empty}
 use Rattle.go_rules.proofs.PlayLaws.{free_keeps, pass_keeps}
 use Rattle.read_rules.specs.ActiveArea.{AgreeOn}
 use Rattle.read_rules.specs.Candidates.{is_candidate, is_empty_beside, fills, goes_further}
@@ -41,7 +39,7 @@ use Rattle.sure_rules.specs.Nodes.{is_attackers, is_gone, is_taken_for_good, has
 use Rattle.sure_rules.specs.SureTree.{surely_wins}
 use Rattle.sure_rules.specs.Zones.{points_of, IsZone}
 use Rattle.sure_rules.proofs.ZoneLemmas.{zone_taken_back, zone_attacker, zone_defender}
-use Rattle.sure_proof.specs.Rests.{Points, two_within, close_to, shows_atari, loss_rests_on}
+use Rattle.sure_proof.specs.Rests.{Points, close_to, loss_rests_on}
 use Rattle.sure_proof.specs.Rests.{most_wide, most_of_enemy, shown_at, with_string, candidate_rests_on}
 use Rattle.sure_proof.specs.Rests.{all_points}
 use Rattle.sure_proof.specs.Rests.{guard_of, asked_of}
@@ -50,8 +48,8 @@ use Rattle.sure_proof.specs.SureProofs.{by_child, its_play, and_its_play, with_c
 use Rattle.sure_proof.specs.SureProofs.{by_move, at_reply, at_replies, replies_to, at_end, behind_pass, by_replies, by_turn}
 use Rattle.sure_proof.specs.SureProofs.{proves_surely}
 use Rattle.sure_proof.specs.Gathered.{IsWithin}
-use Rattle.sure_proof.proofs.ShownLemmas.{insert_self, insert_more, union_first, union_second, union_all, below_in}
-use Rattle.sure_proof.proofs.ShownLemmas.{IsShown, has_two, all_same, SameOn, shown, two_within_give, liberty_in}
+use Rattle.sure_proof.proofs.ShownLemmas.{insert_self, insert_more, union_first, union_second, below_in}
+use Rattle.sure_proof.proofs.ShownLemmas.{SameOn}
 use Rattle.sure_proof.proofs.GuardLemmas.{asks_empty, last_is_asked}
 use Rattle.sure_proof.proofs.PlayLemmas.{state}
 use Rattle.sure_proof.proofs.SoundLemmas.{has, on_board, zone_on_board, child_there, child_here, stone_of_cell}
@@ -329,8 +327,8 @@ module _ (n : ℕ) (prove : Prover) (sound : IsSound n prove) (node : Node) (pos
         λ q inside. of_all q (union_first q both (its_play node pos p both)
             (union_first q so_far.zone inner.0.zone inside)),
         fails_made n node pos both p found.zone good p_on
-            (λ q inside. of_all q (union_second q both (its_play node pos p both) inside)) child.0 child.1 inner.0.zone is
-            zone
+            (λ q inside. of_all q (union_second q both (its_play node pos p both) inside)) child.0 child.1
+            inner.0.zone is zone
             (λ q inside. of_all q (union_first q both (its_play node pos p both)
             (union_second q so_far.zone inner.0.zone inside))),
       )

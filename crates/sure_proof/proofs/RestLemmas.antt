@@ -1,18 +1,16 @@
 -- The sets of points as loops and looks find them.
-use Rattle.std.proofs.Common.{◌≡◌, ◌∙◌, ℕ, ◌+◌, ◌*◌, ◌<◌, ◌≤◌, ◌&&◌, Bool, true, false, not, cond, List, Option, Some, None}
-use Rattle.std.proofs.Common.{refl, sym, ap, inl, inr, arith, ltb, leb, add-one}
+use Rattle.std.proofs.Common.{◌≡◌, ◌∙◌, ℕ, ◌+◌, ◌*◌, ◌<◌, ◌≤◌, ◌&&◌, Bool, true, false, not, cond, List, Option}
+use Rattle.std.proofs.Common.{Some, None, refl, sym, ap, arith, ltb, leb, add-one}
 use Rattle.std.specs.Option.{option_map, option_and_then}
 use Rattle.std.specs.FinSet as sets
 use Rattle.std.specs.Prelude.{IfSome, IfNone}
-use Rattle.std.proofs.lemmas.Bool.{cases_Bool, and_from, lt-ltb, ltb-true}
+use Rattle.std.proofs.lemmas.Bool.{lt-ltb}
 use Rattle.go_rules.specs.declared.Cell.{Cell}
 use Rattle.go_rules.specs.BesideStrings.{is_enemy, is_beside_string}
-use Rattle.go_rules.specs.Below.{any_below, first_below}
+use Rattle.go_rules.specs.Below.{any_below}
 use Rattle.go_rules.specs.Board.{largest_points, are_neighbours}
-use Rattle.go_rules.specs.declared.Cell.TheVariants.{Empty, Black, White}
-use Rattle.go_rules.specs.declared.Colour.TheVariants.{Black as black, White as white}
+use Rattle.go_rules.specs.declared.Cell.TheVariants.{Empty}
 use Rattle.go_rules.specs.declared.Colour.{Colour}
-use Rattle.go_rules.specs.Position.{stone_of}
 use Rattle.go_rules.specs.Strings.{cell_at, same_cell, is_liberty, is_in_string, string_at, liberty_points}
 use Rattle.go_rules.specs.Strings.{liberties}
 use Rattle.go_base.specs.Floods.{enemy_points}

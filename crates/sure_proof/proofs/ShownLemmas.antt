@@ -5,10 +5,11 @@ use Rattle.std.specs.Option.{option_map, option_and_then}
 use Rattle.std.specs.Cmp.{nat_cmp_total}
 use Rattle.std.specs.Ordering.{nat_cmp, eq_by_cmp}
 use Rattle.std.specs.FinSet as sets
-use Rattle.std.proofs.lemmas.Bool.{or_left, or_right, and_from, and_parts, eq-eqb, lt-ltb, cases_eq, both_ways, not-true}
+use Rattle.std.proofs.lemmas.Bool.{or_left, or_right, and_from, and_parts, eq-eqb, lt-ltb, cases_eq, both_ways}
+use Rattle.std.proofs.lemmas.Bool.{not-true}
 use Rattle.go_rules.specs.declared.Cell.{Cell}
 use Rattle.go_rules.specs.declared.Cell.TheVariants.{Empty, Black, White}
-use Rattle.go_rules.specs.Below.{set_below, first_below}
+use Rattle.go_rules.specs.Below.{set_below}
 use Rattle.go_rules.specs.BesideStrings.{is_enemy, is_beside_string}
 use Rattle.go_rules.specs.Board.{are_neighbours, largest_points}
 use Rattle.go_rules.specs.Strings.{cell_at, is_stone, is_in_string, is_liberty, string_at, liberty_points, Path, start, step}

@@ -31,7 +31,7 @@ use Rattle.read_rules.specs.Rules.{IsChild}
 use Rattle.read_rules.proofs.LibertyLemmas.{child_free}
 use Rattle.sure_rules.specs.Zones.{points_of, IsZone}
 use Rattle.sure_proof.specs.Rests.{Points, union_below, close_to, shows_atari, shows_neighbour, play_rests_on}
-use Rattle.sure_proof.specs.Rests.{is_empty_at, has_empty_neighbour}
+use Rattle.sure_proof.specs.Rests.{is_empty_at, has_empty_neighbour, shows_cell}
 use Rattle.sure_proof.specs.Gathered.{IsWithin}
 use Rattle.sure_proof.proofs.ShownLemmas.{insert_self, insert_more, union_all}
 use Rattle.sure_proof.proofs.ShownLemmas.{SameOn, IsShown, shown}
@@ -126,18 +126,19 @@ module _ (s : ℕ) (cells : List Cell) (c : Colour) (Z : Points) (p : ℕ) where
         let side = neighbour_at-all s p q on q_on beside in
         insert_more x (union_below 4 side_shows) p
         (union_all x 4 side_shows side.0 side.1
-        (subst (λ o. has (shows_neighbour s cells c (has_empty_neighbour s cells p) near o) x ≡ true) (sym side.2) inside))
+        (subst (λ o. has (shows_neighbour s cells c (has_empty_neighbour s cells p) near o) x ≡ true) (sym side.2)
+        inside))
 
     -- the neighbour is among it
     pub play_beside : has (play_rests_on s cells c Z p) q ≡ true
-    play_beside = side_in q (by (has_empty_neighbour s cells p && same_cell (cell_at cells q) (stone_of c)))
+    play_beside = side_in q (by (shows_cell c (has_empty_neighbour s cells p) (cell_at cells q)))
       where
         by : (b : Bool) → has (cond b (sets.insert sets.empty q) (shows_atari s cells near q)) q ≡ true
         by true = insert_self q sets.empty
         by false = shows_self s cells near q
 
-    -- what shows whether its string is in atari is among it, if p has no empty neighbour or the string is not of c
-    pub play_shows : (has_empty_neighbour s cells p && same_cell (cell_at cells q) (stone_of c)) ≡ false
+    -- what shows whether its string is in atari is among it, unless it shows nothing but its cell
+    pub play_shows : shows_cell c (has_empty_neighbour s cells p) (cell_at cells q) ≡ false
         → IsWithin (shows_atari s cells near q) (play_rests_on s cells c Z p)
     play_shows f x inside = side_in x
         (ap (λ b. has (cond b (sets.insert sets.empty q) (shows_atari s cells near q)) x) f ∙ inside)
@@ -155,18 +156,23 @@ room_at s cells p on t =
         let near = neighbour_at-near s p side q on is in
         (q, near.0, near.1, same_cell-true (cell_at cells q) Empty h)
 
--- a stone of an enemy is none of c
-not_own : (c : Colour) (cell : Cell) → cell ≡ stone_of (other c) → same_cell cell (stone_of c) ≡ false
-not_own c cell e = ap (λ k. same_cell k (stone_of c)) e ∙ by c
+-- a stone of an enemy shows more than its cell
+enemy_shows : (c : Colour) (free : Bool) (cell : Cell) → cell ≡ stone_of (other c) → shows_cell c free cell ≡ false
+enemy_shows c free cell e = ap (shows_cell c free) e ∙ by c free
   where
-    by : (k : Colour) → same_cell (stone_of (other k)) (stone_of k) ≡ false
+    by : (k : Colour) (b : Bool) → shows_cell k b (stone_of (other k)) ≡ false
+    by black true = refl
+    by black false = refl
+    by white true = refl
+    by white false = refl
+
+-- and so does an own stone, if the point is not free
+own_shows : (c : Colour) (free : Bool) (cell : Cell) → cell ≡ stone_of c → free ≡ false → shows_cell c free cell ≡ false
+own_shows c free cell e f = ap (shows_cell c free) e ∙ ap (λ b. shows_cell c b (stone_of c)) f ∙ by c
+  where
+    by : (k : Colour) → shows_cell k false (stone_of k) ≡ false
     by black = refl
     by white = refl
-
--- what is said together with what is false is false
-no_both : (b : Bool) → (b && false) ≡ false
-no_both true = refl
-no_both false = refl
 
 -- Two positions that agree on what a play of c rests on.
 module _ (c : Colour) (pos here : BoardState) (Y : Points) (p : ℕ) (Z : Points) (good : IsPosition pos)
@@ -176,9 +182,9 @@ module _ (c : Colour) (pos here : BoardState) (Y : Points) (p : ℕ) (Z : Points
   cell_same : cell_at pos.cells p ≡ cell_at here.cells p
   cell_same = same.cells p (rests p (play_self pos.size pos.cells c Y p))
 
-  -- the boards show the same of a neighbour, if p has no empty neighbour or the neighbour is not of c
+  -- the boards show the same of a neighbour, unless it shows nothing but its cell
   beside_shown : (q : ℕ) → q < pos.size * pos.size → are_neighbours pos.size p q ≡ true
-      → (has_empty_neighbour pos.size pos.cells p && same_cell (cell_at pos.cells q) (stone_of c)) ≡ false
+      → shows_cell c (has_empty_neighbour pos.size pos.cells p) (cell_at pos.cells q) ≡ false
       → is_stone (cell_at pos.cells q) ≡ true → IsShown pos.size pos.cells here.cells q
   beside_shown q q_on beside f stone = shown pos.size pos.cells here.cells (sets.insert Y p) q q_on stone
       (λ x inside. same.cells x (rests x (play_shows pos.size pos.cells c Y p q on q_on beside f x inside)))
@@ -193,13 +199,13 @@ module _ (c : Colour) (pos here : BoardState) (Y : Points) (p : ℕ) (Z : Points
     empty_second = sym cell_same ∙ empty;
     beside = λ q q_on near. same.cells q (rests q (play_beside pos.size pos.cells c Y p q on q_on near));
     enemies = λ q q_on near enemy. beside_shown q q_on near
-        (ap (λ b. has_empty_neighbour pos.size pos.cells p && b) (not_own c (cell_at pos.cells q) enemy)
-        ∙ no_both (has_empty_neighbour pos.size pos.cells p))
+        (enemy_shows c (has_empty_neighbour pos.size pos.cells p) (cell_at pos.cells q) enemy)
         (ap is_stone enemy ∙ stone_is (other c));
     room = elim (cases_Bool (has_empty_neighbour pos.size pos.cells p)) [
       | inl t ↦ inl (room_at pos.size pos.cells p on t)
       | inr f ↦ inr (λ q q_on near own. beside_shown q q_on near
-          (ap (λ b. b && same_cell (cell_at pos.cells q) (stone_of c)) f) (ap is_stone own ∙ stone_is c))
+          (own_shows c (has_empty_neighbour pos.size pos.cells p) (cell_at pos.cells q) own f)
+          (ap is_stone own ∙ stone_is c))
     ];
   }
 

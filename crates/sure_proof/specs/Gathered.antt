@@ -15,8 +15,8 @@ pub record IsServed (s : ℕ) (cells : List Cell) (c : Colour) (Z asked guard : 
   pub asks : IsWithin (asked_at s cells c Z q) asked
   pub guards : IsWithin (guard_at s cells c Z q) guard
 
--- asked and guard have nothing but what Z asks for and what guards it. They have all that the points of Z below from and
--- the searched stones ask for, and all that guards these
+-- asked and guard have nothing but what Z asks for and what guards it. They have all that the searched stones and the
+-- points of Z below from ask for, and all that guards these
 pub record IsGathered (s : ℕ) (cells : List Cell) (c : Colour) (Z : Points) (from : ℕ) (asked guard searched : Points)
     : Type 0 where
   pub asked_right : IsWithin asked (asked_of s cells c Z)

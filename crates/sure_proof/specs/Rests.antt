@@ -1,6 +1,6 @@
 -- The points on which the parts of a sure capture rest. They are computed from the position before the play.
-use Rattle.std.specs.Prelude.{ℕ, zero, suc, ◌*◌, ◌&&◌, Bool, true, false, not, nat_lt, nat_le, List, Option, None, Some}
-use Rattle.std.specs.Prelude.{if◌then◌else◌}
+use Rattle.std.specs.Prelude.{ℕ, zero, suc, ◌*◌, ◌&&◌, ◌||◌, Bool, true, false, not, nat_lt, nat_le, List, Option}
+use Rattle.std.specs.Prelude.{None, Some, if◌then◌else◌}
 use Rattle.std.specs.Option.{option_map, option_and_then}
 use Rattle.std.specs.Ordering.{nat_cmp}
 use Rattle.std.specs.FinSet as set
@@ -73,18 +73,22 @@ is_empty_at cells (Some q) = same_cell (cell_at cells q) Empty
 unfoldable pub has_empty_neighbour : ℕ → List Cell → ℕ → Bool
 has_empty_neighbour s cells p = any_below 4 (λ side. is_empty_at cells (neighbour_at s p side))
 
--- of a neighbour of the point of a play of c, the points on which the play rests: the points that show whether the
--- neighbour's string is in atari; but only the neighbour if it is of c and the point of the play is free, which is that
--- it has an empty neighbour. None if the board ends there
+-- a neighbour of the point of a play of c with this cell shows nothing but its cell: it is empty, or it is a stone of c
+-- and free is true, which is that the point has an empty neighbour
+abbrev pub shows_cell : Colour → Bool → Cell → Bool
+shows_cell c free cell = same_cell cell Empty || (free && same_cell cell (stone_of c))
+
+-- of a neighbour of the point of a play of c, the points on which the play rests: the neighbour alone, if it shows
+-- nothing but its cell; else the points that show whether its string is in atari. None if the board ends there
 abbrev pub shows_neighbour : ℕ → List Cell → Colour → Bool → Points → Option ℕ → Points
 shows_neighbour s cells c free Z None = set.empty
 shows_neighbour s cells c free Z (Some q) =
-    if free && same_cell (cell_at cells q) (stone_of c) then set.insert set.empty q else shows_atari s cells Z q
+    if shows_cell c free (cell_at cells q) then set.insert set.empty q else shows_atari s cells Z q
 
 -- the points on which a play of c at p rests, if what follows rests on Z: p, its neighbours, and the points that show
--- whether the strings of these are in atari. If p has an empty neighbour, the play can be made whatever the liberties of
--- the neighbouring strings of c, so these strings are left out. p is a liberty of each neighbouring string and is in the
--- set already, so it is taken for one of the two liberties. The points show whether the play can be made, what it
+-- whether the strings of these are in atari. If p has an empty neighbour, the play can be made whatever the liberties
+-- of the neighbouring strings of c, so these strings are left out. p is a liberty of each neighbouring string and is in
+-- the set already, so it is taken for one of the two liberties. The points show whether the play can be made, what it
 -- captures and which ko ban it leaves
 unfoldable pub play_rests_on : ℕ → List Cell → Colour → Points → ℕ → Points
 play_rests_on s cells c Z p = set.insert (union_below 4 (λ side. shows_neighbour s cells c

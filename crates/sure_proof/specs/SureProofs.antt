@@ -68,8 +68,8 @@ by_back prove node pos word (Some child) rest = if is_to (target_named pos.size 
 abbrev pub its_play : Node → BoardState → ℕ → Points → Points
 its_play node pos p Z = play_rests_on pos.size pos.cells (mover_of node.turn) Z p
 
--- the proof of the child after the attacker's play at p, as a proof of the node. It rests on the points that show that p
--- is a candidate, on the points of the play, and on the points of the child's proof
+-- a proof of the child after the attacker's play at p, as a proof of the node. It rests on the points that show that
+-- p is a candidate, on the points of the play, and on the points of the child's proof
 abbrev pub with_candidate : Node → BoardState → ℕ → Proved → Proved
 with_candidate node pos p found = with_points
     (set.union (candidate_rests_on node.turn pos p) (its_play node pos p found.zone)) found
@@ -89,8 +89,8 @@ by_move prove node pos (Some (Some p)) rest = by_child prove node pos p (child_a
 abbrev pub and_its_play : Node → BoardState → ℕ → Points → Points
 and_its_play node pos p Z = set.union Z (its_play node pos p Z)
 
--- the words after the proof of the child after a reply at p, and the points Z so far with those of the child's proof and
--- of the play
+-- the words after a proof of the child after a reply at p, and the points Z so far with those of the child's proof, and
+-- with those of the play
 abbrev pub with_reply : Node → BoardState → ℕ → Points → Proved → Proved
 with_reply node pos p Z found =
     record { rest = found.rest; zone = and_its_play node pos p (set.union Z found.zone) }

@@ -102,9 +102,9 @@ fn visit(pos: &Position, c: Colour, zone: &PointSet, q: Point, so_far: &mut Gath
     }
 }
 
-/// The replies that the zone asks for against `c`: its empty points, and the only liberty of each string of `c` in atari
-/// that has a stone in the zone; and the points that guard it: those that show, of each string of `c` with a stone in
-/// the zone, whether it is in atari.
+/// The replies that the zone asks for, and the points that guard it. The replies are the empty points of the zone, and
+/// the only liberty of each string of `c` in atari that has a stone in the zone. The points show, of each string of `c`
+/// with a stone in the zone, whether it is in atari.
 pub(crate) fn guard_zone(pos: &Position, c: Colour, zone: &PointSet) -> Guarded
     ensures asked { result.asked ≡ asked_of pos.now.size pos.now.cells c zone.now }
     ensures guard { result.guard ≡ guard_of pos.now.size pos.now.cells c zone.now }

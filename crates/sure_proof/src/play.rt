@@ -1,6 +1,6 @@
 //! The points on which the result of a play rests.
 
-ghost use Rattle.std.specs.Prelude.{◌≡◌, ℕ, ◌*◌, ◌<◌, Bool, true};
+ghost use Rattle.std.specs.Prelude.{◌≡◌, ℕ, ◌*◌, ◌<◌, ◌||◌, true};
 ghost use Rattle.std.specs.FinSet as set;
 ghost use Rattle.go_rules.specs.Board.{largest_points};
 ghost use Rattle.go_rules.specs.Position.{BoardState};
@@ -8,7 +8,8 @@ ghost use Rattle.go_base.specs.Sides.{neighbour_at};
 ghost use Rattle.read_rules.specs.GameTree.{child_of};
 ghost use Rattle.sure_rules.specs.Zones.{WhereverAgrees};
 ghost use Rattle.sure_proof.specs.Alike.{AreAlikeChildren};
-ghost use Rattle.sure_proof.specs.Rests.{is_empty_at, has_empty_neighbour, shows_neighbour, play_rests_on};
+ghost use Rattle.sure_proof.specs.Rests.{is_empty_at, has_empty_neighbour, shows_cell, shows_neighbour};
+ghost use Rattle.sure_proof.specs.Rests.{play_rests_on};
 
 use crate::candidate::are_both;
 use crate::guard::one_point;
@@ -42,9 +43,25 @@ fn has_empty_neighbour(pos: &Position, p: Point) -> bool
     false
 }
 
-/// Of the neighbour of `p` at this side, the points on which a play of `c` at `p` rests: the points that show whether
-/// its string is in atari, liberties in `zone` before the others; but only the neighbour if it is of `c` and `p` is
-/// `free`. None if the board ends there.
+/// Whether a neighbour with this cell shows nothing but its cell to a play of `c`: it is empty, or it is a stone of `c`
+/// and the point of the play is `free`, which is that it has an empty neighbour.
+fn shows_cell(cell: Cell, c: Colour, free: bool) -> bool
+    ensures { result ≡ shows_cell c free cell }
+{
+    let own = cell == c.cell();
+    is_either(cell == Cell::Empty, are_both(free, own))
+}
+
+/// Whether one of both is true.
+fn is_either(first: bool, second: bool) -> bool
+    ensures { result ≡ (first || second) }
+{
+    first || second
+}
+
+/// Of the neighbour of `p` at this side, the points on which a play of `c` at `p` rests: the neighbour alone, if it
+/// shows nothing but its cell; else the points that show whether its string is in atari, liberties in `zone` before the
+/// others. None if the board ends there.
 fn shows_side(
     pos: &Position,
     c: Colour,
@@ -59,8 +76,7 @@ fn shows_side(
 {
     match neighbour(pos.size(), p, side) {
         Some(q) => {
-            let own = pos.cell(q) == c.cell();
-            if are_both(free, own) {
+            if shows_cell(pos.cell(q), c, free) {
                 one_point(q)
             } else {
                 shows_atari(pos, zone, q)

@@ -8,8 +8,8 @@ ghost use Rattle.read_rules.specs.GameTree.{child_of, taking_back};
 ghost use Rattle.read_proof.specs.Tokens.{words_in};
 ghost use Rattle.read_proof.specs.Proves.{child_after};
 ghost use Rattle.sure_rules.specs.Nodes.{is_gone, is_taken_for_good, has_too_many};
-ghost use Rattle.sure_proof.specs.SureProofs.{by_capture, by_back, by_child, by_move, and_its_play, at_reply, at_replies};
-ghost use Rattle.sure_proof.specs.SureProofs.{by_replies, by_turn, proves_surely, proved_by, points_in};
+ghost use Rattle.sure_proof.specs.SureProofs.{by_capture, by_back, by_child, by_move, at_reply, at_replies};
+ghost use Rattle.sure_proof.specs.SureProofs.{and_its_play, by_replies, by_turn, proves_surely, proved_by, points_in};
 
 use crate::candidate::candidate_rests_on;
 use crate::guard::{Guarded, guard_zone};

@@ -1,9 +1,9 @@
 -- The string is searched, and what it asks for and what guards it come to the rest.
-use Rattle.std.proofs.Common.{◌≡◌, ◌∙◌, ap}
+use Rattle.std.proofs.Common.{◌∙◌, ap}
 use Rattle.std.specs.FinSet as set
 use Rattle.go_rules.specs.Strings.{string_at, liberty_points}
 use Rattle.sure_proof.specs.Rests.{two_within, shown_by, last_of}
-use Rattle.sure_proof.proofs.GuardLemmas.{gathered_same, last, shows, step_string}
+use Rattle.sure_proof.proofs.GuardLemmas.{gathered_same, step_string}
 use Rattle.sure_proof.proofs.guard.add_string.Goals as goal
 
 -- it is served

@@ -21,7 +21,8 @@ pub returns-then-eq : goal.returns-then-eq
 returns-then-eq c = λ from before between.
     let s = c.args.pos.now.size in
     let cell : cell_at c.args.pos.now.cells c.args.q ≡ Empty = sym c.cell.ensures
-    ∙ same_cell-true c.cell.result Empty (sym (eq_is_same_cell c.cell.result Empty) ∙ sym c.eq.ensures ∙ c.if-eq.true) in
+    ∙ same_cell-true c.cell.result Empty (sym (eq_is_same_cell c.cell.result Empty) ∙ sym c.eq.ensures
+    ∙ c.if-eq.true) in
     let low : c.args.q < s * s = rw c.size.ensures.value at (rw c.points.ensures.value at c.if-q-points.false) in
     gathered_same c.add.ensures refl refl
     (step_empty s c.args.pos.now.cells c.args.c c.args.zone.now from c.args.so_far.now.asked c.args.so_far.now.guard

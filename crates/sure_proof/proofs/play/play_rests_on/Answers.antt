@@ -10,8 +10,9 @@ use Rattle.sure_proof.proofs.play.play_rests_on.Goals as goal
 pub sides-preserved : goal.sides-preserved
 sides-preserved c =
     let pos = c.args.pos.now in
-    let each : ℕ → Points = λ k. shows_neighbour pos.size pos.cells c.args.c c.has_empty_neighbour-free.result c.add.new.self
-    (neighbour_at pos.size c.args.p k) in
+    let free = c.has_empty_neighbour-free.result in
+    let each : ℕ → Points
+    = λ k. shows_neighbour pos.size pos.cells c.args.c free c.add.new.self (neighbour_at pos.size c.args.p k) in
     c.join.ensures ∙ ap (λ s. set.union s c.shows_side.result) c.sides.invariant
     ∙ ap (set.union (union_below c.sides.side each)) c.shows_side.ensures
     ∙ union_more c.sides.side each

@@ -1,5 +1,5 @@
 -- The play rests on its points, and what follows on the others.
-use Rattle.std.proofs.Common.{◌≡◌, ◌∙◌, true, ap, sym, inl, inr}
+use Rattle.std.proofs.Common.{◌≡◌, ◌∙◌, ap, sym, inl, inr}
 use Rattle.std.specs.FinSet as set
 use Rattle.read_rules.specs.Turns.{mover_of}
 use Rattle.sure_proof.specs.Rests.{Points, play_rests_on}
@@ -32,7 +32,8 @@ returns-clause-shown c = λ here sound same.
     let is : c.join.new.self ≡ set.union rests after = c.join.ensures
     ∙ ap (λ S. set.union S after) (c.play_rests_on-points.ensures
     ∙ ap (λ k. play_rests_on pos.size pos.cells k after c.args.p) c.mover.ensures) in
-    play_alike c.args.node pos here after c.args.p c.join.new.self c.size.ensures.position sound c.requires.on_board same
+    play_alike c.args.node pos here after c.args.p c.join.new.self c.size.ensures.position sound c.requires.on_board
+    same
     (λ q its. ap (λ (S : Points). set.contains S q) is ∙ union_first q rests after its)
     (λ q its. ap (λ (S : Points). set.contains S q) is ∙ union_second q rests after its)
     c.requires.points

@@ -1,5 +1,4 @@
 -- The zone of the proof behind the pass asks for the replies.
-use Rattle.std.proofs.Common.{◌≡◌}
 use Rattle.read_proof.specs.Tokens.{words_in}
 use Rattle.sure_proof.specs.SureProofs.{proved_by}
 use Rattle.sure_proof.proofs.replies.replies_asked.Goals as goal

@@ -13,7 +13,8 @@ use Rattle.sure_proof.proofs.replies.replies_shown.Goals as goal
 
 -- the replies are points of the board
 pub returns-clause-on_board : goal.returns-clause-on_board
-returns-clause-on_board c = λ p inside. asked_on c.args.pos.now.size c.args.pos.now.cells c.other.result c.args.zone.now p
+returns-clause-on_board c = λ p inside.
+    asked_on c.args.pos.now.size c.args.pos.now.cells c.other.result c.args.zone.now p
     (ap (λ (S : Points). set.contains S p) (sym c.guard_zone-asked.ensures.asked) ∙ inside)
 
 -- they are all that have to be read

@@ -153,7 +153,8 @@ play_proved-returns t c =
 -- the reply is not named
 pub reply_proved-returns-in_err-left-in-Some : goal.reply_proved-returns-in_err-left-in-Some
 reply_proved-returns-in_err-left-in-Some t c =
-    rw c.from_residual.ensures (reply_unnamed (proves_surely c.args.plies) c.args.node c.args.pos.now c.args.p (child_of c.args.node c.args.pos.now c.args.p)
+    rw c.from_residual.ensures (reply_unnamed (proves_surely c.args.plies) c.args.node c.args.pos.now
+    c.args.p (child_of c.args.node c.args.pos.now c.args.p)
     (words_in c.args.text.now) c.args.zone.now
     c.in-Some.child (sym c.child_of.ensures.value ∙ c.in-Some.is)
     (rw c.size.ensures.value at c.in_err-left-in-Some.ensures))
@@ -161,7 +162,9 @@ reply_proved-returns-in_err-left-in-Some t c =
 -- no proof comes behind it
 pub reply_proved-returns-in_err-rest-in-Some : goal.reply_proved-returns-in_err-rest-in-Some
 reply_proved-returns-in_err-rest-in-Some t c =
-    rw c.from_residual-in_err-rest-in-Some.ensures (reply_fails (proves_surely c.args.plies) c.args.node c.args.pos.now c.args.p (child_of c.args.node c.args.pos.now c.args.p)
+    rw c.from_residual-in_err-rest-in-Some.ensures
+    (reply_fails (proves_surely c.args.plies) c.args.node c.args.pos.now
+    c.args.p (child_of c.args.node c.args.pos.now c.args.p)
     (words_in c.args.text.now) c.args.zone.now
     c.in-Some.child (sym c.child_of.ensures.value ∙ c.in-Some.is)
     (words_in c.in_ok-left-in-Some.left.now) (rw c.size.ensures.value at c.in_ok-left-in-Some.ensures)
@@ -171,7 +174,8 @@ reply_proved-returns-in_err-rest-in-Some t c =
 pub reply_proved-returns-in_ok-rest-in-Some : goal.reply_proved-returns-in_ok-rest-in-Some
 reply_proved-returns-in_ok-rest-in-Some t c =
     let points = c.add_play.ensures ∙ ap (and_its_play c.args.node c.args.pos.now c.args.p) c.join.ensures in
-    reply_holds (proves_surely c.args.plies) c.args.node c.args.pos.now c.args.p (child_of c.args.node c.args.pos.now c.args.p)
+    reply_holds (proves_surely c.args.plies) c.args.node c.args.pos.now
+    c.args.p (child_of c.args.node c.args.pos.now c.args.p)
     (words_in c.args.text.now) c.args.zone.now
     c.in-Some.child (sym c.child_of.ensures.value ∙ c.in-Some.is)
     (words_in c.in_ok-left-in-Some.left.now) (words_in c.in_ok-rest-in-Some.rest.now) c.proved.new.zone
@@ -181,7 +185,8 @@ reply_proved-returns-in_ok-rest-in-Some t c =
 -- the reply cannot be made
 pub reply_proved-returns-in-None : goal.reply_proved-returns-in-None
 reply_proved-returns-in-None t c =
-    reply_refused (proves_surely c.args.plies) c.args.node c.args.pos.now c.args.p (child_of c.args.node c.args.pos.now c.args.p)
+    reply_refused (proves_surely c.args.plies) c.args.node c.args.pos.now
+    c.args.p (child_of c.args.node c.args.pos.now c.args.p)
     (words_in c.args.text.now) c.args.zone.now (sym c.child_of.ensures.value ∙ c.in-None.is)
     ∙ ap (λ S. Some (proved_by (words_in c.args.text.now) S)) (sym c.add_play-in-None.ensures)
 
@@ -232,8 +237,13 @@ pub defence_proved-returns-in_err-more : goal.defence_proved-returns-in_err-more
 defence_proved-returns-in_err-more t c =
     rw c.from_residual-in_err-more.ensures (replies_missing (proves_surely c.args.plies) c.args.node c.args.pos.now (words_in c.args.text.now)
     (words_in c.in_ok-left.left.now) c.proved.new.zone (rw c.passed-new.ensures at c.in_ok-left.ensures)
-    (rw (c.join.ensures, c.guard_zone-asked.ensures.guard, c.guard_zone-asked.ensures.asked, c.other-enemy.ensures, c.mover.ensures) at
-    c.in_err-more.ensures))
+    (rw (
+      c.join.ensures,
+      c.guard_zone-asked.ensures.guard,
+      c.guard_zone-asked.ensures.asked,
+      c.other-enemy.ensures,
+      c.mover.ensures,
+    ) at c.in_err-more.ensures))
 
 -- the end does not
 pub defence_proved-returns-in_err-rest : goal.defence_proved-returns-in_err-rest
@@ -241,8 +251,13 @@ defence_proved-returns-in_err-rest t c =
     rw c.from_residual-in_err-rest.ensures (end_missing (proves_surely c.args.plies) c.args.node c.args.pos.now (words_in c.args.text.now)
     (words_in c.in_ok-left.left.now) c.proved.new.zone (rw c.passed-new.ensures at c.in_ok-left.ensures)
     (words_in c.in_ok-more.more.now) c.replies_proved.new.zone
-    (rw (c.join.ensures, c.guard_zone-asked.ensures.guard, c.guard_zone-asked.ensures.asked, c.other-enemy.ensures, c.mover.ensures) at
-    c.in_ok-more.ensures) c.in_err-rest.ensures)
+    (rw (
+      c.join.ensures,
+      c.guard_zone-asked.ensures.guard,
+      c.guard_zone-asked.ensures.asked,
+      c.other-enemy.ensures,
+      c.mover.ensures,
+    ) at c.in_ok-more.ensures) c.in_err-rest.ensures)
 
 -- they come
 pub defence_proved-returns : goal.defence_proved-returns
@@ -250,5 +265,10 @@ defence_proved-returns t c =
     end_comes (proves_surely c.args.plies) c.args.node c.args.pos.now (words_in c.args.text.now)
     (words_in c.in_ok-left.left.now) c.proved.new.zone (rw c.passed-new.ensures at c.in_ok-left.ensures)
     (words_in c.in_ok-more.more.now) c.replies_proved.new.zone
-    (rw (c.join.ensures, c.guard_zone-asked.ensures.guard, c.guard_zone-asked.ensures.asked, c.other-enemy.ensures, c.mover.ensures) at
-    c.in_ok-more.ensures) (words_in c.in_ok-rest.rest.now) c.in_ok-rest.ensures
+    (rw (
+      c.join.ensures,
+      c.guard_zone-asked.ensures.guard,
+      c.guard_zone-asked.ensures.asked,
+      c.other-enemy.ensures,
+      c.mover.ensures,
+    ) at c.in_ok-more.ensures) (words_in c.in_ok-rest.rest.now) c.in_ok-rest.ensures
