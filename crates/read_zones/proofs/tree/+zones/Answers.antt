@@ -9,7 +9,7 @@ use Rattle.go_rules.specs.Strings.{same_cell}
 use Rattle.go_rules.proofs.Cells.{eq_is_same_cell}
 use Rattle.sure_rules.proofs.SureLemmas.{sure-no_plies}
 use Rattle.sure_rules.specs.Zones.{IsZone}
-use Rattle.read_zones.proofs.GuardLemmas.{in_either, in_first, in_second, in_rest}
+use Rattle.read_zones.proofs.SetLemmas.{in_either, in_first, in_second, in_rest}
 use Rattle.read_zones.proofs.TreeLemmas.{some_shown, each_shown, agree_less, agree_self, attacker_has}
 use Rattle.read_zones.proofs.TreeLemmas.{attacker_none, attacker_barred, defender_passes, defender_replies, defender_has}
 use Rattle.read_zones.proofs.TreeLemmas.{child_size, none_left, none_gives}

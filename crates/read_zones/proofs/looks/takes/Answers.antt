@@ -3,7 +3,7 @@ use Rattle.go_base.specs.Facts.{agrees_before}
 use Rattle.std.proofs.Common.{sym, subst}
 use Rattle.go_rules.specs.Position.{BoardState}
 use Rattle.std.proofs.Common.{◌*◌, ◌<◌}
-use Rattle.read_zones.proofs.taking.takes.Goals as goal
+use Rattle.read_zones.proofs.looks.takes.Goals as goal
 
 -- the target is on the position that is shown
 pub can_take-requires-clause-target : goal.can_take-requires-clause-target
