@@ -11,7 +11,7 @@ use Rattle.sure_rules.specs.Nodes.{is_gone, target_of}
 use Rattle.sure_rules.specs.SureTree.{surely_wins}
 use Rattle.sure_rules.specs.Zones.{WhereverAgrees, IsZone}
 use Rattle.read_sure.proofs.LossLemmas.{sure_for_good, sure_left, sure_back}
-use Rattle.read_zones.specs.Alike.{AreAlikeChildren}
+use Rattle.sure_proof.specs.Alike.{AreAlikeChildren}
 use Rattle.read_zones.proofs.TreeLemmas.{agree_less}
 
 -- a play that cannot be made cannot be made wherever it looks the same

@@ -1,5 +1,4 @@
-pub mod AlikeLemmas
-pub mod GuardLemmas
+pub mod SetLemmas
 pub mod SeenLemmas
 pub mod TreeLemmas
 pub mod UnreadLemmas

@@ -22,7 +22,7 @@ use Rattle.sure_rules.specs.Zones.{points_of, WhereverAgrees, IsZone}
 use Rattle.sure_rules.proofs.SureLemmas.{sure-captured, sure_attacker_gives, sure_attacker_from, sure_defender_gives}
 use Rattle.sure_rules.proofs.SureLemmas.{none_at_attackers}
 use Rattle.sure_rules.proofs.ZoneLemmas.{zone_defender}
-use Rattle.read_zones.specs.Alike.{AreAlikeChildren, IsGuarded}
+use Rattle.sure_proof.specs.Alike.{AreAlikeChildren, IsGuarded}
 
 -- positions that agree on more points agree on fewer
 pub agree_less : {Y Z : ℕ → Bool} {a b : BoardState} → ((q : ℕ) → Y q ≡ true → Z q ≡ true)

@@ -23,7 +23,7 @@ use Rattle.sure_rules.specs.SureTree.{surely_wins}
 use Rattle.sure_rules.specs.Zones.{points_of, IsZone}
 use Rattle.sure_rules.proofs.StayLemmas.{stays_sure, next_stays, no_harder-refl}
 use Rattle.sure_rules.proofs.ZoneLemmas.{captured_at_last}
-use Rattle.read_zones.specs.Alike.{IsGuarded}
+use Rattle.sure_proof.specs.Alike.{IsGuarded}
 
 -- a ban that lies elsewhere forbids nothing here
 not_banned : (ban : Option (ℕ × Colour)) (c : Colour) (q : ℕ) → ((r : ℕ) (k : Colour) → ban ≡ Some (r, k) → r ≢ q)

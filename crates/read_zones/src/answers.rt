@@ -9,12 +9,13 @@ ghost use Rattle.sure_rules.specs.Nodes.{is_attackers};
 ghost use Rattle.sure_rules.specs.SureTree.{is_tried, surely_wins};
 ghost use Rattle.sure_rules.specs.SureAnswer.{surely_succeeds, first_sure, sure_move, sure_answer_of};
 
-use crate::seen::{candidates_shown, replies_shown};
+use crate::seen::candidates_shown;
 use crate::tree::zone_of;
 use go_base::{Cell, Point, PointSet, Position};
 use read_proof::children::{child_of, passed};
 use read_proof::codes::{first_node, question_on};
 use read_rules::{Answer, Depths, Kind, Node, ReadingQuestion, Spot};
+use sure_proof::replies_shown;
 
 /// Whether the target is surely captured at the node, with `plies` plies left.
 fn surely_wins(position: &Position, node: Node, plies: u8) -> bool

@@ -7,7 +7,6 @@ mod answers;
 mod looks;
 mod outlook;
 mod seen;
-mod taking;
 mod tree;
 
 pub use answers::{sure_attack, sure_defend};

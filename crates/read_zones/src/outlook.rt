@@ -30,11 +30,14 @@ fn is_won(position: &Position, node: Node, plies: u8) -> bool
 }
 
 /// Whether the plain game tree shows that the target is not surely captured, with `plies` plies left. False says
-/// nothing.
+/// nothing. With fewer than two plies left the tree is not read, since the zones are found as soon.
 pub fn is_lost(position: &Position, node: Node, plies: u8) -> bool
     requires target { node.turn.target < position.now.size * position.now.size }
     ensures { result ≡ true → surely_wins plies node position.now ≡ false }
 {
+    if plies < 2 {
+        return false;
+    }
     if plies as usize > MAX_TRIAL_MOVES {
         return false;
     }

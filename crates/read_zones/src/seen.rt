@@ -8,30 +8,20 @@ ghost use Rattle.go_base.specs.AmongFacts.{told};
 ghost use Rattle.go_base.specs.Watches.{shown_by, facts_of};
 ghost use Rattle.read_rules.specs.ActiveArea.{AgreeOn};
 ghost use Rattle.read_rules.specs.Candidates.{is_candidate};
-ghost use Rattle.read_rules.specs.GameTree.{child_of, has_lost_one_stone};
+ghost use Rattle.read_rules.specs.GameTree.{has_lost_one_stone};
 ghost use Rattle.read_tree.specs.Steps.{IsTaken};
 ghost use Rattle.sure_rules.specs.Nodes.{is_attackers, is_gone, has_too_many};
 ghost use Rattle.sure_rules.specs.Zones.{points_of, WhereverAgrees};
-ghost use Rattle.read_zones.specs.Alike.{AreAlikeChildren, AreCandidates, IsGuarded};
+ghost use Rattle.sure_proof.specs.Alike.{AreCandidates};
 
-use crate::looks::{liberties_to_try, look_at_play, replies_to_read};
-use crate::taking::takes;
-use go_base::{Point, PointSet, Position, Watch};
+use crate::looks::{liberties_to_try, takes};
+use go_base::{PointSet, Position, Watch};
 use read_moves::candidates;
 use read_rules::Node;
 use read_sure::taking_back::has_lost_one_stone;
 use read_tree::nodes::is_barred;
+use sure_proof::Shown;
 use trial_board::Trial;
-
-/// A set of points, and its zone.
-#[derive(Drop)]
-pub struct Shown {
-    /// The set of points.
-    pub points: PointSet,
-    /// The points on which the answer rests: on every position that agrees at these points, what the function says of
-    /// `points` is true too.
-    pub zone: PointSet,
-}
 
 /// Whether a lone stone was just taken at the target's point, so that it may be taken back, and the points on which
 /// this rests.
@@ -139,35 +129,4 @@ pub fn liberties_shown(position: &Position, node: Node) -> Option<Shown>
         points,
         zone: points_seen(board),
     })
-}
-
-/// The replies that have to be read for `zone`, a zone of the node after the defender's pass, and the points on which
-/// these replies rest.
-pub fn replies_shown(position: &Position, node: Node, zone: &PointSet) -> Shown
-    requires on_board { (q : ℕ) → set.contains zone.now q ≡ true → q < position.now.size * position.now.size }
-    ensures on_board { (p : ℕ) → set.contains result.points p ≡ true → p < position.now.size * position.now.size }
-    ensures shown { WhereverAgrees position.now (set.contains result.zone) (λ here.
-        IsGuarded node (set.contains zone.now) here (set.contains result.points)) }
-    ensures zone { (q : ℕ) → set.contains result.zone q ≡ true → q < position.now.size * position.now.size }
-{
-    let mut board = Trial::new(Watch::new(position));
-    let points = replies_to_read(&mut board, node, zone);
-    Shown {
-        points,
-        zone: points_seen(board),
-    }
-}
-
-/// The zone of the mover's play at `p`: on every position that agrees there the play leads to a position that is alike
-/// at the points of `points`, or it cannot be made on either position.
-pub fn play_shown(position: &Position, node: Node, p: Point, points: &PointSet) -> PointSet
-    requires on_board { p < position.now.size * position.now.size }
-    requires points { (q : ℕ) → set.contains points.now q ≡ true → q < position.now.size * position.now.size }
-    ensures on_board { (q : ℕ) → set.contains result q ≡ true → q < position.now.size * position.now.size }
-    ensures shown { WhereverAgrees position.now (set.contains result) (λ here.
-        AreAlikeChildren (set.contains points.now) (child_of node position.now p) (child_of node here p)) }
-{
-    let mut board = Trial::new(Watch::new(position));
-    look_at_play(&mut board, node, p, points);
-    points_seen(board)
 }

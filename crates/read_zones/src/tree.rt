@@ -8,16 +8,14 @@ ghost use Rattle.read_rules.specs.GameTree.{child_of, can_play, some_child, each
 ghost use Rattle.sure_rules.specs.Nodes.{is_attackers, is_gone, has_too_many};
 ghost use Rattle.sure_rules.specs.SureTree.{surely_wins};
 ghost use Rattle.sure_rules.specs.Zones.{IsZone, WhereverAgrees};
-ghost use Rattle.read_zones.specs.Alike.{AreCandidates};
+ghost use Rattle.sure_proof.specs.Alike.{AreCandidates};
 
 use crate::outlook::is_lost;
-use crate::seen::{
-    Shown, candidates_shown, liberties_shown, loss_shown, play_shown, replies_shown, taking_shown,
-};
+use crate::seen::{candidates_shown, liberties_shown, loss_shown, taking_shown};
 use go_base::{Cell, Point, PointSet, Position};
 use read_proof::children::{child_of, passed};
 use read_rules::Node;
-use sure_proof::candidate_shown;
+use sure_proof::{Shown, candidate_shown, play_shown, replies_shown};
 
 /// The zone that shows that the attacker's play at `p` surely captures, with `plies` plies left after it; `None` if it
 /// does not.
@@ -219,7 +217,8 @@ fn taken_zone(position: &Position, node: Node, plies: u8) -> Option<PointSet>
 }
 
 /// The zone of the node: the points on which it rests that the target is surely captured with `plies` plies left;
-/// `None` exactly if it is not. On every position that agrees at these points the target is surely captured too.
+/// `None` exactly if it is not. On every position that agrees at these points the target is surely captured too. The
+/// plain game tree is asked at the defender's turn alone: at the attacker's turn the nodes after his plays ask it.
 #[cycle(zones)]
 pub fn zone_of(position: &Position, node: Node, plies: u8) -> Option<PointSet>
     requires target { node.turn.target < position.now.size * position.now.size }
@@ -235,12 +234,11 @@ pub fn zone_of(position: &Position, node: Node, plies: u8) -> Option<PointSet>
     if plies == 0 {
         return None;
     }
+    if node.turn.attacker_to_play {
+        return attacker_zone(position, node, plies - 1);
+    }
     if is_lost(position, node, plies) {
         return None;
     }
-    if node.turn.attacker_to_play {
-        attacker_zone(position, node, plies - 1)
-    } else {
-        defender_zone(position, node, plies - 1)
-    }
+    defender_zone(position, node, plies - 1)
 }

@@ -1,7 +1,6 @@
 -- What shows a candidate lies on the board, and shows it on every position that agrees there.
-use Rattle.std.proofs.Common.{◌≡◌, ◌∙◌, ◌⊎◌, ℕ, ◌*◌, ◌<◌, ◌&&◌, Bool, true, false, List, Option, Some, None}
+use Rattle.std.proofs.Common.{◌≡◌, ◌∙◌, ℕ, ◌*◌, ◌<◌, ◌&&◌, Bool, true, false, List, Option, Some, None}
 use Rattle.std.proofs.Common.{sym, ap, subst, inl, inr, eqb, ltb}
-use Rattle.std.specs.Cmp.{nat_cmp_total}
 use Rattle.std.specs.FinSet as sets
 use Rattle.std.proofs.lemmas.Bool.{cases_Bool, or_cases, and_parts, ltb-true, eqb-true}
 use Rattle.go_rules.specs.declared.Cell.{Cell}
@@ -18,27 +17,22 @@ use Rattle.read_rules.specs.declared.turn.Turn.{Turn}
 use Rattle.sure_rules.specs.Nodes.{is_attackers, is_gone, has_too_many}
 use Rattle.sure_rules.specs.Zones.{points_of}
 use Rattle.sure_proof.specs.Rests.{Points, close_to, shown_at, with_string, candidate_rests_on}
+use Rattle.sure_proof.proofs.GuardLemmas.{in_union}
 use Rattle.sure_proof.proofs.SoundLemmas.{has, stone_of_cell}
 use Rattle.sure_proof.proofs.ProofLemmas.{is_wide, rests_liberty, rests_wide, rests_other, candidate_there}
 
 -- A member of sets of points.
 module _ (q : ℕ) where
-  -- a member of two joined sets is a member of one of them
-  in_union : (S T : Points) → sets.contains (sets.union S T) q ≡ true
-      → (sets.contains S q ≡ true) ⊎ (sets.contains T q ≡ true)
-  in_union S T h =
-      or_cases (sets.contains S q) (sets.contains T q) (sym (sets.contains-union nat_cmp_total S T q) ∙ h)
-
   -- a member of a set of numbers below n is below n
-  on_below : (n : ℕ) (test : ℕ → Bool) → sets.contains (set_below n test) q ≡ true → q < n
+  pub on_below : (n : ℕ) (test : ℕ → Bool) → sets.contains (set_below n test) q ≡ true → q < n
   on_below n test h = ltb-true q n (and_parts (ltb q n) (test q) (sym (contains-set_below n test q) ∙ h)).0
 
   -- the string of p and all its neighbours are on the board
-  close_on : (s : ℕ) (cells : List Cell) (p : ℕ) → sets.contains (close_to s cells p) q ≡ true → q < s * s
+  pub close_on : (s : ℕ) (cells : List Cell) (p : ℕ) → sets.contains (close_to s cells p) q ≡ true → q < s * s
   unfolding close_to string_at liberty_points
   close_on s cells p h = elim (in_union (sets.union (string_at s cells p) (liberty_points s cells p))
-      (enemy_points s cells p) h) [
-        | inl own ↦ elim (in_union (string_at s cells p) (liberty_points s cells p) own) [
+      (enemy_points s cells p) q h) [
+        | inl own ↦ elim (in_union (string_at s cells p) (liberty_points s cells p) q own) [
           | inl stone ↦ on_below (s * s) (is_in_string s cells p) stone
           | inr liberty ↦ on_below (s * s) (is_liberty s cells p) liberty
         ]
@@ -51,7 +45,7 @@ module _ (q : ℕ) where
       → sets.contains (with_string s cells target other) q ≡ true → q < s * s
   with_string_on s cells target None h = on_below (s * s) (λ r. true) h
   with_string_on s cells target (Some other) h =
-      elim (in_union (close_to s cells target) (close_to s cells other) h) [
+      elim (in_union (close_to s cells target) (close_to s cells other) q h) [
         | inl its ↦ close_on s cells target its
         | inr near ↦ close_on s cells other near
       ]

@@ -2,6 +2,9 @@ pub mod ShownLemmas
 pub mod PlayLemmas
 pub mod SoundLemmas
 pub mod LossLemmas
+pub mod GuardLemmas
+pub mod BoardLemmas
+pub mod AlikeLemmas
 pub mod ProofLemmas
 pub mod StepLemmas
 pub mod RestLemmas

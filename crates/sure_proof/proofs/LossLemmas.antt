@@ -20,6 +20,7 @@ use Rattle.read_rules.specs.declared.node.Node.{Node}
 use Rattle.read_rules.specs.declared.tree.Tree.TheVariants.{Wider}
 use Rattle.read_rules.specs.Trees.{is_wider}
 use Rattle.read_rules.specs.GameTree.{taking_back}
+use Rattle.read_rules.specs.Turns.{mover_of}
 use Rattle.read_rules.specs.Rules.{TakesBack}
 use Rattle.read_rules.proofs.RuleLemmas.{takes_back_from}
 use Rattle.sure_rules.specs.Nodes.{is_attackers, is_gone, is_taken_for_good, target_of}
@@ -27,8 +28,9 @@ use Rattle.sure_rules.specs.Zones.{points_of, IsZone}
 use Rattle.sure_rules.proofs.SureLemmas.{none_and_some}
 use Rattle.sure_rules.proofs.ZoneLemmas.{zone_captured}
 use Rattle.sure_proof.specs.Rests.{Points, play_rests_on, is_open, open_neighbour, wall_rests_on, loss_rests_on}
+use Rattle.sure_proof.specs.Gathered.{IsWithin}
 use Rattle.sure_proof.proofs.ShownLemmas.{insert_self, insert_more}
-use Rattle.sure_proof.proofs.SoundLemmas.{has, IsWithin, shows_self, play_beside, play_self, child_here}
+use Rattle.sure_proof.proofs.SoundLemmas.{has, play_beside, play_self, child_here}
 
 -- the point is among what shows it
 pub loss_point : (node : Node) (pos : BoardState) → has (loss_rests_on node pos) (target_of node) ≡ true
@@ -38,20 +40,20 @@ loss_point node pos =
     (open_neighbour pos.size pos.cells (other node.turn.defender) (target_of node))
   where
     by : (late : Bool) (o : Option ℕ)
-        → has (cond late (wall_rests_on pos.size pos.cells (target_of node) o) (sets.insert sets.empty (target_of node)))
-        (target_of node) ≡ true
+        → has (cond late (wall_rests_on pos.size pos.cells (mover_of node.turn) (target_of node) o)
+        (sets.insert sets.empty (target_of node))) (target_of node) ≡ true
     by false o = insert_self (target_of node) sets.empty
-    by true None = play_self pos.size pos.cells (target_of node)
+    by true None = play_self pos.size pos.cells (mover_of node.turn) sets.empty (target_of node)
     by true (Some q) = insert_more (target_of node) (sets.insert sets.empty (target_of node)) q
         (insert_self (target_of node) sets.empty)
 
 -- in the wider tree, at the defender's turn, it is what shows whether the point is walled in
 loss_is : (node : Node) (pos : BoardState) → node.turn.tree ≡ Wider → is_attackers node ≡ false
-    → loss_rests_on node pos ≡ wall_rests_on pos.size pos.cells (target_of node)
+    → loss_rests_on node pos ≡ wall_rests_on pos.size pos.cells (mover_of node.turn) (target_of node)
     (open_neighbour pos.size pos.cells (other node.turn.defender) (target_of node))
 unfolding loss_rests_on
 loss_is node pos tree turn =
-    ap (λ b. cond b (wall_rests_on pos.size pos.cells (target_of node)
+    ap (λ b. cond b (wall_rests_on pos.size pos.cells (mover_of node.turn) (target_of node)
     (open_neighbour pos.size pos.cells (other node.turn.defender) (target_of node)))
     (sets.insert sets.empty (target_of node)))
     (and_from (is_wider node.turn.tree) (not node.turn.attacker_to_play) (ap is_wider tree)
@@ -78,7 +80,7 @@ module _ (node : Node) (pos : BoardState) (good : IsPosition pos) (on : node.tur
   module _ (here : BoardState) (sound : IsPosition here) (same : AgreeOn (points_of (has Z)) pos here) (next : Node)
       (made : BoardState) (back : TakesBack node here next made) where
     -- what shows whether the point is walled in is among the points
-    wall_within : IsWithin (wall_rests_on pos.size pos.cells (target_of node)
+    wall_within : IsWithin (wall_rests_on pos.size pos.cells (mover_of node.turn) (target_of node)
         (open_neighbour pos.size pos.cells (other node.turn.defender) (target_of node))) Z
     wall_within q inside =
         rests q (ap (λ (S : Points). has S q) (loss_is node pos back.lost.tree back.lost.turn) ∙ inside)
@@ -94,7 +96,7 @@ module _ (node : Node) (pos : BoardState) (good : IsPosition pos) (on : node.tur
     none_open = by (open_neighbour pos.size pos.cells (other node.turn.defender) (target_of node)) refl wall_within
       where
         by : (o : Option ℕ) → open_neighbour pos.size pos.cells (other node.turn.defender) (target_of node) ≡ o
-            → IsWithin (wall_rests_on pos.size pos.cells (target_of node) o) Z → o ≡ None
+            → IsWithin (wall_rests_on pos.size pos.cells (mover_of node.turn) (target_of node) o) Z → o ≡ None
         by None is within = refl
         by (Some q) is within =
             let w = open_gives pos.size pos.cells (other node.turn.defender) (target_of node) q is in
@@ -105,14 +107,16 @@ module _ (node : Node) (pos : BoardState) (good : IsPosition pos) (on : node.tur
             (cell ∙ walled_there q near.0 near.1)))
 
     -- what the play at its point rests on is among the points
-    pub play_within : IsWithin (play_rests_on pos.size pos.cells (target_of node)) Z
+    pub play_within : IsWithin (play_rests_on pos.size pos.cells (mover_of node.turn) sets.empty (target_of node)) Z
     play_within q inside =
-        wall_within q (ap (λ o. has (wall_rests_on pos.size pos.cells (target_of node) o) q) none_open ∙ inside)
+        wall_within q (ap (λ o. has (wall_rests_on pos.size pos.cells (mover_of node.turn) (target_of node) o) q) none_open
+        ∙ inside)
 
     -- he takes back here too
     pub back_here : is_gone node pos ≡ true → (first : BoardState) × TakesBack node pos next first
     back_here gone =
-        let child = child_here node pos here (target_of node) Z good sound on same play_within next made back.child in (
+        let child = child_here node pos here sets.empty (target_of node) Z good sound on same play_within next made
+        back.child in (
           child.0,
           record {
             lost = record {
@@ -121,7 +125,7 @@ module _ (node : Node) (pos : BoardState) (good : IsPosition pos) (on : node.tur
               taken = same_cell-true (cell_at pos.cells (target_of node)) Empty gone;
             };
             lone = λ q q_on near. same.cells q (play_within q
-                (play_beside pos.size pos.cells (target_of node) q q on q_on near (shows_self pos.size pos.cells q)))
+                (play_beside pos.size pos.cells (mover_of node.turn) sets.empty (target_of node) q on q_on near))
                 ∙ walled_there q q_on near;
             child = child.1;
           },

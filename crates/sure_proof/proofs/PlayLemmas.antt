@@ -9,7 +9,7 @@ use Rattle.go_rules.specs.declared.Colour.{Colour}
 use Rattle.go_rules.specs.Board.{are_neighbours}
 use Rattle.go_rules.specs.Strings.{cell_at, is_stone, Path, start, step, IsInString, IsLiberty}
 use Rattle.go_rules.specs.Position.{BoardState, IsPosition, board_of, other, stone_of}
-use Rattle.go_rules.specs.Play.{play, play_free, is_taken, cells_after}
+use Rattle.go_rules.specs.Play.{play_free, is_taken, cells_after}
 use Rattle.go_rules.specs.Rules.{IsOnlyLiberty, LeavesBan}
 use Rattle.go_rules.proofs.BanLaws.{ban_parts, ban_means, ban_from}
 use Rattle.go_rules.proofs.InWords.{string_itself}
@@ -22,18 +22,28 @@ use Rattle.go_rules.proofs.PlayLaws.{answered}
 use Rattle.read_rules.proofs.AfterPlays.{put_liberty, after_liberty}
 use Rattle.sure_proof.proofs.ShownLemmas.{IsShown, IsShown-sym, has_two, all_same}
 
--- the point p is empty on both boards, and they show the same of it and of its neighbours
-pub record LooksSame (s : ℕ) (a b : List Cell) (p : ℕ) : Type 0 where
+-- of the neighbours that hold stones of c, the boards show the same
+abbrev pub OwnShown : ℕ → List Cell → List Cell → Colour → ℕ → Type 0
+OwnShown s a b c p = (q : ℕ) → q < s * s → are_neighbours s p q ≡ true → cell_at a q ≡ stone_of c → IsShown s a b q
+
+-- the point p has an empty neighbour
+abbrev pub HasRoom : ℕ → List Cell → ℕ → Type 0
+HasRoom s a p = (q : ℕ) × (q < s * s) × (are_neighbours s p q ≡ true) × (cell_at a q ≡ Empty)
+
+-- the point p is empty on both boards, they have the same on its neighbours, and they show the same of the enemies of c
+-- among these; p has an empty neighbour, or they show the same of the neighbours of c too
+pub record LooksSame (s : ℕ) (a b : List Cell) (c : Colour) (p : ℕ) : Type 0 where
   pub first : IsPosition (board_of s a)
   pub second : IsPosition (board_of s b)
   pub on_board : p < s * s
   pub empty_first : cell_at a p ≡ Empty
   pub empty_second : cell_at b p ≡ Empty
   pub beside : (q : ℕ) → q < s * s → are_neighbours s p q ≡ true → cell_at a q ≡ cell_at b q
-  pub shown : (q : ℕ) → q < s * s → are_neighbours s p q ≡ true → is_stone (cell_at a q) ≡ true → IsShown s a b q
+  pub enemies : OwnShown s a b (other c) p
+  pub room : HasRoom s a p ⊎ OwnShown s a b c p
 
 -- which of the boards is the first does not matter
-pub LooksSame-sym : {s : ℕ} {a b : List Cell} {p : ℕ} → LooksSame s a b p → LooksSame s b a p
+pub LooksSame-sym : {s : ℕ} {a b : List Cell} {c : Colour} {p : ℕ} → LooksSame s a b c p → LooksSame s b a c p
 LooksSame-sym h = record {
   first = h.second;
   second = h.first;
@@ -41,7 +51,11 @@ LooksSame-sym h = record {
   empty_first = h.empty_second;
   empty_second = h.empty_first;
   beside = λ q on near. sym (h.beside q on near);
-  shown = λ q on near stone. IsShown-sym (h.shown q on near (ap is_stone (h.beside q on near) ∙ stone));
+  enemies = λ q on near stone. IsShown-sym (h.enemies q on near (h.beside q on near ∙ stone));
+  room = elim h.room [
+    | inl free ↦ inl (free.0, free.1, free.2, sym (h.beside free.0 free.1 free.2) ∙ free.3)
+    | inr own ↦ inr (λ q on near stone. IsShown-sym (own q on near (h.beside q on near ∙ stone)))
+  ];
 }
 
 -- a neighbour of a point is another point
@@ -141,7 +155,7 @@ module _ (s : ℕ) (cells : List Cell) (c : Colour) (p : ℕ) (on : p < s * s) (
 module _ (s : ℕ) (p : ℕ) (c : Colour) where
   -- a stone of an enemy's string that is captured on the first board is of that string on the second, before the stones
   -- are taken
-  same_string : (a b : List Cell) → LooksSame s a b p → (x q : ℕ) → x ≢ p
+  same_string : (a b : List Cell) → LooksSame s a b c p → (x q : ℕ) → x ≢ p
       → cell_at (set a p (stone_of c)) x ≡ stone_of (other c) → cell_at b x ≡ stone_of (other c)
       → ((y : ℕ) → IsInString s a x y → IsInString s b x y)
       → Path s (set a p (stone_of c)) x q → Path s (set b p (stone_of c)) x q
@@ -156,7 +170,7 @@ module _ (s : ℕ) (p : ℕ) (c : Colour) where
       inside.path
 
   -- what is taken on the first board is taken on the second
-  pub taken_on : (a b : List Cell) → LooksSame s a b p → (q : ℕ) → q < s * s
+  pub taken_on : (a b : List Cell) → LooksSame s a b c p → (q : ℕ) → q < s * s
       → is_taken s (set a p (stone_of c)) c q ≡ true → is_taken s (set b p (stone_of c)) c q ≡ true
   taken_on a b h q q_on t =
       let w = taken_beside (board_of s a) h.first c p h.on_board h.empty_first q q_on t in
@@ -165,9 +179,8 @@ module _ (s : ℕ) (p : ℕ) (c : Colour) where
       let ne = apart s p x w.2 in
       let old : cell_at a x ≡ stone_of (other c) = sym (at_put_other a p x (stone_of c) ne) ∙ parts.0 in
       let old_b : cell_at b x ≡ stone_of (other c) = sym (h.beside x w.1 w.2) ∙ old in
-      let stone : is_stone (cell_at a x) ≡ true = ap is_stone old ∙ stone_is (other c) in
       let dead = (captured_from s (set a p (stone_of c)) c x w.1 w.3).dead in
-      elim (h.shown x w.1 w.2 stone) [
+      elim (h.enemies x w.1 w.2 old) [
         | has_two l k lk la ka lb kb ↦ absurd (elim (cases_eq l p) [
           | inl e ↦ dead k (put_liberty s a c p h.empty_first x w.1 k ka (λ f. lk (e ∙ sym f)))
           | inr l_not ↦ dead l (put_liberty s a c p h.empty_first x w.1 l la l_not)
@@ -177,7 +190,7 @@ module _ (s : ℕ) (p : ℕ) (c : Colour) where
               | inl e ↦ e
               | inr k_not ↦ absurd (dead k (put_liberty s a c p h.empty_first x w.1 k lib k_not))
             ] in
-            let some = liberties_some s a x (h.first.alive x w.1 stone) in
+            let some = liberties_some s a x (h.first.alive x w.1 (ap is_stone old ∙ stone_is (other c))) in
             let one : IsOnlyLiberty s b x p = record {
               its = la p (subst (IsLiberty s a x) (only some.0 some.1) some.1);
               only = λ k lib. only k (lb k lib);
@@ -188,7 +201,7 @@ module _ (s : ℕ) (p : ℕ) (c : Colour) where
       ]
 
   -- the same is taken on both
-  pub taken_same : (a b : List Cell) → LooksSame s a b p → (q : ℕ) → q < s * s
+  pub taken_same : (a b : List Cell) → LooksSame s a b c p → (q : ℕ) → q < s * s
       → is_taken s (set a p (stone_of c)) c q ≡ is_taken s (set b p (stone_of c)) c q
   taken_same a b h q on = elim (cases_Bool (is_taken s (set a p (stone_of c)) c q)) [
     | inl t ↦ t ∙ sym (taken_on a b h q on t)
@@ -199,7 +212,7 @@ module _ (s : ℕ) (p : ℕ) (c : Colour) where
   ]
 
   -- where the cells are the same before the play they are the same after it
-  pub after_same : (a b : List Cell) → LooksSame s a b p → (q : ℕ) → q < s * s → cell_at a q ≡ cell_at b q
+  pub after_same : (a b : List Cell) → LooksSame s a b c p → (q : ℕ) → q < s * s → cell_at a q ≡ cell_at b q
       → cell_at (cells_after s (set a p (stone_of c)) c) q ≡ cell_at (cells_after s (set b p (stone_of c)) c) q
   after_same a b h q on e =
       at_after s (set a p (stone_of c)) c q on
@@ -215,52 +228,77 @@ module _ (s : ℕ) (p : ℕ) (c : Colour) where
       ]
 
   -- an empty neighbour after the play on the first board is a liberty of the played stone on the second
-  beside_on : (a b : List Cell) → LooksSame s a b p → (l : ℕ) → l < s * s → are_neighbours s p l ≡ true
+  beside_on : (a b : List Cell) → LooksSame s a b c p → (l : ℕ) → l < s * s → are_neighbours s p l ≡ true
       → cell_at (cells_after s (set a p (stone_of c)) c) l ≡ Empty
       → IsLiberty s (cells_after s (set b p (stone_of c)) c) p l
   beside_on a b h l on near empty = beside_liberty s b c p h.on_board h.second.cells l on near
       (sym (after_same a b h l on (h.beside l on near)) ∙ empty)
 
+  -- an empty neighbour before the play is a liberty of the played stone after it
+  room_lives : (a b : List Cell) → LooksSame s a b c p → HasRoom s a p
+      → (k : ℕ) × IsLiberty s (cells_after s (set b p (stone_of c)) c) p k
+  room_lives a b h free =
+      let q = free.0 in
+      let put_empty : cell_at (set b p (stone_of c)) q ≡ Empty
+      = at_put_other b p q (stone_of c) (apart s p q free.2) ∙ sym (h.beside q free.1 free.2) ∙ free.3 in
+      let empty : cell_at (cells_after s (set b p (stone_of c)) c) q ≡ Empty
+      = elim (cases_Bool (is_taken s (set b p (stone_of c)) c q)) [
+        | inl t ↦ gone s b c p h.on_board h.second.cells q free.1 t
+        | inr f ↦ kept s b c p h.on_board h.second.cells q free.1 f ∙ put_empty
+      ] in
+      (q, beside_liberty s b c p h.on_board h.second.cells q free.1 free.2 empty)
+
+  -- if the played stone lives on the first board by the string of a neighbour of c, and the boards show the same of this
+  -- string, it lives on the second board
+  own_lives : (a b : List Cell) → LooksSame s a b c p → (l : ℕ)
+      → IsLiberty s (cells_after s (set a p (stone_of c)) c) p l → (x y : ℕ) → x < s * s → are_neighbours s p x ≡ true
+      → cell_at a x ≡ stone_of c → IsInString s a x y → are_neighbours s y l ≡ true → IsShown s a b x
+      → (k : ℕ) × IsLiberty s (cells_after s (set b p (stone_of c)) c) p k
+  own_lives a b h l lib x y x_on near own inside beside same =
+      let own_b : cell_at b x ≡ stone_of c = sym (h.beside x x_on near) ∙ own in
+      let joined = joined_liberty s b c p h.on_board h.second.cells h.empty_second x x_on near own_b in
+      elim same [
+        | has_two m k mk ma ka mb kb ↦ elim (cases_eq m p) [
+          | inl e ↦ (k, joined k kb (λ f. mk (e ∙ sym f)))
+          | inr m_not ↦ (m, joined m mb m_not)
+        ]
+        | all_same sa sb la lb ↦ elim (cases_Bool (is_taken s (set a p (stone_of c)) c l)) [
+          | inl t ↦
+              let z = taken_beside (board_of s a) h.first c p h.on_board h.empty_first l lib.on_board t in (
+                z.0,
+                beside_liberty s b c p h.on_board h.second.cells z.0 z.1 z.2
+                    (gone s b c p h.on_board h.second.cells z.0 z.1 (taken_on a b h z.0 z.1 z.3)),
+              )
+          | inr f ↦
+              let put_empty = sym (kept s a c p h.on_board h.first.cells l lib.on_board f) ∙ lib.is_empty in
+              let l_not : l ≢ p = λ e. stone_not_empty c (sym (put_here s a c p h.on_board h.first.cells)
+              ∙ ap (cell_at (set a p (stone_of c))) (sym e) ∙ put_empty) in
+              let before : IsLiberty s a x l = record {
+                on_board = lib.on_board;
+                is_empty = sym (at_put_other a p l (stone_of c) l_not) ∙ put_empty;
+                beside = (y, inside, beside);
+              } in
+              (l, joined l (la l before) l_not)
+        ]
+      ]
+
   -- if the played stone lives on the first board it lives on the second
-  pub alive_on : (a b : List Cell) → LooksSame s a b p → (l : ℕ)
+  pub alive_on : (a b : List Cell) → LooksSame s a b c p → (l : ℕ)
       → IsLiberty s (cells_after s (set a p (stone_of c)) c) p l
       → (k : ℕ) × IsLiberty s (cells_after s (set b p (stone_of c)) c) p k
-  alive_on a b h l lib = elim (own_path s a c p h.on_board h.first.cells lib.beside.1.path) [
-    | inl y_is ↦ (
-      l,
-      beside_on a b h l lib.on_board (subst (λ v. are_neighbours s v l ≡ true) y_is lib.beside.2) lib.is_empty,
-    )
-    | inr w ↦
-        let own_b : cell_at b w.0 ≡ stone_of c = sym (h.beside w.0 w.1 w.2) ∙ w.3 in
-        let joined = joined_liberty s b c p h.on_board h.second.cells h.empty_second w.0 w.1 w.2 own_b in
-        elim (h.shown w.0 w.1 w.2 (ap is_stone w.3 ∙ stone_is c)) [
-          | has_two m k mk ma ka mb kb ↦ elim (cases_eq m p) [
-            | inl e ↦ (k, joined k kb (λ f. mk (e ∙ sym f)))
-            | inr m_not ↦ (m, joined m mb m_not)
-          ]
-          | all_same sa sb la lb ↦ elim (cases_Bool (is_taken s (set a p (stone_of c)) c l)) [
-            | inl t ↦
-                let z = taken_beside (board_of s a) h.first c p h.on_board h.empty_first l lib.on_board t in (
-                  z.0,
-                  beside_liberty s b c p h.on_board h.second.cells z.0 z.1 z.2
-                      (gone s b c p h.on_board h.second.cells z.0 z.1 (taken_on a b h z.0 z.1 z.3)),
-                )
-            | inr f ↦
-                let put_empty = sym (kept s a c p h.on_board h.first.cells l lib.on_board f) ∙ lib.is_empty in
-                let l_not : l ≢ p = λ e. stone_not_empty c (sym (put_here s a c p h.on_board h.first.cells)
-                ∙ ap (cell_at (set a p (stone_of c))) (sym e) ∙ put_empty) in
-                let before : IsLiberty s a w.0 l = record {
-                  on_board = lib.on_board;
-                  is_empty = sym (at_put_other a p l (stone_of c) l_not) ∙ put_empty;
-                  beside = (lib.beside.0, w.4, lib.beside.2);
-                } in
-                (l, joined l (la l before) l_not)
-          ]
-        ]
+  alive_on a b h l lib = elim h.room [
+    | inl free ↦ room_lives a b h free
+    | inr shows ↦ elim (own_path s a c p h.on_board h.first.cells lib.beside.1.path) [
+      | inl y_is ↦ (
+        l,
+        beside_on a b h l lib.on_board (subst (λ v. are_neighbours s v l ≡ true) y_is lib.beside.2) lib.is_empty,
+      )
+      | inr w ↦ own_lives a b h l lib w.0 lib.beside.0 w.1 w.2 w.3 w.4 lib.beside.2 (shows w.0 w.1 w.2 w.3)
+    ]
   ]
 
   -- if the played stone is alone on the first board it is alone on the second
-  alone_on : (a b : List Cell) → LooksSame s a b p
+  alone_on : (a b : List Cell) → LooksSame s a b c p
       → ((r : ℕ) → IsInString s (cells_after s (set a p (stone_of c)) c) p r → r ≡ p)
       → (r : ℕ) → IsInString s (cells_after s (set b p (stone_of c)) c) p r → r ≡ p
   alone_on a b h alone r inside = elim (own_path s b c p h.on_board h.second.cells inside.path) [
@@ -270,7 +308,7 @@ module _ (s : ℕ) (p : ℕ) (c : Colour) where
   ]
 
   -- a liberty of a stone that is alone on the first board is one on the second
-  lone_liberty : (a b : List Cell) → LooksSame s a b p
+  lone_liberty : (a b : List Cell) → LooksSame s a b c p
       → ((r : ℕ) → IsInString s (cells_after s (set a p (stone_of c)) c) p r → r ≡ p) → (l : ℕ)
       → IsLiberty s (cells_after s (set a p (stone_of c)) c) p l
       → IsLiberty s (cells_after s (set b p (stone_of c)) c) p l
@@ -278,7 +316,7 @@ module _ (s : ℕ) (p : ℕ) (c : Colour) where
       (subst (λ v. are_neighbours s v l ≡ true) (alone lib.beside.0 lib.beside.1) lib.beside.2) lib.is_empty
 
   -- the ban that the play leaves on the first board it leaves on the second
-  leaves_on : (a b : List Cell) → LooksSame s a b p → (q : ℕ)
+  leaves_on : (a b : List Cell) → LooksSame s a b c p → (q : ℕ)
       → LeavesBan (board_of s a) c p (cells_after s (set a p (stone_of c)) c) q
       → LeavesBan (board_of s b) c p (cells_after s (set b p (stone_of c)) c) q
   leaves_on a b h q w =
@@ -305,7 +343,7 @@ abbrev pub state : ℕ → List Cell → Option (ℕ × Colour) → BoardState
 state s cells ban = record { size = s; cells = cells; ban = ban }
 
 -- the ban that a play leaves on the first board it leaves on the second
-ban_on : (s : ℕ) (a b : List Cell) (x y : Option (ℕ × Colour)) (c : Colour) (p : ℕ) → LooksSame s a b p
+ban_on : (s : ℕ) (a b : List Cell) (x y : Option (ℕ × Colour)) (c : Colour) (p : ℕ) → LooksSame s a b c p
     → (first second : BoardState) → play_free (state s a x) c p ≡ Ok first → play_free (state s b y) c p ≡ Ok second
     → (q : ℕ) (k : Colour) → first.ban ≡ Some (q, k) → second.ban ≡ Some (q, k)
 ban_on s a b x y c p h first second played_a played_b q k e =
@@ -353,7 +391,7 @@ pub record IsSamePlay (s : ℕ) (a b : List Cell) (first second : BoardState) : 
   pub cells : (q : ℕ) → q < s * s → cell_at a q ≡ cell_at b q → cell_at first.cells q ≡ cell_at second.cells q
 
 -- a play that can be made on the first board, with no regard to the ban, can be made on the second
-pub done_on : (s : ℕ) (a b : List Cell) (x y : Option (ℕ × Colour)) (c : Colour) (p : ℕ) → LooksSame s a b p
+pub done_on : (s : ℕ) (a b : List Cell) (x y : Option (ℕ × Colour)) (c : Colour) (p : ℕ) → LooksSame s a b c p
     → (first : BoardState) → play_free (state s a x) c p ≡ Ok first
     → (second : BoardState) × (play_free (state s b y) c p ≡ Ok second) × IsSamePlay s a b first second
 done_on s a b x y c p h first played =

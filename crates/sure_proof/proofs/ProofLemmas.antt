@@ -13,14 +13,12 @@ use Rattle.go_rules.specs.declared.Cell.{Cell}
 use Rattle.go_rules.specs.declared.Cell.TheVariants.{Empty}
 use Rattle.go_rules.specs.declared.Colour.{Colour}
 use Rattle.go_rules.specs.Board.{are_neighbours}
-use Rattle.go_rules.specs.Strings.{cell_at, is_stone, same_cell, is_liberty, liberties, liberty_points, IsLiberty}
+use Rattle.go_rules.specs.Strings.{cell_at, is_stone, same_cell, is_liberty, liberties}
 use Rattle.go_rules.specs.Position.{BoardState, IsPosition, other, stone_of}
 use Rattle.go_rules.specs.Play.{pass}
 use Rattle.go_rules.specs.Rules.{IsOnlyLiberty}
 use Rattle.go_rules.proofs.Counts.{any_below_gives}
 use Rattle.go_rules.proofs.Paths.{IsLiberty-from_test, is_liberty-from_fact, same_cell-true, same_cell-from}
-use Rattle.go_rules.proofs.Plays.{stone_is}
-use Rattle.go_rules.proofs.OnlyLiberties.{stone_not_empty}
 use Rattle.go_rules.proofs.PlayLaws.{free_keeps, pass_keeps}
 use Rattle.read_rules.specs.ActiveArea.{AgreeOn}
 use Rattle.read_rules.specs.Candidates.{is_candidate, is_empty_beside, fills, goes_further}
@@ -41,18 +39,20 @@ use Rattle.sure_rules.specs.Nodes.{is_attackers, is_gone, is_taken_for_good, has
 use Rattle.sure_rules.specs.SureTree.{surely_wins}
 use Rattle.sure_rules.specs.Zones.{points_of, IsZone}
 use Rattle.sure_rules.proofs.ZoneLemmas.{zone_taken_back, zone_attacker, zone_defender}
-use Rattle.sure_proof.specs.Rests.{Points, first_two, close_to, shows_atari, play_rests_on, loss_rests_on}
+use Rattle.sure_proof.specs.Rests.{Points, close_to, loss_rests_on}
 use Rattle.sure_proof.specs.Rests.{most_wide, most_of_enemy, shown_at, with_string, candidate_rests_on}
 use Rattle.sure_proof.specs.Rests.{all_points}
-use Rattle.sure_proof.specs.Rests.{guard_at, guard_of, asked_at, asked_of, last_of}
+use Rattle.sure_proof.specs.Rests.{guard_of, asked_of}
 use Rattle.sure_proof.specs.SureProofs.{Proved, Prover, proved_by, with_points, behind_word, behind_vertex, is_to, by_capture, by_back}
-use Rattle.sure_proof.specs.SureProofs.{by_child}
+use Rattle.sure_proof.specs.SureProofs.{by_child, move_rests_on, with_move, with_candidate, with_reply}
 use Rattle.sure_proof.specs.SureProofs.{by_move, at_reply, at_replies, replies_to, at_end, behind_pass, by_replies, by_turn}
 use Rattle.sure_proof.specs.SureProofs.{proves_surely}
-use Rattle.sure_proof.proofs.ShownLemmas.{insert_self, insert_more, union_first, union_second, union_all, below_in}
-use Rattle.sure_proof.proofs.ShownLemmas.{IsShown, has_two, all_same, SameOn, shown, first_two_give, liberty_in}
+use Rattle.sure_proof.specs.Gathered.{IsWithin}
+use Rattle.sure_proof.proofs.ShownLemmas.{insert_self, insert_more, union_first, union_second, below_in}
+use Rattle.sure_proof.proofs.ShownLemmas.{SameOn}
+use Rattle.sure_proof.proofs.GuardLemmas.{asks_empty, last_is_asked}
 use Rattle.sure_proof.proofs.PlayLemmas.{state}
-use Rattle.sure_proof.proofs.SoundLemmas.{has, IsWithin, on_board, zone_on_board, child_there, child_here, stone_of_cell}
+use Rattle.sure_proof.proofs.SoundLemmas.{has, on_board, zone_on_board, child_there, child_here, stone_of_cell}
 use Rattle.sure_proof.proofs.FurtherKept.{wide_candidate, weak_kept, weak_candidate, link_kept}
 use Rattle.sure_proof.proofs.FurtherKept.{ShowsCandidate, is_weak, is_link, other_given}
 use Rattle.sure_proof.proofs.LossLemmas.{loss_point, loss_zone, play_within}
@@ -202,12 +202,12 @@ module _ (n : ℕ) (node : Node) (pos : BoardState) (p : ℕ) (next : Node) (fir
     (zone : IsZone n next first (has W)) where
   -- the points that show it
   abbrev all_of_it : Points
-  all_of_it = sets.union (sets.union (candidate_rests_on node.turn pos p) (play_rests_on pos.size pos.cells p)) W
+  all_of_it = sets.union (sets.union (candidate_rests_on node.turn pos p) (move_rests_on node pos p W)) W
 
   -- they are a zone
   play_zone : IsZone (suc n) node pos (has all_of_it)
   play_zone =
-      let both : Points = sets.union (candidate_rests_on node.turn pos p) (play_rests_on pos.size pos.cells p) in
+      let both : Points = sets.union (candidate_rests_on node.turn pos p) (move_rests_on node pos p W) in
       let p_on = candidate_on node.turn pos p candidate in
       let child = child_gives node pos p next first is in
       let sound_child = free_keeps pos (mover_of node.turn) p first good p_on
@@ -217,7 +217,7 @@ module _ (n : ℕ) (node : Node) (pos : BoardState) (p : ℕ) (next : Node) (fir
       = λ here sound same. candidate_there node.turn pos here p all_of_it good sound on
       (stone_of_cell (cell_at pos.cells node.turn.target) stands) turn candidate same
       (λ q inside. union_first q both W (union_first q (candidate_rests_on node.turn pos p)
-      (play_rests_on pos.size pos.cells p) inside)) in
+      (move_rests_on node pos p W) inside)) in
       zone_attacker n node pos (has all_of_it) turn (record {
         point = p;
         next = next;
@@ -225,9 +225,9 @@ module _ (n : ℕ) (node : Node) (pos : BoardState) (p : ℕ) (next : Node) (fir
         after = on_board first.size W;
         few = λ here sound same. (there here sound same).0 ∙ few;
         candidate = λ here sound same. (there here sound same).1;
-        leads = λ here sound same. child_there node pos here p all_of_it good sound p_on same
+        leads = λ here sound same. child_there node pos here W p all_of_it good sound p_on same
             (λ q inside. union_first q both W (union_second q (candidate_rests_on node.turn pos p)
-            (play_rests_on pos.size pos.cells p) inside)) W (λ q inside. union_second q both W inside) next first child;
+            (move_rests_on node pos p W) inside)) W (λ q inside. union_second q both W inside) next first child;
         zone = zone_on_board n next first W sound_child zone;
       })
 
@@ -237,12 +237,12 @@ FailsOn n node pos Z p = (here : BoardState) → IsPosition here → AgreeOn (po
     → (next : Node) (made : BoardState) → IsChild node here p next made → surely_wins n next made ≡ true
 
 -- A reply of the defender that rests on points of Z.
-module _ (n : ℕ) (node : Node) (pos : BoardState) (p : ℕ) (Z : Points) (good : IsPosition pos)
-    (p_on : p < pos.size * pos.size) (rests : IsWithin (play_rests_on pos.size pos.cells p) Z) where
+module _ (n : ℕ) (node : Node) (pos : BoardState) (Y : Points) (p : ℕ) (Z : Points) (good : IsPosition pos)
+    (p_on : p < pos.size * pos.size) (rests : IsWithin (move_rests_on node pos p Y) Z) where
   -- if it cannot be made here it cannot be made there
   fails_refused : child_of node pos p ≡ None → FailsOn n node pos Z p
   fails_refused none here sound same next made child =
-      let w = child_here node pos here p Z good sound p_on same rests next made child in
+      let w = child_here node pos here Y p Z good sound p_on same rests next made child in
       absurd (let wrong = sym none ∙ child_from node pos p next w.0 w.1 in cc)
 
   -- if it can, and its child has a zone within Z, it fails there
@@ -251,7 +251,7 @@ module _ (n : ℕ) (node : Node) (pos : BoardState) (p : ℕ) (Z : Points) (good
   fails_made after first W is zone within here sound same next made child =
       let here_on = subst (λ s. p < s * s) same.sizes p_on in
       let mine = child_gives node pos p after first is in
-      let w = child_there node pos here p Z good sound p_on same rests W within after first mine in
+      let w = child_there node pos here Y p Z good sound p_on same rests W within after first mine in
       let one : Some (after, w.0) ≡ Some (next, made) =
       sym (child_from node here p after w.0 w.1) ∙ child_from node here p next made child in
       let pair : (after, w.0) ≡ (next, made) = (let e = one in cc) in
@@ -273,18 +273,18 @@ module _ (n : ℕ) (node : Node) (pos : BoardState) (good : IsPosition pos) (on 
       (record {
         point = rests (target_of node) (loss_point node pos);
         fails = λ here sound same next made there.
-            fails_made n node pos (target_of node) Z good on
+            fails_made n node pos sets.empty (target_of node) Z good on
             (play_within node pos good on Z rests here sound same next made there) child.0 child.1 W
             (child_from node pos (target_of node) child.0 child.1 back.child) zone within here sound same next made
             there.child;
       })
 
 -- what an optional value that was mapped came of
-mapped : (M : Points) (o : Option Proved) (found : Proved) → option_map (with_points M) o ≡ Some found
-    → (inner : Proved) × (o ≡ Some inner) × (sets.union M inner.zone ≡ found.zone)
-mapped M None found e = absurd (let wrong = e in cc)
-mapped M (Some inner) found e =
-    let is : with_points M inner ≡ found = (let w = e in cc) in (inner, refl, ap (λ (v : Proved). v.zone) is)
+mapped : (f : Proved → Proved) (o : Option Proved) (found : Proved) → option_map f o ≡ Some found
+    → (inner : Proved) × (o ≡ Some inner) × ((f inner).zone ≡ found.zone)
+mapped f None found e = absurd (let wrong = e in cc)
+mapped f (Some inner) found e =
+    let is : f inner ≡ found = (let w = e in cc) in (inner, refl, ap (λ (v : Proved). v.zone) is)
 
 -- what one came of that came behind another
 came_behind : {A : Type 0} (f : A → Option Proved) (o : Option A) (found : Proved) → option_and_then f o ≡ Some found
@@ -302,33 +302,35 @@ module _ (n : ℕ) (prove : Prover) (sound : IsSound n prove) (node : Node) (pos
     (on : node.turn.target < pos.size * pos.size) where
   -- one reply
   one_reply : (p : ℕ) → p < pos.size * pos.size → (o : Option (Node × BoardState)) → child_of node pos p ≡ o
-      → (so_far found : Proved) → at_reply prove pos p o so_far ≡ Some found
+      → (so_far found : Proved) → at_reply prove node pos p o so_far ≡ Some found
       → IsWithin so_far.zone found.zone × FailsOn n node pos found.zone p
   one_reply p p_on None is so_far found e =
-      let same : record { rest = so_far.rest; zone = sets.union so_far.zone (play_rests_on pos.size pos.cells p) } ≡ found
+      let same : record { rest = so_far.rest; zone = with_move node pos p so_far.zone } ≡ found
       = (let w = e in cc) in
       let zone = ap (λ (v : Proved). v.zone) same in (
         λ q inside. ap (λ (S : Points). has S q) (sym zone)
-            ∙ union_first q so_far.zone (play_rests_on pos.size pos.cells p) inside,
-        fails_refused n node pos p found.zone good p_on (λ q inside. ap (λ (S : Points). has S q) (sym zone)
-            ∙ union_second q so_far.zone (play_rests_on pos.size pos.cells p) inside) is,
+            ∙ union_first q so_far.zone (move_rests_on node pos p so_far.zone) inside,
+        fails_refused n node pos so_far.zone p found.zone good p_on (λ q inside. ap (λ (S : Points). has S q) (sym zone)
+            ∙ union_second q so_far.zone (move_rests_on node pos p so_far.zone) inside) is,
       )
   one_reply p p_on (Some child) is so_far found e =
-      let M : Points = sets.union so_far.zone (play_rests_on pos.size pos.cells p) in
-      let inner = mapped M (option_and_then (prove child.0 child.1) (behind_vertex pos.size p so_far.rest)) found e in
+      let inner = mapped (with_reply node pos p so_far.zone)
+      (option_and_then (prove child.0 child.1) (behind_vertex pos.size p so_far.rest)) found e in
       let words = came_behind (prove child.0 child.1) (behind_vertex pos.size p so_far.rest) inner.0 inner.1 in
       let mine = child_gives node pos p child.0 child.1 is in
       let child_sound = free_keeps pos (mover_of node.turn) p child.1 good p_on
       (child_free node pos p child.0 child.1 mine).1 in
       let zone = sound child.0 child.1 words.0 inner.0 child_sound (played_on_board node pos p child on is) words.2 in
-      let of_all : (q : ℕ) → has (sets.union M inner.0.zone) q ≡ true → has found.zone q ≡ true = λ q inside.
+      let both : Points = sets.union so_far.zone inner.0.zone in
+      let of_all : (q : ℕ) → has (with_move node pos p both) q ≡ true → has found.zone q ≡ true = λ q inside.
       ap (λ (S : Points). has S q) (sym inner.2) ∙ inside in (
-        λ q inside. of_all q (union_first q M inner.0.zone
-            (union_first q so_far.zone (play_rests_on pos.size pos.cells p) inside)),
-        fails_made n node pos p found.zone good p_on
-            (λ q inside. of_all q (union_first q M inner.0.zone
-            (union_second q so_far.zone (play_rests_on pos.size pos.cells p) inside))) child.0 child.1 inner.0.zone is zone
-            (λ q inside. of_all q (union_second q M inner.0.zone inside)),
+        λ q inside. of_all q (union_first q both (move_rests_on node pos p both)
+            (union_first q so_far.zone inner.0.zone inside)),
+        fails_made n node pos both p found.zone good p_on
+            (λ q inside. of_all q (union_second q both (move_rests_on node pos p both) inside)) child.0 child.1
+            inner.0.zone is zone
+            (λ q inside. of_all q (union_first q both (move_rests_on node pos p both)
+            (union_second q so_far.zone inner.0.zone inside))),
       )
 
   -- what fails on fewer points fails on more
@@ -354,7 +356,7 @@ module _ (n : ℕ) (prove : Prover) (sound : IsSound n prove) (node : Node) (pos
         let split = sym (ap (λ v. at_replies prove node pos
         (cond v (a ∷ filter test (range_with_len (a + 1) m)) (filter test (range_with_len (a + 1) m))) so_far) t) ∙ e in
         let w = came_behind (at_replies prove node pos (filter test (range_with_len (a + 1) m)))
-        (at_reply prove pos a (child_of node pos a) so_far) found split in
+        (at_reply prove node pos a (child_of node pos a) so_far) found split in
         let one = one_reply a (omega (arith, few)) (child_of node pos a) refl so_far w.0 w.1 in
         let rest = all_replies test m (a + 1) (omega (arith, few)) w.0 found w.2 in (
           λ q inside. rest.0 q (one.0 q inside),
@@ -375,66 +377,6 @@ module _ (n : ℕ) (prove : Prover) (sound : IsSound n prove) (node : Node) (pos
         )
   ]
 
--- What a zone of the pass asks for and what guards it.
-module _ (s : ℕ) (cells : List Cell) (c : Colour) (P : Points) (q : ℕ) (on : q < s * s) (inside : has P q ≡ true) where
-  -- an empty point is asked for
-  asks_empty : cell_at cells q ≡ Empty → has (asked_of s cells c P) q ≡ true
-  unfolding asked_of
-  asks_empty empty = union_all q (s * s) (asked_at s cells c P) q on
-      (ap (λ v. has (cond v (sets.insert sets.empty q)
-      (cond (has P q && same_cell (cell_at cells q) (stone_of c))
-      (last_of (liberty_points s cells q) (first_two (liberty_points s cells q))) sets.empty)) q)
-      (and_from (has P q) (same_cell (cell_at cells q) Empty) inside (same_cell-from (cell_at cells q) Empty empty))
-      ∙ insert_self q sets.empty)
-
-  -- what shows whether the string of a stone of c is in atari guards it
-  guards : cell_at cells q ≡ stone_of c → IsWithin (shows_atari s cells q) (guard_of s cells c P)
-  unfolding guard_of
-  guards stone r shows = union_all r (s * s) (guard_at s cells c P) q on
-      (ap (λ v. has (cond v (shows_atari s cells q) sets.empty) r)
-      (and_from (has P q) (same_cell (cell_at cells q) (stone_of c)) inside
-      (same_cell-from (cell_at cells q) (stone_of c) stone)) ∙ shows)
-
-  -- the only liberty of its string is asked for
-  asks_last : cell_at cells q ≡ stone_of c → (p : ℕ)
-      → has (last_of (liberty_points s cells q) (first_two (liberty_points s cells q))) p ≡ true → has (asked_of s cells c P) p ≡ true
-  unfolding asked_of
-  asks_last stone p last = union_all p (s * s) (asked_at s cells c P) q on
-      (ap (λ v. has (cond v (sets.insert sets.empty q)
-      (cond (has P q && same_cell (cell_at cells q) (stone_of c))
-      (last_of (liberty_points s cells q) (first_two (liberty_points s cells q))) sets.empty)) p)
-      not_empty
-      ∙ ap (λ v. has (cond v (last_of (liberty_points s cells q) (first_two (liberty_points s cells q))) sets.empty) p)
-      (and_from (has P q) (same_cell (cell_at cells q) (stone_of c)) inside
-      (same_cell-from (cell_at cells q) (stone_of c) stone)) ∙ last)
-    where
-      not_empty : (has P q && same_cell (cell_at cells q) Empty) ≡ false
-      not_empty = elim (cases_Bool (has P q && same_cell (cell_at cells q) Empty)) [
-        | inl t ↦ absurd (stone_not_empty c (sym stone ∙ same_cell-true (cell_at cells q) Empty
-            (and_parts (has P q) (same_cell (cell_at cells q) Empty) t).1))
-        | inr f ↦ f
-      ]
-
--- a liberty is among those of the string
-its_liberty : (s : ℕ) (cells : List Cell) (q l : ℕ) → q < s * s → IsLiberty s cells q l
-    → has (liberty_points s cells q) l ≡ true
-unfolding liberty_points
-its_liberty s cells q l on lib =
-    below_in (s * s) (is_liberty s cells q) l lib.on_board (is_liberty-from_fact s cells q l on lib)
-
--- the only liberty of a string, on two boards that show the same of it, is the last one that it has here
-last_shown : (s : ℕ) (a b : List Cell) (q p : ℕ) → q < s * s → IsShown s a b q → IsOnlyLiberty s b q p
-    → has (last_of (liberty_points s a q) (first_two (liberty_points s a q))) p ≡ true
-last_shown s a b q p on (has_two l k lk la ka lb kb) one = absurd (lk (one.only l lb ∙ sym (one.only k kb)))
-last_shown s a b q p on (all_same sa sb la lb) one = by (first_two (liberty_points s a q)) refl
-  where
-    by : (o : Option (ℕ × ℕ)) → first_two (liberty_points s a q) ≡ o → has (last_of (liberty_points s a q) o) p ≡ true
-    by None is = its_liberty s a q p on (lb p one.its)
-    by (Some w) is =
-        let found = first_two_give (liberty_points s a q) w.0 w.1 is in
-        absurd (found.0 (one.only w.0 (la w.0 (liberty_in s a q w.0 found.1))
-        ∙ sym (one.only w.1 (la w.1 (liberty_in s a q w.1 found.2)))))
-
 -- The defender's turn, by the zone of his pass and the replies that it asks for.
 module _ (n : ℕ) (node : Node) (pos : BoardState) (P Z : Points) (good : IsPosition pos)
     (turn : is_attackers node ≡ false) (zone : IsZone n (next_node node (allowance_of node)) (pass pos) (has P))
@@ -454,13 +396,10 @@ module _ (n : ℕ) (node : Node) (pos : BoardState) (P Z : Points) (good : IsPos
   last_asked here same q p inside stone only =
       let c = other (mover_of node.turn) in
       let parts = its_parts q inside in
-      let mine : cell_at pos.cells q ≡ stone_of c = same.cells q (within q parts.0) ∙ stone in
       let one = subst (λ s. IsOnlyLiberty s here.cells q p) (sym same.sizes) only in
-      let look = shown pos.size pos.cells here.cells q parts.1 (ap is_stone mine ∙ stone_is c)
-      (λ r shows. same.cells r (guarded r (guards pos.size pos.cells c P q parts.1 parts.0 mine r shows))) in
       and_from (has (asked_of pos.size pos.cells c P) p) (ltb p (pos.size * pos.size))
-      (asks_last pos.size pos.cells c P q parts.1 parts.0 mine p
-      (last_shown pos.size pos.cells here.cells q p parts.1 look one))
+      (last_is_asked pos.size pos.cells here.cells c P (λ r its. same.cells r (within r its))
+      (λ r its. same.cells r (guarded r its)) q p parts.1 parts.0 stone one)
       (lt-ltb p (pos.size * pos.size) one.its.on_board)
 
   -- they show a zone
@@ -515,8 +454,7 @@ module _ (n : ℕ) (prove : Prover) (sound : IsSound n prove) (node : Node) (pos
           → by_child prove node pos p o rest ≡ Some found → IsZone (suc n) node pos (has found.zone)
       by t None is e = absurd (let wrong = e in cc)
       by t (Some child) is e =
-          let M : Points = sets.union (candidate_rests_on node.turn pos p) (play_rests_on pos.size pos.cells p) in
-          let inner = mapped M (prove child.0 child.1 rest) found e in
+          let inner = mapped (with_candidate node pos p) (prove child.0 child.1 rest) found e in
           let p_on = candidate_on node.turn pos p t in
           let mine = child_gives node pos p child.0 child.1 is in
           let child_sound = free_keeps pos (mover_of node.turn) p child.1 good p_on
@@ -566,7 +504,7 @@ module _ (n : ℕ) (prove : Prover) (sound : IsSound n prove) (node : Node) (pos
       by false e = absurd (let wrong = e in cc)
       by true e =
           let M : Points = loss_rests_on node pos in
-          let inner = mapped M (prove child.0 child.1 rest) found e in
+          let inner = mapped (with_points M) (prove child.0 child.1 rest) found e in
           let back = takes_back_gives node pos child.0 child.1 is in
           let led = child_from node pos (target_of node) child.0 child.1 back.child in
           let child_sound = free_keeps pos (mover_of node.turn) (target_of node) child.1 good on

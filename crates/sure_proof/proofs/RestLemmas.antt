@@ -1,17 +1,16 @@
 -- The sets of points as loops and looks find them.
-use Rattle.std.proofs.Common.{◌≡◌, ◌∙◌, ℕ, ◌+◌, ◌*◌, ◌<◌, ◌≤◌, ◌&&◌, Bool, true, false, not, cond, List, Some, None}
-use Rattle.std.proofs.Common.{refl, sym, ap, inl, inr, arith, ltb, leb, add-one}
+use Rattle.std.proofs.Common.{◌≡◌, ◌∙◌, ℕ, ◌+◌, ◌*◌, ◌<◌, ◌≤◌, ◌&&◌, Bool, true, false, not, cond, List, Option}
+use Rattle.std.proofs.Common.{Some, None, refl, sym, ap, arith, ltb, leb, add-one}
 use Rattle.std.specs.Option.{option_map, option_and_then}
 use Rattle.std.specs.FinSet as sets
-use Rattle.std.proofs.lemmas.Bool.{cases_Bool, and_from, lt-ltb, ltb-true}
+use Rattle.std.specs.Prelude.{IfSome, IfNone}
+use Rattle.std.proofs.lemmas.Bool.{lt-ltb}
 use Rattle.go_rules.specs.declared.Cell.{Cell}
 use Rattle.go_rules.specs.BesideStrings.{is_enemy, is_beside_string}
-use Rattle.go_rules.specs.Below.{any_below, first_below}
+use Rattle.go_rules.specs.Below.{any_below}
 use Rattle.go_rules.specs.Board.{largest_points, are_neighbours}
-use Rattle.go_rules.specs.declared.Cell.TheVariants.{Empty, Black, White}
-use Rattle.go_rules.specs.declared.Colour.TheVariants.{Black as black, White as white}
+use Rattle.go_rules.specs.declared.Cell.TheVariants.{Empty}
 use Rattle.go_rules.specs.declared.Colour.{Colour}
-use Rattle.go_rules.specs.Position.{stone_of}
 use Rattle.go_rules.specs.Strings.{cell_at, same_cell, is_liberty, is_in_string, string_at, liberty_points}
 use Rattle.go_rules.specs.Strings.{liberties}
 use Rattle.go_base.specs.Floods.{enemy_points}
@@ -19,49 +18,50 @@ use Rattle.go_base.specs.Sides.{neighbour_at}
 use Rattle.read_rules.specs.Candidates.{is_empty_beside}
 use Rattle.read_rules.specs.declared.turn.Turn.{Turn}
 use Rattle.read_rules.specs.Trees.{is_wider}
-use Rattle.go_rules.proofs.Counts.{first_below_is, first_below_none, any_below_same}
+use Rattle.go_rules.proofs.Counts.{first_below_is, first_below_none, any_below_same, any_below_from, any_below_false}
 use Rattle.go_rules.proofs.Sets.{contains-set_below, len-set_below}
-use Rattle.sure_proof.specs.Rests.{Points, union_below, first_two, shown_by, shows_atari, last_of, asked_at}
+use Rattle.sure_proof.specs.Rests.{Points, union_below, first_of, first_within, two_within, shown_by, shows_atari}
+use Rattle.sure_proof.specs.Rests.{is_empty_at, has_empty_neighbour}
 use Rattle.sure_proof.specs.Rests.{is_open, open_neighbour, most_of_enemy, weak_enemy_at, linked_at}
 use Rattle.sure_proof.specs.Rests.{else_point, shown_at}
 use Rattle.wider_rules.specs.Further.{is_weak_enemy, is_linked, few_of_parted}
 use Rattle.wider_rules.proofs.StringLemmas.{has_enemy}
 
--- A set, and its first point.
-module _ (S : Points) where
-  -- an empty set has no two points
-  pub two_none : ((r : ℕ) → 0 ≤ r → sets.contains S r ≡ false) → first_two S ≡ None
-  two_none none = ap (option_and_then (λ l. option_map {T = ℕ} {U = ℕ × ℕ} (λ k. (l, k))
-      (first_below largest_points (λ k. ltb l k && sets.contains S k))))
-      (first_below_none largest_points (sets.contains S) (λ k less. none k (omega arith)))
+-- the least point of a set that has points is the first that is found
+pub first_is : (S : Points) (l : ℕ) → l < largest_points → sets.contains S l ≡ true
+    → ((r : ℕ) → 0 ≤ r → r < l → sets.contains S r ≡ false) → first_of S ≡ Some l
+first_is S l low here before = first_below_is largest_points (sets.contains S) l low here
+    (λ r less. before r (omega arith) less)
 
-  module _ (l : ℕ) (low : l < largest_points) (here : sets.contains S l ≡ true)
-      (before : (r : ℕ) → 0 ≤ r → r < l → sets.contains S r ≡ false) where
-    -- the second is the first behind it
-    by_second : first_two S
-        ≡ option_map {T = ℕ} {U = ℕ × ℕ} (λ k. (l, k)) (first_below largest_points (λ k. ltb l k && sets.contains S k))
-    by_second = ap (option_and_then (λ m. option_map {T = ℕ} {U = ℕ × ℕ} (λ k. (m, k))
-        (first_below largest_points (λ k. ltb m k && sets.contains S k))))
-        (first_below_is largest_points (sets.contains S) l low here (λ r less. before r (omega arith) less))
+-- a set in which none is found has none
+pub first_none : (S : Points) → ((r : ℕ) → 0 ≤ r → sets.contains S r ≡ false) → first_of S ≡ None
+first_none S none = first_below_none largest_points (sets.contains S) (λ k less. none k (omega arith))
 
-    -- a set of one point has no two
-    pub two_one : ((r : ℕ) → l + 1 ≤ r → sets.contains S r ≡ false) → first_two S ≡ None
-    two_one left = by_second ∙ ap (option_map {T = ℕ} {U = ℕ × ℕ} (λ k. (l, k)))
-        (first_below_none largest_points (λ k. ltb l k && sets.contains S k) (λ k less. elim (cases_Bool (ltb l k)) [
-          | inl t ↦ ap (λ b. b && sets.contains S k) t ∙ left k (let more = ltb-true l k t in omega (arith, more))
-          | inr f ↦ ap (λ b. b && sets.contains S k) f
-        ]))
+-- what a search from 0 on finds is the least point
+pub first_found : (S : Points) (o : Option ℕ)
+    → IfSome o (λ q. (0 ≤ q) × (q < largest_points) × (sets.contains S q ≡ true)
+    × ((r : ℕ) → 0 ≤ r → r < q → sets.contains S r ≡ false))
+    → IfNone o ((r : ℕ) → 0 ≤ r → sets.contains S r ≡ false) → first_of S ≡ o
+first_found S (Some q) some none = first_is S q some.1 some.2 some.3
+first_found S None some none = first_none S none
 
-    -- the first two points of a set that has them
-    pub two_both : (k : ℕ) → l + 1 ≤ k → k < largest_points → sets.contains S k ≡ true
-        → ((r : ℕ) → l + 1 ≤ r → r < k → sets.contains S r ≡ false) → first_two S ≡ Some (l, k)
-    two_both k behind k_low k_here between = by_second ∙ ap (option_map {T = ℕ} {U = ℕ × ℕ} (λ j. (l, j)))
-        (first_below_is largest_points (λ j. ltb l j && sets.contains S j) k k_low
-        (and_from (ltb l k) (sets.contains S k) (lt-ltb l k (omega (arith, behind))) k_here)
-        (λ r less. elim (cases_Bool (ltb l r)) [
-          | inl t ↦ ap (λ b. b && sets.contains S r) t ∙ between r (let more = ltb-true l r t in omega (arith, more)) less
-          | inr f ↦ ap (λ b. b && sets.contains S r) f
-        ]))
+-- Two points of a set.
+module _ (Z S : Points) where
+  -- the first within Z, by what was found in both sets and by what was found in S alone
+  pub within_by : (first second : Option ℕ) → first_of (sets.intersection S Z) ≡ first → first_of S ≡ second
+      → first_within Z S ≡ else_point first second
+  within_by first second a b = ap (λ o. else_point o (first_of S)) a ∙ ap (else_point first) b
+
+  -- without a first point there are no two
+  pub two_none : first_within Z S ≡ None → two_within Z S ≡ None
+  two_none e = ap (option_and_then (λ l. option_map {T = ℕ} {U = ℕ × ℕ} (λ k. (l, k))
+      (first_within Z (sets.remove S l)))) e
+
+  -- behind the first come those of the rest
+  pub two_behind : (l : ℕ) (o : Option ℕ) → first_within Z S ≡ Some l → first_within Z (sets.remove S l) ≡ o
+      → two_within Z S ≡ option_map {T = ℕ} {U = ℕ × ℕ} (λ k. (l, k)) o
+  two_behind l o e rest = ap (option_and_then (λ m. option_map {T = ℕ} {U = ℕ × ℕ} (λ k. (m, k))
+      (first_within Z (sets.remove S m)))) e ∙ ap (option_map {T = ℕ} {U = ℕ × ℕ} (λ k. (l, k))) rest
 
 -- one more set
 pub union_more : (n : ℕ) (each : ℕ → Points) → sets.union (union_below n each) (each n) ≡ union_below (n + 1) each
@@ -97,36 +97,27 @@ empty_beside s cells q p on =
     && any_below (s * s) (λ l. is_liberty s cells q l && are_neighbours s l p)) (lt-ltb p (s * s) on)
     ∙ ap (λ v. same_cell (cell_at cells p) Empty && v) (sym (beside_same s cells q p))
 
--- a stone of c is no empty point
-pub stone_stands : (c : Colour) (k : Cell) → same_cell k (stone_of c) ≡ true → same_cell k Empty ≡ false
-stone_stands black Empty h = absurd (let wrong = h in cc)
-stone_stands white Empty h = absurd (let wrong = h in cc)
-stone_stands c Black h = refl
-stone_stands c White h = refl
-
--- what is said together with what is false is false
-no_both : (b : Bool) → (b && false) ≡ false
-no_both true = refl
-no_both false = refl
-
--- a stone of c in the zone asks for its last liberty
-pub asked_stone : (s : ℕ) (cells : List Cell) (c : Colour) (Z : Points) (q : ℕ) → sets.contains Z q ≡ true
-    → same_cell (cell_at cells q) (stone_of c) ≡ true
-    → asked_at s cells c Z q ≡ last_of (liberty_points s cells q) (first_two (liberty_points s cells q))
-asked_stone s cells c Z q inside own =
-    let last = last_of (liberty_points s cells q) (first_two (liberty_points s cells q)) in
-    ap (λ v. cond v (sets.insert sets.empty q)
-    (cond (sets.contains Z q && same_cell (cell_at cells q) (stone_of c)) last sets.empty))
-    (ap (λ v. sets.contains Z q && v) (stone_stands c (cell_at cells q) own) ∙ no_both (sets.contains Z q))
-    ∙ ap (λ v. cond v last sets.empty)
-    (and_from (sets.contains Z q) (same_cell (cell_at cells q) (stone_of c)) inside own)
-
 -- what shows whether a string is in atari, written out
-pub shows_is : (s : ℕ) (cells : List Cell) (q : ℕ) → shows_atari s cells q
+pub shows_is : (s : ℕ) (cells : List Cell) (Z : Points) (q : ℕ) → shows_atari s cells Z q
     ≡ sets.insert (shown_by (string_at s cells q) (liberty_points s cells q) (enemy_points s cells q)
-    (first_two (liberty_points s cells q))) q
+    (two_within Z (liberty_points s cells q))) q
 unfolding shows_atari
-shows_is s cells q = refl
+shows_is s cells Z q = refl
+
+-- The neighbours of p, side by side.
+module _ (s : ℕ) (cells : List Cell) (p : ℕ) where
+  -- a side with an empty neighbour shows that there is one
+  pub room_found : (side : ℕ) → side < 4 → is_empty_at cells (neighbour_at s p side) ≡ true
+      → has_empty_neighbour s cells p ≡ true
+  unfolding has_empty_neighbour
+  room_found side less here = any_below_from 4 (λ k. is_empty_at cells (neighbour_at s p k)) side less here
+
+  -- without such a side there is none
+  pub room_none : (n : ℕ) → 4 ≤ n → ((k : ℕ) → k < n → is_empty_at cells (neighbour_at s p k) ≡ false)
+      → has_empty_neighbour s cells p ≡ false
+  unfolding has_empty_neighbour
+  room_none n four none = any_below_false 4 (λ k. is_empty_at cells (neighbour_at s p k))
+      (λ k less. none k (omega (arith, less, four)))
 
 -- The neighbours of p, side by side.
 module _ (s : ℕ) (cells : List Cell) (c : Colour) (p : ℕ) where

@@ -1,13 +1,15 @@
 -- Two boards on which a string looks the same, as far as it matters whether it is in atari.
-use Rattle.std.proofs.Common.{◌≡◌, ◌≢◌, ◌∙◌, ◌⊎◌, ℕ, zero, suc, ◌*◌, ◌<◌, ◌&&◌, Bool, true, List, Option}
-use Rattle.std.proofs.Common.{Some, None, refl, sym, ap, subst, inl, inr, arith, eqb, ltb}
+use Rattle.std.proofs.Common.{◌≡◌, ◌≢◌, ◌∙◌, ◌⊎◌, ℕ, zero, suc, ◌*◌, ◌<◌, ◌&&◌, Bool, true, false, List, Option}
+use Rattle.std.proofs.Common.{Some, None, refl, sym, ap, inl, inr, arith, eqb, ltb, not}
 use Rattle.std.specs.Option.{option_map, option_and_then}
 use Rattle.std.specs.Cmp.{nat_cmp_total}
+use Rattle.std.specs.Ordering.{nat_cmp, eq_by_cmp}
 use Rattle.std.specs.FinSet as sets
-use Rattle.std.proofs.lemmas.Bool.{or_left, or_right, and_from, and_parts, eq-eqb, lt-ltb, ltb-true, cases_eq}
+use Rattle.std.proofs.lemmas.Bool.{or_left, or_right, and_from, and_parts, eq-eqb, lt-ltb, cases_eq, both_ways}
+use Rattle.std.proofs.lemmas.Bool.{not-true}
 use Rattle.go_rules.specs.declared.Cell.{Cell}
 use Rattle.go_rules.specs.declared.Cell.TheVariants.{Empty, Black, White}
-use Rattle.go_rules.specs.Below.{set_below, first_below}
+use Rattle.go_rules.specs.Below.{set_below}
 use Rattle.go_rules.specs.BesideStrings.{is_enemy, is_beside_string}
 use Rattle.go_rules.specs.Board.{are_neighbours, largest_points}
 use Rattle.go_rules.specs.Strings.{cell_at, is_stone, is_in_string, is_liberty, string_at, liberty_points, Path, start, step}
@@ -16,9 +18,10 @@ use Rattle.go_rules.proofs.Counts.{first_below_gives, any_below_from}
 use Rattle.go_rules.proofs.InWords.{string_itself}
 use Rattle.go_rules.proofs.Links.{path_keeps}
 use Rattle.go_rules.proofs.Paths.{path_on_board, is_is_in_string-from_fact, is_liberty-from_fact, IsLiberty-from_test}
-use Rattle.go_rules.proofs.Sets.{contains-set_below, contains-insert_nat}
+use Rattle.go_rules.proofs.Sets.{contains-set_below, contains-insert_nat, eq_by_nat_cmp}
 use Rattle.go_base.specs.Floods.{enemy_points}
-use Rattle.sure_proof.specs.Rests.{Points, union_below, first_two, close_to, shown_by, shows_atari}
+use Rattle.sure_proof.specs.Rests.{Points, union_below, else_point, first_of, first_within, two_within}
+use Rattle.sure_proof.specs.Rests.{close_to, shown_by, shows_atari}
 
 -- A set that has one more point, or that two others were joined to.
 module _ (p : ℕ) where
@@ -192,34 +195,54 @@ shown_close s a b q on stone agree =
     (λ l lib. liberty_kept s a b q stones l lib (agree l (close_liberty s a q on l lib)))
     (liberty_back_here s a b q stone stones around)
 
--- the two least points of a set are two of its points
-pub first_two_give : (S : Points) (l k : ℕ) → first_two S ≡ Some (l, k)
-    → (l ≢ k) × (sets.contains S l ≡ true) × (sets.contains S k ≡ true)
-first_two_give S l k e = by (first_below largest_points (sets.contains S)) refl e
+-- the first point within Z is a point of the set
+first_within_gives : (Z S : Points) (l : ℕ) → first_within Z S ≡ Some l → sets.contains S l ≡ true
+first_within_gives Z S l e = by (first_of (sets.intersection S Z)) refl e
   where
-    second : (m : ℕ) (o : Option ℕ) → first_below largest_points (λ j. ltb m j && sets.contains S j) ≡ o
+    by : (o : Option ℕ) → first_of (sets.intersection S Z) ≡ o → else_point o (first_of S) ≡ Some l
+        → sets.contains S l ≡ true
+    by None is h = (first_below_gives largest_points (sets.contains S) l h).1
+    by (Some q) is h =
+        let inside = (first_below_gives largest_points (sets.contains (sets.intersection S Z)) q is).1 in
+        let both = and_parts (sets.contains S q) (sets.contains Z q)
+        (sym (sets.contains-intersection nat_cmp_total S Z q) ∙ inside) in
+        let q_is : q ≡ l = (let w = h in cc) in
+        ap (sets.contains S) (sym q_is) ∙ both.0
+
+-- a point of a set without m is a point of the set, and not m
+in_remove : (S : Points) (m j : ℕ) → sets.contains (sets.remove S m) j ≡ true → (j ≢ m) × (sets.contains S j ≡ true)
+in_remove S m j inside =
+    let parts = and_parts (not (eq_by_cmp nat_cmp j m)) (sets.contains S j)
+    (sym (sets.contains-remove nat_cmp_total S m j) ∙ inside) in
+    let other : eqb j m ≡ false = sym (eq_by_nat_cmp j m) ∙ not-true (eq_by_cmp nat_cmp j m) parts.0 in
+    (λ same. both_ways (eqb j m) other (eq-eqb j m same), parts.1)
+
+-- the two points of a set are two of its points
+pub two_within_give : (Z S : Points) (l k : ℕ) → two_within Z S ≡ Some (l, k)
+    → (l ≢ k) × (sets.contains S l ≡ true) × (sets.contains S k ≡ true)
+two_within_give Z S l k e = by (first_within Z S) refl e
+  where
+    second : (m : ℕ) (o : Option ℕ) → first_within Z (sets.remove S m) ≡ o
         → option_map {T = ℕ} {U = ℕ × ℕ} (λ j. (m, j)) o ≡ Some (l, k)
-        → (m ≡ l) × (m < k) × (sets.contains S k ≡ true)
+        → (m ≡ l) × (k ≢ m) × (sets.contains S k ≡ true)
     second m None is h = absurd (let wrong = h in cc)
     second m (Some j) is h =
-        let found = first_below_gives largest_points (λ i. ltb m i && sets.contains S i) j is in
-        let parts = and_parts (ltb m j) (sets.contains S j) found.1 in
+        let found = in_remove S m j (first_within_gives Z (sets.remove S m) j is) in
         let pair : (m, j) ≡ (l, k) = (let w = h in cc) in
         let j_is : j ≡ k = ap (λ (w : ℕ × ℕ). w.1) pair in (
           ap (λ (w : ℕ × ℕ). w.0) pair,
-          subst (λ i. m < i) j_is (ltb-true m j parts.0),
-          ap (sets.contains S) (sym j_is) ∙ parts.1,
+          λ same. found.0 (j_is ∙ same),
+          ap (sets.contains S) (sym j_is) ∙ found.1,
         )
 
-    by : (o : Option ℕ) → first_below largest_points (sets.contains S) ≡ o
-        → option_and_then (λ m. option_map {T = ℕ} {U = ℕ × ℕ} (λ j. (m, j))
-        (first_below largest_points (λ j. ltb m j && sets.contains S j))) o ≡ Some (l, k)
+    by : (o : Option ℕ) → first_within Z S ≡ o
+        → option_and_then (λ m. option_map {T = ℕ} {U = ℕ × ℕ} (λ j. (m, j)) (first_within Z (sets.remove S m))) o
+        ≡ Some (l, k)
         → (l ≢ k) × (sets.contains S l ≡ true) × (sets.contains S k ≡ true)
     by None is h = absurd (let wrong = h in cc)
     by (Some m) is h =
-        let w = second m (first_below largest_points (λ j. ltb m j && sets.contains S j)) refl h in
-        let first = first_below_gives largest_points (sets.contains S) m is in
-        (λ same. omega (arith, same, w.0, w.1), ap (sets.contains S) (sym w.0) ∙ first.1, w.2)
+        let w = second m (first_within Z (sets.remove S m)) refl h in
+        (λ same. w.1 (sym same ∙ sym w.0), ap (sets.contains S) (sym w.0) ∙ first_within_gives Z S m is, w.2)
 
 -- a point of the set of the liberties is a liberty
 pub liberty_in : (s : ℕ) (cells : List Cell) (q l : ℕ) → sets.contains (liberty_points s cells q) l ≡ true
@@ -244,18 +267,18 @@ in_string_at s cells q on x inside =
     (is_is_in_string-from_fact s cells q x on inside)
 
 -- boards that agree on what shows whether a string is in atari show the same of it
-pub shown : (s : ℕ) (a b : List Cell) (q : ℕ) → q < s * s → is_stone (cell_at a q) ≡ true
-    → SameOn (shows_atari s a q) a b → IsShown s a b q
+pub shown : (s : ℕ) (a b : List Cell) (Z : Points) (q : ℕ) → q < s * s → is_stone (cell_at a q) ≡ true
+    → SameOn (shows_atari s a Z q) a b → IsShown s a b q
 unfolding shows_atari
-shown s a b q on stone agree = by (first_two (liberty_points s a q)) refl
+shown s a b Z q on stone agree = by (two_within Z (liberty_points s a q)) refl
     (λ p h. agree p (insert_more p (shown_by (string_at s a q) (liberty_points s a q) (enemy_points s a q)
-    (first_two (liberty_points s a q))) q h))
+    (two_within Z (liberty_points s a q))) q h))
   where
-    by : (o : Option (ℕ × ℕ)) → first_two (liberty_points s a q) ≡ o
+    by : (o : Option (ℕ × ℕ)) → two_within Z (liberty_points s a q) ≡ o
         → SameOn (shown_by (string_at s a q) (liberty_points s a q) (enemy_points s a q) o) a b → IsShown s a b q
     by None is same = shown_all s a b q on stone same
     by (Some w) is same =
-        let found = first_two_give (liberty_points s a q) w.0 w.1 is in
+        let found = two_within_give Z (liberty_points s a q) w.0 w.1 is in
         let first = liberty_in s a q w.0 found.1 in
         let second = liberty_in s a q w.1 found.2 in
         let strings : (x : ℕ) → IsInString s a q x → cell_at a x ≡ cell_at b x = λ x inside.

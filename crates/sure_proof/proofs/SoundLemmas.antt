@@ -8,16 +8,18 @@ use Rattle.std.proofs.lemmas.Bool.{ltb-true}
 use Rattle.go_rules.specs.declared.Cell.{Cell}
 use Rattle.go_rules.specs.declared.Cell.TheVariants.{Empty, Black, White}
 use Rattle.go_rules.specs.declared.Colour.{Colour}
+use Rattle.go_rules.specs.declared.Colour.TheVariants.{Black as black, White as white}
 use Rattle.go_rules.specs.declared.Illegal.TheVariants.{Ko}
 use Rattle.go_rules.specs.Board.{are_neighbours}
 use Rattle.go_rules.specs.Strings.{cell_at, is_stone, same_cell, is_liberty, liberties}
-use Rattle.go_rules.specs.Position.{BoardState, IsPosition, board_of, is_banned, same_colour}
+use Rattle.go_rules.specs.Position.{BoardState, IsPosition, board_of, is_banned, same_colour, other, stone_of}
 use Rattle.go_rules.specs.Play.{play, play_free}
-use Rattle.go_rules.proofs.Counts.{count_below_same}
-use Rattle.go_rules.proofs.Paths.{IsLiberty-from_test, is_liberty-from_fact}
+use Rattle.go_rules.proofs.Counts.{count_below_same, any_below_gives}
+use Rattle.go_rules.proofs.Paths.{IsLiberty-from_test, is_liberty-from_fact, same_cell-true}
+use Rattle.go_rules.proofs.Plays.{stone_is}
 use Rattle.go_rules.proofs.PlayLaws.{free_never_ko, play_done, position_in_words, done_state}
 use Rattle.go_base.specs.Sides.{neighbour_at}
-use Rattle.go_base.proofs.SidesOfPoints.{neighbour_at-all}
+use Rattle.go_base.proofs.SidesOfPoints.{neighbour_at-all, neighbour_at-near}
 use Rattle.read_rules.specs.ActiveArea.{AgreeOn}
 use Rattle.read_rules.specs.Candidates.{is_candidate, is_backfilling}
 use Rattle.read_rules.specs.declared.node.Node.{Node}
@@ -29,18 +31,16 @@ use Rattle.read_rules.specs.Rules.{IsChild}
 use Rattle.read_rules.proofs.LibertyLemmas.{child_free}
 use Rattle.sure_rules.specs.Zones.{points_of, IsZone}
 use Rattle.sure_proof.specs.Rests.{Points, union_below, close_to, shows_atari, shows_neighbour, play_rests_on}
+use Rattle.sure_proof.specs.Rests.{is_empty_at, has_empty_neighbour, shows_cell}
+use Rattle.sure_proof.specs.Gathered.{IsWithin}
 use Rattle.sure_proof.proofs.ShownLemmas.{insert_self, insert_more, union_all}
-use Rattle.sure_proof.proofs.ShownLemmas.{SameOn, shown}
+use Rattle.sure_proof.proofs.ShownLemmas.{SameOn, IsShown, shown}
 use Rattle.sure_proof.proofs.ShownLemmas.{close_shows}
-use Rattle.sure_proof.proofs.PlayLemmas.{LooksSame, LooksSame-sym, IsSamePlay, state, done_on}
+use Rattle.sure_proof.proofs.PlayLemmas.{HasRoom, LooksSame, LooksSame-sym, IsSamePlay, state, done_on}
 
 -- the members of a set
 abbrev pub has : Points → ℕ → Bool
 has Z q = sets.contains Z q
-
--- each point of the first set is one of the second
-abbrev pub IsWithin : Points → Points → Type 0
-IsWithin Y Z = (q : ℕ) → has Y q ≡ true → has Z q ≡ true
 
 -- no play beyond the board is banned
 no_ban_beyond : (ban : Option (ℕ × Colour)) (c : Colour) (n q : ℕ) → ((r : ℕ) (k : Colour) → ban ≡ Some (r, k) → r < n)
@@ -97,45 +97,116 @@ bare pos s e good = subst (λ t. IsPosition (board_of t pos.cells)) e (record {
 })
 
 -- q is among what shows whether its string is in atari
-pub shows_self : (s : ℕ) (cells : List Cell) (q : ℕ) → has (shows_atari s cells q) q ≡ true
+pub shows_self : (s : ℕ) (cells : List Cell) (Z : Points) (q : ℕ) → has (shows_atari s cells Z q) q ≡ true
 unfolding shows_atari
-shows_self s cells q = insert_self q _
+shows_self s cells Z q = insert_self q _
 
--- what shows whether a neighbour is in atari is among what the play rests on
-pub play_beside : (s : ℕ) (cells : List Cell) (p q x : ℕ) → p < s * s → q < s * s → are_neighbours s p q ≡ true
-    → has (shows_atari s cells q) x ≡ true → has (play_rests_on s cells p) x ≡ true
-unfolding play_rests_on
-play_beside s cells p q x on q_on near inside =
-    let side = neighbour_at-all s p q on q_on near in
-    insert_more x (union_below 4 (λ i. shows_neighbour s cells (neighbour_at s p i))) p
-    (union_all x 4 (λ i. shows_neighbour s cells (neighbour_at s p i)) side.0 side.1
-    (subst (λ o. has (shows_neighbour s cells o) x ≡ true) (sym side.2) inside))
+-- What a play of c at p rests on, if what follows rests on Z.
+module _ (s : ℕ) (cells : List Cell) (c : Colour) (Z : Points) (p : ℕ) where
+  -- the points that are in the set already: those of Z and p
+  abbrev pub near : Points
+  near = sets.insert Z p
 
--- and so is its point
-pub play_self : (s : ℕ) (cells : List Cell) (p : ℕ) → has (play_rests_on s cells p) p ≡ true
-unfolding play_rests_on
-play_self s cells p = insert_self p _
+  -- what a neighbour shows
+  abbrev pub side_shows : ℕ → Points
+  side_shows i = shows_neighbour s cells c (has_empty_neighbour s cells p) near (neighbour_at s p i)
 
--- Two positions that agree on what a play rests on.
-module _ (pos here : BoardState) (p : ℕ) (Z : Points) (good : IsPosition pos) (sound : IsPosition here)
-    (on : p < pos.size * pos.size) (same : AgreeOn (points_of (has Z)) pos here)
-    (rests : IsWithin (play_rests_on pos.size pos.cells p) Z) where
+  -- p is among it
+  pub play_self : has (play_rests_on s cells c Z p) p ≡ true
+  unfolding play_rests_on
+  play_self = insert_self p _
+
+  -- A neighbour of p.
+  module _ (q : ℕ) (on : p < s * s) (q_on : q < s * s) (beside : are_neighbours s p q ≡ true) where
+    -- what it shows is among it
+    side_in : (x : ℕ) → has (shows_neighbour s cells c (has_empty_neighbour s cells p) near (Some q)) x ≡ true
+        → has (play_rests_on s cells c Z p) x ≡ true
+    unfolding play_rests_on
+    side_in x inside =
+        let side = neighbour_at-all s p q on q_on beside in
+        insert_more x (union_below 4 side_shows) p
+        (union_all x 4 side_shows side.0 side.1
+        (subst (λ o. has (shows_neighbour s cells c (has_empty_neighbour s cells p) near o) x ≡ true) (sym side.2)
+        inside))
+
+    -- the neighbour is among it
+    pub play_beside : has (play_rests_on s cells c Z p) q ≡ true
+    play_beside = side_in q (by (shows_cell c (has_empty_neighbour s cells p) (cell_at cells q)))
+      where
+        by : (b : Bool) → has (cond b (sets.insert sets.empty q) (shows_atari s cells near q)) q ≡ true
+        by true = insert_self q sets.empty
+        by false = shows_self s cells near q
+
+    -- what shows whether its string is in atari is among it, unless it shows nothing but its cell
+    pub play_shows : shows_cell c (has_empty_neighbour s cells p) (cell_at cells q) ≡ false
+        → IsWithin (shows_atari s cells near q) (play_rests_on s cells c Z p)
+    play_shows f x inside = side_in x
+        (ap (λ b. has (cond b (sets.insert sets.empty q) (shows_atari s cells near q)) x) f ∙ inside)
+
+-- an empty neighbour is at a side
+room_at : (s : ℕ) (cells : List Cell) (p : ℕ) → p < s * s → has_empty_neighbour s cells p ≡ true → HasRoom s cells p
+unfolding has_empty_neighbour
+room_at s cells p on t =
+    let side = any_below_gives 4 (λ k. is_empty_at cells (neighbour_at s p k)) t in
+    by side.0 (neighbour_at s p side.0) refl side.2
+  where
+    by : (side : ℕ) (o : Option ℕ) → neighbour_at s p side ≡ o → is_empty_at cells o ≡ true → HasRoom s cells p
+    by side None is h = absurd (let wrong = h in cc)
+    by side (Some q) is h =
+        let near = neighbour_at-near s p side q on is in
+        (q, near.0, near.1, same_cell-true (cell_at cells q) Empty h)
+
+-- a stone of an enemy shows more than its cell
+enemy_shows : (c : Colour) (free : Bool) (cell : Cell) → cell ≡ stone_of (other c) → shows_cell c free cell ≡ false
+enemy_shows c free cell e = ap (shows_cell c free) e ∙ by c free
+  where
+    by : (k : Colour) (b : Bool) → shows_cell k b (stone_of (other k)) ≡ false
+    by black true = refl
+    by black false = refl
+    by white true = refl
+    by white false = refl
+
+-- and so does an own stone, if the point is not free
+own_shows : (c : Colour) (free : Bool) (cell : Cell) → cell ≡ stone_of c → free ≡ false → shows_cell c free cell ≡ false
+own_shows c free cell e f = ap (shows_cell c free) e ∙ ap (λ b. shows_cell c b (stone_of c)) f ∙ by c
+  where
+    by : (k : Colour) → shows_cell k false (stone_of k) ≡ false
+    by black = refl
+    by white = refl
+
+-- Two positions that agree on what a play of c rests on.
+module _ (c : Colour) (pos here : BoardState) (Y : Points) (p : ℕ) (Z : Points) (good : IsPosition pos)
+    (sound : IsPosition here) (on : p < pos.size * pos.size) (same : AgreeOn (points_of (has Z)) pos here)
+    (rests : IsWithin (play_rests_on pos.size pos.cells c Y p) Z) where
   -- the point holds the same on both
   cell_same : cell_at pos.cells p ≡ cell_at here.cells p
-  cell_same = same.cells p (rests p (play_self pos.size pos.cells p))
+  cell_same = same.cells p (rests p (play_self pos.size pos.cells c Y p))
+
+  -- the boards show the same of a neighbour, unless it shows nothing but its cell
+  beside_shown : (q : ℕ) → q < pos.size * pos.size → are_neighbours pos.size p q ≡ true
+      → shows_cell c (has_empty_neighbour pos.size pos.cells p) (cell_at pos.cells q) ≡ false
+      → is_stone (cell_at pos.cells q) ≡ true → IsShown pos.size pos.cells here.cells q
+  beside_shown q q_on beside f stone = shown pos.size pos.cells here.cells (sets.insert Y p) q q_on stone
+      (λ x inside. same.cells x (rests x (play_shows pos.size pos.cells c Y p q on q_on beside f x inside)))
 
   -- if it is empty they look the same there
-  looks_same : cell_at pos.cells p ≡ Empty → LooksSame pos.size pos.cells here.cells p
+  looks_same : cell_at pos.cells p ≡ Empty → LooksSame pos.size pos.cells here.cells c p
   looks_same empty = record {
     first = bare pos pos.size refl good;
     second = bare here pos.size (sym same.sizes) sound;
     on_board = on;
     empty_first = empty;
     empty_second = sym cell_same ∙ empty;
-    beside = λ q q_on near. same.cells q (rests q
-        (play_beside pos.size pos.cells p q q on q_on near (shows_self pos.size pos.cells q)));
-    shown = λ q q_on near stone. shown pos.size pos.cells here.cells q q_on stone
-        (λ x inside. same.cells x (rests x (play_beside pos.size pos.cells p q x on q_on near inside)));
+    beside = λ q q_on near. same.cells q (rests q (play_beside pos.size pos.cells c Y p q on q_on near));
+    enemies = λ q q_on near enemy. beside_shown q q_on near
+        (enemy_shows c (has_empty_neighbour pos.size pos.cells p) (cell_at pos.cells q) enemy)
+        (ap is_stone enemy ∙ stone_is (other c));
+    room = elim (cases_Bool (has_empty_neighbour pos.size pos.cells p)) [
+      | inl t ↦ inl (room_at pos.size pos.cells p on t)
+      | inr f ↦ inr (λ q q_on near own. beside_shown q q_on near
+          (own_shows c (has_empty_neighbour pos.size pos.cells p) (cell_at pos.cells q) own f)
+          (ap is_stone own ∙ stone_is c))
+    ];
   }
 
 -- a play at an empty point, by the ban
@@ -145,7 +216,8 @@ unfolding play
 play_by pos c p f = rw f refl
 
 -- a play that can be made at a node on the first board can be made on the second, and leads to the same node
-child_on : (node : Node) (s : ℕ) (a b : List Cell) (x y : Option (ℕ × Colour)) (p : ℕ) → LooksSame s a b p
+child_on : (node : Node) (s : ℕ) (a b : List Cell) (x y : Option (ℕ × Colour)) (p : ℕ)
+    → LooksSame s a b (mover_of node.turn) p
     → is_banned x (mover_of node.turn) p ≡ is_banned y (mover_of node.turn) p → (next : Node) (first : BoardState)
     → IsChild node (state s a x) p next first
     → (second : BoardState) × IsChild node (state s b y) p next second × IsSamePlay s a b first second
@@ -193,12 +265,12 @@ child_empty node pos p next new child =
     (done_state pos (mover_of node.turn) p new (child_free node pos p next new child).1).0
 
 -- A play at a node, on a position and on one that agrees on what the play rests on and on further points.
-module _ (node : Node) (pos here : BoardState) (p : ℕ) (Z : Points) (good : IsPosition pos) (sound : IsPosition here)
-    (on : p < pos.size * pos.size) (same : AgreeOn (points_of (has Z)) pos here)
-    (rests : IsWithin (play_rests_on pos.size pos.cells p) Z) where
+module _ (node : Node) (pos here : BoardState) (Y : Points) (p : ℕ) (Z : Points) (good : IsPosition pos)
+    (sound : IsPosition here) (on : p < pos.size * pos.size) (same : AgreeOn (points_of (has Z)) pos here)
+    (rests : IsWithin (play_rests_on pos.size pos.cells (mover_of node.turn) Y p) Z) where
   -- the ban forbids the play on both or on neither
   bans_same : is_banned pos.ban (mover_of node.turn) p ≡ is_banned here.ban (mover_of node.turn) p
-  bans_same = same.bans p (mover_of node.turn) (rests p (play_self pos.size pos.cells p))
+  bans_same = same.bans p (mover_of node.turn) (rests p (play_self pos.size pos.cells (mover_of node.turn) Y p))
 
   -- if it can be made here, it can be made there, and the boards after it agree on those of the points
   pub child_there : (W : Points) → IsWithin W Z → (next : Node) (first : BoardState) → IsChild node pos p next first
@@ -206,7 +278,7 @@ module _ (node : Node) (pos here : BoardState) (p : ℕ) (Z : Points) (good : Is
       × AgreeOn (points_of (on_board first.size W)) first second
   child_there W within next first child =
       let empty = child_empty node pos p next first child in
-      let h = looks_same pos here p Z good sound on same rests empty in
+      let h = looks_same (mover_of node.turn) pos here Y p Z good sound on same rests empty in
       let w = child_on node pos.size pos.cells here.cells pos.ban here.ban p h bans_same next first child in (
         w.0,
         subst (λ t. IsChild node (state t here.cells here.ban) p next w.0) same.sizes w.1,
@@ -225,8 +297,8 @@ module _ (node : Node) (pos here : BoardState) (p : ℕ) (Z : Points) (good : Is
       → (first : BoardState) × IsChild node pos p next first
   child_here next second child =
       let empty = child_empty node here p next second child in
-      let h = looks_same pos here p Z good sound on same rests
-      (cell_same pos here p Z good sound on same rests ∙ empty) in
+      let h = looks_same (mover_of node.turn) pos here Y p Z good sound on same rests
+      (cell_same (mover_of node.turn) pos here Y p Z good sound on same rests ∙ empty) in
       let w = child_on node pos.size here.cells pos.cells here.ban pos.ban p (LooksSame-sym h) (sym bans_same) next second
       (subst (λ t. IsChild node (state t here.cells here.ban) p next second) (sym same.sizes) child) in
       (w.0, w.1)

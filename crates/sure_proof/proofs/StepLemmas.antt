@@ -19,9 +19,10 @@ use Rattle.sure_rules.specs.Nodes.{is_attackers, is_gone, has_too_many, target_o
 use Rattle.std.specs.Option.{option_map}
 use Rattle.std.specs.FinSet as sets
 use Rattle.std.proofs.Common.{◌||◌}
-use Rattle.sure_proof.specs.Rests.{Points, candidate_rests_on, play_rests_on, loss_rests_on, guard_of, asked_of}
+use Rattle.sure_proof.specs.Rests.{Points, candidate_rests_on, loss_rests_on, guard_of, asked_of}
 use Rattle.sure_proof.specs.SureProofs.{Proved, Prover, proved_by, points_in, with_points, behind_word, behind_vertex}
 use Rattle.sure_proof.specs.SureProofs.{is_to, by_capture, by_back, by_child, by_move, by_replies, by_turn, behind_pass, at_end}
+use Rattle.sure_proof.specs.SureProofs.{move_rests_on, with_move, with_candidate, with_reply}
 use Rattle.sure_proof.specs.SureProofs.{at_reply, at_replies, proves_surely}
 
 -- A node, and the words at it.
@@ -84,7 +85,7 @@ module _ (prove : Prover) (node : Node) (pos : BoardState) (g : ℕ → Bool) (n
       (none : (k : ℕ) → a ≤ k → k < p → g k ≡ false) where
     -- behind it come the others
     replies_split : option_and_then (at_replies prove node pos (filter g (range_with_len (p + 1) (n - (p + 1)))))
-        (at_reply prove pos p (child_of node pos p) so_far) ≡ whole
+        (at_reply prove node pos p (child_of node pos p) so_far) ≡ whole
     replies_split =
         let length : a + (n - a) - (p + 1) ≡ n - (p + 1) = omega (arith, low, high) in
         sym (ap (λ ps. at_replies prove node pos ps so_far)
@@ -93,14 +94,14 @@ module _ (prove : Prover) (node : Node) (pos : BoardState) (g : ℕ → Bool) (n
         ∙ is
 
     -- if it is proved they are what is left
-    pub replies_on : (found : Proved) → at_reply prove pos p (child_of node pos p) so_far ≡ Some found
+    pub replies_on : (found : Proved) → at_reply prove node pos p (child_of node pos p) so_far ≡ Some found
         → at_replies prove node pos (filter g (range_with_len (p + 1) (n - (p + 1)))) found ≡ whole
     replies_on found e =
         sym (ap (option_and_then (at_replies prove node pos (filter g (range_with_len (p + 1) (n - (p + 1)))))) e)
         ∙ replies_split
 
     -- if it is not, nothing is
-    pub replies_fail : at_reply prove pos p (child_of node pos p) so_far ≡ None → whole ≡ None
+    pub replies_fail : at_reply prove node pos p (child_of node pos p) so_far ≡ None → whole ≡ None
     replies_fail e = sym replies_split
         ∙ ap (option_and_then (at_replies prove node pos (filter g (range_with_len (p + 1) (n - (p + 1)))))) e
 
@@ -114,17 +115,14 @@ module _ (prove : Prover) (node : Node) (pos : BoardState) (p : ℕ) (o : Option
   module _ (child : Node × BoardState) (is : o ≡ Some child) where
     -- nor does one behind which no proof comes
     pub play_fails : prove child.0 child.1 words ≡ None → by_child prove node pos p o words ≡ None
-    play_fails e = ap (λ v. by_child prove node pos p v words) is
-        ∙ ap (option_map (with_points (sets.union (candidate_rests_on node.turn pos p)
-        (play_rests_on pos.size pos.cells p)))) e
+    play_fails e = ap (λ v. by_child prove node pos p v words) is ∙ ap (option_map (with_candidate node pos p)) e
 
-    -- another rests on its points and on those of the proof behind it
+    -- with a proof behind it, it rests on its points and on those of that proof
     pub play_holds : (rest : List Word) (zone : Points) → prove child.0 child.1 words ≡ Some (proved_by rest zone)
         → by_child prove node pos p o words ≡ Some (proved_by rest
-        (sets.union (sets.union (candidate_rests_on node.turn pos p) (play_rests_on pos.size pos.cells p)) zone))
+        (sets.union (sets.union (candidate_rests_on node.turn pos p) (move_rests_on node pos p zone)) zone))
     play_holds rest zone e = ap (λ v. by_child prove node pos p v words) is
-        ∙ ap (option_map (with_points (sets.union (candidate_rests_on node.turn pos p)
-        (play_rests_on pos.size pos.cells p)))) e
+        ∙ ap (option_map (with_candidate node pos p)) e
 
 -- The proof of the node after the play that takes back.
 module _ (prove : Prover) (node : Node) (pos : BoardState) (word : Word) (o : Option (Node × BoardState))
@@ -162,37 +160,34 @@ module _ (prove : Prover) (node : Node) (pos : BoardState) (word : Word) (o : Op
         ∙ ap (option_map (with_points (loss_rests_on node pos))) e
 
 -- The proof of the node after a reply.
-module _ (prove : Prover) (pos : BoardState) (p : ℕ) (o : Option (Node × BoardState)) (words : List Word)
+module _ (prove : Prover) (node : Node) (pos : BoardState) (p : ℕ) (o : Option (Node × BoardState)) (words : List Word)
     (Z : Points) where
   -- a reply that cannot be made needs no words
-  pub reply_refused : o ≡ None → at_reply prove pos p o (proved_by words Z)
-      ≡ Some (proved_by words (sets.union Z (play_rests_on pos.size pos.cells p)))
-  reply_refused e = ap (λ v. at_reply prove pos p v (proved_by words Z)) e
+  pub reply_refused : o ≡ None → at_reply prove node pos p o (proved_by words Z)
+      ≡ Some (proved_by words (with_move node pos p Z))
+  reply_refused e = ap (λ v. at_reply prove node pos p v (proved_by words Z)) e
 
   module _ (child : Node × BoardState) (is : o ≡ Some child) where
     -- another needs its vertex
-    pub reply_unnamed : behind_vertex pos.size p words ≡ None → at_reply prove pos p o (proved_by words Z) ≡ None
-    reply_unnamed e = ap (λ v. at_reply prove pos p v (proved_by words Z)) is
-        ∙ ap (λ v. option_map (with_points (sets.union Z (play_rests_on pos.size pos.cells p)))
-        (option_and_then (prove child.0 child.1) v)) e
+    pub reply_unnamed : behind_vertex pos.size p words ≡ None → at_reply prove node pos p o (proved_by words Z) ≡ None
+    reply_unnamed e = ap (λ v. at_reply prove node pos p v (proved_by words Z)) is
+        ∙ ap (λ v. option_map (with_reply node pos p Z) (option_and_then (prove child.0 child.1) v)) e
 
     -- and behind that a proof
     pub reply_fails : (left : List Word) → behind_vertex pos.size p words ≡ Some left
-        → prove child.0 child.1 left ≡ None → at_reply prove pos p o (proved_by words Z) ≡ None
-    reply_fails left e none = ap (λ v. at_reply prove pos p v (proved_by words Z)) is
-        ∙ ap (λ v. option_map (with_points (sets.union Z (play_rests_on pos.size pos.cells p)))
-        (option_and_then (prove child.0 child.1) v)) e
-        ∙ ap (option_map (with_points (sets.union Z (play_rests_on pos.size pos.cells p)))) none
+        → prove child.0 child.1 left ≡ None → at_reply prove node pos p o (proved_by words Z) ≡ None
+    reply_fails left e none = ap (λ v. at_reply prove node pos p v (proved_by words Z)) is
+        ∙ ap (λ v. option_map (with_reply node pos p Z) (option_and_then (prove child.0 child.1) v)) e
+        ∙ ap (option_map (with_reply node pos p Z)) none
 
     -- on whose points it rests too
     pub reply_holds : (left rest : List Word) (zone : Points) → behind_vertex pos.size p words ≡ Some left
         → prove child.0 child.1 left ≡ Some (proved_by rest zone)
-        → at_reply prove pos p o (proved_by words Z)
-        ≡ Some (proved_by rest (sets.union (sets.union Z (play_rests_on pos.size pos.cells p)) zone))
-    reply_holds left rest zone e holds = ap (λ v. at_reply prove pos p v (proved_by words Z)) is
-        ∙ ap (λ v. option_map (with_points (sets.union Z (play_rests_on pos.size pos.cells p)))
-        (option_and_then (prove child.0 child.1) v)) e
-        ∙ ap (option_map (with_points (sets.union Z (play_rests_on pos.size pos.cells p)))) holds
+        → at_reply prove node pos p o (proved_by words Z)
+        ≡ Some (proved_by rest (with_move node pos p (sets.union Z zone)))
+    reply_holds left rest zone e holds = ap (λ v. at_reply prove node pos p v (proved_by words Z)) is
+        ∙ ap (λ v. option_map (with_reply node pos p Z) (option_and_then (prove child.0 child.1) v)) e
+        ∙ ap (option_map (with_reply node pos p Z)) holds
 
 -- The proof at the defender's turn.
 module _ (prove : Prover) (node : Node) (pos : BoardState) (words : List Word) where

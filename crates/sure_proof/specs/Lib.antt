@@ -1,2 +1,4 @@
+pub mod Alike
+pub mod Gathered
 pub mod Rests
 pub mod SureProofs

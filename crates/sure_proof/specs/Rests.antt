@@ -1,13 +1,13 @@
 -- The points on which the parts of a sure capture rest. They are computed from the position before the play.
-use Rattle.std.specs.Prelude.{ℕ, zero, suc, ◌*◌, ◌&&◌, Bool, true, false, not, nat_lt, nat_le, List, Option, None, Some}
-use Rattle.std.specs.Prelude.{if◌then◌else◌}
+use Rattle.std.specs.Prelude.{ℕ, zero, suc, ◌*◌, ◌&&◌, ◌||◌, Bool, true, false, not, nat_lt, nat_le, List, Option}
+use Rattle.std.specs.Prelude.{None, Some, if◌then◌else◌}
 use Rattle.std.specs.Option.{option_map, option_and_then}
 use Rattle.std.specs.Ordering.{nat_cmp}
 use Rattle.std.specs.FinSet as set
 use Rattle.go_rules.specs.declared.Cell.{Cell}
 use Rattle.go_rules.specs.declared.Cell.TheVariants.{Empty}
 use Rattle.go_rules.specs.declared.Colour.{Colour}
-use Rattle.go_rules.specs.Below.{first_below, set_below}
+use Rattle.go_rules.specs.Below.{any_below, first_below, set_below}
 use Rattle.go_rules.specs.Board.{largest_points}
 use Rattle.go_rules.specs.Strings.{cell_at, same_cell, is_liberty, liberties, string_at, liberty_points}
 use Rattle.go_rules.specs.Position.{BoardState, other, stone_of}
@@ -19,6 +19,7 @@ use Rattle.read_rules.specs.declared.tree.Tree.{Tree}
 use Rattle.read_rules.specs.declared.tree.Tree.TheVariants.{Stated, Wider}
 use Rattle.read_rules.specs.declared.turn.Turn.{Turn}
 use Rattle.read_rules.specs.Trees.{is_wider}
+use Rattle.read_rules.specs.Turns.{mover_of}
 use Rattle.wider_rules.specs.Further.{is_weak_enemy, is_linked, few_of_attacker, few_of_parted, netted}
 
 -- a set of points
@@ -30,11 +31,22 @@ abbrev pub union_below : ℕ → (ℕ → Points) → Points
 union_below zero sets = set.empty
 union_below (suc n) sets = set.union (union_below n sets) (sets n)
 
--- the two least points of a set, if it has two
-abbrev pub first_two : Points → Option (ℕ × ℕ)
-first_two S = option_and_then
-    (λ l. option_map (λ k. (l, k)) (first_below largest_points (λ k. nat_lt l k && set.contains S k)))
-    (first_below largest_points (set.contains S))
+-- the first point, or the second if there is no first
+abbrev pub else_point : Option ℕ → Option ℕ → Option ℕ
+else_point None second = second
+else_point (Some q) second = Some q
+
+-- the least point of a set
+abbrev pub first_of : Points → Option ℕ
+first_of S = first_below largest_points (set.contains S)
+
+-- the least point of S that is in Z; if no point of S is in Z, the least point of S
+abbrev pub first_within : Points → Points → Option ℕ
+first_within Z S = else_point (first_of (set.intersection S Z)) (first_of S)
+
+-- two points of S, if it has two; points that are in Z are taken before the others
+abbrev pub two_within : Points → Points → Option (ℕ × ℕ)
+two_within Z S = option_and_then (λ l. option_map (λ k. (l, k)) (first_within Z (set.remove S l))) (first_within Z S)
 
 -- the string of q and all its neighbours
 unfoldable pub close_to : ℕ → List Cell → ℕ → Points
@@ -46,21 +58,40 @@ abbrev pub shown_by : Points → Points → Points → Option (ℕ × ℕ) → P
 shown_by stones liberties enemies None = set.union (set.union stones liberties) enemies
 shown_by stones liberties enemies (Some two) = set.insert (set.insert stones two.0) two.1
 
--- the points that show whether the string of q is in atari: q, and the string with its first two liberties in reading
--- order, or with all its neighbours if it has fewer than two liberties
-unfoldable pub shows_atari : ℕ → List Cell → ℕ → Points
-shows_atari s cells q = set.insert (shown_by (string_at s cells q) (liberty_points s cells q) (enemy_points s cells q)
-    (first_two (liberty_points s cells q))) q
+-- the points that show whether the string of q is in atari: q, and the string with two of its liberties, those in Z
+-- before the others, or with all its neighbours if it has fewer than two liberties
+unfoldable pub shows_atari : ℕ → List Cell → Points → ℕ → Points
+shows_atari s cells Z q = set.insert (shown_by (string_at s cells q) (liberty_points s cells q) (enemy_points s cells q)
+    (two_within Z (liberty_points s cells q))) q
 
--- the points that show whether the string of a neighbour is in atari; none if there is no neighbour
-abbrev pub shows_neighbour : ℕ → List Cell → Option ℕ → Points
-shows_neighbour s cells None = set.empty
-shows_neighbour s cells (Some q) = shows_atari s cells q
+-- there is a neighbour, and it is empty
+abbrev pub is_empty_at : List Cell → Option ℕ → Bool
+is_empty_at cells None = false
+is_empty_at cells (Some q) = same_cell (cell_at cells q) Empty
 
--- the points on which a play at p rests: p, and the points that show of each neighbour whether its string is in atari.
--- They show whether the play can be made, what it captures and which ko ban it leaves
-unfoldable pub play_rests_on : ℕ → List Cell → ℕ → Points
-play_rests_on s cells p = set.insert (union_below 4 (λ side. shows_neighbour s cells (neighbour_at s p side))) p
+-- p has an empty neighbour
+unfoldable pub has_empty_neighbour : ℕ → List Cell → ℕ → Bool
+has_empty_neighbour s cells p = any_below 4 (λ side. is_empty_at cells (neighbour_at s p side))
+
+-- a neighbour of the point of a play of c shows nothing but its cell: the cell is empty; or it holds a stone of c, and
+-- free is true, which says that the point has an empty neighbour
+abbrev pub shows_cell : Colour → Bool → Cell → Bool
+shows_cell c free cell = same_cell cell Empty || (free && same_cell cell (stone_of c))
+
+-- of a neighbour of the point of a play of c, the points on which the play rests: the neighbour alone, if it shows
+-- nothing but its cell; else the points that show whether its string is in atari. None if the board ends there
+abbrev pub shows_neighbour : ℕ → List Cell → Colour → Bool → Points → Option ℕ → Points
+shows_neighbour s cells c free Z None = set.empty
+shows_neighbour s cells c free Z (Some q) =
+    if shows_cell c free (cell_at cells q) then set.insert set.empty q else shows_atari s cells Z q
+
+-- the points on which a play of c at p rests, if what follows rests on Z: p, its neighbours, and the points that show
+-- whether the strings of the neighbours are in atari; of the liberties, p and those in Z come before the others. If p
+-- has an empty neighbour, the play can be made whatever the liberties of the neighbouring strings of c, so these strings
+-- are left out. The points show whether the play can be made, what it captures and which ko ban it leaves
+unfoldable pub play_rests_on : ℕ → List Cell → Colour → Points → ℕ → Points
+play_rests_on s cells c Z p = set.insert (union_below 4 (λ side. shows_neighbour s cells c
+    (has_empty_neighbour s cells p) (set.insert Z p) (neighbour_at s p side))) p
 
 -- there is a neighbour, and it holds no stone of c
 abbrev pub is_open : List Cell → Colour → Option ℕ → Bool
@@ -72,19 +103,19 @@ unfoldable pub open_neighbour : ℕ → List Cell → Colour → ℕ → Option 
 open_neighbour s cells c p =
     option_and_then (neighbour_at s p) (first_below 4 (λ side. is_open cells c (neighbour_at s p side)))
 
--- the points that show whether each neighbour of the empty point p holds a stone of one colour, and whether the other
--- colour can play at p: p and a neighbour that holds no such stone; if there is no such neighbour, the points on which
--- a play at p rests
-abbrev pub wall_rests_on : ℕ → List Cell → ℕ → Option ℕ → Points
-wall_rests_on s cells p None = play_rests_on s cells p
-wall_rests_on s cells p (Some q) = set.insert (set.insert set.empty p) q
+-- the points that show whether each neighbour of the empty point p holds a stone of the enemy of c, and whether c can
+-- play at p: p and a neighbour that holds no such stone; if there is no such neighbour, the points on which a play of c
+-- at p rests
+abbrev pub wall_rests_on : ℕ → List Cell → Colour → ℕ → Option ℕ → Points
+wall_rests_on s cells c p None = play_rests_on s cells c set.empty p
+wall_rests_on s cells c p (Some q) = set.insert (set.insert set.empty p) q
 
 -- the points that show whether the defender takes back the target, which is taken, and to which position that leads. At
 -- the attacker's turn and in the stated tree he does not, and the target's point is enough
 unfoldable pub loss_rests_on : Node → BoardState → Points
 loss_rests_on node pos =
     if is_wider node.turn.tree && not node.turn.attacker_to_play
-    then wall_rests_on pos.size pos.cells node.turn.target
+    then wall_rests_on pos.size pos.cells (mover_of node.turn) node.turn.target
     (open_neighbour pos.size pos.cells (other node.turn.defender) node.turn.target)
     else set.insert set.empty node.turn.target
 
@@ -115,11 +146,6 @@ unfoldable pub linked_at : ℕ → List Cell → ℕ → ℕ → Option ℕ
 linked_at s cells target p =
     first_below (s * s) (λ q. is_linked few_of_parted s cells target q && is_liberty s cells q p)
 
--- the first point, or the second if there is no first
-abbrev pub else_point : Option ℕ → Option ℕ → Option ℕ
-else_point None second = second
-else_point (Some q) second = Some q
-
 -- a stone of another string than the target's that shows that p is a candidate: a stone of a weak enemy string; or, if
 -- there is none and a wide ply is left in the wider tree, a stone of a linked string
 unfoldable pub shown_at : Turn → ℕ → List Cell → ℕ → Option ℕ
@@ -144,10 +170,10 @@ candidate_rests_on turn pos p =
     else with_string pos.size pos.cells turn.target (shown_at turn pos.size pos.cells p)
 
 -- the points that guard q: if q is in the zone Z and holds a stone of c, the points that show whether its string is in
--- atari; else none
+-- atari, liberties in Z before the others; else none
 abbrev pub guard_at : ℕ → List Cell → Colour → Points → ℕ → Points
 guard_at s cells c Z q =
-    if set.contains Z q && same_cell (cell_at cells q) (stone_of c) then shows_atari s cells q else set.empty
+    if set.contains Z q && same_cell (cell_at cells q) (stone_of c) then shows_atari s cells Z q else set.empty
 
 -- the points that show, of each string of c with a stone in Z, whether it is in atari
 unfoldable pub guard_of : ℕ → List Cell → Colour → Points → Points
@@ -164,7 +190,7 @@ abbrev pub asked_at : ℕ → List Cell → Colour → Points → ℕ → Points
 asked_at s cells c Z q =
     if set.contains Z q && same_cell (cell_at cells q) Empty then set.insert set.empty q
     else if set.contains Z q && same_cell (cell_at cells q) (stone_of c)
-    then last_of (liberty_points s cells q) (first_two (liberty_points s cells q))
+    then last_of (liberty_points s cells q) (two_within Z (liberty_points s cells q))
     else set.empty
 
 -- the replies that Z asks for: its empty points, and the only liberty of each string of c in atari that has a stone in

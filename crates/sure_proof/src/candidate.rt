@@ -120,7 +120,7 @@ fn most_of_enemy(tree: Tree) -> u16
 }
 
 /// Whether both are true.
-fn are_both(first: bool, second: bool) -> bool
+pub(crate) fn are_both(first: bool, second: bool) -> bool
     ensures { result ≡ (first && second) }
 {
     first && second

@@ -22,4 +22,5 @@ mod words;
 
 pub use candidate::candidate_shown;
 pub use checker::{check_node, checks_surely};
-pub use replies::replies_asked;
+pub use play::play_shown;
+pub use replies::{Shown, replies_asked, replies_shown};

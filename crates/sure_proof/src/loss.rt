@@ -38,20 +38,21 @@ fn open_neighbour(pos: &Position, p: Point, c: Colour) -> Option<Point>
     None
 }
 
-/// The points that show whether each neighbour of the empty point `p` holds a stone of `c`, and whether the other
-/// colour can play at `p`.
-fn wall_rests_on(pos: &Position, p: Point, c: Colour) -> PointSet
+/// The points that show whether each neighbour of the empty point `p` holds a stone of `wall`, and whether `c` can play
+/// at `p`.
+fn wall_rests_on(pos: &Position, wall: Colour, c: Colour, p: Point) -> PointSet
     requires on_board { p < pos.now.size * pos.now.size }
     requires small { p < largest_points }
-    ensures { result ≡ wall_rests_on pos.now.size pos.now.cells p (open_neighbour pos.now.size pos.now.cells c p) }
+    ensures { result ≡ wall_rests_on pos.now.size pos.now.cells c p
+        (open_neighbour pos.now.size pos.now.cells wall p) }
 {
-    match open_neighbour(pos, p, c) {
+    match open_neighbour(pos, p, wall) {
         Some(q) => {
             let mut points = one_point(p);
             points.add(q);
             points
         }
-        None => play_rests_on(pos, p),
+        None => play_rests_on(pos, c, &PointSet::new(), p),
     }
 }
 
@@ -64,7 +65,7 @@ pub(crate) fn loss_rests_on(pos: &Position, node: Node) -> PointSet
 {
     let target = node.turn.target;
     if node.turn.tree.is_wider() && !node.turn.attacker_to_play {
-        return wall_rests_on(pos, target, node.turn.defender.other());
+        return wall_rests_on(pos, node.turn.defender.other(), node.mover(), target);
     }
     one_point(target)
 }

@@ -9,10 +9,10 @@ ghost use Rattle.read_proof.specs.Tokens.{words_in};
 ghost use Rattle.read_proof.specs.Proves.{child_after};
 ghost use Rattle.sure_rules.specs.Nodes.{is_gone, is_taken_for_good, has_too_many};
 ghost use Rattle.sure_proof.specs.SureProofs.{by_capture, by_back, by_child, by_move, at_reply, at_replies};
-ghost use Rattle.sure_proof.specs.SureProofs.{by_replies, by_turn, proves_surely, proved_by, points_in};
+ghost use Rattle.sure_proof.specs.SureProofs.{with_move, by_replies, by_turn, proves_surely, proved_by, points_in};
 
 use crate::candidate::candidate_rests_on;
-use crate::guard::{asked_of, guard_of};
+use crate::guard::{Guarded, guard_zone};
 use crate::loss::loss_rests_on;
 use crate::play::play_rests_on;
 use crate::words::{behind_end, behind_vertex, is_vertex};
@@ -86,9 +86,9 @@ fn play_proved<'a>(
         (λ left. by_child (proves_surely plies) node pos.now p (child_after node pos.now (Spot.At p)) (words_in text.now) ≡ Some (proved_by (words_in left.now) zone.new)) }
 {
     let (next, new) = child_after(pos, node, Spot::At(p))?;
-    let mut points = candidate_rests_on(pos, node.turn, p);
-    points.join(&play_rests_on(pos, p));
     let left = proved(&new, next, plies, text, zone)?;
+    let mut points = candidate_rests_on(pos, node.turn, p);
+    points.join(&play_rests_on(pos, node.mover(), zone, p));
     points.join(zone);
     *zone = points;
     Some(left)
@@ -117,6 +117,16 @@ fn move_proved<'a>(
     play_proved(pos, node, plies, p, text, zone)
 }
 
+/// Adds to `zone` the points on which the mover's play at `p` rests, if what follows rests on `zone`.
+fn add_play(pos: &Position, node: Node, p: Point, zone: &mut PointSet)
+    requires on_board { p < pos.now.size * pos.now.size }
+    requires small { p < largest_points }
+    ensures { zone.new ≡ with_move node pos.now p zone.old }
+{
+    let points = play_rests_on(pos, node.mover(), zone, p);
+    zone.join(&points);
+}
+
 /// The text behind the reply at `p`, with `plies` plies left after it: if it can be made, its vertex and the proof of
 /// the node after it stand in the text, else nothing does. The points on which the reply rests are added to `zone`.
 #[cycle(proof)]
@@ -131,19 +141,22 @@ fn reply_proved<'a>(
     requires target { node.turn.target < pos.now.size * pos.now.size }
     requires on_board { p < pos.now.size * pos.now.size }
     requires small { p < largest_points }
-    ensures { MatchOption result (at_reply (proves_surely plies) pos.now p (child_of node pos.now p) (proved_by (words_in text.now) zone.old) ≡ None)
-        (λ left. at_reply (proves_surely plies) pos.now p (child_of node pos.now p) (proved_by (words_in text.now) zone.old) ≡ Some (proved_by (words_in left.now) zone.new)) }
+    ensures { MatchOption result (at_reply (proves_surely plies) node pos.now p (child_of node pos.now p) (proved_by (words_in text.now) zone.old) ≡ None)
+        (λ left. at_reply (proves_surely plies) node pos.now p (child_of node pos.now p) (proved_by (words_in text.now) zone.old) ≡ Some (proved_by (words_in left.now) zone.new)) }
 {
-    zone.join(&play_rests_on(pos, p));
     match child_of(pos, node, p) {
         Some(child) => {
             let left = behind_vertex(text, pos.size(), p)?;
             let mut inner = PointSet::new();
             let rest = proved(&child.1, child.0, plies, left, &mut inner)?;
             zone.join(&inner);
+            add_play(pos, node, p, zone);
             Some(rest)
         }
-        None => Some(text),
+        None => {
+            add_play(pos, node, p, zone);
+            Some(text)
+        }
     }
 }
 
@@ -191,8 +204,7 @@ fn defence_proved<'a>(
     let (next, new) = passed(pos, node);
     let left = proved(&new, next, plies, text, zone)?;
     let enemy = node.mover().other();
-    let asked = asked_of(pos, enemy, zone);
-    let guard = guard_of(pos, enemy, zone);
+    let Guarded { asked, guard } = guard_zone(pos, enemy, zone);
     zone.join(&guard);
     let more = replies_proved(pos, node, plies, &asked, left, zone)?;
     let rest = behind_end(more)?;

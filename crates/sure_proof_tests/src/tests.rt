@@ -35,7 +35,7 @@ struct Row {
 }
 
 /// Rows, each named by what it shows.
-static ROWS: [Row; 22] = [
+static ROWS: [Row; 23] = [
     Row {
         name: "a stone in the corner is taken",
         size: 5,
@@ -45,7 +45,7 @@ static ROWS: [Row; 22] = [
         target: "A1",
         depths: (3, 0),
         code: 3,
-        text: "A2 * B1 . A3 B1 . B3 B1 . B1 C1 . C1 B1 . ;",
+        text: "A2 * B1 . B1 C1 . C1 B1 . ;",
         proves: true,
     },
     Row {
@@ -57,7 +57,7 @@ static ROWS: [Row; 22] = [
         target: "A1",
         depths: (3, 0),
         code: 3,
-        text: "a2\t*  b1 . A3 b1 . B3 b1 . B1 c1 . C1 b1 . ;",
+        text: "a2\t*  b1 . B1 c1 . C1 b1 . ;",
         proves: true,
     },
     Row {
@@ -69,7 +69,7 @@ static ROWS: [Row; 22] = [
         target: "A1",
         depths: (2, 0),
         code: 3,
-        text: "A2 * B1 . A3 B1 . B3 B1 . B1 C1 . C1 B1 . ;",
+        text: "A2 * B1 . B1 C1 . C1 B1 . ;",
         proves: false,
     },
     Row {
@@ -81,7 +81,7 @@ static ROWS: [Row; 22] = [
         target: "A1",
         depths: (4, 0),
         code: 3,
-        text: "A2 * B1 . A3 B1 . B3 B1 . B1 C1 . C1 B1 . ;",
+        text: "A2 * B1 . B1 C1 . C1 B1 . ;",
         proves: true,
     },
     Row {
@@ -93,7 +93,7 @@ static ROWS: [Row; 22] = [
         target: "A1",
         depths: (3, 0),
         code: 3,
-        text: "A2 * B1 . A3 B1 . B3 B1 . B1 C1 . C1 B1 . ; .",
+        text: "A2 * B1 . B1 C1 . C1 B1 . ; .",
         proves: false,
     },
     Row {
@@ -105,7 +105,7 @@ static ROWS: [Row; 22] = [
         target: "A1",
         depths: (3, 0),
         code: 3,
-        text: "A2 * B1 . A3 B1 . B3 B1 . B1 C1 . C1 B1 .",
+        text: "A2 * B1 . B1 C1 . C1 B1 .",
         proves: false,
     },
     Row {
@@ -117,7 +117,7 @@ static ROWS: [Row; 22] = [
         target: "A1",
         depths: (3, 0),
         code: 3,
-        text: "A2 * B1 . A3 B1 . B3 B1 . C1 B1 . ;",
+        text: "A2 * B1 . C1 B1 . ;",
         proves: false,
     },
     Row {
@@ -129,7 +129,19 @@ static ROWS: [Row; 22] = [
         target: "A1",
         depths: (3, 0),
         code: 3,
-        text: "A2 * B1 . A3 B1 . B3 B1 . C3 B1 . B1 C1 . C1 B1 . ;",
+        text: "A2 * B1 . C3 B1 . B1 C1 . C1 B1 . ;",
+        proves: false,
+    },
+    Row {
+        name: "a reply at a liberty that only guards",
+        size: 5,
+        black: "A1",
+        white: "B2",
+        of: Attack,
+        target: "A1",
+        depths: (3, 0),
+        code: 3,
+        text: "A2 * B1 . A3 B1 . B1 C1 . C1 B1 . ;",
         proves: false,
     },
     Row {
@@ -141,7 +153,7 @@ static ROWS: [Row; 22] = [
         target: "A1",
         depths: (3, 0),
         code: 3,
-        text: "A2 * B1 . B3 B1 . A3 B1 . B1 C1 . C1 B1 . ;",
+        text: "A2 * B1 . C1 B1 . B1 C1 . ;",
         proves: false,
     },
     Row {
@@ -153,7 +165,7 @@ static ROWS: [Row; 22] = [
         target: "A1",
         depths: (3, 0),
         code: 3,
-        text: "A2 * A3 B1 . B3 B1 . B1 C1 . C1 B1 . ;",
+        text: "A2 * B1 C1 . C1 B1 . ;",
         proves: false,
     },
     Row {
@@ -189,7 +201,7 @@ static ROWS: [Row; 22] = [
         target: "A1",
         depths: (3, 0),
         code: 3,
-        text: "* A2 * B1 . A3 B1 . B3 B1 . B1 C1 . C1 B1 . ; ;",
+        text: "* A2 * B1 . B1 C1 . C1 B1 . ; ;",
         proves: false,
     },
     Row {
@@ -201,7 +213,7 @@ static ROWS: [Row; 22] = [
         target: "A1",
         depths: (3, 0),
         code: 3,
-        text: "PASS A2 * B1 . A3 B1 . B3 B1 . B1 C1 . C1 B1 . ;",
+        text: "PASS A2 * B1 . B1 C1 . C1 B1 . ;",
         proves: false,
     },
     Row {
@@ -273,7 +285,7 @@ static ROWS: [Row; 22] = [
         target: "A1",
         depths: (4, 0),
         code: 3,
-        text: "* A2 * B1 . A3 B1 . B3 B1 . B1 C1 . C1 B1 . ; A4 A2 * B1 . A3 B1 . B3 B1 . B1 C1 . C1 B1 . ; B4 A2 * B1 . A3 B1 . B3 B1 . B1 C1 . C1 B1 . ; A3 A2 * B1 . B3 B1 . C2 B1 . B1 C1 . C1 B1 . ; B3 A2 * B1 . A3 B1 . C2 B1 . B1 C1 . C1 B1 . ; C3 A2 * B1 . A3 B1 . B3 B1 . B1 C1 . C1 B1 . ; A2 A3 * B1 . B3 B1 . C2 B1 . B1 C1 . C1 B1 . ; C2 A2 * B1 . A3 B1 . B3 B1 . B1 C1 . C1 B1 . ; B1 C1 * A2 . A3 A2 . B3 A2 . A2 A3 . ; C1 B1 * A2 . A3 A2 . B3 A2 . A2 A3 . ; D1 A2 * B1 . A3 B1 . B3 B1 . B1 C1 . C1 B1 . ; ;",
+        text: "* A2 * B1 . B1 C1 . C1 B1 . ; A3 A2 * B1 . B1 C1 . C1 B1 . ; A2 A3 * B1 . B1 C1 . C1 B1 . ; C2 A2 * B1 . B1 C1 . C1 B1 . ; B1 C1 * A2 . A3 A2 . A2 A3 . ; C1 B1 * A2 . A3 A2 . A2 A3 . ; D1 A2 * B1 . B1 C1 . C1 B1 . ; ;",
         proves: true,
     },
     Row {
@@ -285,7 +297,7 @@ static ROWS: [Row; 22] = [
         target: "A1",
         depths: (4, 0),
         code: 3,
-        text: "* A2 * B1 . A3 B1 . B3 B1 . B1 C1 . C1 B1 . ; ;",
+        text: "* A2 * B1 . B1 C1 . C1 B1 . ; ;",
         proves: false,
     },
     Row {
@@ -421,7 +433,7 @@ static WIDER_ROWS: [Row; 11] = [
         target: "B5",
         depths: (4, 1),
         code: 2,
-        text: "* C5 * A5 . A5 A4 . D5 A5 . A4 A5 . ; A5 C5 * A4 . D5 A4 . A4 A3 . A3 A4 . ; C5 D5 * A5 . A5 A4 . A4 A5 . ; D5 C5 * A5 . A5 A4 . A4 A5 . ; E5 C5 * A5 . A5 A4 . D5 A5 . A4 A5 . ; A4 C5 * A5 . A5 A3 . D5 A5 . A3 A5 . ; D4 C5 * A5 . A5 A4 . D5 A5 . A4 A5 . ; A3 C5 * A5 . A5 A4 . D5 A5 . A4 A5 . ; ;",
+        text: "* C5 * A5 . A5 A4 . D5 A5 . A4 A5 . ; A5 C5 * A4 . A4 A3 . A3 A4 . ; C5 D5 * A5 . A5 A4 . A4 A5 . ; D5 C5 * A5 . A5 A4 . A4 A5 . ; E5 C5 * A5 . A5 A4 . D5 A5 . A4 A5 . ; A4 C5 * A5 . A5 A3 . D5 A5 . A3 A5 . ; D4 C5 * A5 . A5 A4 . D5 A5 . A4 A5 . ; A3 C5 * A5 . A5 A4 . D5 A5 . A4 A5 . ; ;",
         proves: true,
     },
     Row {
@@ -433,7 +445,7 @@ static WIDER_ROWS: [Row; 11] = [
         target: "B5",
         depths: (4, 1),
         code: 1,
-        text: "* C5 * A5 . A5 A4 . D5 A5 . A4 A5 . ; A5 C5 * A4 . D5 A4 . A4 A3 . A3 A4 . ; C5 D5 * A5 . A5 A4 . A4 A5 . ; D5 C5 * A5 . A5 A4 . A4 A5 . ; E5 C5 * A5 . A5 A4 . D5 A5 . A4 A5 . ; A4 C5 * A5 . A5 A3 . D5 A5 . A3 A5 . ; D4 C5 * A5 . A5 A4 . D5 A5 . A4 A5 . ; A3 C5 * A5 . A5 A4 . D5 A5 . A4 A5 . ; ;",
+        text: "* C5 * A5 . A5 A4 . D5 A5 . A4 A5 . ; A5 C5 * A4 . A4 A3 . A3 A4 . ; C5 D5 * A5 . A5 A4 . A4 A5 . ; D5 C5 * A5 . A5 A4 . A4 A5 . ; E5 C5 * A5 . A5 A4 . D5 A5 . A4 A5 . ; A4 C5 * A5 . A5 A3 . D5 A5 . A3 A5 . ; D4 C5 * A5 . A5 A4 . D5 A5 . A4 A5 . ; A3 C5 * A5 . A5 A4 . D5 A5 . A4 A5 . ; ;",
         proves: false,
     },
 ];

@@ -81,7 +81,7 @@ static ROWS: [Row; 9] = [
             check_proof attack A1 3 A2 * B1 . ;\nattack_proof E5\n",
         input_fails: &[],
         output_fails: &[],
-        put: b"=\n\n=\n\n= 3 A2 * B1 . A3 B1 . B3 B1 . B1 C1 . C1 B1 . ;\n\n= 3\n\n=\n\n= 0\n\n= false\n\n\
+        put: b"=\n\n=\n\n= 3 A2 * B1 . B1 C1 . C1 B1 . ;\n\n= 3\n\n=\n\n= 0\n\n= false\n\n\
             ? vertex must not be empty\n\n",
         end: End::Done,
     },

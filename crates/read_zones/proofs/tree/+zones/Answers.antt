@@ -9,11 +9,11 @@ use Rattle.go_rules.specs.Strings.{same_cell}
 use Rattle.go_rules.proofs.Cells.{eq_is_same_cell}
 use Rattle.sure_rules.proofs.SureLemmas.{sure-no_plies}
 use Rattle.sure_rules.specs.Zones.{IsZone}
-use Rattle.read_zones.proofs.GuardLemmas.{in_either, in_first, in_second, in_rest}
+use Rattle.read_zones.proofs.SetLemmas.{in_either, in_first, in_second, in_rest}
 use Rattle.read_zones.proofs.TreeLemmas.{some_shown, each_shown, agree_less, agree_self, attacker_has}
 use Rattle.read_zones.proofs.TreeLemmas.{attacker_none, attacker_barred, defender_passes, defender_replies, defender_has}
 use Rattle.read_zones.proofs.TreeLemmas.{child_size, none_left, none_gives}
-use Rattle.read_zones.specs.Alike.{AreCandidates}
+use Rattle.sure_proof.specs.Alike.{AreCandidates}
 use Rattle.read_zones.proofs.TakingLemmas.{taken_zone}
 use Rattle.read_zones.proofs.BackLemmas.{back_refused, back_fails, zone_for_good, zone_of_loss}
 use Rattle.read_rules.specs.GameTree.{child_of, some_child, each_child}

@@ -1,5 +1,5 @@
 -- The points found show the candidate.
-use Rattle.std.proofs.Common.{◌≡◌, ◌∙◌, ◌*◌, ◌<◌, ◌≤◌, true, false, sym, ap, subst, arith}
+use Rattle.std.proofs.Common.{◌≡◌, ◌∙◌, ◌*◌, ◌≤◌, true, false, sym, ap, subst, arith}
 use Rattle.std.specs.FinSet as set
 use Rattle.go_rules.specs.Board.{largest_points}
 use Rattle.sure_rules.specs.Zones.{WhereverAgrees}

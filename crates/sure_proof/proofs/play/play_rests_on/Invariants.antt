@@ -5,5 +5,5 @@ use Rattle.sure_proof.proofs.play.play_rests_on.Given as goal
 
 -- what shows the neighbours on the sides so far came
 abbrev pub invariant-sides : goal.invariant-sides
-invariant-sides l =
-    l.points ≡ union_below l.side (λ k. shows_neighbour l.pos.size l.pos.cells (neighbour_at l.pos.size l.p k))
+invariant-sides l = l.points ≡ union_below l.side
+    (λ k. shows_neighbour l.pos.size l.pos.cells l.c l.free l.near (neighbour_at l.pos.size l.p k))

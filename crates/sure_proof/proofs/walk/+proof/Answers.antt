@@ -7,8 +7,8 @@ use Rattle.read_rules.specs.GameTree.{child_of, taking_back}
 use Rattle.read_proof.specs.Tokens.{words_in}
 use Rattle.read_proof.specs.Proves.{child_after}
 use Rattle.read_proof.proofs.ChildLemmas.{after_off}
-use Rattle.sure_proof.specs.Rests.{candidate_rests_on}
-use Rattle.sure_proof.specs.SureProofs.{proves_surely, proved_by}
+use Rattle.sure_proof.specs.Rests.{candidate_rests_on, play_rests_on}
+use Rattle.sure_proof.specs.SureProofs.{proves_surely, proved_by, with_move}
 use Rattle.sure_proof.proofs.StepLemmas.{no_words, capture_word, out_of_plies, turn_word, replies_end, replies_on}
 use Rattle.sure_proof.proofs.StepLemmas.{replies_fail, play_refused, play_fails, play_holds, reply_refused, reply_unnamed}
 use Rattle.sure_proof.proofs.StepLemmas.{reply_fails, reply_holds, pass_fails, replies_missing, end_missing, end_comes}
@@ -143,7 +143,8 @@ play_proved-returns t c =
     let pos = c.args.pos.now in
     let points = c.join-2.ensures ∙ ap (λ S. set.union S c.proved.new.zone) (c.join.ensures
     ∙ ap (λ S. set.union S c.play_rests_on.result) c.candidate_rests_on-points.ensures
-    ∙ ap (set.union (candidate_rests_on c.args.node.turn pos c.args.p)) c.play_rests_on.ensures) in
+    ∙ ap (set.union (candidate_rests_on c.args.node.turn pos c.args.p)) (c.play_rests_on.ensures
+    ∙ ap (λ k. play_rests_on pos.size pos.cells k c.proved.new.zone c.args.p) c.mover.ensures)) in
     play_holds (proves_surely c.args.plies) c.args.node c.args.pos.now c.args.p (child_after c.args.node pos (At c.args.p))
     (words_in c.args.text.now) (c.in_ok-next.next, c.in_ok-next.new) (sym c.child_after.ensures.value ∙ c.in_ok-next.was)
     (words_in c.in_ok-left.left.now) c.proved.new.zone c.in_ok-left.ensures
@@ -152,7 +153,8 @@ play_proved-returns t c =
 -- the reply is not named
 pub reply_proved-returns-in_err-left-in-Some : goal.reply_proved-returns-in_err-left-in-Some
 reply_proved-returns-in_err-left-in-Some t c =
-    rw c.from_residual.ensures (reply_unnamed (proves_surely c.args.plies) c.args.pos.now c.args.p (child_of c.args.node c.args.pos.now c.args.p)
+    rw c.from_residual.ensures (reply_unnamed (proves_surely c.args.plies) c.args.node c.args.pos.now
+    c.args.p (child_of c.args.node c.args.pos.now c.args.p)
     (words_in c.args.text.now) c.args.zone.now
     c.in-Some.child (sym c.child_of.ensures.value ∙ c.in-Some.is)
     (rw c.size.ensures.value at c.in_err-left-in-Some.ensures))
@@ -160,7 +162,9 @@ reply_proved-returns-in_err-left-in-Some t c =
 -- no proof comes behind it
 pub reply_proved-returns-in_err-rest-in-Some : goal.reply_proved-returns-in_err-rest-in-Some
 reply_proved-returns-in_err-rest-in-Some t c =
-    rw c.from_residual-in_err-rest-in-Some.ensures (reply_fails (proves_surely c.args.plies) c.args.pos.now c.args.p (child_of c.args.node c.args.pos.now c.args.p)
+    rw c.from_residual-in_err-rest-in-Some.ensures
+    (reply_fails (proves_surely c.args.plies) c.args.node c.args.pos.now
+    c.args.p (child_of c.args.node c.args.pos.now c.args.p)
     (words_in c.args.text.now) c.args.zone.now
     c.in-Some.child (sym c.child_of.ensures.value ∙ c.in-Some.is)
     (words_in c.in_ok-left-in-Some.left.now) (rw c.size.ensures.value at c.in_ok-left-in-Some.ensures)
@@ -169,9 +173,9 @@ reply_proved-returns-in_err-rest-in-Some t c =
 -- one does
 pub reply_proved-returns-in_ok-rest-in-Some : goal.reply_proved-returns-in_ok-rest-in-Some
 reply_proved-returns-in_ok-rest-in-Some t c =
-    let points = c.join-in-Some.ensures ∙ ap (λ S. set.union S c.proved.new.zone)
-    (c.join.ensures ∙ ap (set.union c.args.zone.now) c.play_rests_on.ensures) in
-    reply_holds (proves_surely c.args.plies) c.args.pos.now c.args.p (child_of c.args.node c.args.pos.now c.args.p)
+    let points = c.add_play.ensures ∙ ap (with_move c.args.node c.args.pos.now c.args.p) c.join.ensures in
+    reply_holds (proves_surely c.args.plies) c.args.node c.args.pos.now
+    c.args.p (child_of c.args.node c.args.pos.now c.args.p)
     (words_in c.args.text.now) c.args.zone.now
     c.in-Some.child (sym c.child_of.ensures.value ∙ c.in-Some.is)
     (words_in c.in_ok-left-in-Some.left.now) (words_in c.in_ok-rest-in-Some.rest.now) c.proved.new.zone
@@ -181,9 +185,10 @@ reply_proved-returns-in_ok-rest-in-Some t c =
 -- the reply cannot be made
 pub reply_proved-returns-in-None : goal.reply_proved-returns-in-None
 reply_proved-returns-in-None t c =
-    reply_refused (proves_surely c.args.plies) c.args.pos.now c.args.p (child_of c.args.node c.args.pos.now c.args.p)
+    reply_refused (proves_surely c.args.plies) c.args.node c.args.pos.now
+    c.args.p (child_of c.args.node c.args.pos.now c.args.p)
     (words_in c.args.text.now) c.args.zone.now (sym c.child_of.ensures.value ∙ c.in-None.is)
-    ∙ ap (λ S. Some (proved_by (words_in c.args.text.now) S)) (sym (c.join.ensures ∙ ap (set.union c.args.zone.now) c.play_rests_on.ensures))
+    ∙ ap (λ S. Some (proved_by (words_in c.args.text.now) S)) (sym c.add_play-in-None.ensures)
 
 -- the next reply is beyond the board
 pub replies_proved-returns-then-p-points : goal.replies_proved-returns-then-p-points
@@ -232,8 +237,13 @@ pub defence_proved-returns-in_err-more : goal.defence_proved-returns-in_err-more
 defence_proved-returns-in_err-more t c =
     rw c.from_residual-in_err-more.ensures (replies_missing (proves_surely c.args.plies) c.args.node c.args.pos.now (words_in c.args.text.now)
     (words_in c.in_ok-left.left.now) c.proved.new.zone (rw c.passed-new.ensures at c.in_ok-left.ensures)
-    (rw (c.join.ensures, c.guard_of-guard.ensures, c.asked_of-asked.ensures, c.other-enemy.ensures, c.mover.ensures) at
-    c.in_err-more.ensures))
+    (rw (
+      c.join.ensures,
+      c.guard_zone-asked.ensures.guard,
+      c.guard_zone-asked.ensures.asked,
+      c.other-enemy.ensures,
+      c.mover.ensures,
+    ) at c.in_err-more.ensures))
 
 -- the end does not
 pub defence_proved-returns-in_err-rest : goal.defence_proved-returns-in_err-rest
@@ -241,8 +251,13 @@ defence_proved-returns-in_err-rest t c =
     rw c.from_residual-in_err-rest.ensures (end_missing (proves_surely c.args.plies) c.args.node c.args.pos.now (words_in c.args.text.now)
     (words_in c.in_ok-left.left.now) c.proved.new.zone (rw c.passed-new.ensures at c.in_ok-left.ensures)
     (words_in c.in_ok-more.more.now) c.replies_proved.new.zone
-    (rw (c.join.ensures, c.guard_of-guard.ensures, c.asked_of-asked.ensures, c.other-enemy.ensures, c.mover.ensures) at
-    c.in_ok-more.ensures) c.in_err-rest.ensures)
+    (rw (
+      c.join.ensures,
+      c.guard_zone-asked.ensures.guard,
+      c.guard_zone-asked.ensures.asked,
+      c.other-enemy.ensures,
+      c.mover.ensures,
+    ) at c.in_ok-more.ensures) c.in_err-rest.ensures)
 
 -- they come
 pub defence_proved-returns : goal.defence_proved-returns
@@ -250,5 +265,10 @@ defence_proved-returns t c =
     end_comes (proves_surely c.args.plies) c.args.node c.args.pos.now (words_in c.args.text.now)
     (words_in c.in_ok-left.left.now) c.proved.new.zone (rw c.passed-new.ensures at c.in_ok-left.ensures)
     (words_in c.in_ok-more.more.now) c.replies_proved.new.zone
-    (rw (c.join.ensures, c.guard_of-guard.ensures, c.asked_of-asked.ensures, c.other-enemy.ensures, c.mover.ensures) at
-    c.in_ok-more.ensures) (words_in c.in_ok-rest.rest.now) c.in_ok-rest.ensures
+    (rw (
+      c.join.ensures,
+      c.guard_zone-asked.ensures.guard,
+      c.guard_zone-asked.ensures.asked,
+      c.other-enemy.ensures,
+      c.mover.ensures,
+    ) at c.in_ok-more.ensures) (words_in c.in_ok-rest.rest.now) c.in_ok-rest.ensures
