@@ -35,9 +35,12 @@ pub record AnswersParsed (matcher : Matcher) (old : Kept) (input : Input) (said 
   pub links : LinksAs (asks_link_of_parsed (machine_of old) said) old.engine new.engine
   pub missed : new.missed ≡ old.missed ++ missed_by (parsed_load input.line said) (reply_bytes answer)
 
+-- how machines may answer a line: of a machine, a line and an answer, whether it may answer the line so
+abbrev pub LineStep : Type 1
+LineStep = Machine → RawLine → Step Machine → Type 0
+
 -- The session that kept `old` answers a line by this step of its machine and keeps `new`.
-pub record AnswersLine (step : Machine → RawLine → Step Machine → Type 0) (old : Kept) (line : RawLine) (answer : Reply)
-    (new : Kept) : Type 0 where
+pub record AnswersLine (step : LineStep) (old : Kept) (line : RawLine) (answer : Reply) (new : Kept) : Type 0 where
   -- the reply is one that the step gives
   pub reply : Answers step (machine_of old) line (reply_bytes answer) (machine_of new) (reply_ends answer)
   -- the reply is `Nothing` exactly if the line has no words

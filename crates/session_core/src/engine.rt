@@ -196,7 +196,9 @@ impl Engine {
         match said {
             Parsed::Nothing => Ok(Reply::Nothing),
             Parsed::Refused { id, text } => Ok(Reply::refused(id, text)),
-            Parsed::Command { id, command } => self.try_command(matcher, helpers, line, id, command),
+            Parsed::Command { id, command } => self.try_command(
+                matcher, helpers, line, id, command,
+            ),
         }
     }
 

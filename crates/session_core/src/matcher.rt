@@ -1,11 +1,11 @@
 //! Patterns, and the automaton that finds their matches. No line changes them.
-ghost use Rattle.std.specs.Prelude.{◌≡◌, ◌⊎◌, ◌*◌, ◌≤◌, true, is_err, IfOk};
+ghost use Rattle.std.specs.Prelude.{◌≡◌, IfOk, OnOk, OnErr};
 ghost use Rattle.helpers.specs.HelperStates.{says_yes};
 ghost use Rattle.helpers.specs.Slots.{states_of};
 ghost use Rattle.machine_rules.specs.MatchTexts.{AreAmong};
 ghost use Rattle.match_engine.specs.AutomatonMatches.{automaton_matches};
 ghost use Rattle.match_engine.specs.HelperCalls.{after_matches};
-ghost use Rattle.match_engine.specs.Readings.{codes_of};
+ghost use Rattle.match_engine.specs.Readings.{codes_of, Follows};
 ghost use Rattle.match_rules.specs.Conditions.{all_yes};
 ghost use Rattle.session_core.specs.MatcherView.{NumbersPatterns};
 
@@ -65,7 +65,7 @@ impl Matcher {
 
     /// The matches for `friend` on `position` that the automaton finds and the helpers allow. What classes and
     /// constraints ask is read at the depths of `readings`; the helpers that the patterns name are asked last. Takes
-    /// memory.
+    /// memory: if there is none, nothing is read and no helper is asked.
     pub(crate) fn find(
         &self,
         alloc: Global,
@@ -77,13 +77,12 @@ impl Matcher {
         ensures found { IfOk result (λ found. found.items ≡ automaton_matches (codes_of readings.old)
             (says_yes (states_of state helpers.old)) self.now.automaton self.now.patterns position.now friend) }
         ensures among { IfOk result (λ found. AreAmong self.now.patterns position.now.size found.items) }
-        ensures depths { readings.new.depths ≡ readings.old.depths }
-        ensures refused { readings.old.answers.refused ≤ readings.new.answers.refused }
-        ensures capacity { readings.new.answers.kept.1 ≡ readings.old.answers.kept.1 }
-        ensures calls { (states_of state helpers.new ≡ after_matches (states_of state helpers.old) self.now.patterns
-            (automaton_matches (codes_of readings.old) all_yes self.now.automaton self.now.patterns position.now
-            friend) position.now friend)
-            ⊎ ((is_err result ≡ true) × (states_of state helpers.new ≡ states_of state helpers.old)) }
+        ensures calls { OnOk result (states_of state helpers.new ≡ after_matches (states_of state helpers.old)
+            self.now.patterns (automaton_matches (codes_of readings.old) all_yes self.now.automaton self.now.patterns
+            position.now friend) position.now friend) }
+        ensures follows { OnOk result (Follows readings.old readings.new) }
+        ensures unread { OnErr result (readings.new ≡ readings.old) }
+        ensures unasked { OnErr result (helpers.new ≡ helpers.old) }
     {
         matches(
             alloc,

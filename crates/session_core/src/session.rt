@@ -141,8 +141,7 @@ impl Session {
         ensures same { L.contents files.new ≡ L.contents files.old }
         ensures matcher { self.new.matcher ≡ self.old.matcher }
     {
-        self.engine
-            .finish(&self.matcher, &mut self.helpers, slow, bytes_of(raw), files)
+        self.engine.finish(&self.matcher, &mut self.helpers, slow, bytes_of(raw), files)
     }
 
     /// Answers one line, however long it takes: by `try_line`, then by `finish` if the line is postponed. A file that
