@@ -44,7 +44,7 @@ use Rattle.sure_proof.specs.Rests.{most_wide, most_of_enemy, shown_at, with_stri
 use Rattle.sure_proof.specs.Rests.{all_points}
 use Rattle.sure_proof.specs.Rests.{guard_of, asked_of}
 use Rattle.sure_proof.specs.SureProofs.{Proved, Prover, proved_by, with_points, behind_word, behind_vertex, is_to, by_capture, by_back}
-use Rattle.sure_proof.specs.SureProofs.{by_child, its_play, and_its_play, with_candidate, with_reply}
+use Rattle.sure_proof.specs.SureProofs.{by_child, move_rests_on, with_move, with_candidate, with_reply}
 use Rattle.sure_proof.specs.SureProofs.{by_move, at_reply, at_replies, replies_to, at_end, behind_pass, by_replies, by_turn}
 use Rattle.sure_proof.specs.SureProofs.{proves_surely}
 use Rattle.sure_proof.specs.Gathered.{IsWithin}
@@ -202,12 +202,12 @@ module _ (n : ℕ) (node : Node) (pos : BoardState) (p : ℕ) (next : Node) (fir
     (zone : IsZone n next first (has W)) where
   -- the points that show it
   abbrev all_of_it : Points
-  all_of_it = sets.union (sets.union (candidate_rests_on node.turn pos p) (its_play node pos p W)) W
+  all_of_it = sets.union (sets.union (candidate_rests_on node.turn pos p) (move_rests_on node pos p W)) W
 
   -- they are a zone
   play_zone : IsZone (suc n) node pos (has all_of_it)
   play_zone =
-      let both : Points = sets.union (candidate_rests_on node.turn pos p) (its_play node pos p W) in
+      let both : Points = sets.union (candidate_rests_on node.turn pos p) (move_rests_on node pos p W) in
       let p_on = candidate_on node.turn pos p candidate in
       let child = child_gives node pos p next first is in
       let sound_child = free_keeps pos (mover_of node.turn) p first good p_on
@@ -217,7 +217,7 @@ module _ (n : ℕ) (node : Node) (pos : BoardState) (p : ℕ) (next : Node) (fir
       = λ here sound same. candidate_there node.turn pos here p all_of_it good sound on
       (stone_of_cell (cell_at pos.cells node.turn.target) stands) turn candidate same
       (λ q inside. union_first q both W (union_first q (candidate_rests_on node.turn pos p)
-      (its_play node pos p W) inside)) in
+      (move_rests_on node pos p W) inside)) in
       zone_attacker n node pos (has all_of_it) turn (record {
         point = p;
         next = next;
@@ -227,7 +227,7 @@ module _ (n : ℕ) (node : Node) (pos : BoardState) (p : ℕ) (next : Node) (fir
         candidate = λ here sound same. (there here sound same).1;
         leads = λ here sound same. child_there node pos here W p all_of_it good sound p_on same
             (λ q inside. union_first q both W (union_second q (candidate_rests_on node.turn pos p)
-            (its_play node pos p W) inside)) W (λ q inside. union_second q both W inside) next first child;
+            (move_rests_on node pos p W) inside)) W (λ q inside. union_second q both W inside) next first child;
         zone = zone_on_board n next first W sound_child zone;
       })
 
@@ -238,7 +238,7 @@ FailsOn n node pos Z p = (here : BoardState) → IsPosition here → AgreeOn (po
 
 -- A reply of the defender that rests on points of Z.
 module _ (n : ℕ) (node : Node) (pos : BoardState) (Y : Points) (p : ℕ) (Z : Points) (good : IsPosition pos)
-    (p_on : p < pos.size * pos.size) (rests : IsWithin (its_play node pos p Y) Z) where
+    (p_on : p < pos.size * pos.size) (rests : IsWithin (move_rests_on node pos p Y) Z) where
   -- if it cannot be made here it cannot be made there
   fails_refused : child_of node pos p ≡ None → FailsOn n node pos Z p
   fails_refused none here sound same next made child =
@@ -305,13 +305,13 @@ module _ (n : ℕ) (prove : Prover) (sound : IsSound n prove) (node : Node) (pos
       → (so_far found : Proved) → at_reply prove node pos p o so_far ≡ Some found
       → IsWithin so_far.zone found.zone × FailsOn n node pos found.zone p
   one_reply p p_on None is so_far found e =
-      let same : record { rest = so_far.rest; zone = and_its_play node pos p so_far.zone } ≡ found
+      let same : record { rest = so_far.rest; zone = with_move node pos p so_far.zone } ≡ found
       = (let w = e in cc) in
       let zone = ap (λ (v : Proved). v.zone) same in (
         λ q inside. ap (λ (S : Points). has S q) (sym zone)
-            ∙ union_first q so_far.zone (its_play node pos p so_far.zone) inside,
+            ∙ union_first q so_far.zone (move_rests_on node pos p so_far.zone) inside,
         fails_refused n node pos so_far.zone p found.zone good p_on (λ q inside. ap (λ (S : Points). has S q) (sym zone)
-            ∙ union_second q so_far.zone (its_play node pos p so_far.zone) inside) is,
+            ∙ union_second q so_far.zone (move_rests_on node pos p so_far.zone) inside) is,
       )
   one_reply p p_on (Some child) is so_far found e =
       let inner = mapped (with_reply node pos p so_far.zone)
@@ -322,14 +322,14 @@ module _ (n : ℕ) (prove : Prover) (sound : IsSound n prove) (node : Node) (pos
       (child_free node pos p child.0 child.1 mine).1 in
       let zone = sound child.0 child.1 words.0 inner.0 child_sound (played_on_board node pos p child on is) words.2 in
       let both : Points = sets.union so_far.zone inner.0.zone in
-      let of_all : (q : ℕ) → has (and_its_play node pos p both) q ≡ true → has found.zone q ≡ true = λ q inside.
+      let of_all : (q : ℕ) → has (with_move node pos p both) q ≡ true → has found.zone q ≡ true = λ q inside.
       ap (λ (S : Points). has S q) (sym inner.2) ∙ inside in (
-        λ q inside. of_all q (union_first q both (its_play node pos p both)
+        λ q inside. of_all q (union_first q both (move_rests_on node pos p both)
             (union_first q so_far.zone inner.0.zone inside)),
         fails_made n node pos both p found.zone good p_on
-            (λ q inside. of_all q (union_second q both (its_play node pos p both) inside)) child.0 child.1
+            (λ q inside. of_all q (union_second q both (move_rests_on node pos p both) inside)) child.0 child.1
             inner.0.zone is zone
-            (λ q inside. of_all q (union_first q both (its_play node pos p both)
+            (λ q inside. of_all q (union_first q both (move_rests_on node pos p both)
             (union_second q so_far.zone inner.0.zone inside))),
       )
 

@@ -22,7 +22,7 @@ use Rattle.std.proofs.Common.{◌||◌}
 use Rattle.sure_proof.specs.Rests.{Points, candidate_rests_on, loss_rests_on, guard_of, asked_of}
 use Rattle.sure_proof.specs.SureProofs.{Proved, Prover, proved_by, points_in, with_points, behind_word, behind_vertex}
 use Rattle.sure_proof.specs.SureProofs.{is_to, by_capture, by_back, by_child, by_move, by_replies, by_turn, behind_pass, at_end}
-use Rattle.sure_proof.specs.SureProofs.{its_play, and_its_play, with_candidate, with_reply}
+use Rattle.sure_proof.specs.SureProofs.{move_rests_on, with_move, with_candidate, with_reply}
 use Rattle.sure_proof.specs.SureProofs.{at_reply, at_replies, proves_surely}
 
 -- A node, and the words at it.
@@ -120,7 +120,7 @@ module _ (prove : Prover) (node : Node) (pos : BoardState) (p : ℕ) (o : Option
     -- with a proof behind it, it rests on its points and on those of that proof
     pub play_holds : (rest : List Word) (zone : Points) → prove child.0 child.1 words ≡ Some (proved_by rest zone)
         → by_child prove node pos p o words ≡ Some (proved_by rest
-        (sets.union (sets.union (candidate_rests_on node.turn pos p) (its_play node pos p zone)) zone))
+        (sets.union (sets.union (candidate_rests_on node.turn pos p) (move_rests_on node pos p zone)) zone))
     play_holds rest zone e = ap (λ v. by_child prove node pos p v words) is
         ∙ ap (option_map (with_candidate node pos p)) e
 
@@ -164,7 +164,7 @@ module _ (prove : Prover) (node : Node) (pos : BoardState) (p : ℕ) (o : Option
     (Z : Points) where
   -- a reply that cannot be made needs no words
   pub reply_refused : o ≡ None → at_reply prove node pos p o (proved_by words Z)
-      ≡ Some (proved_by words (and_its_play node pos p Z))
+      ≡ Some (proved_by words (with_move node pos p Z))
   reply_refused e = ap (λ v. at_reply prove node pos p v (proved_by words Z)) e
 
   module _ (child : Node × BoardState) (is : o ≡ Some child) where
@@ -184,7 +184,7 @@ module _ (prove : Prover) (node : Node) (pos : BoardState) (p : ℕ) (o : Option
     pub reply_holds : (left rest : List Word) (zone : Points) → behind_vertex pos.size p words ≡ Some left
         → prove child.0 child.1 left ≡ Some (proved_by rest zone)
         → at_reply prove node pos p o (proved_by words Z)
-        ≡ Some (proved_by rest (and_its_play node pos p (sets.union Z zone)))
+        ≡ Some (proved_by rest (with_move node pos p (sets.union Z zone)))
     reply_holds left rest zone e holds = ap (λ v. at_reply prove node pos p v (proved_by words Z)) is
         ∙ ap (λ v. option_map (with_reply node pos p Z) (option_and_then (prove child.0 child.1) v)) e
         ∙ ap (option_map (with_reply node pos p Z)) holds

@@ -73,8 +73,8 @@ is_empty_at cells (Some q) = same_cell (cell_at cells q) Empty
 unfoldable pub has_empty_neighbour : ℕ → List Cell → ℕ → Bool
 has_empty_neighbour s cells p = any_below 4 (λ side. is_empty_at cells (neighbour_at s p side))
 
--- a neighbour of the point of a play of c with this cell shows nothing but its cell: it is empty, or it is a stone of c
--- and free is true, which is that the point has an empty neighbour
+-- a neighbour of the point of a play of c shows nothing but its cell: the cell is empty; or it holds a stone of c, and
+-- free is true, which says that the point has an empty neighbour
 abbrev pub shows_cell : Colour → Bool → Cell → Bool
 shows_cell c free cell = same_cell cell Empty || (free && same_cell cell (stone_of c))
 
@@ -86,10 +86,9 @@ shows_neighbour s cells c free Z (Some q) =
     if shows_cell c free (cell_at cells q) then set.insert set.empty q else shows_atari s cells Z q
 
 -- the points on which a play of c at p rests, if what follows rests on Z: p, its neighbours, and the points that show
--- whether the strings of these are in atari. If p has an empty neighbour, the play can be made whatever the liberties
--- of the neighbouring strings of c, so these strings are left out. p is a liberty of each neighbouring string and is in
--- the set already, so it is taken for one of the two liberties. The points show whether the play can be made, what it
--- captures and which ko ban it leaves
+-- whether the strings of the neighbours are in atari; of the liberties, p and those in Z come before the others. If p
+-- has an empty neighbour, the play can be made whatever the liberties of the neighbouring strings of c, so these strings
+-- are left out. The points show whether the play can be made, what it captures and which ko ban it leaves
 unfoldable pub play_rests_on : ℕ → List Cell → Colour → Points → ℕ → Points
 play_rests_on s cells c Z p = set.insert (union_below 4 (λ side. shows_neighbour s cells c
     (has_empty_neighbour s cells p) (set.insert Z p) (neighbour_at s p side))) p

@@ -65,14 +65,14 @@ by_back prove node pos word (Some child) rest = if is_to (target_named pos.size 
     else None
 
 -- the points on which the mover's play at p rests, if what follows rests on Z
-abbrev pub its_play : Node → BoardState → ℕ → Points → Points
-its_play node pos p Z = play_rests_on pos.size pos.cells (mover_of node.turn) Z p
+abbrev pub move_rests_on : Node → BoardState → ℕ → Points → Points
+move_rests_on node pos p Z = play_rests_on pos.size pos.cells (mover_of node.turn) Z p
 
 -- a proof of the child after the attacker's play at p, as a proof of the node. It rests on the points that show that
 -- p is a candidate, on the points of the play, and on the points of the child's proof
 abbrev pub with_candidate : Node → BoardState → ℕ → Proved → Proved
 with_candidate node pos p found = with_points
-    (set.union (candidate_rests_on node.turn pos p) (its_play node pos p found.zone)) found
+    (set.union (candidate_rests_on node.turn pos p) (move_rests_on node pos p found.zone)) found
 
 -- a vertex proves a sure capture if the attacker can play there and the proof of the child follows
 abbrev pub by_child : Prover → Node → BoardState → ℕ → Option (Node × BoardState) → List Word → Option Proved
@@ -86,21 +86,21 @@ by_move prove node pos (Some None) rest = None
 by_move prove node pos (Some (Some p)) rest = by_child prove node pos p (child_after node pos (At p)) rest
 
 -- the points Z, and those on which the mover's play at p rests, if what follows rests on Z
-abbrev pub and_its_play : Node → BoardState → ℕ → Points → Points
-and_its_play node pos p Z = set.union Z (its_play node pos p Z)
+abbrev pub with_move : Node → BoardState → ℕ → Points → Points
+with_move node pos p Z = set.union Z (move_rests_on node pos p Z)
 
 -- the words after a proof of the child after a reply at p, and the points Z so far with those of the child's proof, and
 -- with those of the play
 abbrev pub with_reply : Node → BoardState → ℕ → Points → Proved → Proved
 with_reply node pos p Z found =
-    record { rest = found.rest; zone = and_its_play node pos p (set.union Z found.zone) }
+    record { rest = found.rest; zone = with_move node pos p (set.union Z found.zone) }
 
 -- the words after one reply, and the points so far with those on which the reply rests. A reply that cannot be played
 -- has no words and rests on the points of the play. A reply that can be played has its vertex and the proof of its
 -- child, and rests on the points of that proof too
 abbrev pub at_reply : Prover → Node → BoardState → ℕ → Option (Node × BoardState) → Proved → Option Proved
 at_reply prove node pos p None so_far =
-    Some (record { rest = so_far.rest; zone = and_its_play node pos p so_far.zone })
+    Some (record { rest = so_far.rest; zone = with_move node pos p so_far.zone })
 at_reply prove node pos p (Some child) so_far = option_map (with_reply node pos p so_far.zone)
     (option_and_then (prove child.0 child.1) (behind_vertex pos.size p so_far.rest))
 

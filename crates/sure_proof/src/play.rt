@@ -43,8 +43,8 @@ fn has_empty_neighbour(pos: &Position, p: Point) -> bool
     false
 }
 
-/// Whether a neighbour with this cell shows nothing but its cell to a play of `c`: it is empty, or it is a stone of `c`
-/// and the point of the play is `free`, which is that it has an empty neighbour.
+/// Whether a neighbour of the point of a play of `c` shows nothing but its cell: the cell is empty; or it holds a stone
+/// of `c`, and `free` is true, which says that the point has an empty neighbour.
 fn shows_cell(cell: Cell, c: Colour, free: bool) -> bool
     ensures { result ≡ shows_cell c free cell }
 {
@@ -106,9 +106,9 @@ pub(crate) fn play_rests_on(pos: &Position, c: Colour, zone: &PointSet, p: Point
     points
 }
 
-/// The zone of the mover's play at `p`: on every position that agrees at these points the play leads to a position that
-/// is alike at the points `after`, or it cannot be made on either position (`after` may then be empty). The zone
-/// contains `after`.
+/// The zone of the mover's play at `p`: on every position that agrees at these points, the play leads to a position
+/// that is alike at the points `after`; or it cannot be made on either position. The zone contains `after`, which may be
+/// empty if the play cannot be made.
 pub fn play_shown(pos: &Position, node: Node, p: Point, after: &PointSet) -> PointSet
     requires on_board { p < pos.now.size * pos.now.size }
     requires points { (q : ℕ) → set.contains after.now q ≡ true → q < pos.now.size * pos.now.size }

@@ -9,7 +9,7 @@ ghost use Rattle.read_proof.specs.Tokens.{words_in};
 ghost use Rattle.read_proof.specs.Proves.{child_after};
 ghost use Rattle.sure_rules.specs.Nodes.{is_gone, is_taken_for_good, has_too_many};
 ghost use Rattle.sure_proof.specs.SureProofs.{by_capture, by_back, by_child, by_move, at_reply, at_replies};
-ghost use Rattle.sure_proof.specs.SureProofs.{and_its_play, by_replies, by_turn, proves_surely, proved_by, points_in};
+ghost use Rattle.sure_proof.specs.SureProofs.{with_move, by_replies, by_turn, proves_surely, proved_by, points_in};
 
 use crate::candidate::candidate_rests_on;
 use crate::guard::{Guarded, guard_zone};
@@ -121,7 +121,7 @@ fn move_proved<'a>(
 fn add_play(pos: &Position, node: Node, p: Point, zone: &mut PointSet)
     requires on_board { p < pos.now.size * pos.now.size }
     requires small { p < largest_points }
-    ensures { zone.new ≡ and_its_play node pos.now p zone.old }
+    ensures { zone.new ≡ with_move node pos.now p zone.old }
 {
     let points = play_rests_on(pos, node.mover(), zone, p);
     zone.join(&points);

@@ -8,7 +8,7 @@ use Rattle.read_proof.specs.Tokens.{words_in}
 use Rattle.read_proof.specs.Proves.{child_after}
 use Rattle.read_proof.proofs.ChildLemmas.{after_off}
 use Rattle.sure_proof.specs.Rests.{candidate_rests_on, play_rests_on}
-use Rattle.sure_proof.specs.SureProofs.{proves_surely, proved_by, and_its_play}
+use Rattle.sure_proof.specs.SureProofs.{proves_surely, proved_by, with_move}
 use Rattle.sure_proof.proofs.StepLemmas.{no_words, capture_word, out_of_plies, turn_word, replies_end, replies_on}
 use Rattle.sure_proof.proofs.StepLemmas.{replies_fail, play_refused, play_fails, play_holds, reply_refused, reply_unnamed}
 use Rattle.sure_proof.proofs.StepLemmas.{reply_fails, reply_holds, pass_fails, replies_missing, end_missing, end_comes}
@@ -173,7 +173,7 @@ reply_proved-returns-in_err-rest-in-Some t c =
 -- one does
 pub reply_proved-returns-in_ok-rest-in-Some : goal.reply_proved-returns-in_ok-rest-in-Some
 reply_proved-returns-in_ok-rest-in-Some t c =
-    let points = c.add_play.ensures ∙ ap (and_its_play c.args.node c.args.pos.now c.args.p) c.join.ensures in
+    let points = c.add_play.ensures ∙ ap (with_move c.args.node c.args.pos.now c.args.p) c.join.ensures in
     reply_holds (proves_surely c.args.plies) c.args.node c.args.pos.now
     c.args.p (child_of c.args.node c.args.pos.now c.args.p)
     (words_in c.args.text.now) c.args.zone.now
