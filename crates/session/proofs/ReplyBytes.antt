@@ -3,35 +3,27 @@ use Rattle.std.proofs.Common.{◌≡◌, ⊎_elim, ℕ, false, List, [], ◌∷�
 use Rattle.std.proofs.Common.{inl, inr}
 use Rattle.std.proofs.KnownBytes.{Appends-nil}
 use Rattle.gtp_rules.specs.Lines.{RawLine}
-use Rattle.gtp_rules.specs.Steps.{Step}
 use Rattle.gtp_rules.specs.Transcript.{Answers}
 use Rattle.run_notes.specs.declared.notes.Counts.{Counts}
 use Rattle.run_notes.specs.declared.notes.Sent.{Sent}
-use Rattle.machine_rules.specs.Files.{Contents}
 use Rattle.machine_rules.specs.Machine.{Machine}
-use Rattle.machine_rules.specs.Step.{step}
 use Rattle.machine_rules.specs.Turns.{IsAlong}
 use Rattle.session_core.specs.AfterLine.{IsAfterLine}
-use Rattle.session_core.specs.LineAnswers.{AnswersLine}
+use Rattle.session_core.specs.LineAnswers.{AnswersLine, LineStep}
 use Rattle.session_core.specs.Kept.{Kept, machine_of}
 use Rattle.session_core.specs.Replies.{reply_bytes, reply_ends, reply_count}
-use Rattle.session_core.specs.EngineView.{matcher_of}
 use Rattle.session_core.specs.declared.reply.Reply.{Reply}
 use Rattle.session_core.specs.declared.reply.Reply.TheVariants.{Nothing, Short, Text, NoMemory}
 use Rattle.session.specs.Tallies.{kept_sum, one_turn}
 use Rattle.session.specs.Serving.{PutsPart, PutsReply, Replies, RepliesPart, RunsTo, progress_of}
 use Rattle.session.specs.Waiting.{OutputState, holds_with, sent_with, Stop, IsStop, CutsReply, MayStop, Sends}
 use Rattle.session.specs.Waiting.{SendsReply}
-use Rattle.session.specs.Answered.{Answered, BreaksIn, MayCut, progress_with, standing_at, step_at}
+use Rattle.session.specs.Answered.{Answered, BreaksIn, MayCut, progress_with, standing_at}
 use Rattle.session.proofs.ServeLemmas.{RunsTo-one, RunsPart-one}
 
--- The session answered a line with a reply, where files have these contents.
-module _ (contents : Contents) (old new : Kept) (line : RawLine) (reply : Reply)
-    (is : AnswersLine contents old line reply new) where
-  -- the step by which it did
-  abbrev by_step : Machine → RawLine → Step Machine → Type 0
-  by_step = step (matcher_of old.engine) contents
-
+-- The session answered a line with a reply by this step.
+module _ (step : LineStep) (old new : Kept) (line : RawLine) (reply : Reply)
+    (is : AnswersLine step old line reply new) where
   -- what is kept went along the line with its reply
   along : (sent : List ℕ) → sent ≡ reply_bytes reply
       → IsAlong IsAfterLine old (one_turn (machine_of old) line sent) new
@@ -45,7 +37,7 @@ module _ (contents : Contents) (old new : Kept) (line : RawLine) (reply : Reply)
   module _ (w0 w1 : Option (List ℕ)) (s0 s1 : Sent) where
     -- the bytes went out whole
     pub Replies-whole : reply_count (reply_bytes reply) ≡ 1 → PutsReply w0 w1 s0 s1 (reply_bytes reply)
-        → Replies by_step IsAfterLine (machine_of old) line (machine_of new) (reply_ends reply)
+        → Replies step IsAfterLine (machine_of old) line (machine_of new) (reply_ends reply)
         (progress_of w0 old s0) (progress_of w1 new s1)
     Replies-whole some puts = record {
       reply = reply_bytes reply;
@@ -60,13 +52,13 @@ module _ (contents : Contents) (old new : Kept) (line : RawLine) (reply : Reply)
 
     -- a front of the bytes went out
     pub Replies-part : PutsPart w0 w1 s0 s1 (reply_bytes reply)
-        → RepliesPart by_step IsAfterLine (machine_of old) line (progress_of w0 old s0) (progress_of w1 new s1)
+        → RepliesPart step IsAfterLine (machine_of old) line (progress_of w0 old s0) (progress_of w1 new s1)
     Replies-part put = record {
       part = put.part;
       missing = put.missing;
       next = machine_of new;
       ends = reply_ends reply;
-      answers = subst (λ l. Answers by_step (machine_of old) line l (machine_of new) (reply_ends reply)) put.whole
+      answers = subst (λ l. Answers step (machine_of old) line l (machine_of new) (reply_ends reply)) put.whole
           is.reply;
       proper = put.proper;
       advances = record {
@@ -79,11 +71,11 @@ module _ (contents : Contents) (old new : Kept) (line : RawLine) (reply : Reply)
 
   -- nothing was put, as the line has no words
   Replies-nothing : (w : Option (List ℕ)) (s : Sent) → reply ≡ Nothing
-      → Replies by_step IsAfterLine (machine_of old) line (machine_of new) false (progress_of w old s)
+      → Replies step IsAfterLine (machine_of old) line (machine_of new) false (progress_of w old s)
       (progress_of w new s)
   Replies-nothing w s none = record {
     reply = [];
-    answers = subst (λ r. Answers by_step (machine_of old) line (reply_bytes r) (machine_of new) (reply_ends r)) none
+    answers = subst (λ r. Answers step (machine_of old) line (reply_bytes r) (machine_of new) (reply_ends r)) none
         is.reply;
     advances = record {
       writes = Appends-nil w;
@@ -96,27 +88,27 @@ module _ (contents : Contents) (old new : Kept) (line : RawLine) (reply : Reply)
   -- Its reply came behind those that wait.
   module _ (a : OutputState) where
     -- nothing came
-    turn-nothing : reply ≡ Nothing → RunsTo by_step IsAfterLine (machine_of old) (line ∷ []) (machine_of new) false
+    turn-nothing : reply ≡ Nothing → RunsTo step IsAfterLine (machine_of old) (line ∷ []) (machine_of new) false
         (progress_with (standing_at old a)) (progress_with (standing_at new a))
     turn-nothing none =
-        RunsTo-one Machine by_step IsAfterLine (machine_of old) line (machine_of new) false
+        RunsTo-one Machine step IsAfterLine (machine_of old) line (machine_of new) false
         (progress_with (standing_at old a)) (progress_with (standing_at new a)) (line ∷ []) refl
         (Replies-nothing (holds_with a) (sent_with a) none)
 
     -- its bytes were sent
     turn-whole : (b : OutputState) (counts : Counts) → reply_count (reply_bytes reply) ≡ 1
         → Sends a b (reply_bytes reply) counts
-        → RunsTo by_step IsAfterLine (machine_of old) (line ∷ []) (machine_of new) (reply_ends reply)
+        → RunsTo step IsAfterLine (machine_of old) (line ∷ []) (machine_of new) (reply_ends reply)
         (progress_with (standing_at old a)) (progress_with (standing_at new b))
     turn-whole b counts some sends =
-        RunsTo-one Machine by_step IsAfterLine (machine_of old) line (machine_of new) (reply_ends reply)
+        RunsTo-one Machine step IsAfterLine (machine_of old) line (machine_of new) (reply_ends reply)
         (progress_with (standing_at old a)) (progress_with (standing_at new b)) (line ∷ []) refl
         (Replies-whole (holds_with a) (holds_with b) (sent_with a) (sent_with b) some sends.whole)
 
     -- the output may fail within it; where it fails within what waits, the names missed are those before the line
     pub turn-stop : (counts : Counts) (stop : Stop) → counts ≡ new.engine.counts
         → (IsStop a stop → new.missed ≡ old.missed) → MayStop a (reply_bytes reply) counts stop
-        → MayCut by_step IsAfterLine (machine_of old) (line ∷ []) (standing_at old a) stop new.missed
+        → MayCut step IsAfterLine (machine_of old) (line ∷ []) (standing_at old a) stop new.missed
     turn-stop counts stop noted waits may =
         ⊎_elim (λ (at : IsStop a stop). inl (at, waits at))
         (λ (cuts : CutsReply (holds_with a) (sent_with a) (reply_bytes reply) counts stop).
@@ -124,7 +116,7 @@ module _ (contents : Contents) (old new : Kept) (line : RawLine) (reply : Reply)
           kept = new;
           same = cuts.same ∙ noted;
           names = refl;
-          runs = RunsPart-one Machine by_step IsAfterLine (machine_of old) line (progress_with (standing_at old a))
+          runs = RunsPart-one Machine step IsAfterLine (machine_of old) line (progress_with (standing_at old a))
               (progress_of stop.written new stop.sent) (line ∷ []) [] refl
               (Replies-part (holds_with a) stop.written (sent_with a) stop.sent cuts.puts);
         }))
@@ -139,50 +131,50 @@ sends-reply a b (Text bytes) counts sent some same sends = subst (λ l. Sends a 
 sends-reply a b (NoMemory id) counts sent some same sends = subst (λ l. Sends a b l counts) same sends
 
 -- The reply to a line was sent.
-module _ (contents : Contents) (old new : Kept) (line : RawLine) (a b : OutputState) (counts : Counts) where
+module _ (step : LineStep) (old new : Kept) (line : RawLine) (a b : OutputState) (counts : Counts) where
   -- its line was answered, with what was sent
-  turn-sent : (reply : Reply) → AnswersLine contents old line reply new → SendsReply a b reply counts
-      → RunsTo (step_at contents old) IsAfterLine (machine_of old) (line ∷ []) (machine_of new) (reply_ends reply)
+  turn-sent : (reply : Reply) → AnswersLine step old line reply new → SendsReply a b reply counts
+      → RunsTo step IsAfterLine (machine_of old) (line ∷ []) (machine_of new) (reply_ends reply)
       (progress_with (standing_at old a)) (progress_with (standing_at new b))
   turn-sent Nothing is same =
-      subst (λ (o : OutputState). RunsTo (step_at contents old) IsAfterLine (machine_of old) (line ∷ [])
+      subst (λ (o : OutputState). RunsTo step IsAfterLine (machine_of old) (line ∷ [])
       (machine_of new) false (progress_with (standing_at old a)) (progress_with (standing_at new o))) (sym same)
-      (turn-nothing contents old new line Nothing is a refl)
+      (turn-nothing step old new line Nothing is a refl)
   turn-sent (Short text quit) is sends =
-      turn-whole contents old new line (Short text quit) is a b counts (is.bytes (λ e. cc)) sends
+      turn-whole step old new line (Short text quit) is a b counts (is.bytes (λ e. cc)) sends
   turn-sent (Text bytes) is sends =
-      turn-whole contents old new line (Text bytes) is a b counts (is.bytes (λ e. cc)) sends
+      turn-whole step old new line (Text bytes) is a b counts (is.bytes (λ e. cc)) sends
   turn-sent (NoMemory id) is sends =
-      turn-whole contents old new line (NoMemory id) is a b counts (is.bytes (λ e. cc)) sends
+      turn-whole step old new line (NoMemory id) is a b counts (is.bytes (λ e. cc)) sends
 
   -- where the output may fail after it
-  turn-stops : (reply : Reply) → AnswersLine contents old line reply new → counts ≡ new.engine.counts
+  turn-stops : (reply : Reply) → AnswersLine step old line reply new → counts ≡ new.engine.counts
       → ((stop : Stop) → IsStop a stop → new.missed ≡ old.missed) → SendsReply a b reply counts → (stop : Stop)
       → IsStop b stop
-      → MayCut (step_at contents old) IsAfterLine (machine_of old) (line ∷ []) (standing_at old a) stop new.missed
+      → MayCut step IsAfterLine (machine_of old) (line ∷ []) (standing_at old a) stop new.missed
   turn-stops Nothing is noted same holds stop at =
       let before = subst (λ (o : OutputState). IsStop o stop) holds at in inl (before, same stop before)
   turn-stops (Short text quit) is noted same sends stop at =
-      turn-stop contents old new line (Short text quit) is a counts stop noted (same stop) (sends.stops stop at)
+      turn-stop step old new line (Short text quit) is a counts stop noted (same stop) (sends.stops stop at)
   turn-stops (Text bytes) is noted same sends stop at =
-      turn-stop contents old new line (Text bytes) is a counts stop noted (same stop) (sends.stops stop at)
+      turn-stop step old new line (Text bytes) is a counts stop noted (same stop) (sends.stops stop at)
   turn-stops (NoMemory id) is noted same sends stop at =
-      turn-stop contents old new line (NoMemory id) is a counts stop noted (same stop) (sends.stops stop at)
+      turn-stop step old new line (NoMemory id) is a counts stop noted (same stop) (sends.stops stop at)
 
   -- so it was answered whole
-  pub turn-answered : (reply : Reply) → AnswersLine contents old line reply new → counts ≡ new.engine.counts
+  pub turn-answered : (reply : Reply) → AnswersLine step old line reply new → counts ≡ new.engine.counts
       → ((stop : Stop) → IsStop a stop → new.missed ≡ old.missed) → SendsReply a b reply counts
-      → Answered contents (line ∷ []) (reply_ends reply) (standing_at old a) (standing_at new b)
+      → Answered step (line ∷ []) (reply_ends reply) (standing_at old a) (standing_at new b)
   turn-answered reply is noted same sends = record {
     runs = turn-sent reply is sends;
     stops = turn-stops reply is noted same sends;
   }
 
   -- the output failed within its reply, or before it
-  pub turn-breaks : (reply : Reply) → AnswersLine contents old line reply new → (stop : Stop)
+  pub turn-breaks : (reply : Reply) → AnswersLine step old line reply new → (stop : Stop)
       → counts ≡ new.engine.counts → (IsStop a stop → new.missed ≡ old.missed)
       → MayStop a (reply_bytes reply) counts stop
-      → BreaksIn contents (line ∷ []) (standing_at old a) stop new.missed
+      → BreaksIn step (line ∷ []) (standing_at old a) stop new.missed
   turn-breaks reply is stop noted waits may = record {
-    cut = turn-stop contents old new line reply is a counts stop noted waits may;
+    cut = turn-stop step old new line reply is a counts stop noted waits may;
   }

@@ -12,6 +12,8 @@ use Rattle.run_notes.specs.declared.notes.Counts.{Counts}
 use Rattle.run_notes.specs.declared.notes.Sent.{Sent}
 use Rattle.machine_rules.specs.Machine.{Machine}
 use Rattle.machine_rules.specs.Files.{Contents}
+use Rattle.machine_rules.specs.Matcher.{Matcher}
+use Rattle.machine_rules.specs.Step.{step}
 use Rattle.machine_rules.specs.Loads.{missed_in}
 use Rattle.machine_rules.specs.Turns.{Turn, IsAlong}
 use Rattle.session_core.specs.AfterLine.{IsAfterLine}
@@ -22,9 +24,9 @@ use Rattle.workload.specs.GeneratedLines.{generated_text}
 use Rattle.workload.proofs.LengthLemmas.{generated_length}
 use Rattle.helpers.specs.HelperStates.{SlotState}
 use Rattle.session_core.specs.Kept.{Kept, machine_of}
+use Rattle.session_core.specs.LineAnswers.{LineStep}
 use Rattle.session_core.specs.EngineView.{depths_in}
 use Rattle.read_rules.specs.declared.tree.Tree.{Tree}
-use Rattle.session.specs.Answered.{step_at}
 use Rattle.session.specs.Waiting.{none_sent}
 use Rattle.session.specs.FirstSession.{Opens, CameBy, ServesCounting, EndsCounting}
 use Rattle.session.specs.Outcomes.{Served, phase_of}
@@ -82,28 +84,29 @@ missed_along (turn ∷ turns) old new (mid, first, rest) =
 
 -- the files were opened, and the session served the lines
 module _ (tree : Tree) (helpers : List SlotState) (contents : Contents) (options : Options) (lines : LinesState)
-    (before after : Streams) (first : Kept) (ended : Ended) (now : List (List ℕ)) (sent : Sent) where
+    (before after : Streams) (matcher : Matcher) (first : Kept) (ended : Ended) (now : List (List ℕ))
+    (sent : Sent) where
   -- as the session began that was opened, with nothing sent
-  came-first : (ran : Ran) → Opens tree helpers contents options first.engine first.helpers lines
-      → EndsCounting options.generate contents first none_sent before after ended now sent
+  came-first : (ran : Ran) → Opens tree helpers contents options matcher first.engine first.helpers lines
+      → EndsCounting options.generate (step matcher contents) first none_sent before after ended now sent
       → ran.counts ≡ cond options.stats (Some ended.counts) None
       → ran.sent ≡ option_map (λ _. sent) options.generate
       → IsServedCounted tree helpers options contents first.missed now before after ended.end ran.counts ran.sent
   came-first ran opens ends tells notes =
       let counting = ends.serves in
       let kept = ends.kept in
-      let few = served-few (step_at contents first) options.generate (machine_of first) before after ended.end
+      let few = served-few (step matcher contents) options.generate (machine_of first) before after ended.end
       counting.tally counting.serves in
-      let are = counts_of first kept counting.tally.turns counting.advances.along opens.plain.counts few options.cache
-      opens.plain.readings opens.plain.links opens.plain.room in
+      let are = counts_of first kept counting.tally.turns counting.advances.along opens.first.counts few options.cache
+      opens.first.readings opens.first.links opens.first.room in
       record {
         served = record {
           patterns = opens.patterns;
           opened = opens.opened;
           tally = counting.tally;
-          serves = ServesLines-plain opens.patterns (depths_in tree options) options.cache first.engine first.helpers
-              helpers contents options.generate before after ended.end counting.tally opens.plain opens.same
-              counting.serves;
+          serves = ServesLines-plain opens.patterns (depths_in tree options) options.cache matcher first.engine
+              first.helpers helpers contents options.generate before after ended.end counting.tally opens.first
+              opens.matches opens.same counting.serves;
           names = ends.names ∙ missed_along counting.tally.turns first kept counting.advances.along;
           uncounted = uncounted-told options.stats ended.counts ran.counts tells;
           told = sent-noted options.generate sent counting.tally ran.sent notes counting.advances.replies
@@ -115,15 +118,16 @@ module _ (tree : Tree) (helpers : List SlotState) (contents : Contents) (options
 
   -- by the run's phase, where opening the files left what files hold and which names were missed
   pub came-served : (ran : Ran) (was : Sent) (here : Contents) (missed : List (List ℕ))
-      → EndsCounting options.generate here first was before after ended now sent
-      → Opens tree helpers contents options first.engine first.helpers lines → here ≡ contents
+      → EndsCounting options.generate (step matcher here) first was before after ended now sent
+      → Opens tree helpers contents options matcher first.engine first.helpers lines → here ≡ contents
       → first.missed ≡ missed → was ≡ none_sent
       → ran.counts ≡ cond options.stats (Some ended.counts) None
       → ran.sent ≡ option_map (λ _. sent) options.generate → phase_of ran.outcome ≡ Served ended.end
       → CameBy tree helpers options contents missed now before after ran.counts ran.sent (phase_of ran.outcome)
   came-served ran was here missed ends opens holds kept unsent tells notes is =
-      let begun = subst (λ s. EndsCounting options.generate contents first s before after ended now sent) unsent
-      (subst (λ c. EndsCounting options.generate c first was before after ended now sent) holds ends) in
+      let begun = subst (λ s. EndsCounting options.generate (step matcher contents) first s before after ended now sent)
+      unsent
+      (subst (λ c. EndsCounting options.generate (step matcher c) first was before after ended now sent) holds ends) in
       subst (CameBy tree helpers options contents missed now before after ran.counts ran.sent) (sym is)
       (subst (λ l. IsServedCounted tree helpers options contents l now before after ended.end ran.counts ran.sent) kept
       (came-first ran opens begun tells notes))
@@ -187,21 +191,21 @@ module _ (n : ℕ) (source before after : Streams) where
       }
 
   -- with the counts that are noted
-  pub ends-generated : (generate : Option ℕ) (contents : Contents) (old : Kept) (was : Sent) (ended : Ended)
+  pub ends-generated : (generate : Option ℕ) (step : LineStep) (old : Kept) (was : Sent) (ended : Ended)
       (missed : List (List ℕ)) (now : Sent) → generate ≡ Some n → n ≤ 100000
-      → EndsCounting None contents old was before after ended missed now → (text rest : List ℕ)
+      → EndsCounting None step old was before after ended missed now → (text rest : List ℕ)
       → text ≡ generated_text n → before.left ≡ Some text → after.left ≡ Some rest
-      → EndsCounting generate contents old was (both_of source before) (both_of source after) ended missed now
-  ends-generated generate contents old was ended missed now some few ends text rest is holds leaves = record {
+      → EndsCounting generate step old was (both_of source before) (both_of source after) ended missed now
+  ends-generated generate step old was ended missed now some few ends text rest is holds leaves = record {
     kept = ends.kept;
     same = ends.same;
     names = ends.names;
-    serves = subst (λ o. ServesCounting o (step_at contents old) IsAfterLine (machine_of old) (both_of source before)
+    serves = subst (λ o. ServesCounting o step IsAfterLine (machine_of old) (both_of source before)
         (both_of source after) ended.end (progress_of before.written old was)
         (progress_of after.written ends.kept now)) (sym some) (record {
           tally = ends.serves.tally;
-          serves = serves-these (step_at contents old) (machine_of old) ended.end ends.serves.tally text rest few is
-              holds leaves ends.serves.serves;
+          serves = serves-these step (machine_of old) ended.end ends.serves.tally text rest few is holds leaves
+              ends.serves.serves;
           advances = ends.serves.advances;
         });
   }

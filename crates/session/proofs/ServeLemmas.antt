@@ -19,12 +19,13 @@ use Rattle.machine_rules.specs.Files.{Contents}
 use Rattle.machine_rules.specs.Step as answering
 use Rattle.machine_rules.specs.Turns.{Turn}
 use Rattle.session_core.specs.AfterLine.{IsAfterLine}
-use Rattle.session_core.specs.EngineView.{matcher_of}
 use Rattle.session_core.specs.Kept.{Kept, machine_of}
+use Rattle.session_core.specs.LineAnswers.{LineStep}
+use Rattle.session_core.specs.MatcherView.{MatcherView, matcher_of}
 use Rattle.session.specs.Tallies.{Progress, IsTallied, tally_of, cut_tally, no_tally, together}
 use Rattle.session.specs.Serving.{Replies, RepliesPart, RunsTo, RunsPart, progress_of}
 use Rattle.session.specs.Waiting.{WaitingState, OutputState, none_wait, holds_with, Stop, IsStop, Stays}
-use Rattle.session.specs.Answered.{Standing, standing_at, progress_at, progress_with, step_at, CutsShort, MayCut}
+use Rattle.session.specs.Answered.{Standing, standing_at, progress_at, progress_with, CutsShort, MayCut}
 use Rattle.session.specs.Answered.{Answered, AnsweredOut, BreaksIn, BreaksOut}
 use Rattle.session.proofs.WaitingReplies.{stays-none, none-stops, kept-none, none-appends}
 use Rattle.session.proofs.TallyLemmas.{Advances-none, Advances-trans, IsTallied-nil, IsTallied-one, IsTallied-append}
@@ -128,32 +129,30 @@ held_from-take held held' rest n after =
     ap (held_from held) (sym (take-append-drop n rest)) ∙ held_from-append held (take n rest) (drop n rest)
     ∙ ap (λ k. held_from k (drop n rest)) (sym after) ∙ ap (held_from held') (sym (take_rest rest n))
 
--- Two sessions that find matches in one way answer by one step, where files have the same contents.
-module _ (now first : Kept) (same : matcher_of now.engine ≡ matcher_of first.engine) (here there : Contents)
-    (holds : here ≡ there) where
+-- two sessions with one matcher answer by one step, where files have the same contents
+pub same-step : (now first : MatcherView) (here there : Contents) → now ≡ first → here ≡ there
+    → answering.step (matcher_of now) here ≡ answering.step (matcher_of first) there
+same-step now first here there same holds = λ i. answering.step (matcher_of (same i)) (holds i)
+
+-- What was done by a step was done by the step that equals it.
+module _ (here there : LineStep) (same : here ≡ there) where
   -- lines that were answered whole
   pub RunsTo-by : (from : Machine) (lines : List RawLine) (to : Machine) (ended : Bool) (a b : Progress)
-      → RunsTo (step_at here now) IsAfterLine from lines to ended a b
-      → RunsTo (step_at there first) IsAfterLine from lines to ended a b
+      → RunsTo here IsAfterLine from lines to ended a b → RunsTo there IsAfterLine from lines to ended a b
   RunsTo-by from lines to ended a b runs =
-      subst (λ c. RunsTo (answering.step (matcher_of first.engine) c) IsAfterLine from lines to ended a b) holds
-      (subst (λ m. RunsTo (answering.step m here) IsAfterLine from lines to ended a b) same runs)
+      subst (λ (step : LineStep). RunsTo step IsAfterLine from lines to ended a b) same runs
 
   -- lines where the output may fail
   pub MayCut-by : (from : Machine) (lines : List RawLine) (a : Standing) (stop : Stop) (missed : List (List ℕ))
-      → MayCut (step_at here now) IsAfterLine from lines a stop missed
-      → MayCut (step_at there first) IsAfterLine from lines a stop missed
+      → MayCut here IsAfterLine from lines a stop missed → MayCut there IsAfterLine from lines a stop missed
   MayCut-by from lines a stop missed may =
-      subst (λ c. MayCut (answering.step (matcher_of first.engine) c) IsAfterLine from lines a stop missed) holds
-      (subst (λ m. MayCut (answering.step m here) IsAfterLine from lines a stop missed) same may)
+      subst (λ (step : LineStep). MayCut step IsAfterLine from lines a stop missed) same may
 
   -- lines where it did
   pub CutsShort-by : (from : Machine) (lines : List RawLine) (a : Progress) (stop : Stop) (missed : List (List ℕ))
-      → CutsShort (step_at here now) IsAfterLine from lines a stop missed
-      → CutsShort (step_at there first) IsAfterLine from lines a stop missed
+      → CutsShort here IsAfterLine from lines a stop missed → CutsShort there IsAfterLine from lines a stop missed
   CutsShort-by from lines a stop missed cuts =
-      subst (λ c. CutsShort (answering.step (matcher_of first.engine) c) IsAfterLine from lines a stop missed) holds
-      (subst (λ m. CutsShort (answering.step m here) IsAfterLine from lines a stop missed) same cuts)
+      subst (λ (step : LineStep). CutsShort step IsAfterLine from lines a stop missed) same cuts
 
 -- bytes that are kept are followed by none
 kept-appends : (old new : Option (List ℕ)) → Keeps old new → Appends old new []
@@ -344,129 +343,121 @@ module _ (M : Type 0) (step : M → RawLine → Step M → Type 0) (goes : Kept 
       })
 
 -- no line was answered
-pub Answered-nil : (contents : Contents) (lines : List RawLine) (a : Standing) → lines ≡ []
-    → Answered contents lines false a a
-Answered-nil contents lines a none = record {
-  runs = RunsTo-is Machine (step_at contents a.kept) IsAfterLine (machine_of a.kept) (machine_of a.kept) lines [] false
+pub Answered-nil : (step : LineStep) (lines : List RawLine) (a : Standing) → lines ≡ []
+    → Answered step lines false a a
+Answered-nil step lines a none = record {
+  runs = RunsTo-is Machine step IsAfterLine (machine_of a.kept) (machine_of a.kept) lines [] false
       (progress_with a) (progress_with a) none
-      (RunsTo-nil Machine (step_at contents a.kept) IsAfterLine (machine_of a.kept) (progress_with a));
+      (RunsTo-nil Machine step IsAfterLine (machine_of a.kept) (progress_with a));
   stops = λ stop at. inl (at, refl);
 }
 
 -- lines were answered as those that equal them were
-pub Answered-is : (contents : Contents) (xs ys : List RawLine) (ended : Bool) (a b : Standing) → xs ≡ ys
-    → Answered contents ys ended a b → Answered contents xs ended a b
-Answered-is contents xs ys ended a b same answered =
-    subst (λ l. Answered contents l ended a b) (sym same) answered
+pub Answered-is : (step : LineStep) (xs ys : List RawLine) (ended : Bool) (a b : Standing) → xs ≡ ys
+    → Answered step ys ended a b → Answered step xs ended a b
+Answered-is step xs ys ended a b same answered = subst (λ l. Answered step l ended a b) (sym same) answered
 
 -- lines were answered after what stays
-pub Answered-after : (contents : Contents) (lines : List RawLine) (ended : Bool) (kept : Kept) (a b : OutputState)
-    (c : Standing) → Stays a b → Answered contents lines ended (standing_at kept b) c
-    → Answered contents lines ended (standing_at kept a) c
-Answered-after contents lines ended kept a b c stays answered = record {
-  runs = RunsTo-after Machine (step_at contents kept) IsAfterLine (machine_of kept) (machine_of c.kept) lines ended kept
-      a b (progress_with c) stays answered.runs;
-  stops = λ stop at. MayCut-after Machine (step_at contents kept) IsAfterLine (machine_of kept) lines kept a b stop
-      c.kept.missed stays (answered.stops stop at);
+pub Answered-after : (step : LineStep) (lines : List RawLine) (ended : Bool) (kept : Kept) (a b : OutputState)
+    (c : Standing) → Stays a b → Answered step lines ended (standing_at kept b) c
+    → Answered step lines ended (standing_at kept a) c
+Answered-after step lines ended kept a b c stays answered = record {
+  runs = RunsTo-after Machine step IsAfterLine (machine_of kept) (machine_of c.kept) lines ended kept a b
+      (progress_with c) stays answered.runs;
+  stops = λ stop at. MayCut-after Machine step IsAfterLine (machine_of kept) lines kept a b stop c.kept.missed stays
+      (answered.stops stop at);
 }
 
 -- the output failed after what stays
-pub BreaksIn-after : (contents : Contents) (lines : List RawLine) (kept : Kept) (a b : OutputState) (stop : Stop)
-    (missed : List (List ℕ)) → Stays a b → BreaksIn contents lines (standing_at kept b) stop missed
-    → BreaksIn contents lines (standing_at kept a) stop missed
-BreaksIn-after contents lines kept a b stop missed stays breaks = record {
-  cut = MayCut-after Machine (step_at contents kept) IsAfterLine (machine_of kept) lines kept a b stop missed stays
-      breaks.cut;
+pub BreaksIn-after : (step : LineStep) (lines : List RawLine) (kept : Kept) (a b : OutputState) (stop : Stop)
+    (missed : List (List ℕ)) → Stays a b → BreaksIn step lines (standing_at kept b) stop missed
+    → BreaksIn step lines (standing_at kept a) stop missed
+BreaksIn-after step lines kept a b stop missed stays breaks = record {
+  cut = MayCut-after Machine step IsAfterLine (machine_of kept) lines kept a b stop missed stays breaks.cut;
 }
 
 -- the output failed within the line that was taken, so it did within the lines of the rest
-pub BreaksIn-taken : (contents : Contents) (held line : RawLine) (rest : List ℕ) (n : ℕ) (a : Standing) (stop : Stop)
+pub BreaksIn-taken : (step : LineStep) (held line : RawLine) (rest : List ℕ) (n : ℕ) (a : Standing) (stop : Stop)
     (missed : List (List ℕ)) → lines_from held (take n rest) ≡ line ∷ [] → held_from held (take n rest) ≡ Line []
-    → BreaksIn contents (line ∷ []) a stop missed → BreaksIn contents (lines_from held rest) a stop missed
-BreaksIn-taken contents held line rest n a stop missed one none breaks = record {
-  cut = taken_part Machine (step_at contents a.kept) IsAfterLine (machine_of a.kept) held line rest n a stop missed one
-      none breaks.cut;
+    → BreaksIn step (line ∷ []) a stop missed → BreaksIn step (lines_from held rest) a stop missed
+BreaksIn-taken step held line rest n a stop missed one none breaks = record {
+  cut = taken_part Machine step IsAfterLine (machine_of a.kept) held line rest n a stop missed one none
+      breaks.cut;
 }
 
 -- a line was answered as the one that equals it was
-pub answered-line : {E : Type 0} (contents : Contents) (held line : RawLine) (a b : Standing) (result : Result Bool E)
-    → held ≡ line → IfOk result (λ ends. Answered contents (line ∷ []) ends a b)
-    → IfOk result (λ ends. Answered contents (held ∷ []) ends a b)
-answered-line contents held line a b result same answered =
-    subst (λ (l : RawLine). IfOk result (λ ends. Answered contents (l ∷ []) ends a b)) (sym same) answered
+pub answered-line : {E : Type 0} (step : LineStep) (held line : RawLine) (a b : Standing) (result : Result Bool E)
+    → held ≡ line → IfOk result (λ ends. Answered step (line ∷ []) ends a b)
+    → IfOk result (λ ends. Answered step (held ∷ []) ends a b)
+answered-line step held line a b result same answered =
+    subst (λ (l : RawLine). IfOk result (λ ends. Answered step (l ∷ []) ends a b)) (sym same) answered
 
 -- the output failed within a line as within the one that equals it
-pub broken-line : {T : Type 0} (contents : Contents) (held line : RawLine) (a : Standing) (stop : Counts → Stop)
+pub broken-line : {T : Type 0} (step : LineStep) (held line : RawLine) (a : Standing) (stop : Counts → Stop)
     (missed : List (List ℕ)) (result : Result T Counts) → held ≡ line
-    → IfErr result (λ noted. BreaksIn contents (line ∷ []) a (stop noted) missed)
-    → IfErr result (λ noted. BreaksIn contents (held ∷ []) a (stop noted) missed)
-broken-line contents held line a stop missed result same breaks =
-    subst (λ (l : RawLine). IfErr result (λ noted. BreaksIn contents (l ∷ []) a (stop noted) missed)) (sym same) breaks
+    → IfErr result (λ noted. BreaksIn step (line ∷ []) a (stop noted) missed)
+    → IfErr result (λ noted. BreaksIn step (held ∷ []) a (stop noted) missed)
+broken-line step held line a stop missed result same breaks =
+    subst (λ (l : RawLine). IfErr result (λ noted. BreaksIn step (l ∷ []) a (stop noted) missed)) (sym same) breaks
 
 -- Some lines of a piece were answered, their replies are out or wait, and the output may fail within those that wait;
 -- the lines that are left are still to be answered.
-pub record PieceSoFar (contents : Contents) (all left : List RawLine) (first now : Standing) : Type 0 where
+pub record PieceSoFar (step : LineStep) (all left : List RawLine) (first now : Standing) : Type 0 where
   pub lines : List RawLine
   pub whole : all ≡ lines ++ left
-  pub runs : RunsTo (step_at contents first.kept) IsAfterLine (machine_of first.kept) lines (machine_of now.kept) false
+  pub runs : RunsTo step IsAfterLine (machine_of first.kept) lines (machine_of now.kept) false
       (progress_at first) (progress_with now)
   pub stops : (stop : Stop) → IsStop now.output stop
-      → CutsShort (step_at contents first.kept) IsAfterLine (machine_of first.kept) lines (progress_at first) stop
-      now.kept.missed
+      → CutsShort step IsAfterLine (machine_of first.kept) lines (progress_at first) stop now.kept.missed
 
 -- none was answered, and no reply waits
-pub piece_start : (contents : Contents) (all : List RawLine) (first : Standing) → first.output.waiting ≡ none_wait
-    → PieceSoFar contents all all first first
-piece_start contents all first none = record {
+pub piece_start : (step : LineStep) (all : List RawLine) (first : Standing) → first.output.waiting ≡ none_wait
+    → PieceSoFar step all all first first
+piece_start step all first none = record {
   lines = [];
   whole = refl;
-  runs = start_runs Machine (step_at contents first.kept) IsAfterLine (machine_of first.kept) first none;
+  runs = start_runs Machine step IsAfterLine (machine_of first.kept) first none;
   stops = λ stop at. absurd (none-stops first.output stop none at);
 }
 
--- A session that finds matches as the first did, where files have the same contents, answered more of the lines.
-module _ (contents : Contents) (all left : List RawLine) (first now : Standing)
-    (so_far : PieceSoFar contents all left first now) (here : Contents) (holds : here ≡ contents)
-    (same : matcher_of now.kept.engine ≡ matcher_of first.kept.engine) where
-  -- the step of the first
-  abbrev first-step : Machine → RawLine → Step Machine → Type 0
-  first-step = step_at contents first.kept
-
+-- More of the lines were answered by a step that equals the first.
+module _ (step : LineStep) (all left : List RawLine) (first now : Standing)
+    (so_far : PieceSoFar step all left first now) (here : LineStep) (same : here ≡ step) where
   -- the machine that the first is
   abbrev first-machine : Machine
   first-machine = machine_of first.kept
 
   -- what may be cut within what waits or these lines cuts the lines so far and these
   within_lines : (lines : List RawLine) (stop : Stop) (missed : List (List ℕ))
-      → MayCut first-step IsAfterLine (machine_of now.kept) lines now stop missed
-      → CutsShort first-step IsAfterLine first-machine (so_far.lines ++ lines) (progress_at first) stop missed
+      → MayCut step IsAfterLine (machine_of now.kept) lines now stop missed
+      → CutsShort step IsAfterLine first-machine (so_far.lines ++ lines) (progress_at first) stop missed
   within_lines lines stop missed may =
       ⊎_elim (λ (at : IsStop now.output stop × (missed ≡ now.kept.missed)).
-      CutsShort-more Machine first-step IsAfterLine first-machine so_far.lines lines (progress_at first) stop missed
-      (subst (CutsShort first-step IsAfterLine first-machine so_far.lines (progress_at first) stop) (sym at.1)
+      CutsShort-more Machine step IsAfterLine first-machine so_far.lines lines (progress_at first) stop missed
+      (subst (CutsShort step IsAfterLine first-machine so_far.lines (progress_at first) stop) (sym at.1)
       (so_far.stops stop at.0)))
-      (λ (cuts : CutsShort first-step IsAfterLine (machine_of now.kept) lines (progress_with now) stop missed).
-      CutsShort-after Machine first-step IsAfterLine first-machine (machine_of now.kept) so_far.lines lines
+      (λ (cuts : CutsShort step IsAfterLine (machine_of now.kept) lines (progress_with now) stop missed).
+      CutsShort-after Machine step IsAfterLine first-machine (machine_of now.kept) so_far.lines lines
       (progress_at first) (progress_with now) stop missed so_far.runs cuts)
       may
 
   -- a reply broke off
   pub piece_cut : (stop : Stop) (missed : List (List ℕ)) → BreaksIn here left now stop missed
-      → BreaksOut contents all first stop missed
+      → BreaksOut step all first stop missed
   piece_cut stop missed breaks = record {
-    cut = CutsShort-is Machine first-step IsAfterLine first-machine all (so_far.lines ++ left) (progress_at first) stop
+    cut = CutsShort-is Machine step IsAfterLine first-machine all (so_far.lines ++ left) (progress_at first) stop
         missed so_far.whole (within_lines left stop missed
-        (MayCut-by now.kept first.kept same here contents holds (machine_of now.kept) left now stop missed breaks.cut));
+        (MayCut-by here step same (machine_of now.kept) left now stop missed breaks.cut));
   }
 
   -- the lines were answered, and what waited was put
   pub piece_done : (out : OutputState) → left ≡ [] → Stays now.output out → out.waiting ≡ none_wait
-      → AnsweredOut contents all false first (standing_at now.kept out)
+      → AnsweredOut step all false first (standing_at now.kept out)
   piece_done out none stays drained = record {
-    runs = RunsTo-is Machine first-step IsAfterLine first-machine (machine_of now.kept) all so_far.lines false
+    runs = RunsTo-is Machine step IsAfterLine first-machine (machine_of now.kept) all so_far.lines false
         (progress_at first) (progress_at (standing_at now.kept out))
         (so_far.whole ∙ ap (λ l. so_far.lines ++ l) none ∙ append-nil so_far.lines)
-        (flushed Machine first-step IsAfterLine first-machine (machine_of now.kept) so_far.lines false
+        (flushed Machine step IsAfterLine first-machine (machine_of now.kept) so_far.lines false
         (progress_at first) now out so_far.runs stays drained);
   }
 
@@ -478,53 +469,53 @@ module _ (contents : Contents) (all left : List RawLine) (first now : Standing)
     joined = so_far.whole ∙ ap (λ l. so_far.lines ++ l) parts ∙ sym (append_assoc so_far.lines next more)
 
     -- the first would have answered them so
-    runs_so : RunsTo first-step IsAfterLine (machine_of now.kept) next (machine_of later.kept) ended
+    runs_so : RunsTo step IsAfterLine (machine_of now.kept) next (machine_of later.kept) ended
         (progress_with now) (progress_with later)
-    runs_so = RunsTo-by now.kept first.kept same here contents holds (machine_of now.kept) next
+    runs_so = RunsTo-by here step same (machine_of now.kept) next
         (machine_of later.kept) ended (progress_with now) (progress_with later) answered.runs
 
     -- and with the lines before them
     runs_all : (flag : Bool) → ended ≡ flag
-        → RunsTo first-step IsAfterLine first-machine (so_far.lines ++ next) (machine_of later.kept) flag
+        → RunsTo step IsAfterLine first-machine (so_far.lines ++ next) (machine_of later.kept) flag
         (progress_at first) (progress_with later)
     runs_all flag is =
-        RunsTo-append Machine first-step IsAfterLine first-machine (machine_of now.kept) (machine_of later.kept)
+        RunsTo-append Machine step IsAfterLine first-machine (machine_of now.kept) (machine_of later.kept)
         so_far.lines next flag (progress_at first) (progress_with now) (progress_with later) so_far.runs
-        (RunsTo-flag Machine first-step IsAfterLine (machine_of now.kept) (machine_of later.kept) next ended flag
+        (RunsTo-flag Machine step IsAfterLine (machine_of now.kept) (machine_of later.kept) next ended flag
         (progress_with now) (progress_with later) is runs_so)
 
     -- where the output may fail
     stops_all : (stop : Stop) → IsStop later.output stop
-        → CutsShort first-step IsAfterLine first-machine (so_far.lines ++ next) (progress_at first) stop
+        → CutsShort step IsAfterLine first-machine (so_far.lines ++ next) (progress_at first) stop
         later.kept.missed
     stops_all stop at =
-        within_lines next stop later.kept.missed (MayCut-by now.kept first.kept same here contents holds
+        within_lines next stop later.kept.missed (MayCut-by here step same
         (machine_of now.kept) next now stop later.kept.missed (answered.stops stop at))
 
     -- one of them ended the session, and what waited was put
     pub piece_ended : (out : OutputState) → ended ≡ true → Stays later.output out → out.waiting ≡ none_wait
-        → AnsweredOut contents all true first (standing_at later.kept out)
+        → AnsweredOut step all true first (standing_at later.kept out)
     piece_ended out is stays none = record {
-      runs = flushed Machine first-step IsAfterLine first-machine (machine_of later.kept) all true (progress_at first)
+      runs = flushed Machine step IsAfterLine first-machine (machine_of later.kept) all true (progress_at first)
           later out
-          (RunsTo-is Machine first-step IsAfterLine first-machine (machine_of later.kept) all
+          (RunsTo-is Machine step IsAfterLine first-machine (machine_of later.kept) all
           ((so_far.lines ++ next) ++ more) true (progress_at first) (progress_with later) joined
-          (RunsTo-ended Machine first-step IsAfterLine first-machine (machine_of later.kept) (so_far.lines ++ next) more
+          (RunsTo-ended Machine step IsAfterLine first-machine (machine_of later.kept) (so_far.lines ++ next) more
           (progress_at first) (progress_with later) (runs_all true is)))
           stays none;
     }
 
     -- what waited was put in part
-    pub piece_stop : (stop : Stop) → IsStop later.output stop → BreaksOut contents all first stop later.kept.missed
+    pub piece_stop : (stop : Stop) → IsStop later.output stop → BreaksOut step all first stop later.kept.missed
     piece_stop stop at = record {
-      cut = CutsShort-is Machine first-step IsAfterLine first-machine all ((so_far.lines ++ next) ++ more)
+      cut = CutsShort-is Machine step IsAfterLine first-machine all ((so_far.lines ++ next) ++ more)
           (progress_at first) stop later.kept.missed joined
-          (CutsShort-more Machine first-step IsAfterLine first-machine (so_far.lines ++ next) more (progress_at first)
+          (CutsShort-more Machine step IsAfterLine first-machine (so_far.lines ++ next) more (progress_at first)
           stop later.kept.missed (stops_all stop at));
     }
 
     -- none of them ended the session
-    pub piece_more : ended ≡ false → PieceSoFar contents all more first later
+    pub piece_more : ended ≡ false → PieceSoFar step all more first later
     piece_more is = record {
       lines = so_far.lines ++ next;
       whole = joined;
@@ -533,27 +524,26 @@ module _ (contents : Contents) (all left : List RawLine) (first now : Standing)
     }
 
 -- No reply waited, and one line was answered.
-module _ (contents : Contents) (all lines : List RawLine) (same : all ≡ lines) (first : Standing) where
+module _ (step : LineStep) (all lines : List RawLine) (same : all ≡ lines) (first : Standing) where
   -- where the output failed
-  pub rest_cut : (stop : Stop) (missed : List (List ℕ)) → BreaksIn contents lines first stop missed
-      → first.output.waiting ≡ none_wait → BreaksOut contents all first stop missed
+  pub rest_cut : (stop : Stop) (missed : List (List ℕ)) → BreaksIn step lines first stop missed
+      → first.output.waiting ≡ none_wait → BreaksOut step all first stop missed
   rest_cut stop missed breaks none =
-      piece_cut contents all all first first (piece_start contents all first none) contents refl refl stop missed
-      (subst (λ l. BreaksIn contents l first stop missed) (sym same) breaks)
+      piece_cut step all all first first (piece_start step all first none) step refl stop missed
+      (subst (λ l. BreaksIn step l first stop missed) (sym same) breaks)
 
   -- it may fail within what waits
-  pub rest_stop : (ended : Bool) (later : Standing) → Answered contents lines ended first later → (stop : Stop)
+  pub rest_stop : (ended : Bool) (later : Standing) → Answered step lines ended first later → (stop : Stop)
       → IsStop later.output stop → first.output.waiting ≡ none_wait
-      → BreaksOut contents all first stop later.kept.missed
+      → BreaksOut step all first stop later.kept.missed
   rest_stop ended later answered stop at none =
       rest_cut stop later.kept.missed (record { cut = answered.stops stop at }) none
 
   -- what waited is out
-  pub rest_done : (ended : Bool) (later : Standing) (out : OutputState) → Answered contents lines ended first later
+  pub rest_done : (ended : Bool) (later : Standing) (out : OutputState) → Answered step lines ended first later
       → Stays later.output out → out.waiting ≡ none_wait → first.output.waiting ≡ none_wait
-      → AnsweredOut contents all ended first (standing_at later.kept out)
+      → AnsweredOut step all ended first (standing_at later.kept out)
   rest_done ended later out answered stays drained none =
-      let step = step_at contents first.kept in
       let from = machine_of first.kept in
       let to = machine_of later.kept in
       let a = progress_at first in
@@ -567,10 +557,10 @@ module _ (contents : Contents) (all lines : List RawLine) (same : all ≡ lines)
       }
 
 -- no line was answered, and no reply waits
-pub out_nil : (contents : Contents) (all : List RawLine) (a : Standing) → all ≡ []
-    → AnsweredOut contents all false a a
-out_nil contents all a none = record {
-  runs = RunsTo-is Machine (step_at contents a.kept) IsAfterLine (machine_of a.kept) (machine_of a.kept) all [] false
+pub out_nil : (step : LineStep) (all : List RawLine) (a : Standing) → all ≡ []
+    → AnsweredOut step all false a a
+out_nil step all a none = record {
+  runs = RunsTo-is Machine step IsAfterLine (machine_of a.kept) (machine_of a.kept) all [] false
       (progress_at a) (progress_at a) none
-      (RunsTo-nil Machine (step_at contents a.kept) IsAfterLine (machine_of a.kept) (progress_at a));
+      (RunsTo-nil Machine step IsAfterLine (machine_of a.kept) (progress_at a));
 }

@@ -2,13 +2,10 @@
 use Rattle.std.specs.Prelude.{◌≡◌, ◌⊎◌, ℕ, Bool, List, Option}
 use Rattle.gtp_rules.specs.Lines.{RawLine}
 use Rattle.gtp_rules.specs.Steps.{Step}
-use Rattle.machine_rules.specs.Files.{Contents}
-use Rattle.machine_rules.specs.Machine.{Machine}
-use Rattle.machine_rules.specs.Step as answering
 use Rattle.machine_rules.specs.Turns.{Turn}
 use Rattle.session_core.specs.AfterLine.{IsAfterLine}
-use Rattle.session_core.specs.EngineView.{matcher_of}
 use Rattle.session_core.specs.Kept.{Kept, machine_of}
+use Rattle.session_core.specs.LineAnswers.{LineStep}
 use Rattle.session.specs.Tallies.{Progress}
 use Rattle.session.specs.Serving.{RunsTo, RunsPart, progress_of}
 use Rattle.session.specs.Waiting.{OutboxState, OutputState, output_of, holds_with, sent_with, Stop, IsStop}
@@ -50,29 +47,25 @@ abbrev pub MayCut : {M : Type 0} → (M → RawLine → Step M → Type 0) → (
 MayCut step goes from lines old stop missed = (IsStop old.output stop × (missed ≡ old.kept.missed))
     ⊎ CutsShort step goes from lines (progress_with old) stop missed
 
--- the step by which a session that keeps this answers a line, if files have these contents
-abbrev pub step_at : Contents → Kept → Machine → RawLine → Step Machine → Type 0
-step_at contents kept = answering.step (matcher_of kept.engine) contents
-
--- The lines were answered whole. Their replies are out or wait; if the output fails from now on, it does so within the
--- replies that waited before or within one of these.
-pub record Answered (contents : Contents) (lines : List RawLine) (ended : Bool) (old new : Standing) : Type 0 where
-  pub runs : RunsTo (step_at contents old.kept) IsAfterLine (machine_of old.kept) lines (machine_of new.kept) ended
-      (progress_with old) (progress_with new)
+-- The lines were answered whole by this step. Their replies are out or wait; if the output fails from now on, it does
+-- so within the replies that waited before or within one of these.
+pub record Answered (step : LineStep) (lines : List RawLine) (ended : Bool) (old new : Standing) : Type 0 where
+  pub runs : RunsTo step IsAfterLine (machine_of old.kept) lines (machine_of new.kept) ended (progress_with old)
+      (progress_with new)
   pub stops : (stop : Stop) → IsStop new.output stop
-      → MayCut (step_at contents old.kept) IsAfterLine (machine_of old.kept) lines old stop new.kept.missed
+      → MayCut step IsAfterLine (machine_of old.kept) lines old stop new.kept.missed
 
 -- the output failed within the replies that waited, or within a reply to one of the lines
-pub record BreaksIn (contents : Contents) (lines : List RawLine) (old : Standing) (stop : Stop)
+pub record BreaksIn (step : LineStep) (lines : List RawLine) (old : Standing) (stop : Stop)
     (missed : List (List ℕ)) : Type 0 where
-  pub cut : MayCut (step_at contents old.kept) IsAfterLine (machine_of old.kept) lines old stop missed
+  pub cut : MayCut step IsAfterLine (machine_of old.kept) lines old stop missed
 
--- no reply waited, the lines were answered whole, and their replies are out
-pub record AnsweredOut (contents : Contents) (lines : List RawLine) (ended : Bool) (old new : Standing) : Type 0 where
-  pub runs : RunsTo (step_at contents old.kept) IsAfterLine (machine_of old.kept) lines (machine_of new.kept) ended
-      (progress_at old) (progress_at new)
+-- no reply waited, the lines were answered whole by this step, and their replies are out
+pub record AnsweredOut (step : LineStep) (lines : List RawLine) (ended : Bool) (old new : Standing) : Type 0 where
+  pub runs : RunsTo step IsAfterLine (machine_of old.kept) lines (machine_of new.kept) ended (progress_at old)
+      (progress_at new)
 
 -- no reply waited, and the output failed within a reply to one of the lines
-pub record BreaksOut (contents : Contents) (lines : List RawLine) (old : Standing) (stop : Stop)
+pub record BreaksOut (step : LineStep) (lines : List RawLine) (old : Standing) (stop : Stop)
     (missed : List (List ℕ)) : Type 0 where
-  pub cut : CutsShort (step_at contents old.kept) IsAfterLine (machine_of old.kept) lines (progress_at old) stop missed
+  pub cut : CutsShort step IsAfterLine (machine_of old.kept) lines (progress_at old) stop missed

@@ -12,5 +12,5 @@ mod serve;
 mod top_call;
 
 pub use outcome::{End, OpenError, Outcome, WordsError};
-pub use session_core::{Engine, Reply, Session, Slow, Work};
+pub use session_core::{Engine, Matcher, Reply, Session, Slow, Work};
 pub use top_call::{run, run_in, run_words, run_words_in};

@@ -10,7 +10,9 @@ ghost use Rattle.session.specs.PatternFiles.{HasFewStates, RefusesStates, IsRefu
 ghost use Rattle.helpers.specs.Slots.{listed, states_of};
 ghost use Rattle.session_core.specs.EngineView.{depths_in};
 ghost use Rattle.session_core.specs.Handed.{handed, helper_names};
-ghost use Rattle.session.specs.FirstSession.{IsPlainWith, Opens};
+ghost use Rattle.session_core.specs.MatcherView.{matcher_of};
+ghost use Rattle.machine_rules.specs.Matcher.{plain_matcher};
+ghost use Rattle.session.specs.FirstSession.{IsFirstWith, Opens};
 ghost use Rattle.session.specs.Waiting.{none_wait, none_sent};
 
 use crate::outbox::Outbox;
@@ -25,7 +27,7 @@ use gtp_lex::Lines;
 use helpers::{Helper, Helpers};
 use pat_types::Pattern;
 use read_rules::Tree;
-use session_core::Session;
+use session_core::{Matcher, Session};
 use std::alloc::{AllocError, Global};
 
 /// Whether the contents of a file are not empty and do not end in a line feed.
@@ -99,14 +101,15 @@ fn session_with(
 ) -> Result<Session, OpenError>
     requires few { length patterns.items ≤ most_patterns }
     requires ranges { AreInRange options.now }
-    ensures ok { IfOk result (λ session. IsPlainWith patterns.items (depths_in tree options.now) options.now.cache
-        session.engine) }
+    ensures ok { IfOk result (λ session. IsFirstWith (depths_in tree options.now) options.now.cache session.engine) }
+    ensures matches { IfOk result (λ session. matcher_of session.matcher ≡ plain_matcher patterns.items) }
     ensures helpers { IfOk result (λ session. states_of state session.helpers ≡ states_of state helpers) }
     ensures few { OnOk result (HasFewStates patterns.items options.now.states) }
     ensures err { IfErr result (RefusesStates patterns.items options.now.states) }
 {
     let automaton = compile(alloc, patterns.as_slice(), options.states)?;
-    Ok(Session::in_tree(alloc, patterns, automaton, helpers, tree, options)?)
+    let matcher = Matcher::new(alloc, patterns, automaton)?;
+    Ok(Session::in_tree(alloc, matcher, helpers, tree, options)?)
 }
 
 /// Opens the pattern files of `options`: joins their contents, reads them as one database that may name the `helpers`,
@@ -121,7 +124,8 @@ pub(crate) fn open<L: Loader>(
 ) -> Result<Opened, OpenError>
     requires { AreInRange options.now }
     ensures ok { IfOk result (λ opened. Opens tree (states_of state helpers) (L.contents files.old) options.now
-        opened.server.session.engine (states_of state opened.server.session.helpers) opened.lines) }
+        (matcher_of opened.server.session.matcher) opened.server.session.engine
+        (states_of state opened.server.session.helpers) opened.lines) }
     ensures none { IfOk result (λ opened. opened.server.outbox.waiting ≡ none_wait) }
     ensures unsent { IfOk result (λ opened. opened.server.outbox.sent ≡ none_sent) }
     ensures kept { OnOk result (L.missed files.new ≡ L.missed files.old) }
@@ -161,7 +165,8 @@ pub(crate) fn open_with<L: Loader>(
 ) -> Result<Opened, OpenError>
     requires { AreInRange options.now }
     ensures ok { IfOk result (λ opened. Opens setting.tree (handed state setting.helpers.items) (L.contents files.old)
-        options.now opened.server.session.engine (listed state opened.server.session.helpers) opened.lines) }
+        options.now (matcher_of opened.server.session.matcher) opened.server.session.engine
+        (listed state opened.server.session.helpers) opened.lines) }
     ensures none { IfOk result (λ opened. opened.server.outbox.waiting ≡ none_wait) }
     ensures unsent { IfOk result (λ opened. opened.server.outbox.sent ≡ none_sent) }
     ensures kept { OnOk result (L.missed files.new ≡ L.missed files.old) }

@@ -13,8 +13,7 @@ ghost use Rattle.gtp_cmd.specs.Rooms.{longest_line};
 ghost use Rattle.machine_rules.specs.Heard.{bytes_in};
 ghost use Rattle.session.specs.Headline.{IsCauseOf};
 ghost use Rattle.session.specs.FirstSession.{EndsCounting};
-ghost use Rattle.session_core.specs.EngineView.{matcher_of};
-ghost use Rattle.session_core.specs.SessionView.{kept_of};
+ghost use Rattle.session_core.specs.SessionView.{kept_of, step_of};
 ghost use Rattle.session.specs.Ends.{streams};
 ghost use Rattle.session_core.specs.Replies.{reply_bytes, reply_ends};
 ghost use Rattle.session.specs.Waiting.{none_wait, output_of, stop_of, MayStop, SendsReply};
@@ -86,13 +85,15 @@ fn answer<L: Loader, K: Sink>(
     output: &mut K,
 ) -> Result<bool, Counts>
     requires { length (bytes_in (raw_line raw)) ≤ longest_line }
-    ensures ok { IfOk result (λ ends. Answered (L.contents files.old) (raw_line raw.entry ∷ []) ends
+    ensures ok { IfOk result (λ ends. Answered (step_of server.old.session (L.contents files.old))
+        (raw_line raw.entry ∷ []) ends
         (standing (kept_of state server.old.session (L.missed files.old)) (K.written output.old) server.old.outbox)
         (standing (kept_of state server.new.session (L.missed files.new)) (K.written output.new) server.new.outbox)) }
-    ensures part { IfErr result (λ noted. BreaksIn (L.contents files.old) (raw_line raw.entry ∷ [])
+    ensures part { IfErr result (λ noted. BreaksIn (step_of server.old.session (L.contents files.old))
+        (raw_line raw.entry ∷ [])
         (standing (kept_of state server.old.session (L.missed files.old)) (K.written output.old) server.old.outbox)
         (stop_of (K.written output.new) server.new.outbox noted) (L.missed files.new)) }
-    ensures same { matcher_of server.new.session.engine ≡ matcher_of server.old.session.engine }
+    ensures same { server.new.session.matcher ≡ server.old.session.matcher }
     ensures contents { L.contents files.new ≡ L.contents files.old }
     ensures cause { IsCounted (K.faults output.old) (K.faults output.new) result }
     ensures last { OnErr result (K.failed output.new ≡ true) }
@@ -129,14 +130,14 @@ fn answer_taken<L: Loader, K: Sink>(
 ) -> Result<bool, Counts>
     requires { (held : RawLine) × (lines.now ≡ given_state held) × (taken ≡ taken_of held) }
     ensures ok { (held : RawLine) → lines.now ≡ given_state held → taken ≡ taken_of held → IfOk result
-        (λ ends. Answered (L.contents files.old) (held ∷ []) ends
+        (λ ends. Answered (step_of server.old.session (L.contents files.old)) (held ∷ []) ends
         (standing (kept_of state server.old.session (L.missed files.old)) (K.written output.old) server.old.outbox)
         (standing (kept_of state server.new.session (L.missed files.new)) (K.written output.new) server.new.outbox)) }
     ensures part { (held : RawLine) → lines.now ≡ given_state held → taken ≡ taken_of held → IfErr result
-        (λ noted. BreaksIn (L.contents files.old) (held ∷ [])
+        (λ noted. BreaksIn (step_of server.old.session (L.contents files.old)) (held ∷ [])
         (standing (kept_of state server.old.session (L.missed files.old)) (K.written output.old) server.old.outbox)
         (stop_of (K.written output.new) server.new.outbox noted) (L.missed files.new)) }
-    ensures same { matcher_of server.new.session.engine ≡ matcher_of server.old.session.engine }
+    ensures same { server.new.session.matcher ≡ server.old.session.matcher }
     ensures contents { L.contents files.new ≡ L.contents files.old }
     ensures cause { IsCounted (K.faults output.old) (K.faults output.new) result }
     ensures last { OnErr result (K.failed output.new ≡ true) }
@@ -158,16 +159,17 @@ fn answer_next<L: Loader, K: Sink>(
 ) -> Result<(usize, bool), Counts>
     requires { lines.old.waits ≡ false }
     ensures bound { IfOk result (λ turn. (turn.0 ≤ length rest.now) × (0 < length rest.now → 0 < turn.0)) }
-    ensures ok { IfOk result (λ turn. Answered (L.contents files.old)
+    ensures ok { IfOk result (λ turn. Answered (step_of server.old.session (L.contents files.old))
         (lines_from lines.old.held (take turn.0 rest.now)) turn.1
         (standing (kept_of state server.old.session (L.missed files.old)) (K.written output.old) server.old.outbox)
         (standing (kept_of state server.new.session (L.missed files.new)) (K.written output.new) server.new.outbox)) }
     ensures held { IfOk result (λ turn. (lines.new.held ≡ held_from lines.old.held (take turn.0 rest.now))
         × (lines.new.waits ≡ false)) }
-    ensures part { IfErr result (λ noted. BreaksIn (L.contents files.old) (lines_from lines.old.held rest.now)
+    ensures part { IfErr result (λ noted. BreaksIn (step_of server.old.session (L.contents files.old))
+        (lines_from lines.old.held rest.now)
         (standing (kept_of state server.old.session (L.missed files.old)) (K.written output.old) server.old.outbox)
         (stop_of (K.written output.new) server.new.outbox noted) (L.missed files.new)) }
-    ensures same { matcher_of server.new.session.engine ≡ matcher_of server.old.session.engine }
+    ensures same { server.new.session.matcher ≡ server.old.session.matcher }
     ensures contents { L.contents files.new ≡ L.contents files.old }
     ensures cause { IsCounted (K.faults output.old) (K.faults output.new) result }
     ensures last { OnErr result (K.failed output.new ≡ true) }
@@ -192,16 +194,18 @@ fn answer_piece<L: Loader, K: Sink>(
 ) -> Result<bool, Counts>
     requires open_ended { lines.old.waits ≡ false }
     requires none { server.old.outbox.waiting ≡ none_wait }
-    ensures ok { IfOk result (λ ended. AnsweredOut (L.contents files.old) (lines_from lines.old.held piece.now) ended
+    ensures ok { IfOk result (λ ended. AnsweredOut (step_of server.old.session (L.contents files.old))
+        (lines_from lines.old.held piece.now) ended
         (standing (kept_of state server.old.session (L.missed files.old)) (K.written output.old) server.old.outbox)
         (standing (kept_of state server.new.session (L.missed files.new)) (K.written output.new) server.new.outbox)) }
     ensures held { IfOk result (λ ended. ended ≡ false →
         (lines.new.held ≡ held_from lines.old.held piece.now) × (lines.new.waits ≡ false)) }
     ensures none { OnOk result (server.new.outbox.waiting ≡ none_wait) }
-    ensures part { IfErr result (λ noted. BreaksOut (L.contents files.old) (lines_from lines.old.held piece.now)
+    ensures part { IfErr result (λ noted. BreaksOut (step_of server.old.session (L.contents files.old))
+        (lines_from lines.old.held piece.now)
         (standing (kept_of state server.old.session (L.missed files.old)) (K.written output.old) server.old.outbox)
         (stop_of (K.written output.new) server.new.outbox noted) (L.missed files.new)) }
-    ensures same { matcher_of server.new.session.engine ≡ matcher_of server.old.session.engine }
+    ensures same { server.new.session.matcher ≡ server.old.session.matcher }
     ensures contents { L.contents files.new ≡ L.contents files.old }
     ensures cause { IsCounted (K.faults output.old) (K.faults output.new) result }
     ensures last { OnErr result (K.failed output.new ≡ true) }
@@ -228,10 +232,12 @@ fn answer_rest<L: Loader, K: Sink>(
 ) -> Result<bool, Counts>
     requires open_ended { lines.old.waits ≡ false }
     requires none { server.old.outbox.waiting ≡ none_wait }
-    ensures ok { IfOk result (λ ended. AnsweredOut (L.contents files.old) (held_line lines.old.held) ended
+    ensures ok { IfOk result (λ ended. AnsweredOut (step_of server.old.session (L.contents files.old))
+        (held_line lines.old.held) ended
         (standing (kept_of state server.old.session (L.missed files.old)) (K.written output.old) server.old.outbox)
         (standing (kept_of state server.new.session (L.missed files.new)) (K.written output.new) server.new.outbox)) }
-    ensures part { IfErr result (λ noted. BreaksOut (L.contents files.old) (held_line lines.old.held)
+    ensures part { IfErr result (λ noted. BreaksOut (step_of server.old.session (L.contents files.old))
+        (held_line lines.old.held)
         (standing (kept_of state server.old.session (L.missed files.old)) (K.written output.old) server.old.outbox)
         (stop_of (K.written output.new) server.new.outbox noted) (L.missed files.new)) }
     ensures contents { L.contents files.new ≡ L.contents files.old }
@@ -285,8 +291,8 @@ pub(crate) fn serve<L: Loader, S: Source, K: Sink>(
 ) -> Ended
     requires no_line { lines.old ≡ no_line }
     requires none { server.old.outbox.waiting ≡ none_wait }
-    ensures serves { EndsCounting None (L.contents files.old) (kept_of state server.old.session (L.missed files.old))
-        server.old.outbox.sent
+    ensures serves { EndsCounting None (step_of server.old.session (L.contents files.old))
+        (kept_of state server.old.session (L.missed files.old)) server.old.outbox.sent
         (streams (S.left input.old) (S.piece input.old) (S.faults input.old) (K.written output.old)
         (K.faults output.old))
         (streams (S.left input.new) (S.piece input.new) (S.faults input.new) (K.written output.new)

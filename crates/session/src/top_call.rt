@@ -10,7 +10,7 @@ ghost use Rattle.session.specs.FirstSession.{CameBy, EndsCounting};
 ghost use Rattle.session.specs.Waiting.{none_wait};
 ghost use Rattle.go_options.specs.Found.{AreInRange, IsIn};
 ghost use Rattle.go_options.specs.NumberOptions.{generate_option};
-ghost use Rattle.session_core.specs.SessionView.{kept_of};
+ghost use Rattle.session_core.specs.SessionView.{kept_of, step_of};
 ghost use Rattle.session_core.specs.Handed.{handed};
 ghost use Rattle.session.specs.Notes.{note_of};
 ghost use Rattle.session.specs.Outcomes.{Served, phase_of};
@@ -81,7 +81,7 @@ fn serve_lines<L: Loader, S: Source, K: Sink>(
     requires none { opened.old.lines ≡ no_line }
     requires none_waits { opened.old.server.outbox.waiting ≡ none_wait }
     requires few { MatchOption generate (Unit {0}) (IsIn generate_option) }
-    ensures serves { EndsCounting generate (L.contents files.old)
+    ensures serves { EndsCounting generate (step_of opened.old.server.session (L.contents files.old))
         (kept_of state opened.old.server.session (L.missed files.old)) opened.old.server.outbox.sent
         (streams (S.left input.old) (S.piece input.old) (S.faults input.old) (K.written output.old)
         (K.faults output.old))

@@ -1,5 +1,5 @@
 -- The match that is chosen, and what is told of it.
-use Rattle.std.proofs.Common.{◌≡◌, List, Some, Contains, sym, subst}
+use Rattle.std.proofs.Common.{◌≡◌, ℕ, List, Some, Contains, sym, subst}
 use Rattle.go_rules.specs.declared.Colour.{Colour}
 use Rattle.go_rules.specs.Position.{BoardState}
 use Rattle.dfa_core.specs.Automata.{Row}
@@ -25,3 +25,11 @@ pub list-among : (code : Codes) (advice : Advice) (rows : List Row) (patterns : 
     → AreAmong patterns board.size zs
 list-among code advice rows patterns board friend zs is =
     subst (λ l. AreAmong patterns board.size l) (sym is) (AreAmong-found code advice rows patterns board friend)
+
+-- so is a list that equals it, of equal patterns and of a board of equal size
+pub among-same : (patterns patterns' : List Pattern) (s s' : ℕ) (zs zs' : List Match) → patterns' ≡ patterns → s' ≡ s
+    → zs' ≡ zs → AreAmong patterns s zs → AreAmong patterns' s' zs'
+among-same patterns patterns' s s' zs zs' same_patterns same_size same_list among =
+    subst (λ ps. AreAmong ps s' zs') (sym same_patterns)
+    (subst (λ n. AreAmong patterns n zs') (sym same_size)
+    (subst (λ l. AreAmong patterns s l) (sym same_list) among))

@@ -9,6 +9,7 @@ pub mod LineTexts
 pub mod ListedMatches
 pub mod LoadAnswers
 pub mod MoveAnswers
+pub mod PlainMatchers
 pub mod RecordAnswers
 pub mod RefusedLines
 pub mod StoneAnswers

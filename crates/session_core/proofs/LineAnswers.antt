@@ -20,15 +20,15 @@ use Rattle.machine_rules.specs.Questions.{asks_of, asks_of_parsed, asks_of_line}
 use Rattle.machine_rules.specs.Calls.{AreSameButCalls}
 use Rattle.machine_rules.specs.Soundness.{IsWithoutWords, IsRefusal}
 use Rattle.machine_rules.specs.Step.{Input, step, step_on, effect_of}
-use Rattle.machine_rules.specs.Matcher.{automaton_matcher}
+use Rattle.machine_rules.specs.Matcher.{Matcher}
 use Rattle.machine_rules.proofs.Soundness.{step-sound, read-heard, link-heard, some_file}
 use Rattle.machine_rules.proofs.WordLines.{parsed_of-none, none-parsed_of}
 use Rattle.session_core.specs.AfterLine.{ReadsAs, KeepsCounts}
 use Rattle.session_core.specs.AskedLinks.{LinksAs, LinksNothing}
 use Rattle.session_core.specs.LineAnswers.{AnswersParsed, AnswersLine}
+use Rattle.session_core.specs.MatcherView.{MatcherView, matcher_of}
 use Rattle.session_core.specs.Kept.{Kept, machine_of}
 use Rattle.session_core.specs.Replies.{reply_bytes, reply_ends, reply_count}
-use Rattle.session_core.specs.EngineView.{matcher_of}
 use Rattle.session_core.specs.SlowLines.{command_of, said_by, IsLeft}
 use Rattle.session_core.specs.declared.reply.Reply.{Reply}
 use Rattle.session_core.specs.declared.reply.Reply.TheVariants as reply
@@ -50,15 +50,15 @@ nothing-heard m TooLong = ((λ e. cc), (λ none. absurd none))
 nothing-heard m (Line text) = (parsed_of-none text m.base.size, none-parsed_of text m.base.size)
 
 -- What a line says was answered, on a text that is the contents of the file that it loads.
-module _ (contents : Contents) (old : Kept) (line : RawLine) (answer : Reply) (new : Kept) (file : List ℕ)
-    (of : IsFileOf contents (parsed_load (bytes_in line) (heard (machine_of old) line)) file)
-    (is : AnswersParsed old (record { line = bytes_in line; file = file })
+module _ (matcher : Matcher) (contents : Contents) (old : Kept) (line : RawLine) (answer : Reply) (new : Kept)
+    (file : List ℕ) (of : IsFileOf contents (parsed_load (bytes_in line) (heard (machine_of old) line)) file)
+    (is : AnswersParsed matcher old (record { line = bytes_in line; file = file })
     (heard (machine_of old) line) answer new) where
   -- the step gives the reply
-  line-reply : Answers (step (matcher_of old.engine) contents) (machine_of old) line (reply_bytes answer)
-      (machine_of new) (reply_ends answer)
+  line-reply : Answers (step matcher contents) (machine_of old) line (reply_bytes answer) (machine_of new)
+      (reply_ends answer)
   unfolding step_on load_in
-  line-reply = (step_on (matcher_of old.engine) (machine_of old) file line, (file, of, refl), is.reply)
+  line-reply = (step_on matcher (machine_of old) file line, (file, of, refl), is.reply)
 
   -- the name that was missed is that of the line
   line-missed : new.missed ≡ old.missed ++ missed_by (load_in (machine_of old) line) (reply_bytes answer)
@@ -91,31 +91,29 @@ module _ (contents : Contents) (old : Kept) (line : RawLine) (answer : Reply) (n
     refused-machine : AreSameButCalls (machine_of old) (machine_of new)
     refused-machine =
         refused-same (machine_of old) line-reply.0 (reply_bytes answer) (machine_of new) (reply_ends answer)
-        (step-sound (matcher_of old.engine) contents (machine_of old) line line-reply.0 line-reply.1) line-reply.2
+        (step-sound matcher contents (machine_of old) line line-reply.0 line-reply.1) line-reply.2
         refusal
 
     -- the line counts as no reading
     refused-counts : KeepsCounts old.engine new.engine
     refused-counts =
         counts_kept-line (machine_of old) line old.engine new.engine line-read
-        (read-not_refused (matcher_of old.engine) contents (machine_of old) line (reply_bytes answer) (machine_of new)
+        (read-not_refused matcher contents (machine_of old) line (reply_bytes answer) (machine_of new)
         (reply_ends answer) line-reply refusal)
 
     -- nor does it ask about a connection
     refused-links : LinksNothing old.engine new.engine
     refused-links =
         unasked-links old.engine new.engine (asks_link_of_line (machine_of old) line) line-links
-        (link-not_refused (matcher_of old.engine) contents (machine_of old) line (reply_bytes answer) (machine_of new)
+        (link-not_refused matcher contents (machine_of old) line (reply_bytes answer) (machine_of new)
         (reply_ends answer) line-reply refusal)
 
   -- the line was answered
-  heard-answers : AnswersLine contents old line answer new
+  heard-answers : AnswersLine (step matcher contents) old line answer new
   heard-answers = record {
     reply = line-reply;
     nothing = line-nothing;
     bytes = is.bytes;
-    patterns = is.patterns;
-    automaton = is.automaton;
     readings = line-readings;
     read = line-read;
     links = line-links;
@@ -125,55 +123,56 @@ module _ (contents : Contents) (old : Kept) (line : RawLine) (answer : Reply) (n
   }
 
 -- what says the same as a line answers it
-pub answers-line : (contents : Contents) (old : Kept) (line : RawLine) (said : Parsed) (answer : Reply) (new : Kept)
-    (file : List ℕ) → heard (machine_of old) line ≡ said → IsFileOf contents (parsed_load (bytes_in line) said) file
-    → AnswersParsed old (record { line = bytes_in line; file = file }) said answer new
-    → AnswersLine contents old line answer new
-answers-line contents old line said answer new file same of is =
-    heard-answers contents old line answer new file
+pub answers-line : (matcher : Matcher) (contents : Contents) (old : Kept) (line : RawLine) (said : Parsed)
+    (answer : Reply) (new : Kept) (file : List ℕ) → heard (machine_of old) line ≡ said
+    → IsFileOf contents (parsed_load (bytes_in line) said) file
+    → AnswersParsed matcher old (record { line = bytes_in line; file = file }) said answer new
+    → AnswersLine (step matcher contents) old line answer new
+answers-line matcher contents old line said answer new file same of is =
+    heard-answers matcher contents old line answer new file
     (subst (λ p. IsFileOf contents (parsed_load (bytes_in line) p) file) (sym same) of)
-    (subst (λ p. AnswersParsed old (record { line = bytes_in line; file = file }) p answer new) (sym same) is)
+    (subst (λ p. AnswersParsed matcher old (record { line = bytes_in line; file = file }) p answer new) (sym same) is)
 
 -- what says the same as a line answers it, by bytes that are those of the line
-pub answers-line-by : (contents : Contents) (old : Kept) (line : RawLine) (said : Parsed) (answer : Reply) (new : Kept)
-    (bytes file : List ℕ) → bytes ≡ bytes_in line → heard (machine_of old) line ≡ said
+pub answers-line-by : (matcher : Matcher) (contents : Contents) (old : Kept) (line : RawLine) (said : Parsed)
+    (answer : Reply) (new : Kept) (bytes file : List ℕ) → bytes ≡ bytes_in line → heard (machine_of old) line ≡ said
     → IsFileOf contents (parsed_load bytes said) file
-    → AnswersParsed old (record { line = bytes; file = file }) said answer new
-    → AnswersLine contents old line answer new
-answers-line-by contents old line said answer new bytes file are same of is =
-    answers-line contents old line said answer new file same
+    → AnswersParsed matcher old (record { line = bytes; file = file }) said answer new
+    → AnswersLine (step matcher contents) old line answer new
+answers-line-by matcher contents old line said answer new bytes file are same of is =
+    answers-line matcher contents old line said answer new file same
     (subst (λ b. IsFileOf contents (parsed_load b said) file) are of)
-    (subst (λ b. AnswersParsed old (record { line = b; file = file }) said answer new) are is)
+    (subst (λ b. AnswersParsed matcher old (record { line = b; file = file }) said answer new) are is)
 
 -- no file of these contents says more of a line than one whose contents they are
 abbrev pub file_for : Contents → List ℕ → Parsed → List ℕ
 file_for contents bytes said = (some_file contents (parsed_load bytes said)).0
 
 -- what says the same as a line, whatever a file holds, answers it
-pub answers-line-at : (contents : Contents) (old : Kept) (line : RawLine) (said : Parsed) (answer : Reply) (new : Kept)
-    (bytes : List ℕ) → bytes ≡ bytes_in line → heard (machine_of old) line ≡ said
-    → AnswersParsed old (record { line = bytes; file = file_for contents bytes said }) said answer new
-    → AnswersLine contents old line answer new
-answers-line-at contents old line said answer new bytes are same is =
-    answers-line-by contents old line said answer new bytes (file_for contents bytes said) are same
+pub answers-line-at : (matcher : Matcher) (contents : Contents) (old : Kept) (line : RawLine) (said : Parsed)
+    (answer : Reply) (new : Kept) (bytes : List ℕ) → bytes ≡ bytes_in line → heard (machine_of old) line ≡ said
+    → AnswersParsed matcher old (record { line = bytes; file = file_for contents bytes said }) said answer new
+    → AnswersLine (step matcher contents) old line answer new
+answers-line-at matcher contents old line said answer new bytes are same is =
+    answers-line-by matcher contents old line said answer new bytes (file_for contents bytes said) are same
     (some_file contents (parsed_load bytes said)).1 is
 
--- whether a line was answered or left, the matcher stays
-pub same-matcher : (old new : Kept) (input : Input) (said : Parsed) (result : Result Reply Slow)
-    → IfOk result (λ answer. AnswersParsed old input said answer new)
-    → IfErr result (λ slow. IsLeft old input.line said slow new)
-    → matcher_of new.engine ≡ matcher_of old.engine
-same-matcher old new input said (Ok answer) is left = λ i. automaton_matcher (is.patterns i) (is.automaton i)
-same-matcher old new input said (Err slow) is left = ap (λ (k : Kept). matcher_of k.engine) left.same
+-- a session that a line left as it was, with its matcher, answers the line as it did before
+pub answers-line-left : (now first : MatcherView) (contents : Contents) (mid old : Kept) (line : RawLine)
+    (answer : Reply) (new : Kept) → now ≡ first → mid ≡ old
+    → AnswersLine (step (matcher_of now) contents) mid line answer new
+    → AnswersLine (step (matcher_of first) contents) old line answer new
+answers-line-left now first contents mid old line answer new same left is =
+    subst (λ k. AnswersLine (step (matcher_of first) contents) k line answer new) left
+    (subst (λ (m : MatcherView). AnswersLine (step (matcher_of m) contents) mid line answer new) same is)
 
 -- nothing is answered to nothing
-pub answers-nothing : (old : Kept) (input : Input) → AnswersParsed old input parsed.Nothing reply.Nothing old
-answers-nothing old input = record {
+pub answers-nothing : (matcher : Matcher) (old : Kept) (input : Input)
+    → AnswersParsed matcher old input parsed.Nothing reply.Nothing old
+answers-nothing matcher old input = record {
   reply = inl (refl, refl, refl);
   nothing = ((λ _. refl), (λ _. refl));
   bytes = λ some. absurd (some refl);
-  patterns = refl;
-  automaton = refl;
   readings = refl;
   read = record { counts = refl; kept = refl };
   links = record { counts = refl; answers = refl };
@@ -181,14 +180,12 @@ answers-nothing old input = record {
 }
 
 -- a line that is refused as it is read is answered so
-pub answers-refused : (old : Kept) (input : Input) (id : Option ℕ) (text : RefuseText)
-    → AnswersParsed old input (parsed.Refused id text) (reply.Short (refusal_text id text) false) old
-answers-refused old input id text = record {
+pub answers-refused : (matcher : Matcher) (old : Kept) (input : Input) (id : Option ℕ) (text : RefuseText)
+    → AnswersParsed matcher old input (parsed.Refused id text) (reply.Short (refusal_text id text) false) old
+answers-refused matcher old input id text = record {
   reply = inl (refl, refl, refl);
   nothing = ((λ e. cc), (λ e. cc));
   bytes = λ _. refl;
-  patterns = refl;
-  automaton = refl;
   readings = refl;
   read = record { counts = refl; kept = refl };
   links = record { counts = refl; answers = refl };
@@ -203,22 +200,20 @@ some-reply (reply.Text bytes) one none = cc
 some-reply (reply.NoMemory id) one none = cc
 
 -- the reply to a command answers the line that says it
-pub answers-command : (old : Kept) (input : Input) (id : Option ℕ) (command : Command) (answer : Reply) (new : Kept)
-    → MayGive (replied id (effect_of (matcher_of old.engine) (machine_of old) input command)) (reply_bytes answer)
-    (machine_of new) (reply_ends answer)
-    → reply_count (reply_bytes answer) ≡ 1 → new.engine.patterns ≡ old.engine.patterns
-    → new.engine.automaton ≡ old.engine.automaton
+pub answers-command : (matcher : Matcher) (old : Kept) (input : Input) (id : Option ℕ) (command : Command)
+    (answer : Reply) (new : Kept)
+    → MayGive (replied id (effect_of matcher (machine_of old) input command)) (reply_bytes answer) (machine_of new)
+    (reply_ends answer)
+    → reply_count (reply_bytes answer) ≡ 1
     → new.engine.counts.readings ≡ counted old.engine.counts.readings (is_read (machine_of old) command)
     → ReadsAs (asks_of (machine_of old) command) old.engine new.engine
     → LinksAs (asks_link_of (machine_of old) command) old.engine new.engine
     → new.missed ≡ old.missed ++ missed_by (parsed_load input.line (parsed.Command id command)) (reply_bytes answer)
-    → AnswersParsed old input (parsed.Command id command) answer new
-answers-command old input id command answer new is bytes patterns automaton readings read links missed = record {
+    → AnswersParsed matcher old input (parsed.Command id command) answer new
+answers-command matcher old input id command answer new is bytes readings read links missed = record {
   reply = is;
   nothing = ((λ none. absurd (some-reply answer bytes none)), (λ e. cc));
   bytes = λ _. bytes;
-  patterns = patterns;
-  automaton = automaton;
   readings = readings;
   read = read;
   links = links;

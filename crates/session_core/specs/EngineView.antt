@@ -1,11 +1,8 @@
--- What a session keeps besides its helpers: its machine, and how it finds matches.
-use Rattle.std.specs.Prelude.{ℕ, ◌<◌, List, [], length, codes, Contains}
+-- What a session keeps besides its helpers and its matcher: its machine, its counts, and its caches.
+use Rattle.std.specs.Prelude.{ℕ, List, [], codes}
 use Rattle.go_rules.specs.declared.Move.{Move}
 use Rattle.go_rules.specs.Position.{BoardState}
 use Rattle.go_rules.specs.Replay.{empty_board, replay_from}
-use Rattle.pat_types.specs.declared.pattern.Pattern.{Pattern}
-use Rattle.dfa_core.specs.Automata.{Row, accepted}
-use Rattle.dfa_core.specs.Words.{Word}
 use Rattle.run_notes.specs.declared.notes.Counts.{Counts}
 use Rattle.run_notes.specs.declared.notes.Links.{Links}
 use Rattle.go_options.specs.declared.options.Options.{Options}
@@ -16,17 +13,14 @@ use Rattle.match_engine.specs.ReadingDepths.{ReadingDepths}
 use Rattle.match_engine.specs.Readings.{ReadingsView, first_readings}
 use Rattle.helpers.specs.HelperStates.{SlotState}
 use Rattle.machine_rules.specs.Machine.{Machine, first_size}
-use Rattle.machine_rules.specs.Matcher.{Matcher, automaton_matcher}
 
--- settings, the position from which the moves are played, the moves, the patterns, the automaton that finds their
--- matches, the counts, and the readings and the connections with their caches
+-- settings, the position from which the moves are played, the moves, the counts, and the readings and the connections
+-- with their caches
 pub record EngineView : Type 0 where
   pub base : BoardState
   pub moves : List Move
   pub komi : List ℕ
   pub depths : ReadingDepths
-  pub patterns : List Pattern
-  pub automaton : List Row
   pub counts : Counts
   pub readings : ReadingsView
   pub links : ConnectionsView
@@ -49,10 +43,6 @@ machine_alone kept = machine_with [] kept
 abbrev pub board_of : EngineView → BoardState
 board_of kept = replay_from kept.base kept.moves
 
--- the matcher that finds matches with the automaton
-abbrev pub matcher_of : EngineView → Matcher
-matcher_of kept = automaton_matcher kept.patterns kept.automaton
-
 -- the counts of connections before the first line
 abbrev pub no_links : Links
 no_links = record { connections = 0; fresh = 0 }
@@ -69,21 +59,15 @@ first_links plies capacity = record { plies = plies; answers = first_keeping cap
 abbrev pub depths_in : Tree → Options → ReadingDepths
 depths_in tree options = record { tree = tree; plies = options.depth; wide = options.branch }
 
--- what a session with these patterns, this automaton and readings of these depths keeps before the first line, with
--- room for `capacity` cached questions of readings, and as many about connections
-abbrev pub first_kept : List Pattern → List Row → ReadingDepths → ℕ → EngineView
-first_kept patterns automaton depths capacity = record {
+-- what a session with readings of these depths keeps before the first line, with room for `capacity` cached questions
+-- of readings, and as many about connections
+abbrev pub first_kept : ReadingDepths → ℕ → EngineView
+first_kept depths capacity = record {
   base = empty_board first_size;
   moves = [];
   komi = codes "0.0";
   depths = depths;
-  patterns = patterns;
-  automaton = automaton;
   counts = no_counts;
   readings = first_readings depths capacity;
   links = first_links depths.plies capacity;
 }
-
--- each number that the automaton accepts is the place of one of the patterns
-abbrev pub NumbersPatterns : List Row → List Pattern → Type 0
-NumbersPatterns automaton patterns = (w : Word) (n : ℕ) → Contains (accepted automaton w) n → n < length patterns

@@ -5,6 +5,7 @@ pub mod EngineView
 pub mod Handed
 pub mod Kept
 pub mod LineAnswers
+pub mod MatcherView
 pub mod Replies
 pub mod SeenEngines
 pub mod SessionView

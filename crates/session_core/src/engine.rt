@@ -1,5 +1,5 @@
-//! What a session keeps besides its helpers (the plain machine, its patterns, its counts), and how it answers each
-//! line.
+//! What a session keeps besides its helpers and its matcher (the plain machine, its counts, its caches), and how it
+//! answers each line.
 ghost use Rattle.std.specs.Prelude.{◌≡◌, ◌≤◌, ◌++◌, ℕ, List, Option, None, length, IfOk, IfErr, OnOk, OnErr};
 ghost use Rattle.gtp_lex.specs.Raw.{raw_line};
 ghost use Rattle.go_options.specs.Found.{AreInRange};
@@ -20,9 +20,8 @@ ghost use Rattle.session_core.specs.AskedLinks.{LinksAs};
 ghost use Rattle.session_core.specs.LineAnswers.{AnswersParsed};
 ghost use Rattle.session_core.specs.CommandAnswers.{IsAnswer, IsDone, missed_as};
 ghost use Rattle.session_core.specs.Kept.{kept_with};
-ghost use Rattle.session_core.specs.EngineView.{board_of, machine_with, machine_alone, matcher_of};
-ghost use Rattle.session_core.specs.EngineView.{first_kept, depths_in};
-ghost use Rattle.session_core.specs.EngineView.{NumbersPatterns};
+ghost use Rattle.session_core.specs.EngineView.{board_of, machine_with, machine_alone, first_kept, depths_in};
+ghost use Rattle.session_core.specs.MatcherView.{matcher_of};
 ghost use Rattle.session_core.specs.SlowLines.{command_of, said_by, IsLeft};
 
 mod board_commands;
@@ -35,11 +34,10 @@ mod reading_commands;
 mod record_commands;
 
 use crate::answer::{Answer, grown, told};
+use crate::matcher::Matcher;
 use crate::reply::Reply;
 use crate::slow::{Slow, Work};
 use connect_rules::LinkKind;
-use dfa_core::Automaton;
-use dfa_match::Scanner;
 use go_base::{Bytes, NoMemory, Position, Size};
 use go_history::{History, Move};
 use go_options::Options;
@@ -50,7 +48,6 @@ use gtp_lex::Raw;
 use helpers::Helpers;
 use kept_connections::Connections;
 use match_engine::Readings;
-use pat_types::Pattern;
 use read_moves::Depths;
 use read_rules::Tree;
 use read_tree::Kind;
@@ -79,7 +76,8 @@ const NO_COUNTS: ReadingCounts = ReadingCounts {
 /// The size of the board until a line sets another.
 const FIRST_SIZE: u8 = 19;
 
-/// What a session keeps besides its helpers. Contracts see it as an `EngineView`; `machine_with` gives its machine.
+/// What a session keeps besides its helpers and its matcher. Contracts see it as an `EngineView`; `machine_with` gives
+/// its machine.
 #[derive(Drop)]
 pub struct Engine {
     alloc: Global,
@@ -87,29 +85,20 @@ pub struct Engine {
     komi: KomiText,
     readings: Readings,
     links: Connections,
-    patterns: Vec<Pattern>,
-    scanner: Scanner,
     counts: ReadingCounts,
     connections: u64,
 }
 
 impl Model for Engine {
     ghost use Rattle.std.specs.Prelude.{◌≡◌};
-    ghost use Rattle.session_core.specs.EngineView.{EngineView, NumbersPatterns};
+    ghost use Rattle.session_core.specs.EngineView.{EngineView};
     ghost use Rattle.session_core.specs.SeenEngines.{seen};
-    ghost use Rattle.pat_types.specs.contracts.expr.Expr as expr;
-    ghost use Rattle.std.specs.Coded.{codes};
 
     ghost Value = { EngineView };
 
-    ghost coded = { Prim.hlevel (codes, expr.the_row.coded) };
-
     ghost view = { seen };
 
-    ghost invariant = { λ s. record {
-      numbers : NumbersPatterns s.scanner s.patterns.items;
-      plies : s.links.plies ≡ s.readings.depths.plies;
-    } };
+    ghost invariant = { λ s. s.links.plies ≡ s.readings.depths.plies };
 }
 
 /// `true` or `false`.
@@ -121,22 +110,13 @@ fn word(known: bool) -> &'static [u8]
 }
 
 impl Engine {
-    /// The engine before the first line: `patterns`, whose matches `automaton` finds, a board of 19 by 19, no moves,
-    /// the komi 0.0, readings in `tree` as deep as `options` says, and nothing counted. Takes memory.
-    pub(crate) fn new(
-        alloc: Global,
-        patterns: Vec<Pattern>,
-        automaton: Automaton,
-        tree: Tree,
-        options: &Options,
-    ) -> Result<Engine, NoMemory>
-        requires numbers { NumbersPatterns automaton patterns.items }
+    /// The engine before the first line: a board of 19 by 19, no moves, the komi 0.0, readings in `tree` as deep as
+    /// `options` says, and nothing counted. Takes memory.
+    pub(crate) fn new(alloc: Global, tree: Tree, options: &Options) -> Result<Engine, NoMemory>
         requires ranges { AreInRange options.now }
-        ensures { IfOk result (λ engine. engine
-            ≡ first_kept patterns.items automaton (depths_in tree options.now) options.now.cache) }
+        ensures { IfOk result (λ engine. engine ≡ first_kept (depths_in tree options.now) options.now.cache) }
     {
         let size = Size::new(FIRST_SIZE).unwrap();
-        let scanner = Scanner::new(alloc, automaton)?;
         Ok(Engine {
             alloc,
             history: History::new(alloc, size)?,
@@ -149,8 +129,6 @@ impl Engine {
                 options.cache,
             )?,
             links: Connections::new(alloc, options.depth, options.cache)?,
-            patterns,
-            scanner,
             counts: NO_COUNTS,
             connections: 0,
         })
@@ -200,6 +178,7 @@ impl Engine {
     /// `NoMemory` comes only in place of a growing reply. It leaves the machine as it was.
     pub(crate) fn try_answer(
         &mut self,
+        matcher: &Matcher,
         helpers: &mut Helpers,
         line: &[u8],
         said: Parsed,
@@ -207,8 +186,9 @@ impl Engine {
         requires within { SaysWithin self.old.base.size said }
         requires spans { SaysWithinLine line.now said }
         ensures answers { (missed : List (List ℕ)) (file : List ℕ) → IfOk result (λ reply. AnswersParsed
-            (kept_with (states_of state helpers.old) missed self.old) (record { line = line.now; file = file }) said
-            reply (kept_with (states_of state helpers.new) missed self.new)) }
+            (matcher_of matcher.now) (kept_with (states_of state helpers.old) missed self.old)
+            (record { line = line.now; file = file }) said reply
+            (kept_with (states_of state helpers.new) missed self.new)) }
         ensures left { (missed : List (List ℕ)) → IfErr result (λ slow. IsLeft
             (kept_with (states_of state helpers.old) missed self.old) line.now said slow
             (kept_with (states_of state helpers.new) missed self.new)) }
@@ -216,13 +196,16 @@ impl Engine {
         match said {
             Parsed::Nothing => Ok(Reply::Nothing),
             Parsed::Refused { id, text } => Ok(Reply::refused(id, text)),
-            Parsed::Command { id, command } => self.try_command(helpers, line, id, command),
+            Parsed::Command { id, command } => self.try_command(
+                matcher, helpers, line, id, command,
+            ),
         }
     }
 
     /// Answers `command` with the `id` of its line, unless the command may take long: then nothing is done.
     fn try_command(
         &mut self,
+        matcher: &Matcher,
         helpers: &mut Helpers,
         line: &[u8],
         id: Option<u32>,
@@ -231,13 +214,14 @@ impl Engine {
         requires within { IsWithin self.old.base.size command }
         requires spans { IsWithinLine line.now command }
         ensures answers { (missed : List (List ℕ)) (file : List ℕ) → IfOk result (λ reply. AnswersParsed
-            (kept_with (states_of state helpers.old) missed self.old) (record { line = line.now; file = file })
-            (Parsed.Command id command) reply (kept_with (states_of state helpers.new) missed self.new)) }
+            (matcher_of matcher.now) (kept_with (states_of state helpers.old) missed self.old)
+            (record { line = line.now; file = file }) (Parsed.Command id command) reply
+            (kept_with (states_of state helpers.new) missed self.new)) }
         ensures left { (missed : List (List ℕ)) → IfErr result (λ slow. IsLeft
             (kept_with (states_of state helpers.old) missed self.old) line.now (Parsed.Command id command) slow
             (kept_with (states_of state helpers.new) missed self.new)) }
     {
-        let answer = match self.obey(helpers, line, command) {
+        let answer = match self.obey(matcher, helpers, line, command) {
             Ok(answer) => answer,
             Err(work) => return Err(Slow { id, work }),
         };
@@ -251,6 +235,7 @@ impl Engine {
     /// helpers.
     pub(crate) fn finish<L: Loader>(
         &mut self,
+        matcher: &Matcher,
         helpers: &mut Helpers,
         slow: Slow,
         line: &[u8],
@@ -260,18 +245,20 @@ impl Engine {
         requires spans { SaysWithinLine line.now (said_by slow) }
         ensures answers { (file : List ℕ)
             × IsFileOf (L.contents files.old) (parsed_load line.now (said_by slow)) file
-            × AnswersParsed (kept_with (states_of state helpers.old) (L.missed files.old) self.old)
+            × AnswersParsed (matcher_of matcher.now)
+            (kept_with (states_of state helpers.old) (L.missed files.old) self.old)
             (record { line = line.now; file = file }) (said_by slow) result
             (kept_with (states_of state helpers.new) (L.missed files.new) self.new) }
         ensures same { L.contents files.new ≡ L.contents files.old }
     {
-        self.work_on(helpers, slow.work, line, files)
+        self.work_on(matcher, helpers, slow.work, line, files)
             .reply(self.alloc, slow.id)
     }
 
     /// Does the postponed `work` of a line.
     fn work_on<L: Loader>(
         &mut self,
+        matcher: &Matcher,
         helpers: &mut Helpers,
         work: Work,
         line: &[u8],
@@ -279,14 +266,12 @@ impl Engine {
     ) -> Answer
         requires within { IsWithin self.old.base.size (command_of work) }
         requires spans { IsWithinLine line.now (command_of work) }
-        ensures answer { IsDone (L.contents files.old) (matcher_of self.old)
+        ensures answer { IsDone (L.contents files.old) (matcher_of matcher.now)
             (machine_with (states_of state helpers.old) self.old) line.now (command_of work) result
             (machine_with (states_of state helpers.new) self.new) }
         ensures missed { L.missed files.new ≡ L.missed files.old
             ++ missed_as (load_of line.now None (command_of work)) result }
         ensures same { L.contents files.new ≡ L.contents files.old }
-        ensures patterns { self.new.patterns ≡ self.old.patterns }
-        ensures automaton { self.new.automaton ≡ self.old.automaton }
         ensures readings { self.new.counts.readings ≡ counted self.old.counts.readings
             (is_read (machine_alone self.old) (command_of work)) }
         ensures read { ReadsAs (asks_of (machine_alone self.old) (command_of work)) self.old self.new }
@@ -295,7 +280,7 @@ impl Engine {
         match work {
             Work::Attack(p) => self.read(Kind::Attack, p),
             Work::Defend(p) => self.read(Kind::Defend, p),
-            Work::Match(friend) => self.list_matches(helpers, friend),
+            Work::Match(friend) => self.list_matches(matcher, helpers, friend),
             Work::Load(span) => self.load_record(line, span, files),
             Work::AttackProof(p) => self.print_proof(Kind::Attack, p),
             Work::DefendProof(p) => self.print_proof(Kind::Defend, p),
@@ -307,21 +292,25 @@ impl Engine {
             } => self.check_proof(attack, target, code, line, tokens),
             Work::Connect(a, b) => self.tell_link(LinkKind::Connect, a, b),
             Work::Disconnect(a, b) => self.tell_link(LinkKind::Disconnect, a, b),
-            Work::GenMove(friend) => self.make_move(helpers, friend),
-            Work::RegGenMove(friend) => self.tell_move(helpers, friend),
+            Work::GenMove(friend) => self.make_move(matcher, helpers, friend),
+            Work::RegGenMove(friend) => self.tell_move(matcher, helpers, friend),
         }
     }
 
     /// Does what `command` says, unless the command may take long: then nothing is done.
-    fn obey(&mut self, helpers: &mut Helpers, line: &[u8], command: Command) -> Result<Answer, Work>
+    fn obey(
+        &mut self,
+        matcher: &Matcher,
+        helpers: &mut Helpers,
+        line: &[u8],
+        command: Command,
+    ) -> Result<Answer, Work>
         requires within { IsWithin self.old.base.size command }
         requires spans { IsWithinLine line.now command }
         ensures answer { (file : List ℕ) → IfOk result (λ answer. IsAnswer
-            (effect_of (matcher_of self.old) (machine_with (states_of state helpers.old) self.old)
+            (effect_of (matcher_of matcher.now) (machine_with (states_of state helpers.old) self.old)
             (record { line = line.now; file = file }) command) answer
             (machine_with (states_of state helpers.new) self.new)) }
-        ensures patterns { OnOk result (self.new.patterns ≡ self.old.patterns) }
-        ensures automaton { OnOk result (self.new.automaton ≡ self.old.automaton) }
         ensures readings { OnOk result (self.new.counts.readings ≡ counted self.old.counts.readings
             (is_read (machine_alone self.old) command)) }
         ensures read { OnOk result (ReadsAs (asks_of (machine_alone self.old) command) self.old self.new) }
@@ -354,7 +343,7 @@ impl Engine {
             Command::Defend(p) => self.recall(Kind::Defend, p, Work::Defend(p))?,
             Command::Depths { plies, wide } => self.deepen(plies, wide),
             Command::MatchPatterns(friend) => return Err(Work::Match(friend)),
-            Command::ListPatterns => self.list_patterns(),
+            Command::ListPatterns => self.list_patterns(matcher),
             Command::LoadSgf(span) => return Err(Work::Load(span)),
             Command::AttackProof(p) => return Err(Work::AttackProof(p)),
             Command::DefendProof(p) => return Err(Work::DefendProof(p)),

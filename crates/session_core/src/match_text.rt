@@ -7,15 +7,14 @@ ghost use Rattle.match_engine.specs.AutomatonMatches.{automaton_matches};
 ghost use Rattle.match_engine.specs.HelperCalls.{after_matches};
 ghost use Rattle.match_rules.specs.Conditions.{all_yes};
 ghost use Rattle.match_engine.specs.Readings.{codes_of};
-ghost use Rattle.session_core.specs.EngineView.{NumbersPatterns};
 ghost use Rattle.machine_rules.specs.MatchTexts.{name_of, match_text, matches_text, AreAmong};
 ghost use Rattle.machine_rules.specs.PatternTexts.{feed_after};
 
+use crate::matcher::Matcher;
 use crate::point_lists::push_vertex;
-use dfa_match::Scanner;
 use go_base::{Bytes, Colour, NoMemory, Position, Size, Transform};
 use helpers::Helpers;
-use match_engine::{Readings, matches};
+use match_engine::Readings;
 use match_rules::Match;
 use pat_types::Pattern;
 use std::alloc::Global;
@@ -76,31 +75,27 @@ fn list_text(
     Ok(text)
 }
 
-/// The automaton's matches of `patterns` that pass the helpers, one a line. What classes and constraints ask is read at
-/// the depths of `readings`; the helpers that the patterns name are asked last.
+/// The matches that `matcher` finds for `friend`, one a line. What classes and constraints ask is read at the depths of
+/// `readings`; the helpers that the patterns name are asked last.
 pub(crate) fn matches_text(
     alloc: Global,
-    patterns: &[Pattern],
-    scanner: &Scanner,
+    matcher: &Matcher,
     position: &Position,
     friend: Colour,
     readings: &mut Readings,
     helpers: &mut Helpers,
 ) -> Result<Bytes, NoMemory>
-    requires { NumbersPatterns scanner.now patterns.now }
-    ensures text { IfOk result (λ text. text ≡ matches_text patterns.now position.now.size
-        (automaton_matches (codes_of readings.old) (says_yes (states_of state helpers.old)) scanner.now patterns.now
-        position.now friend)) }
+    ensures text { IfOk result (λ text. text ≡ matches_text matcher.now.patterns position.now.size
+        (automaton_matches (codes_of readings.old) (says_yes (states_of state helpers.old)) matcher.now.automaton
+        matcher.now.patterns position.now friend)) }
     ensures depths { readings.new.depths ≡ readings.old.depths }
     ensures refused { readings.old.answers.refused ≤ readings.new.answers.refused }
     ensures capacity { readings.new.answers.kept.1 ≡ readings.old.answers.kept.1 }
-    ensures calls { (states_of state helpers.new ≡ after_matches (states_of state helpers.old) patterns.now
-        (automaton_matches (codes_of readings.old) all_yes scanner.now patterns.now position.now friend) position.now
-        friend)
+    ensures calls { (states_of state helpers.new ≡ after_matches (states_of state helpers.old) matcher.now.patterns
+        (automaton_matches (codes_of readings.old) all_yes matcher.now.automaton matcher.now.patterns position.now
+        friend) position.now friend)
         ⊎ ((is_err result ≡ true) × (states_of state helpers.new ≡ states_of state helpers.old)) }
 {
-    let found = matches(
-        alloc, patterns, scanner, position, friend, readings, helpers,
-    )?;
-    list_text(alloc, patterns, position.size(), found.as_slice())
+    let found = matcher.find(alloc, position, friend, readings, helpers)?;
+    list_text(alloc, matcher.patterns(), position.size(), found.as_slice())
 }

@@ -1,12 +1,13 @@
 -- Answers one after another are a run of the plain machine.
-use Rattle.std.proofs.Common.{◌≡◌, ◌∙◌, ℕ, Bool, true, false, List, [], map, refl, sym, subst}
+use Rattle.std.proofs.Common.{◌≡◌, ◌∙◌, ℕ, Bool, true, false, List, [], map, refl, sym, ap, subst}
 use Rattle.std.proofs.lemmas.List.{append-nil}
 use Rattle.gtp_rules.specs.Lines.{line_of}
 use Rattle.gtp_rules.specs.Transcript.{Answers as answers-by, IsRun}
 use Rattle.machine_rules.specs.Machine.{Machine}
 use Rattle.machine_rules.specs.Matcher.{Matcher, plain_matcher}
 use Rattle.machine_rules.specs.Step.{step}
-use Rattle.session_core.specs.EngineView.{machine_alone, matcher_of}
+use Rattle.session_core.specs.EngineView.{machine_alone}
+use Rattle.session_core.specs.MatcherView.{matcher_of}
 use Rattle.session_core.specs.Replies.{reply_bytes, reply_ends}
 use Rattle.session_doors.specs.declared.held.HeldSession.{HeldSession}
 use Rattle.session_doors.specs.Answered.{Answers, empty_files}
@@ -14,7 +15,7 @@ use Rattle.session_doors.specs.Transcripts.{HasAnswered, nothing, next, ending, 
 
 -- the plain machine may answer so
 answered-by : (matcher : Matcher) (old new : HeldSession) (text : List ℕ) (ends : Bool)
-    → matcher_of old.engine ≡ matcher → reply_ends new.reply ≡ ends → Answers old text new
+    → matcher_of old.matcher ≡ matcher → reply_ends new.reply ≡ ends → Answers old text new
     → answers-by (step matcher empty_files) (machine_alone old.engine) (line_of text) (reply_bytes new.reply)
     (machine_alone new.engine) ends
 answered-by matcher old new text ends same told answers =
@@ -25,7 +26,7 @@ answered-by matcher old new text ends same told answers =
 
 -- from any session on, answers are a run of its machine
 run-from : (matcher : Matcher) (first last : HeldSession) (texts : List (List ℕ)) (out : List ℕ) (ended : Bool)
-    → matcher_of first.engine ≡ matcher → HasAnswered first texts out last ended
+    → matcher_of first.matcher ≡ matcher → HasAnswered first texts out last ended
     → IsRun (step matcher empty_files) (machine_alone first.engine) (map line_of texts) out (machine_alone last.engine)
     ended
 run-from matcher first last texts out ended same (nothing held) = (refl, refl, refl)
@@ -36,7 +37,7 @@ run-from matcher first last texts out ended same (next held mid end text more re
   false,
   answered-by matcher held mid text false same goes answers,
   refl,
-  run-from matcher mid end more rest stops (answers.matcher ∙ same) others,
+  run-from matcher mid end more rest stops (ap matcher_of answers.matcher ∙ same) others,
 )
 run-from matcher first last texts out ended same (ending held end text answers stops) = (
   reply_bytes end.reply,

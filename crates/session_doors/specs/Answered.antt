@@ -3,9 +3,11 @@ use Rattle.std.specs.Prelude.{◌≡◌, ℕ, Bool, true, false, ◌==◌, List,
 use Rattle.std.specs.List.{list_any}
 use Rattle.gtp_rules.specs.Lines.{line_of, line_feed}
 use Rattle.machine_rules.specs.Files.{Contents}
-use Rattle.session_core.specs.EngineView.{EngineView, matcher_of}
+use Rattle.machine_rules.specs.Step.{step}
+use Rattle.session_core.specs.EngineView.{EngineView}
 use Rattle.session_core.specs.Kept.{Kept}
 use Rattle.session_core.specs.LineAnswers.{AnswersLine}
+use Rattle.session_core.specs.MatcherView.{matcher_of}
 use Rattle.session_doors.specs.declared.held.HeldSession.{HeldSession}
 use Rattle.session_doors.specs.declared.lines.LineFault.{LineFault}
 use Rattle.session_doors.specs.declared.lines.LineFault.TheVariants.{LineFeed, NoMemory}
@@ -26,8 +28,9 @@ kept_alone engine = record { engine = engine; helpers = []; missed = [] }
 -- The session `old` answered the line of the text by the step of the plain machine without helpers, with every file
 -- empty, and became `new`, which has its reply. Matches are found as before.
 pub record Answers (old : HeldSession) (text : List ℕ) (new : HeldSession) : Type 0 where
-  pub line : AnswersLine empty_files (kept_alone old.engine) (line_of text) new.reply (kept_alone new.engine)
-  pub matcher : matcher_of new.engine ≡ matcher_of old.engine
+  pub line : AnswersLine (step (matcher_of old.matcher) empty_files) (kept_alone old.engine) (line_of text) new.reply
+      (kept_alone new.engine)
+  pub matcher : new.matcher ≡ old.matcher
 
 -- the fault is that of the text: a line feed if it has one, else too little memory
 abbrev pub IsFaultOf : List ℕ → LineFault → Type 0

@@ -6,7 +6,8 @@ use Rattle.match_engine.specs.ReadingDepths.{ReadingDepths}
 use Rattle.machine_rules.specs.Machine.{first_machine}
 use Rattle.machine_rules.specs.Matcher.{plain_matcher}
 use Rattle.read_cache.specs.Keeping.{first_keeping}
-use Rattle.session_core.specs.EngineView.{machine_with, matcher_of, no_counts}
+use Rattle.session_core.specs.EngineView.{machine_with, no_counts}
+use Rattle.session_core.specs.MatcherView.{matcher_of}
 use Rattle.session_core.specs.declared.reply.Reply.TheVariants.{Nothing}
 use Rattle.match_doors.specs.Patterns.{AreOpened, IsRefused}
 use Rattle.match_doors.specs.Matching.{depths_named}
@@ -22,7 +23,7 @@ use Rattle.session_doors.specs.Options.{options_fault}
 -- connections. No line was answered.
 pub record IsFirst (patterns : List Pattern) (depths : ReadingDepths) (cache : ℕ) (held : HeldSession) : Type 0 where
   pub machine : (helpers : List SlotState) → machine_with helpers held.engine ≡ first_machine helpers depths
-  pub matches : matcher_of held.engine ≡ plain_matcher patterns
+  pub matches : matcher_of held.matcher ≡ plain_matcher patterns
   pub counts : held.engine.counts ≡ no_counts
   pub readings : held.engine.readings.answers ≡ first_keeping cache
   pub links : held.engine.links.answers ≡ first_keeping cache

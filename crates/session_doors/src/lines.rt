@@ -56,12 +56,28 @@ fn answer_with(alloc: Global, helpers: Helpers, session: HeldSession, text: &[u8
     requires { helpers.slots.items ≡ [] }
     ensures { Answers session text.now result }
 {
-    let HeldSession { engine, .. } = session;
-    let mut session = Session { engine, helpers };
+    let HeldSession {
+        engine,
+        matcher,
+        ..
+    } = session;
+    let mut session = Session {
+        engine,
+        matcher,
+        helpers,
+    };
     let mut files = SureShelf::new(Vec::new(alloc), Vec::new(alloc));
     let reply = session.line(raw_of(text), &mut files);
-    let Session { engine, .. } = session;
-    HeldSession { engine, reply }
+    let Session {
+        engine,
+        matcher,
+        ..
+    } = session;
+    HeldSession {
+        engine,
+        matcher,
+        reply,
+    }
 }
 
 /// Answers `text` as a line of the protocol, if it has no line feed; else the session is as it was. Each file that the

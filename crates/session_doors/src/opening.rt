@@ -15,7 +15,7 @@ use go_options::Options;
 use helpers::Helpers;
 use match_doors::{PatternFault, Patterns, read_patterns};
 use read_rules::{Depths, Tree};
-use session_core::{Reply, Session};
+use session_core::{Matcher, Reply, Session};
 use std::alloc::Global;
 
 /// Why no session was opened.
@@ -54,12 +54,18 @@ fn first(
 {
     let Patterns { list, automaton } = read_patterns(alloc, text, options.states)?;
     let patterns = list.len();
+    let matcher = Matcher::new(alloc, list, automaton)?;
     let helpers = Helpers::new(alloc, Vec::new(alloc))?;
-    let session = Session::in_tree(alloc, list, automaton, helpers, tree, options)?;
-    let Session { engine, .. } = session;
+    let session = Session::in_tree(alloc, matcher, helpers, tree, options)?;
+    let Session {
+        engine,
+        matcher,
+        ..
+    } = session;
     Ok(OpenedSession {
         session: HeldSession {
             engine,
+            matcher,
             reply: Reply::Nothing,
         },
         patterns,

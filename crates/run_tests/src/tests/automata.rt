@@ -6,7 +6,7 @@ use gtp_io::SureShelf;
 use gtp_lex::Raw;
 use helpers::Helpers;
 use pat_types::Pattern;
-use session::{Reply, Session};
+use session::{Matcher, Reply, Session};
 use std::alloc::Global;
 use std::test::Fail;
 
@@ -32,8 +32,9 @@ fn session_by_another(alloc: Global) -> Result<Session, Fail> {
     let Ok(options) = read_options(alloc, &[]) else {
         return Err(Fail::from("no words are options"));
     };
+    let matcher = Matcher::new(alloc, patterns, automaton)?;
     let helpers = Helpers::new(alloc, Vec::new(alloc))?;
-    Ok(Session::new(alloc, patterns, automaton, helpers, &options)?)
+    Ok(Session::new(alloc, matcher, helpers, &options)?)
 }
 
 /// Lines, and the replies to them.

@@ -46,8 +46,6 @@ impl Engine {
         ensures answer { (helpers : List SlotState) → IsAnswer
             (resized (machine_with helpers self.old) size) result
             (machine_with helpers self.new) }
-        ensures patterns { self.new.patterns ≡ self.old.patterns }
-        ensures same { self.new.automaton ≡ self.old.automaton }
         ensures counts { self.new.counts ≡ self.old.counts }
         ensures kept { self.new.readings.answers.kept ≡ self.old.readings.answers.kept }
         ensures links { LinksNothing self.old self.new }
@@ -63,8 +61,6 @@ impl Engine {
     pub(crate) fn clear(&mut self) -> Answer
         ensures answer { (helpers : List SlotState) → IsAnswer
             (cleared (machine_with helpers self.old)) result (machine_with helpers self.new) }
-        ensures patterns { self.new.patterns ≡ self.old.patterns }
-        ensures same { self.new.automaton ≡ self.old.automaton }
         ensures counts { self.new.counts ≡ self.old.counts }
         ensures kept { self.new.readings.answers.kept ≡ self.old.readings.answers.kept }
         ensures links { LinksNothing self.old self.new }
@@ -78,8 +74,6 @@ impl Engine {
         ensures answer { (helpers : List SlotState) → IsAnswer
             (komi_kept (machine_with helpers self.old) komi) result
             (machine_with helpers self.new) }
-        ensures patterns { self.new.patterns ≡ self.old.patterns }
-        ensures same { self.new.automaton ≡ self.old.automaton }
         ensures counts { self.new.counts ≡ self.old.counts }
         ensures kept { self.new.readings.answers.kept ≡ self.old.readings.answers.kept }
         ensures links { LinksNothing self.old self.new }
@@ -93,8 +87,6 @@ impl Engine {
         requires { IfSome m.at (λ p. p < self.old.base.size * self.old.base.size) }
         ensures answer { (helpers : List SlotState) → IsAnswer
             (played (machine_with helpers self.old) m) result (machine_with helpers self.new) }
-        ensures patterns { self.new.patterns ≡ self.old.patterns }
-        ensures same { self.new.automaton ≡ self.old.automaton }
         ensures counts { self.new.counts ≡ self.old.counts }
         ensures kept { self.new.readings.answers.kept ≡ self.old.readings.answers.kept }
         ensures links { LinksNothing self.old self.new }
@@ -112,8 +104,6 @@ impl Engine {
         ensures answer { (helpers : List SlotState) → IsAnswer
             (taken_back (machine_with helpers self.old) self.old.moves) result
             (machine_with helpers self.new) }
-        ensures patterns { self.new.patterns ≡ self.old.patterns }
-        ensures same { self.new.automaton ≡ self.old.automaton }
         ensures counts { self.new.counts ≡ self.old.counts }
         ensures kept { self.new.readings.answers.kept ≡ self.old.readings.answers.kept }
         ensures links { LinksNothing self.old self.new }

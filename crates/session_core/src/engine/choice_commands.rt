@@ -14,49 +14,45 @@ ghost use Rattle.gtp_cmd.specs.declared.commands.Command.TheVariants as command;
 ghost use Rattle.session_core.specs.AfterLine.{ReadsAs, ReadsMany};
 ghost use Rattle.session_core.specs.AskedLinks.{LinksNothing};
 ghost use Rattle.session_core.specs.CommandAnswers.{IsAnswer};
-ghost use Rattle.session_core.specs.EngineView.{NumbersPatterns, machine_alone, machine_with, matcher_of};
+ghost use Rattle.session_core.specs.EngineView.{machine_alone, machine_with};
+ghost use Rattle.session_core.specs.MatcherView.{matcher_of};
 
 use crate::answer::{Answer, told_text};
 use crate::engine::Engine;
+use crate::matcher::Matcher;
 use crate::readings::move_text;
-use dfa_match::Scanner;
 use go_base::{Colour, NoMemory, Point, Position};
 use go_history::Move;
 use gtp_cmd::RefuseText;
 use helpers::Helpers;
-use match_engine::{Readings, matches};
+use match_engine::Readings;
 use move_choice::choose;
-use pat_types::Pattern;
 use std::alloc::Global;
 
 /// The point of the match for `friend` that is chosen among the automaton's matches, or `None` if no pattern matches.
 /// The helpers that the patterns name are asked last. Takes memory.
 fn point_by(
     alloc: Global,
-    patterns: &[Pattern],
-    scanner: &Scanner,
+    matcher: &Matcher,
     position: &Position,
     friend: Colour,
     readings: &mut Readings,
     helpers: &mut Helpers,
 ) -> Result<Option<Point>, NoMemory>
-    requires { NumbersPatterns scanner.now patterns.now }
-    ensures point { IfOk result (λ at. at ≡ option_map (λ z. z.at) (choice_of patterns.now
-        (automaton_matches (codes_of readings.old) (says_yes (states_of state helpers.old)) scanner.now patterns.now
-        position.now friend))) }
+    ensures point { IfOk result (λ at. at ≡ option_map (λ z. z.at) (choice_of matcher.now.patterns
+        (automaton_matches (codes_of readings.old) (says_yes (states_of state helpers.old)) matcher.now.automaton
+        matcher.now.patterns position.now friend))) }
     ensures board { IfOk result (λ at. IfSome at (λ p. p < position.now.size * position.now.size)) }
     ensures depths { readings.new.depths ≡ readings.old.depths }
     ensures refused { readings.old.answers.refused ≤ readings.new.answers.refused }
     ensures capacity { readings.new.answers.kept.1 ≡ readings.old.answers.kept.1 }
-    ensures calls { (states_of state helpers.new ≡ after_matches (states_of state helpers.old) patterns.now
-        (automaton_matches (codes_of readings.old) all_yes scanner.now patterns.now position.now friend) position.now
-        friend)
+    ensures calls { (states_of state helpers.new ≡ after_matches (states_of state helpers.old) matcher.now.patterns
+        (automaton_matches (codes_of readings.old) all_yes matcher.now.automaton matcher.now.patterns position.now
+        friend) position.now friend)
         ⊎ ((is_err result ≡ true) × (states_of state helpers.new ≡ states_of state helpers.old)) }
 {
-    let found = matches(
-        alloc, patterns, scanner, position, friend, readings, helpers,
-    )?;
-    Ok(match choose(patterns, found.as_slice()) {
+    let found = matcher.find(alloc, position, friend, readings, helpers)?;
+    Ok(match choose(matcher.patterns(), found.as_slice()) {
         Some(z) => Some(z.at),
         None => None,
     })
@@ -67,26 +63,24 @@ impl Engine {
     /// helpers may have been asked or not.
     fn chosen_point(
         &mut self,
+        matcher: &Matcher,
         helpers: &mut Helpers,
         friend: Colour,
     ) -> Result<Option<Point>, NoMemory>
-        ensures point { IfOk result (λ at. at ≡ chosen_point (matcher_of self.old)
+        ensures point { IfOk result (λ at. at ≡ chosen_point (matcher_of matcher.now)
             (machine_with (states_of state helpers.old) self.old) friend) }
         ensures board { IfOk result (λ at. IfSome at (λ p. p < self.old.base.size * self.old.base.size)) }
         ensures asked { (machine_with (states_of state helpers.new) self.new
-            ≡ after_asking (matcher_of self.old) (machine_with (states_of state helpers.old) self.old) friend)
+            ≡ after_asking (matcher_of matcher.now) (machine_with (states_of state helpers.old) self.old) friend)
             ⊎ ((is_err result ≡ true) × (machine_with (states_of state helpers.new) self.new
             ≡ machine_with (states_of state helpers.old) self.old)) }
-        ensures patterns { self.new.patterns ≡ self.old.patterns }
-        ensures same { self.new.automaton ≡ self.old.automaton }
         ensures read { ReadsMany self.old self.new }
         ensures links { LinksNothing self.old self.new }
     {
         let position = self.position();
         point_by(
             self.alloc,
-            &self.patterns,
-            &self.scanner,
+            matcher,
             &position,
             friend,
             &mut self.readings,
@@ -95,29 +89,35 @@ impl Engine {
     }
 
     /// Prints the move for `friend` that the patterns choose, and plays nothing.
-    pub(crate) fn tell_move(&mut self, helpers: &mut Helpers, friend: Colour) -> Answer
-        ensures answer { IsAnswer (move_told (matcher_of self.old)
+    pub(crate) fn tell_move(
+        &mut self,
+        matcher: &Matcher,
+        helpers: &mut Helpers,
+        friend: Colour,
+    ) -> Answer
+        ensures answer { IsAnswer (move_told (matcher_of matcher.now)
             (machine_with (states_of state helpers.old) self.old) friend)
             result (machine_with (states_of state helpers.new) self.new) }
-        ensures patterns { self.new.patterns ≡ self.old.patterns }
-        ensures same { self.new.automaton ≡ self.old.automaton }
         ensures read { ReadsMany self.old self.new }
         ensures links { LinksNothing self.old self.new }
     {
         let size = self.history.size();
-        match self.chosen_point(helpers, friend) {
+        match self.chosen_point(matcher, helpers, friend) {
             Ok(at) => told_text(move_text(size, at)),
             Err(_) => Answer::NoMemory,
         }
     }
 
     /// Plays the move for `friend` that the patterns choose, a pass if they choose none, and prints it.
-    pub(crate) fn make_move(&mut self, helpers: &mut Helpers, friend: Colour) -> Answer
-        ensures answer { IsAnswer (move_made (matcher_of self.old)
+    pub(crate) fn make_move(
+        &mut self,
+        matcher: &Matcher,
+        helpers: &mut Helpers,
+        friend: Colour,
+    ) -> Answer
+        ensures answer { IsAnswer (move_made (matcher_of matcher.now)
             (machine_with (states_of state helpers.old) self.old) friend)
             result (machine_with (states_of state helpers.new) self.new) }
-        ensures patterns { self.new.patterns ≡ self.old.patterns }
-        ensures same { self.new.automaton ≡ self.old.automaton }
         ensures read { ReadsAs (asks_of (machine_alone self.old) (command.GenMove friend)) self.old self.new }
         ensures links { LinksNothing self.old self.new }
     {
@@ -125,7 +125,7 @@ impl Engine {
             return Answer::Refused(RefuseText::HistoryFull);
         }
         let size = self.history.size();
-        let Ok(at) = self.chosen_point(helpers, friend) else {
+        let Ok(at) = self.chosen_point(matcher, helpers, friend) else {
             return Answer::NoMemory;
         };
         match self.history.play(Move { colour: friend, at }) {

@@ -46,8 +46,6 @@ impl Engine {
     /// Counts a question about a connection.
     fn count_link(&mut self)
         ensures machine { (helpers : List SlotState) → machine_with helpers self.new ≡ machine_with helpers self.old }
-        ensures patterns { self.new.patterns ≡ self.old.patterns }
-        ensures same { self.new.automaton ≡ self.old.automaton }
         ensures connections { self.new.counts.links.connections ≡ counted self.old.counts.links.connections true }
         ensures counts { of_readings self.new.counts ≡ of_readings self.old.counts }
         ensures kept { self.new.readings ≡ self.old.readings }
@@ -64,8 +62,6 @@ impl Engine {
         requires b { b < self.old.base.size * self.old.base.size }
         ensures answer { (helpers : List SlotState) → IsAnswer (linked (machine_with helpers self.old) kind a b) result
             (machine_with helpers self.new) }
-        ensures patterns { self.new.patterns ≡ self.old.patterns }
-        ensures same { self.new.automaton ≡ self.old.automaton }
         ensures read { ReadsNothing self.old self.new }
         ensures links { LinksAs (asks_link_at (machine_alone self.old) kind a b) self.old self.new }
     {
@@ -91,8 +87,6 @@ impl Engine {
         requires b { b < self.old.base.size * self.old.base.size }
         ensures answer { (helpers : List SlotState) → IfOk result (λ answer. IsAnswer
             (linked (machine_with helpers self.old) kind a b) answer (machine_with helpers self.new)) }
-        ensures patterns { OnOk result (self.new.patterns ≡ self.old.patterns) }
-        ensures automaton { OnOk result (self.new.automaton ≡ self.old.automaton) }
         ensures read { OnOk result (ReadsNothing self.old self.new) }
         ensures links { OnOk result (LinksAs (asks_link_at (machine_alone self.old) kind a b) self.old self.new) }
         ensures slow { IfErr result (λ left. left ≡ work) }

@@ -24,8 +24,6 @@ impl Engine {
     /// Counts a reading. `tried` is how many trial plays it made, if it was made afresh.
     fn count_reading(&mut self, tried: Option<u64>)
         ensures machine { (helpers : List SlotState) → machine_with helpers self.new ≡ machine_with helpers self.old }
-        ensures patterns { self.new.patterns ≡ self.old.patterns }
-        ensures same { self.new.automaton ≡ self.old.automaton }
         ensures readings { self.new.counts.readings ≡ counted self.old.counts.readings true }
         ensures fresh { self.new.counts.fresh ≡ counted self.old.counts.fresh (is_some tried) }
         ensures trials { self.new.counts.trials ≡ after_trials self.old.counts.trials tried }
@@ -46,8 +44,6 @@ impl Engine {
         ensures answer { (helpers : List SlotState) → IsAnswer
             (read (machine_with helpers self.old) kind p) result
             (machine_with helpers self.new) }
-        ensures patterns { self.new.patterns ≡ self.old.patterns }
-        ensures same { self.new.automaton ≡ self.old.automaton }
         ensures readings { self.new.counts.readings ≡ counted self.old.counts.readings
             (has_stone (machine_alone self.old) p) }
         ensures read { ReadsAs (asks_at (machine_alone self.old) kind p) self.old self.new }
@@ -70,8 +66,6 @@ impl Engine {
         requires { p < self.old.base.size * self.old.base.size }
         ensures answer { (helpers : List SlotState) → IfOk result (λ answer. IsAnswer
             (read (machine_with helpers self.old) kind p) answer (machine_with helpers self.new)) }
-        ensures patterns { OnOk result (self.new.patterns ≡ self.old.patterns) }
-        ensures automaton { OnOk result (self.new.automaton ≡ self.old.automaton) }
         ensures readings { OnOk result (self.new.counts.readings ≡ counted self.old.counts.readings
             (has_stone (machine_alone self.old) p)) }
         ensures read { OnOk result (ReadsAs (asks_at (machine_alone self.old) kind p) self.old self.new) }
@@ -97,8 +91,6 @@ impl Engine {
         ensures answer { (helpers : List SlotState) → IsAnswer
             (deepened (machine_with helpers self.old) plies wide) result
             (machine_with helpers self.new) }
-        ensures patterns { self.new.patterns ≡ self.old.patterns }
-        ensures same { self.new.automaton ≡ self.old.automaton }
         ensures counts { self.new.counts ≡ self.old.counts }
         ensures kept { self.new.readings.answers.kept ≡ self.old.readings.answers.kept }
         ensures links { LinksNothing self.old self.new }

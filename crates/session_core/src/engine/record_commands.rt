@@ -35,8 +35,6 @@ impl Engine {
         ensures missed { L.missed files.new ≡ L.missed files.old
             ++ missed_as (named_load (word_at line.now span)) result }
         ensures contents { L.contents files.new ≡ L.contents files.old }
-        ensures patterns { self.new.patterns ≡ self.old.patterns }
-        ensures same { self.new.automaton ≡ self.old.automaton }
         ensures counts { self.new.counts ≡ self.old.counts }
         ensures kept { self.new.readings.answers.kept ≡ self.old.readings.answers.kept }
         ensures links { LinksNothing self.old self.new }
@@ -59,8 +57,6 @@ impl Engine {
     fn set_record(&mut self, contents: &[u8]) -> Answer
         ensures answer { (helpers : List SlotState) → IsAnswer
             (recorded (machine_with helpers self.old) (game_of contents.now)) result (machine_with helpers self.new) }
-        ensures patterns { self.new.patterns ≡ self.old.patterns }
-        ensures same { self.new.automaton ≡ self.old.automaton }
         ensures counts { self.new.counts ≡ self.old.counts }
         ensures kept { self.new.readings.answers.kept ≡ self.old.readings.answers.kept }
         ensures links { LinksNothing self.old self.new }

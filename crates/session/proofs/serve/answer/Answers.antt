@@ -1,11 +1,10 @@
 -- The reply is one that the machine may give, and it is out or waits, or a reply broke off.
-use Rattle.std.proofs.Common.{refl, ap, subst, inl, ◌∙◌}
+use Rattle.std.proofs.Common.{refl, ap, inl, ◌∙◌}
 use Rattle.gtp_lex.specs.Raw.{raw_line}
 use Rattle.machine_rules.specs.Heard.{heard}
-use Rattle.session_core.specs.LineAnswers.{AnswersLine}
 use Rattle.session_core.specs.Kept.{Kept, machine_of}
 use Rattle.session_core.specs.SessionView.{kept_of}
-use Rattle.session_core.proofs.LineAnswers.{if_err_map}
+use Rattle.session_core.proofs.LineAnswers.{answers-line-left, if_err_map}
 use Rattle.session.specs.Waiting.{output_of}
 use Rattle.session.proofs.ReplyBytes.{turn-answered, turn-breaks}
 use Rattle.session.proofs.ServeLemmas.{Answered-after, BreaksIn-after}
@@ -20,7 +19,7 @@ returns-in-Ok-clause-ok g c =
     let old = kept_of (λ z. (goal.Helper-dyn g z).state z.1) c.args.server.now.session missed in
     let new = kept_of (λ z. (goal.Helper-dyn g z).state z.1) c.try_line.new.self missed in
     if_ok_is _ c.send.result _ c.send.ensures.ends c.send.ensures.ok
-    (λ sends. turn-answered contents old new (raw_line c.args.raw) _ _ c.stats.result c.in-Ok.reply
+    (λ sends. turn-answered _ old new (raw_line c.args.raw) _ _ c.stats.result c.in-Ok.reply
     (c.in-Ok.ensures.answers contents missed) c.stats.ensures (λ _ _. refl) sends)
 
 -- the output failed within its reply, or before it
@@ -32,7 +31,7 @@ returns-in-Ok-clause-part g c =
     let new = kept_of (λ z. (goal.Helper-dyn g z).state z.1) c.try_line.new.self missed in
     let out = output_of (g.K.Sink.written c.args.output.now) c.args.server.now.outbox in
     if_err_map c.send.result
-    (λ noted may. turn-breaks contents old new (raw_line c.args.raw) out out c.stats.result c.in-Ok.reply
+    (λ noted may. turn-breaks _ old new (raw_line c.args.raw) out out c.stats.result c.in-Ok.reply
     (c.in-Ok.ensures.answers contents missed) _ c.stats.ensures (λ _. refl) may)
     c.send.ensures.part
 
@@ -65,11 +64,11 @@ returns-in_ok-flush-in-Err-clause-ok g c =
     let old = kept_of (λ z. (goal.Helper-dyn g z).state z.1) c.args.server.now.session missed in
     let new = kept_of (λ z. (goal.Helper-dyn g z).state z.1) c.finish-reply.new.self
     (g.L.Loader.missed c.finish-reply.new.files) in
-    let is = subst (λ (k : Kept). AnswersLine contents k line c.finish-reply.result new)
+    let is = answers-line-left _ _ contents _ old line c.finish-reply.result new c.try_line.ensures.matcher
     (c.in-Err.ensures.left missed).same c.finish-reply.ensures.answers in
     if_ok_is _ c.send-in-Err.result _ c.send-in-Err.ensures.ends c.send-in-Err.ensures.ok
     (λ sends. Answered-after _ _ _ old _ _ _ c.in_ok-flush-in-Err.ensures.ok
-    (turn-answered contents old new line
+    (turn-answered _ old new line
     (output_of (g.K.Sink.written c.flush.new.output) c.flush.new.self) _ c.stats-in-Err.result c.finish-reply.result is
     c.stats-in-Err.ensures
     (λ other there. absurd (none-stops _ other c.in_ok-flush-in-Err.ensures.none there)) sends))
@@ -83,11 +82,11 @@ returns-in_ok-flush-in-Err-clause-part g c =
     let old = kept_of (λ z. (goal.Helper-dyn g z).state z.1) c.args.server.now.session missed in
     let new = kept_of (λ z. (goal.Helper-dyn g z).state z.1) c.finish-reply.new.self
     (g.L.Loader.missed c.finish-reply.new.files) in
-    let is = subst (λ (k : Kept). AnswersLine contents k line c.finish-reply.result new)
+    let is = answers-line-left _ _ contents _ old line c.finish-reply.result new c.try_line.ensures.matcher
     (c.in-Err.ensures.left missed).same c.finish-reply.ensures.answers in
     let out = output_of (g.K.Sink.written c.flush.new.output) c.flush.new.self in
     if_err_map c.send-in-Err.result
     (λ noted may. BreaksIn-after _ _ old _ _ _ _ c.in_ok-flush-in-Err.ensures.ok
-    (turn-breaks contents old new line out out c.stats-in-Err.result c.finish-reply.result is _ c.stats-in-Err.ensures
+    (turn-breaks _ old new line out out c.stats-in-Err.result c.finish-reply.result is _ c.stats-in-Err.ensures
     (λ there. absurd (none-stops _ _ c.in_ok-flush-in-Err.ensures.none there)) may))
     c.send-in-Err.ensures.part

@@ -1,24 +1,20 @@
 -- A session begins with the empty board.
-use Rattle.std.proofs.Common.{◌≡◌, ℕ, List, codes, sym, ap, subst, ◌∙◌, rules}
-use Rattle.pat_types.specs.declared.pattern.Pattern.{Pattern}
-use Rattle.dfa_core.specs.Automata.{Row}
+use Rattle.std.proofs.Common.{◌≡◌, ℕ, List, codes, ap, ◌∙◌, rules}
 use Rattle.go_history.specs.Games.{Game, new_game}
 use Rattle.kept_connections.specs.Connections.{ConnectionsView}
 use Rattle.match_engine.specs.ReadingDepths.{ReadingDepths}
 use Rattle.match_engine.specs.Readings.{ReadingsView, first_readings}
 use Rattle.machine_rules.specs.Machine.{first_size}
-use Rattle.session_core.specs.EngineView.{EngineView, first_kept, first_links, depths_in, NumbersPatterns}
+use Rattle.session_core.specs.EngineView.{EngineView, first_kept, first_links, depths_in}
 use Rattle.session_core.proofs.engine.Engine.new.Goals as goal
 
--- what is kept of this game, these readings, connections and patterns before a line was counted
-abbrev kept_of : List Pattern → Game → List ℕ → List Row → ReadingsView → ConnectionsView → EngineView
-kept_of patterns game komi rows readings links = record {
+-- what is kept of this game, these readings and connections before a line was counted
+abbrev kept_of : Game → List ℕ → ReadingsView → ConnectionsView → EngineView
+kept_of game komi readings links = record {
   base = game.base;
   moves = game.moves;
   komi = komi;
   depths = readings.depths;
-  patterns = patterns;
-  automaton = rows;
   counts = record {
     readings = 0;
     fresh = 0;
@@ -31,25 +27,19 @@ kept_of patterns game komi rows readings links = record {
 }
 
 -- with a new game of the first size it is what is kept at first
-first_is : (patterns : List Pattern) (game : Game) (s : ℕ) (komi : List ℕ) (rows automaton : List Row)
-    (readings : ReadingsView) (links : ConnectionsView) (depths : ReadingDepths) (capacity : ℕ) → game ≡ new_game s
-    → s ≡ first_size → komi ≡ codes "0.0" → rows ≡ automaton → readings ≡ first_readings depths capacity
-    → links ≡ first_links depths.plies capacity
-    → kept_of patterns game komi rows readings links ≡ first_kept patterns automaton depths capacity
-first_is patterns game s komi rows automaton readings links depths capacity new size zero same none unasked =
-    ap (λ g. kept_of patterns g komi rows readings links) (new ∙ ap new_game size)
-    ∙ ap (λ k. kept_of patterns (new_game first_size) k rows readings links) zero
-    ∙ ap (λ a. kept_of patterns (new_game first_size) (codes "0.0") a readings links) same
-    ∙ ap (λ r. kept_of patterns (new_game first_size) (codes "0.0") automaton r links) none
-    ∙ ap (kept_of patterns (new_game first_size) (codes "0.0") automaton (first_readings depths capacity)) unasked
+first_is : (game : Game) (s : ℕ) (komi : List ℕ) (readings : ReadingsView) (links : ConnectionsView)
+    (depths : ReadingDepths) (capacity : ℕ) → game ≡ new_game s → s ≡ first_size → komi ≡ codes "0.0"
+    → readings ≡ first_readings depths capacity → links ≡ first_links depths.plies capacity
+    → kept_of game komi readings links ≡ first_kept depths capacity
+first_is game s komi readings links depths capacity new size zero none unasked =
+    ap (λ g. kept_of g komi readings links) (new ∙ ap new_game size)
+    ∙ ap (λ k. kept_of (new_game first_size) k readings links) zero
+    ∙ ap (λ r. kept_of (new_game first_size) (codes "0.0") r links) none
+    ∙ ap (kept_of (new_game first_size) (codes "0.0") (first_readings depths capacity)) unasked
 
--- the scanner's rows are those of the automaton, which accepts numbers of the patterns alone, and readings and
--- connections have the plies of the options
+-- readings and connections have the plies of the options
 pub invariant_of-result : goal.invariant_of-result
-invariant_of-result c = record {
-  numbers = subst (λ rows. NumbersPatterns rows c.args.patterns.items) (sym c.in_ok-scanner.ensures) c.requires.numbers;
-  plies = search rules;
-}
+invariant_of-result c = search rules
 
 -- the game is new, and so are the readings
 pub returns : goal.returns
@@ -58,6 +48,5 @@ returns c =
     let zero : c.zero.result ≡ codes "0.0" = search rules in
     let none : c.in_ok-new-2.field-0 ≡ first_readings (depths_in c.args.tree c.args.options.now)
     c.args.options.now.cache = search rules in
-    first_is c.args.patterns.items c.in_ok-new.field-0 c.unwrap-size.result c.zero.result c.in_ok-scanner.scanner
-    c.args.automaton c.in_ok-new-2.field-0 c.in_ok-new-3.field-0 _ _ c.in_ok-new.ensures size zero
-    c.in_ok-scanner.ensures none c.in_ok-new-3.ensures
+    first_is c.in_ok-new.field-0 c.unwrap-size.result c.zero.result c.in_ok-new-2.field-0 c.in_ok-new-3.field-0 _ _
+    c.in_ok-new.ensures size zero none c.in_ok-new-3.ensures

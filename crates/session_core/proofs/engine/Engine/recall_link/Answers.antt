@@ -17,7 +17,7 @@ returns-clause-links c =
     LinksAs-once old new c.args.kind c.args.a c.args.b one c.position-position.result c.in-Some-find_kept.linkage
     c.self.inside.links
     c.find_kept.new.self c.position-position.ensures.value (ap (λ (k : EngineView). k.links) view)
-    (c.self.invariant.plies ∙ ap (λ (k : EngineView). k.depths.plies) view) c.count_link.ensures.links
+    (c.self.invariant ∙ ap (λ (k : EngineView). k.depths.plies) view) c.count_link.ensures.links
     c.in-Some-find_kept.ensures.asked c.size.ensures.position c.find_kept.ensures.rest (c.count_link.ensures.connections
     ∙ ap (λ (k : EngineView). counted k.counts.links.connections true) view)
     (subst CountsFreshLinks view refl) c.count_link.ensures.fresh
@@ -32,5 +32,5 @@ returns-clause-answer c = λ helpers.
     c.size.result c.in-Some-find_kept.linkage c.linkage_text.result c.told_text.result
     (machine_with helpers c.count_link.new.self) one c.told_text.ensures c.linkage_text.ensures.text
     c.size.ensures.value c.position-position.ensures.size c.position-position.ensures.value
-    (c.self.invariant.plies ∙ ap (λ (k : EngineView). k.depths.plies) view)
+    (c.self.invariant ∙ ap (λ (k : EngineView). k.depths.plies) view)
     c.in-Some-find_kept.ensures.answer (c.count_link.ensures.machine helpers ∙ ap (machine_with helpers) view)

@@ -11,9 +11,9 @@ use Rattle.session_core.proofs.engine.Engine.try_command.Goals as goal
 -- the reply to a command answers the line that says it
 pub returns-clause-answers : goal.returns-clause-answers
 returns-clause-answers g c = λ missed file.
-    answers-command _ _ c.args.id c.args.command c.reply.result _
-    (c.reply.ensures.reply _ _ (c.in-Ok.ensures.answer file)) c.reply.ensures.bytes c.in-Ok.ensures.patterns
-    c.in-Ok.ensures.automaton c.in-Ok.ensures.readings c.in-Ok.ensures.read c.in-Ok.ensures.links
+    answers-command _ _ _ c.args.id c.args.command c.reply.result _
+    (c.reply.ensures.reply _ _ (c.in-Ok.ensures.answer file)) c.reply.ensures.bytes
+    c.in-Ok.ensures.readings c.in-Ok.ensures.read c.in-Ok.ensures.links
     (sym (ap (λ l. missed ++ l) (missed-none c.args.line.now c.args.id c.args.command (reply_bytes c.reply.result)
     (c.in-Ok.ensures.loads)) ∙ append-nil missed))
 

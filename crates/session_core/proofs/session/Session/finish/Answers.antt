@@ -8,5 +8,5 @@ use Rattle.session_core.proofs.session.Session.finish.Goals as goal
 pub returns-clause-answers : goal.returns-clause-answers
 returns-clause-answers g c =
     let done = c.finish.ensures.answers in
-    answers-line-by _ _ (raw_line c.args.raw) (said_by c.args.slow) c.finish.result _ c.bytes_of.result.now done.0
+    answers-line-by _ _ _ (raw_line c.args.raw) (said_by c.args.slow) c.finish.result _ c.bytes_of.result.now done.0
     c.bytes_of.ensures c.requires.says done.1 done.2

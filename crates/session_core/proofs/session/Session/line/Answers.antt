@@ -1,10 +1,9 @@
 -- A line is answered at once, or by what was left of it.
-use Rattle.std.proofs.Common.{ap, subst, ◌∙◌}
+use Rattle.std.proofs.Common.{ap, ◌∙◌}
 use Rattle.gtp_lex.specs.Raw.{raw_line}
 use Rattle.machine_rules.specs.Heard.{heard}
-use Rattle.session_core.specs.LineAnswers.{AnswersLine}
 use Rattle.session_core.specs.Kept.{Kept, machine_of}
-use Rattle.session_core.specs.SessionView.{kept_of}
+use Rattle.session_core.proofs.LineAnswers.{answers-line-left}
 use Rattle.session_core.proofs.session.Session.line.Goals as goal
 
 -- a line was answered at once, and no file was loaded
@@ -29,7 +28,6 @@ finish-requires-clause-says g c =
 -- a line that was left is answered
 pub returns-in-Err-clause-answers : goal.returns-in-Err-clause-answers
 returns-in-Err-clause-answers g c =
-    let left = c.in-Err.ensures.left (g.L.Loader.missed c.args.files.now) in
-    subst (λ (k : Kept). AnswersLine (g.L.Loader.contents c.args.files.now) k (raw_line c.args.raw) c.finish.result
-    (kept_of (λ z. (goal.Helper-dyn g z).state z.1) c.finish.new.self (g.L.Loader.missed c.finish.new.files)))
-    left.same c.finish.ensures.answers
+    answers-line-left _ _ (g.L.Loader.contents c.args.files.now) _ _ (raw_line c.args.raw) c.finish.result _
+    c.try_line.ensures.matcher (c.in-Err.ensures.left (g.L.Loader.missed c.args.files.now)).same
+    c.finish.ensures.answers
