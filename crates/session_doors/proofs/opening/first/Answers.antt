@@ -22,7 +22,7 @@ returns-clause-ok c =
       patterns = list;
       read = record { patterns = read.patterns; few = read.few };
       first = subst (λ (engine : EngineView). IsFirst list depths cache
-          (record { engine = engine; matcher = c.in_ok-session.field-0.matcher; reply = Nothing }))
+          (record { engine = engine; matcher = c.in_ok-session.session.matcher; reply = Nothing }))
           (sym c.in_ok-session.ensures.engine)
           (subst (λ (matcher : MatcherView). IsFirst list depths cache (held_first depths cache matcher))
           (sym (c.in_ok-session.ensures.matcher ∙ c.in_ok-matcher.ensures))
