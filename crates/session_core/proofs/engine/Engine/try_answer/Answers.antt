@@ -34,8 +34,8 @@ returns-in-Refused-clause-answers g c = λ missed file.
     (sym c.refused.ensures) (answers-refused matcher kept input c.in-Refused.id c.in-Refused.text))
 
 -- the reply to a command answers the line that says it
-pub returns-in-Command-clause-answers : goal.returns-in-Command-clause-answers
-returns-in-Command-clause-answers g c = λ missed file.
+pub returns-in-Ok-clause-answers : goal.returns-in-Ok-clause-answers
+returns-in-Ok-clause-answers g c = λ missed file.
     answers-command _ _ _ c.args.said c.in-Command.id c.in-Command.command c.reply.result _ c.in-Command.is
     (c.reply.ensures.reply _ _ (c.in-Ok.ensures.answer file)) c.reply.ensures.bytes c.in-Ok.ensures.readings
     c.in-Ok.ensures.read c.in-Ok.ensures.links
