@@ -200,8 +200,8 @@ some-reply (reply.Text bytes) one none = cc
 some-reply (reply.NoMemory id) one none = cc
 
 -- the reply to a command answers the line that says it
-pub answers-command : (matcher : Matcher) (old : Kept) (input : Input) (id : Option ℕ) (command : Command)
-    (answer : Reply) (new : Kept)
+pub answers-command : (matcher : Matcher) (old : Kept) (input : Input) (said : Parsed) (id : Option ℕ)
+    (command : Command) (answer : Reply) (new : Kept) → said ≡ parsed.Command id command
     → MayGive (replied id (effect_of matcher (machine_of old) input command)) (reply_bytes answer) (machine_of new)
     (reply_ends answer)
     → reply_count (reply_bytes answer) ≡ 1
@@ -209,16 +209,17 @@ pub answers-command : (matcher : Matcher) (old : Kept) (input : Input) (id : Opt
     → ReadsAs (asks_of (machine_of old) command) old.engine new.engine
     → LinksAs (asks_link_of (machine_of old) command) old.engine new.engine
     → new.missed ≡ old.missed ++ missed_by (parsed_load input.line (parsed.Command id command)) (reply_bytes answer)
-    → AnswersParsed matcher old input (parsed.Command id command) answer new
-answers-command matcher old input id command answer new is bytes readings read links missed = record {
-  reply = is;
-  nothing = ((λ none. absurd (some-reply answer bytes none)), (λ e. cc));
-  bytes = λ _. bytes;
-  readings = readings;
-  read = read;
-  links = links;
-  missed = missed;
-}
+    → AnswersParsed matcher old input said answer new
+answers-command matcher old input said id command answer new says is bytes readings read links missed =
+    subst (λ p. AnswersParsed matcher old input p answer new) (sym says) (record {
+      reply = is;
+      nothing = ((λ none. absurd (some-reply answer bytes none)), (λ e. cc));
+      bytes = λ _. bytes;
+      readings = readings;
+      read = read;
+      links = links;
+      missed = missed;
+    })
 
 -- a command that may take long leaves its line
 pub left-command : (old new : Kept) (line : List ℕ) (said : Parsed) (id : Option ℕ) (command : Command) (work : Work)

@@ -38,7 +38,7 @@ use crate::matcher::Matcher;
 use crate::reply::Reply;
 use crate::slow::{Slow, Work};
 use connect_rules::LinkKind;
-use go_base::{Bytes, NoMemory, Position, Size};
+use go_base::{NoMemory, Position, Size};
 use go_history::{History, Move};
 use go_options::Options;
 use go_strings::StringBoard;
@@ -196,36 +196,14 @@ impl Engine {
         match said {
             Parsed::Nothing => Ok(Reply::Nothing),
             Parsed::Refused { id, text } => Ok(Reply::refused(id, text)),
-            Parsed::Command { id, command } => self.try_command(
-                matcher, helpers, line, id, command,
-            ),
+            Parsed::Command { id, command } => {
+                let answer = match self.obey(matcher, helpers, line, command) {
+                    Ok(answer) => answer,
+                    Err(work) => return Err(Slow { id, work }),
+                };
+                Ok(answer.reply(self.alloc, id))
+            }
         }
-    }
-
-    /// Answers `command` with the `id` of its line, unless the command may take long: then nothing is done.
-    fn try_command(
-        &mut self,
-        matcher: &Matcher,
-        helpers: &mut Helpers,
-        line: &[u8],
-        id: Option<u32>,
-        command: Command,
-    ) -> Result<Reply, Slow>
-        requires within { IsWithin self.old.base.size command }
-        requires spans { IsWithinLine line.now command }
-        ensures answers { (missed : List (List ℕ)) (file : List ℕ) → IfOk result (λ reply. AnswersParsed
-            (matcher_of matcher.now) (kept_with (states_of state helpers.old) missed self.old)
-            (record { line = line.now; file = file }) (Parsed.Command id command) reply
-            (kept_with (states_of state helpers.new) missed self.new)) }
-        ensures left { (missed : List (List ℕ)) → IfErr result (λ slow. IsLeft
-            (kept_with (states_of state helpers.old) missed self.old) line.now (Parsed.Command id command) slow
-            (kept_with (states_of state helpers.new) missed self.new)) }
-    {
-        let answer = match self.obey(matcher, helpers, line, command) {
-            Ok(answer) => answer,
-            Err(work) => return Err(Slow { id, work }),
-        };
-        Ok(answer.reply(self.alloc, id))
     }
 
     /// Answers a postponed line by the machine's step. Matches come from the automaton and must pass the helpers. With

@@ -1,20 +1,10 @@
 //! Patterns, and the automaton that finds their matches. No line changes them.
-ghost use Rattle.std.specs.Prelude.{◌≡◌, IfOk, OnOk, OnErr};
-ghost use Rattle.helpers.specs.HelperStates.{says_yes};
-ghost use Rattle.helpers.specs.Slots.{states_of};
-ghost use Rattle.machine_rules.specs.MatchTexts.{AreAmong};
-ghost use Rattle.match_engine.specs.AutomatonMatches.{automaton_matches};
-ghost use Rattle.match_engine.specs.HelperCalls.{after_matches};
-ghost use Rattle.match_engine.specs.Readings.{codes_of, Follows};
-ghost use Rattle.match_rules.specs.Conditions.{all_yes};
+ghost use Rattle.std.specs.Prelude.{◌≡◌, IfOk};
 ghost use Rattle.session_core.specs.MatcherView.{NumbersPatterns};
 
 use dfa_core::Automaton;
 use dfa_match::Scanner;
-use go_base::{Colour, NoMemory, Position};
-use helpers::Helpers;
-use match_engine::{Readings, matches};
-use match_rules::Match;
+use go_base::NoMemory;
 use pat_types::Pattern;
 use std::alloc::Global;
 use std::marker::Model;
@@ -63,35 +53,11 @@ impl Matcher {
         &self.patterns
     }
 
-    /// The matches for `friend` on `position` that the automaton finds and the helpers allow. What classes and
-    /// constraints ask is read at the depths of `readings`; the helpers that the patterns name are asked last. Takes
-    /// memory: if there is none, nothing is read and no helper is asked.
-    pub(crate) fn find(
-        &self,
-        alloc: Global,
-        position: &Position,
-        friend: Colour,
-        readings: &mut Readings,
-        helpers: &mut Helpers,
-    ) -> Result<Vec<Match>, NoMemory>
-        ensures found { IfOk result (λ found. found.items ≡ automaton_matches (codes_of readings.old)
-            (says_yes (states_of state helpers.old)) self.now.automaton self.now.patterns position.now friend) }
-        ensures among { IfOk result (λ found. AreAmong self.now.patterns position.now.size found.items) }
-        ensures calls { OnOk result (states_of state helpers.new ≡ after_matches (states_of state helpers.old)
-            self.now.patterns (automaton_matches (codes_of readings.old) all_yes self.now.automaton self.now.patterns
-            position.now friend) position.now friend) }
-        ensures follows { OnOk result (Follows readings.old readings.new) }
-        ensures unread { OnErr result (readings.new ≡ readings.old) }
-        ensures unasked { OnErr result (helpers.new ≡ helpers.old) }
+    /// The automaton, ready for scans.
+    pub(crate) fn scanner(&self) -> &Scanner
+        ensures value { result.now ≡ self.now.automaton }
+        ensures numbers { NumbersPatterns result.now self.now.patterns }
     {
-        matches(
-            alloc,
-            &self.patterns,
-            &self.scanner,
-            position,
-            friend,
-            readings,
-            helpers,
-        )
+        &self.scanner
     }
 }

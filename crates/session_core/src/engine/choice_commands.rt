@@ -1,12 +1,6 @@
 //! The commands that choose a move by the patterns.
-ghost use Rattle.std.specs.Prelude.{◌≡◌, ◌⊎◌, ◌*◌, ◌<◌, ◌≤◌, true, option_map, is_err, IfOk, IfSome};
-ghost use Rattle.helpers.specs.HelperStates.{says_yes};
+ghost use Rattle.std.specs.Prelude.{◌≡◌, ◌⊎◌, ◌*◌, ◌<◌, true, is_err, IfOk, IfSome};
 ghost use Rattle.helpers.specs.Slots.{states_of};
-ghost use Rattle.match_engine.specs.AutomatonMatches.{automaton_matches};
-ghost use Rattle.match_engine.specs.HelperCalls.{after_matches};
-ghost use Rattle.match_engine.specs.Readings.{codes_of};
-ghost use Rattle.match_rules.specs.Conditions.{all_yes};
-ghost use Rattle.move_choice.specs.Choice.{choice_of};
 ghost use Rattle.machine_rules.specs.ChoiceCommands.{chosen_point, move_told, move_made};
 ghost use Rattle.machine_rules.specs.MatchingCommands.{after_asking};
 ghost use Rattle.machine_rules.specs.Questions.{asks_of};
@@ -21,42 +15,11 @@ use crate::answer::{Answer, told_text};
 use crate::engine::Engine;
 use crate::matcher::Matcher;
 use crate::readings::move_text;
-use go_base::{Colour, NoMemory, Point, Position};
+use go_base::{Colour, NoMemory, Point};
 use go_history::Move;
 use gtp_cmd::RefuseText;
 use helpers::Helpers;
-use match_engine::Readings;
 use move_choice::choose;
-use std::alloc::Global;
-
-/// The point of the match for `friend` that is chosen among the automaton's matches, or `None` if no pattern matches.
-/// The helpers that the patterns name are asked last. Takes memory.
-fn point_by(
-    alloc: Global,
-    matcher: &Matcher,
-    position: &Position,
-    friend: Colour,
-    readings: &mut Readings,
-    helpers: &mut Helpers,
-) -> Result<Option<Point>, NoMemory>
-    ensures point { IfOk result (λ at. at ≡ option_map (λ z. z.at) (choice_of matcher.now.patterns
-        (automaton_matches (codes_of readings.old) (says_yes (states_of state helpers.old)) matcher.now.automaton
-        matcher.now.patterns position.now friend))) }
-    ensures board { IfOk result (λ at. IfSome at (λ p. p < position.now.size * position.now.size)) }
-    ensures depths { readings.new.depths ≡ readings.old.depths }
-    ensures refused { readings.old.answers.refused ≤ readings.new.answers.refused }
-    ensures capacity { readings.new.answers.kept.1 ≡ readings.old.answers.kept.1 }
-    ensures calls { (states_of state helpers.new ≡ after_matches (states_of state helpers.old) matcher.now.patterns
-        (automaton_matches (codes_of readings.old) all_yes matcher.now.automaton matcher.now.patterns position.now
-        friend) position.now friend)
-        ⊎ ((is_err result ≡ true) × (states_of state helpers.new ≡ states_of state helpers.old)) }
-{
-    let found = matcher.find(alloc, position, friend, readings, helpers)?;
-    Ok(match choose(matcher.patterns(), found.as_slice()) {
-        Some(z) => Some(z.at),
-        None => None,
-    })
-}
 
 impl Engine {
     /// The point of the chosen match for `friend`, or `None` if no pattern matches. Takes memory: if there is none, the
@@ -77,15 +40,11 @@ impl Engine {
         ensures read { ReadsMany self.old self.new }
         ensures links { LinksNothing self.old self.new }
     {
-        let position = self.position();
-        point_by(
-            self.alloc,
-            matcher,
-            &position,
-            friend,
-            &mut self.readings,
-            helpers,
-        )
+        let found = self.find_matches(matcher, helpers, friend)?;
+        Ok(match choose(matcher.patterns(), found.as_slice()) {
+            Some(z) => Some(z.at),
+            None => None,
+        })
     }
 
     /// Prints the move for `friend` that the patterns choose, and plays nothing.

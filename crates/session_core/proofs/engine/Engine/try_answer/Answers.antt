@@ -1,5 +1,5 @@
 -- What a line says is answered as it says.
-use Rattle.std.proofs.Common.{IfOk, IfErr, sym, subst}
+use Rattle.std.proofs.Common.{sym, ap, subst, ◌∙◌, ◌++◌, append-nil}
 use Rattle.gtp_cmd.specs.declared.commands.Parsed.{Parsed}
 use Rattle.gtp_cmd.specs.declared.commands.Parsed.TheVariants.{Refused}
 use Rattle.helpers.specs.Slots.{states_of}
@@ -7,9 +7,10 @@ use Rattle.machine_rules.specs.Step.{Input}
 use Rattle.session_core.specs.LineAnswers.{AnswersParsed}
 use Rattle.session_core.specs.MatcherView.{matcher_of}
 use Rattle.session_core.specs.Kept.{kept_with}
-use Rattle.session_core.specs.SlowLines.{IsLeft}
+use Rattle.session_core.specs.Replies.{reply_bytes}
 use Rattle.session_core.specs.declared.reply.Reply.{Reply}
-use Rattle.session_core.proofs.LineAnswers.{answers-nothing, answers-refused}
+use Rattle.session_core.proofs.LineAnswers.{answers-nothing, answers-refused, answers-command, left-command}
+use Rattle.session_core.proofs.LoadAnswers.{missed-none}
 use Rattle.session_core.proofs.engine.Engine.try_answer.Goals as goal
 
 -- nothing is answered to nothing
@@ -18,7 +19,8 @@ returns-in-Nothing-clause-answers g c = λ missed file.
     let kept = kept_with (states_of (λ z. (goal.Helper-dyn g z).state z.1) c.args.helpers.now) missed c.args.self.now in
     let matcher = matcher_of c.args.matcher.now in
     let input : Input = record { line = c.args.line.now; file = file } in
-    subst (λ (p : Parsed). AnswersParsed matcher kept input p _ kept) (sym c.in-Nothing.is) (answers-nothing matcher kept input)
+    subst (λ (p : Parsed). AnswersParsed matcher kept input p _ kept) (sym c.in-Nothing.is)
+    (answers-nothing matcher kept input)
 
 -- a line that is refused as it is read is answered so
 pub returns-in-Refused-clause-answers : goal.returns-in-Refused-clause-answers
@@ -31,23 +33,20 @@ returns-in-Refused-clause-answers g c = λ missed file.
     (subst (λ (r : Reply). AnswersParsed matcher kept input (Refused c.in-Refused.id c.in-Refused.text) r kept)
     (sym c.refused.ensures) (answers-refused matcher kept input c.in-Refused.id c.in-Refused.text))
 
--- a command is answered as it is
-pub returns-in-Command-clause-answers : goal.returns-in-Command-clause-answers
-returns-in-Command-clause-answers g c = λ missed file.
-    let old = kept_with (states_of (λ z. (goal.Helper-dyn g z).state z.1) c.args.helpers.now) missed c.args.self.now in
-    let new = kept_with (states_of (λ z. (goal.Helper-dyn g z).state z.1) c.try_command.new.helpers) missed
-    c.try_command.new.self in
-    let matcher = matcher_of c.args.matcher.now in
-    let input : Input = record { line = c.args.line.now; file = file } in
-    subst (λ (p : Parsed). IfOk c.try_command.result (λ answer. AnswersParsed matcher old input p answer new))
-    (sym c.in-Command.is) (c.try_command.ensures.answers missed file)
+-- the reply to a command answers the line that says it
+pub returns-in-Ok-clause-answers : goal.returns-in-Ok-clause-answers
+returns-in-Ok-clause-answers g c = λ missed file.
+    answers-command _ _ _ c.args.said c.in-Command.id c.in-Command.command c.reply.result _ c.in-Command.is
+    (c.reply.ensures.reply _ _ (c.in-Ok.ensures.answer file)) c.reply.ensures.bytes c.in-Ok.ensures.readings
+    c.in-Ok.ensures.read c.in-Ok.ensures.links
+    (sym (ap (λ l. missed ++ l) (missed-none c.args.line.now c.in-Command.id c.in-Command.command
+    (reply_bytes c.reply.result) c.in-Ok.ensures.loads) ∙ append-nil missed))
 
--- or it is left
-pub returns-in-Command-clause-left : goal.returns-in-Command-clause-left
-returns-in-Command-clause-left g c = λ missed.
-    let old = kept_with (states_of (λ z. (goal.Helper-dyn g z).state z.1) c.args.helpers.now) missed c.args.self.now in
-    let new = kept_with (states_of (λ z. (goal.Helper-dyn g z).state z.1) c.try_command.new.helpers) missed
-    c.try_command.new.self in
-    subst (λ (p : Parsed). IfErr c.try_command.result (λ slow. IsLeft old c.args.line.now p slow new))
-    (sym c.in-Command.is)
-    (c.try_command.ensures.left missed)
+-- a command that may take long leaves its line
+pub returns-in-Err-clause-left : goal.returns-in-Err-clause-left
+returns-in-Err-clause-left g c = λ missed.
+    left-command _ _ c.args.line.now c.args.said c.in-Command.id c.in-Command.command c.in-Err.work c.in-Command.is
+    c.in-Err.ensures.slow
+    (λ i. kept_with (states_of (λ z. (goal.Helper-dyn g z).state z.1) (c.in-Err.ensures.helpers i)) missed
+    (c.in-Err.ensures.same i))
+    c.requires.within c.requires.spans

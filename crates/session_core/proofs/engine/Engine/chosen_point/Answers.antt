@@ -1,8 +1,9 @@
 -- The match that is chosen is among those that were found.
-use Rattle.std.proofs.Common.{◌<◌, ◌*◌, IfSome, refl, sym, subst, ◌∙◌}
+use Rattle.std.proofs.Common.{◌<◌, ◌*◌, IfSome, is_err, inl, inr, refl, sym, ap, subst, ◌∙◌}
+use Rattle.std.proofs.lemmas.Result.{err_from_is_err_and}
 use Rattle.session_core.proofs.ChosenMoves.{choice-there, among-same}
-use Rattle.session_core.proofs.engine.choice_commands.point_by.Goals as goal
-use Rattle.session_core.proofs.engine.choice_commands.point_by.Goals.{in-Some, in-None}
+use Rattle.session_core.proofs.engine.Engine.chosen_point.Goals as goal
+use Rattle.session_core.proofs.engine.Engine.chosen_point.Goals.{in-Some, in-None}
 
 -- each match bears the number of a pattern
 pub choose-requires : goal.choose-requires
@@ -13,7 +14,7 @@ choose-requires g c =
 -- the point of the chosen one is one of the board
 pub returns-clause-board : goal.returns-clause-board
 returns-clause-board g c =
-    let s = c.args.position.now.size in
+    let s = c.args.self.now.base.size in
     let among = among-same _ _ _ _ _ _ c.patterns.ensures refl c.as_slice.ensures.value c.in_ok-found.ensures.among in
     elim c.match-choose.branch as (λ _. IfSome c.match-choose.result (λ p. p < s * s)) [
       | in-Some w ↦
@@ -22,3 +23,15 @@ returns-clause-board g c =
           (sym c.choose.ensures.choice ∙ w.in-Some.is))).1
       | in-None w ↦ subst (λ at. IfSome at (λ p. p < s * s)) (sym w.result-is) tt
     ]
+
+-- the helpers were asked as the rule says
+pub returns-clause-asked : goal.returns-clause-asked
+returns-clause-asked g c = inl c.in_ok-found.ensures.asked
+
+-- without memory for what was found none was asked
+pub returns-in_err-found-clause-asked : goal.returns-in_err-found-clause-asked
+returns-in_err-found-clause-asked g c =
+    inr (
+      ap is_err (err_from_is_err_and c.from_residual.result c.from_residual.ensures.1).1,
+      c.in_err-found.ensures.unasked,
+    )
