@@ -1,13 +1,13 @@
 -- The ends of all tries of a pattern: those behind the move, those at it, and the rest at the diagram.
-use Rattle.std.proofs.Common.{inl, inr, ◌≡◌, ℕ, zero, suc, ◌+◌, ◌-◌, ◌*◌, ◌<◌, ◌≤◌, Bool, true, false, ◌&&◌, cond, eqb}
+use Rattle.std.proofs.Common.{◌≡◌, ℕ, zero, suc, ◌+◌, ◌-◌, ◌*◌, ◌<◌, ◌≤◌, Bool, true, false, ◌&&◌, eqb}
 use Rattle.std.proofs.Common.{List, []}
-use Rattle.std.proofs.Common.{◌∷◌, length, map, count_by, Some, None, Option, slice_get, get_or, refl, sym, ap, ◌∙◌}
+use Rattle.std.proofs.Common.{◌∷◌, length, map, count_by, Some, Option, slice_get, get_or, refl, sym, ap, ◌∙◌}
 use Rattle.std.proofs.Common.{subst, arith, Contains, ◌++◌, take, min, ◌^◌, Result, Ok, Err, IfOk, OnOk}
 use Rattle.std.specs.List.{range_with_len}
-use Rattle.std.proofs.lemmas.Bool.{cases_Bool, eqb-true}
-use Rattle.std.proofs.lemmas.List.{take_more}
-use Rattle.std.proofs.lemmas.List.FromFn.{length-range_with_len}
-use Rattle.std.proofs.lemmas.Option.{slice_get_within, slice_get-get_or, none-some, same_Some}
+use Rattle.std.proofs.lemmas.Bool.{ne_eqb, eqb-true}
+use Rattle.std.proofs.lemmas.List.{take_more, length_push}
+use Rattle.std.proofs.lemmas.List.FromFn.{length-range_with_len, length-map-range_with_len}
+use Rattle.std.proofs.lemmas.Option.{slice_get_within, slice_get-get_or}
 use Rattle.pattern_coverage.specs.declared.counts.PartCounts.{PartCounts}
 use Rattle.pattern_coverage.specs.Ends.{AreEnds, AreAllEnds}
 use Rattle.go_rules.specs.declared.Colour.{Colour}
@@ -26,13 +26,14 @@ use Rattle.match_reasons.specs.declared.reason.Reason.{Reason}
 use Rattle.match_reasons.specs.Reasons.{first_reason}
 use Rattle.match_engine.specs.AutomatonMatches.{IsFoundThere}
 use Rattle.pattern_coverage.specs.declared.ends.End.{End}
-use Rattle.pattern_coverage.specs.Bare.{IsBare, AreBare}
+use Rattle.pattern_coverage.specs.Bare.{AreBare}
 use Rattle.pattern_coverage.specs.Ends.{part_of}
 use Rattle.pattern_coverage.specs.Ends.{tries_among, tries_of, part_at, ends_at, part_of_match, end_at, AreLaterEnds}
 use Rattle.pattern_coverage.proofs.ListCounts.{sum_fits, count-same, count-map, length-joined, seven_counts}
 use Rattle.pattern_coverage.proofs.MatchCounts.{counted}
+use Rattle.pattern_coverage.proofs.PairedLists.{paired-more}
 use Rattle.pattern_coverage.proofs.BarePatterns.{bare_match}
-use Rattle.pattern_coverage.proofs.Parts.{part-low, part-diagram, part-move, part-late}
+use Rattle.pattern_coverage.proofs.Parts.{part-low, part-diagram, part-move}
 
 -- what is left of a number when six others are taken from it, and the six together are the number
 pub rest_is : (all diagram s1 s2 s3 s4 others c1 c2 c3 c4 c5 c6 : ℕ) → all < 2 ^ 64
@@ -51,12 +52,8 @@ rest_is all diagram s1 s2 s3 s4 others c1 c2 c3 c4 c5 c6 fits e1 e2 e3 e4 e5 lef
 pub try_count : (p : Pattern) (s : ℕ) → length (tries_of p s) ≡ count_of p.mark * (s * s)
 try_count p s =
     length-joined (λ t. map (λ m. (t, m)) (range_with_len 0 (s * s))) (s * s) (range_with_len 0 (count_of p.mark))
-    (λ t. length-mapped (λ m. (t, m)) (range_with_len 0 (s * s)) ∙ length-range_with_len 0 (s * s))
+    (λ t. length-map-range_with_len (λ m. (t, m)) 0 (s * s))
     ∙ ap (λ n. n * (s * s)) (length-range_with_len 0 (count_of p.mark))
-  where
-    length-mapped : {X Y : Type 0} (f : X → Y) (xs : List X) → length (map f xs) ≡ length xs
-    length-mapped f [] = refl
-    length-mapped f (x ∷ xs) = ap suc (length-mapped f xs)
 
 module _ (d : Depths) (advice : Advice) (p : Pattern) (board : BoardState) (friend : Colour) where
   -- each try ends at one of the seven ends
@@ -70,29 +67,25 @@ module _ (d : Depths) (advice : Advice) (p : Pattern) (board : BoardState) (frie
       (λ try. part-low d advice p board friend try.0 try.1) (tries_of p board.size)
       ∙ try_count p board.size
 
-  -- six counts, and the rest of the tries as the first, are all ends
-  pub seven_ends : (diagram move stone enemy constraint helper matched : ℕ)
-      → move ≡ ends_at d advice p board friend 1 → stone ≡ ends_at d advice p board friend 2
-      → enemy ≡ ends_at d advice p board friend 3 → constraint ≡ ends_at d advice p board friend 4
-      → helper ≡ ends_at d advice p board friend 5 → matched ≡ ends_at d advice p board friend 6
-      → diagram + (move + (stone + (enemy + (constraint + (helper + matched)))))
-      ≡ count_of p.mark * (board.size * board.size)
-      → (part : ℕ) → part < 7
-      → get_or (diagram ∷ move ∷ stone ∷ enemy ∷ constraint ∷ helper ∷ matched ∷ []) part 0
-      ≡ ends_at d advice p board friend part
-  seven_ends diagram move stone enemy constraint helper matched e1 e2 e3 e4 e5 e6 all zero low =
-      omega (arith, e1, e2, e3, e4, e5, e6, all, all_tries)
-  seven_ends diagram move stone enemy constraint helper matched e1 e2 e3 e4 e5 e6 all (suc zero) low = e1
-  seven_ends diagram move stone enemy constraint helper matched e1 e2 e3 e4 e5 e6 all (suc (suc zero)) low = e2
-  seven_ends diagram move stone enemy constraint helper matched e1 e2 e3 e4 e5 e6 all (suc (suc (suc zero))) low = e3
-  seven_ends diagram move stone enemy constraint helper matched e1 e2 e3 e4 e5 e6 all (suc (suc (suc (suc zero))))
-      low = e4
-  seven_ends diagram move stone enemy constraint helper matched e1 e2 e3 e4 e5 e6 all
-      (suc (suc (suc (suc (suc zero))))) low = e5
-  seven_ends diagram move stone enemy constraint helper matched e1 e2 e3 e4 e5 e6 all
-      (suc (suc (suc (suc (suc (suc zero)))))) low = e6
-  seven_ends diagram move stone enemy constraint helper matched e1 e2 e3 e4 e5 e6 all
-      (suc (suc (suc (suc (suc (suc (suc part))))))) low = absurd (omega arith)
+  -- Six counts, and the rest of the tries as the first.
+  module _ (diagram move stone enemy constraint helper matched : ℕ)
+      (e1 : move ≡ ends_at d advice p board friend 1) (e2 : stone ≡ ends_at d advice p board friend 2)
+      (e3 : enemy ≡ ends_at d advice p board friend 3) (e4 : constraint ≡ ends_at d advice p board friend 4)
+      (e5 : helper ≡ ends_at d advice p board friend 5) (e6 : matched ≡ ends_at d advice p board friend 6)
+      (all : diagram + (move + (stone + (enemy + (constraint + (helper + matched)))))
+      ≡ count_of p.mark * (board.size * board.size)) where
+    -- these are all ends
+    pub seven_ends : (part : ℕ) → part < 7
+        → get_or (diagram ∷ move ∷ stone ∷ enemy ∷ constraint ∷ helper ∷ matched ∷ []) part 0
+        ≡ ends_at d advice p board friend part
+    seven_ends zero low = omega (arith, e1, e2, e3, e4, e5, e6, all, all_tries)
+    seven_ends (suc zero) low = e1
+    seven_ends (suc (suc zero)) low = e2
+    seven_ends (suc (suc (suc zero))) low = e3
+    seven_ends (suc (suc (suc (suc zero)))) low = e4
+    seven_ends (suc (suc (suc (suc (suc zero))))) low = e5
+    seven_ends (suc (suc (suc (suc (suc (suc zero)))))) low = e6
+    seven_ends (suc (suc (suc (suc (suc (suc (suc part))))))) low = absurd (omega arith)
 
   -- a try that ends behind the move is one whose diagram fits with a legal move
   late_fits : (part t m : ℕ) → 2 ≤ part
@@ -101,10 +94,7 @@ module _ (d : Depths) (advice : Advice) (p : Pattern) (board : BoardState) (frie
   late_fits part t m high = by (fits p board friend t m) (is_legal board friend m) refl refl
     where
       before : (n : ℕ) → n < 2 → eqb n part ≡ false
-      before n low = elim (cases_Bool (eqb n part)) [
-        | inl same ↦ absurd (let is : n ≡ part = eqb-true n part same in omega (arith, high, low, is))
-        | inr other ↦ other
-      ]
+      before n low = ne_eqb n part (λ is. omega (arith, high, low, is))
 
       by : (f l : Bool) → fits p board friend t m ≡ f → is_legal board friend m ≡ l
           → ((fits p board friend t m && is_legal board friend m) && eqb (part_at d advice p board friend t m) part)
@@ -191,38 +181,14 @@ end-is d advice patterns board friend z p part reason there is first =
     λ i. record { pattern = z.pattern; part = same i }
 
 module _ (d : Depths) (advice : Advice) (board : BoardState) (friend : Colour) where
-  -- the ends of the patterns behind the first
-  ends-rest : (p : Pattern) (c : PartCounts) (patterns : List Pattern) (counts : List PartCounts)
-      → AreAllEnds d advice (p ∷ patterns) board friend (c ∷ counts) → AreAllEnds d advice patterns board friend counts
-  ends-rest p c patterns counts are = record {
-    same_length = omega (arith, are.same_length);
-    each = λ n q there. are.each (suc n) q there;
-  }
-
   -- one pattern more
   ends-more : (p : Pattern) (c : PartCounts) (patterns : List Pattern) (counts : List PartCounts)
       → AreAllEnds d advice patterns board friend counts → AreEnds d advice p board friend c
       → AreAllEnds d advice (patterns ++ p ∷ []) board friend (counts ++ c ∷ [])
-  ends-more p c [] [] are is = record { same_length = refl; each = each }
-    where
-      each : (n : ℕ) (q : Pattern) → slice_get (p ∷ []) n ≡ Some q
-          → (e : PartCounts) × (slice_get (c ∷ []) n ≡ Some e) × AreEnds d advice q board friend e
-      each zero q there = (c, refl, subst (λ o. AreEnds d advice o board friend c) (same_Some p q there) is)
-      each (suc n) q there = absurd (none-some q there)
-  ends-more p c [] (e ∷ counts) are is =
-      absurd (let long : length (e ∷ counts) ≡ 0 = are.same_length in omega (arith, long))
-  ends-more p c (x ∷ patterns) [] are is =
-      absurd (let long : 0 ≡ length (x ∷ patterns) = are.same_length in omega (arith, long))
-  ends-more p c (x ∷ patterns) (e ∷ counts) are is =
-      let rest = ends-more p c patterns counts (ends-rest x e patterns counts are) is in
-      record { same_length = ap suc rest.same_length; each = each rest.each }
-    where
-      each : ((n : ℕ) (q : Pattern) → slice_get (patterns ++ p ∷ []) n ≡ Some q
-          → (o : PartCounts) × (slice_get (counts ++ c ∷ []) n ≡ Some o) × AreEnds d advice q board friend o)
-          → (n : ℕ) (q : Pattern) → slice_get (x ∷ (patterns ++ p ∷ [])) n ≡ Some q
-          → (o : PartCounts) × (slice_get (e ∷ (counts ++ c ∷ [])) n ≡ Some o) × AreEnds d advice q board friend o
-      each next zero q there = are.each zero q there
-      each next (suc n) q there = next n q there
+  ends-more p c patterns counts are is = record {
+    same_length = omega (arith, are.same_length, length_push patterns p, length_push counts c);
+    each = paired-more (λ q e. AreEnds d advice q board friend e) p c is patterns counts are.same_length are.each;
+  }
 
   -- the next pattern of a list
   pub AreAllEnds-next : (patterns : List Pattern) (i : ℕ) (p : Pattern) (before after : List PartCounts)

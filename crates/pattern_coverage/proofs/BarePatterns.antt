@@ -1,9 +1,10 @@
 -- A bare pattern fits where its pattern does, and matches there if the move is legal.
-use Rattle.std.proofs.Common.{◌≡◌, ℕ, ◌+◌, ◌*◌, Bool, true, false, ◌&&◌, ◌||◌, not, eqb, List, map, ℤ, pos, ◌-ℤ◌, refl}
+use Rattle.std.proofs.Common.{◌≡◌, ℕ, ◌+◌, ◌*◌, true, ◌&&◌, ◌||◌, not, eqb, List, map, ℤ, pos, ◌-ℤ◌, refl}
 use Rattle.std.proofs.Common.{sym, ap}
 use Rattle.std.proofs.Common.{◌∙◌}
 use Rattle.std.specs.List.{list_all, list_any, flat_map}
 use Rattle.std.specs.Prelude.{slice_index_or}
+use Rattle.std.proofs.Math.Bool.{and-true}
 use Rattle.go_rules.specs.declared.Colour.{Colour}
 use Rattle.go_rules.specs.Position.{BoardState, other}
 use Rattle.go_rules.specs.Play.{is_legal}
@@ -20,7 +21,7 @@ use Rattle.helpers.specs.Fields.{helper_names}
 use Rattle.cons_eval.specs.Readings.{Codes}
 use Rattle.cons_eval.specs.Functions.{is_safe_move}
 use Rattle.match_rules.specs.Fits.{strip_cells, drawn_fits, fits}
-use Rattle.match_rules.specs.Conditions.{Advice, is_safe, is_enemy_safe, is_so_valued, is_constraint_true, is_allowed}
+use Rattle.match_rules.specs.Conditions.{Advice, is_enemy_safe, is_so_valued, is_constraint_true, is_allowed}
 use Rattle.match_rules.specs.Conditions.{meanings_at, do_helpers_agree, is_agreed}
 use Rattle.match_rules.specs.Match.{is_match}
 use Rattle.pattern_coverage.specs.Bare.{IsBare}
@@ -85,8 +86,4 @@ module _ (p b : Pattern) (is : IsBare p b) where
       bare_match =
           ap (λ f. f && (is_legal board friend m && is_agreed code advice b board friend t m)) same_fits
           ∙ ap (λ a. fits p board friend t m && (is_legal board friend m && a)) agreed
-          ∙ ap (λ l. fits p board friend t m && l) (and_true (is_legal board friend m))
-        where
-          and_true : (l : Bool) → (l && true) ≡ l
-          and_true true = refl
-          and_true false = refl
+          ∙ ap (λ l. fits p board friend t m && l) (and-true (is_legal board friend m))

@@ -1,5 +1,5 @@
 -- The tries that end at the move: those at empty points where it is not legal, if the diagram fits.
-use Rattle.std.proofs.Common.{inl, inr, ◌≡◌, ℕ, ◌+◌, ◌*◌, ◌<◌, ◌≤◌, Bool, true, false, not, ◌&&◌, cond, eqb, List, map}
+use Rattle.std.proofs.Common.{◌≡◌, ℕ, ◌+◌, ◌*◌, ◌<◌, ◌≤◌, Bool, true, false, not, ◌&&◌, eqb, List, map}
 use Rattle.std.proofs.Common.{filter}
 use Rattle.std.proofs.Common.{[], ◌∷◌, ◌++◌, length, get_or, count_by, Contains, Some, refl, sym, ap, ◌∙◌, subst, arith}
 use Rattle.std.proofs.Common.{pos, ◌-ℤ◌}
@@ -9,7 +9,8 @@ use Rattle.std.proofs.lemmas.List.{append-nil}
 use Rattle.std.proofs.lemmas.List.Elements.{Contains-get_or}
 use Rattle.std.proofs.lemmas.List.FromFn.{length-range_with_len}
 use Rattle.std.proofs.lemmas.List.Sums.{length-filter, count_by-le-length}
-use Rattle.std.proofs.lemmas.Bool.{cases_Bool, eq-eqb, eqb-true, false≢true}
+use Rattle.std.proofs.lemmas.Bool.{eq-eqb, ne_eqb, false≢true}
+use Rattle.std.proofs.Math.Bool.{and-false}
 use Rattle.std.proofs.lemmas.Int.{ints}
 use Rattle.std.proofs.lemmas.Nat.{mul-add-lt}
 use Rattle.std.proofs.lemmas.Option.{same_Some}
@@ -19,7 +20,7 @@ use Rattle.go_rules.specs.declared.Colour.{Colour}
 use Rattle.go_rules.specs.Position.{BoardState}
 use Rattle.go_rules.specs.Play.{is_legal}
 use Rattle.go_rules.specs.Strings.{cell_at, same_cell}
-use Rattle.go_rules.specs.Transform.{Offset, transformations}
+use Rattle.go_rules.specs.Transform.{transformations}
 use Rattle.spiral.specs.Spiral.{place_at}
 use Rattle.pat_types.specs.declared.letter.Letter.{Letter}
 use Rattle.pat_types.specs.declared.letter.Letter.TheVariants.{Friend, Enemy, FriendOrEmpty, EnemyOrEmpty, Any, Star}
@@ -93,20 +94,13 @@ module _ (p : Pattern) where
     ends_at_move d advice = by (fits p board friend t m) (is_legal board friend m) refl refl
       where
         late : (n : ℕ) → 2 ≤ n → eqb n 1 ≡ false
-        late n high = elim (cases_Bool (eqb n 1)) [
-          | inl same ↦ absurd (let is : n ≡ 1 = eqb-true n 1 same in omega (arith, high, is))
-          | inr other ↦ other
-        ]
+        late n high = ne_eqb n 1 (λ is. omega (arith, high, is))
 
         by : (f l : Bool) → fits p board friend t m ≡ f → is_legal board friend m ≡ l
             → (is_blocked board friend m && fits p board friend t m) ≡ eqb (part_at d advice p board friend t m) 1
         by false l broken legal =
-            ap (λ f. is_blocked board friend m && f) broken ∙ never (is_blocked board friend m)
+            ap (λ f. is_blocked board friend m && f) broken ∙ and-false (is_blocked board friend m)
             ∙ sym (ap (λ n. eqb n 1) (part-diagram d advice p board friend t m broken))
-          where
-            never : (b : Bool) → (b && false) ≡ false
-            never true = refl
-            never false = refl
         by true false whole refused =
             ap (λ f. is_blocked board friend m && f) whole
             ∙ ap (λ e. (e && not (is_legal board friend m)) && true) (star_empty whole)
@@ -165,13 +159,14 @@ count-transform f n points =
     ∙ ap (λ tries. count_by f (tries_among n points) + count_by f tries) (append-nil (map (λ m. (n, m)) points))
     ∙ ap (λ k. count_by f (tries_among n points) + k) (count-map f (λ m. (n, m)) points)
 
--- the blocked points lie on the board, and are no more than its points
+-- the blocked points lie on the board
 pub blocked-on_board : (test : ℕ → Bool) (n : ℕ) → All (λ m. m < n) (filter test (range_with_len 0 n))
 blocked-on_board test n k d low =
     Contains-below n (get_or (filter test (range_with_len 0 n)) k d)
     (Contains-filter test (range_with_len 0 n) (get_or (filter test (range_with_len 0 n)) k d)
     (Contains-get_or (filter test (range_with_len 0 n)) k d low)).0
 
+-- they are no more than its points
 pub blocked-few : (test : ℕ → Bool) (n : ℕ) → length (filter test (range_with_len 0 n)) ≤ n
 blocked-few test n =
     let count = length-filter test (range_with_len 0 n) in

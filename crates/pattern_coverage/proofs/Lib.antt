@@ -1,3 +1,4 @@
+pub mod PairedLists
 pub mod BareLists
 pub mod ListCounts
 pub mod MatchCounts

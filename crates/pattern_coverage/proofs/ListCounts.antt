@@ -1,9 +1,8 @@
 -- Counts of the elements of a list that pass a test.
-use Rattle.std.proofs.Common.{min, ◌^◌, ◌-◌, ◌≡◌, ℕ, zero, suc, ◌+◌, ◌*◌, ◌<◌, ◌≤◌, Bool, true, false, ◌&&◌, cond, eqb}
+use Rattle.std.proofs.Common.{min, ◌^◌, ◌-◌, ◌≡◌, ℕ, zero, suc, ◌+◌, ◌*◌, ◌<◌, Bool, true, false, ◌&&◌, cond, eqb}
 use Rattle.std.proofs.Common.{List, [], ◌∷◌}
-use Rattle.std.proofs.Common.{◌++◌, length, map, filter, count_by, Contains, refl, sym, ap, ◌∙◌, arith}
-use Rattle.std.specs.List.{flat_map, sum_by, range_with_len}
-use Rattle.std.proofs.lemmas.List.FromFn.{length-range_with_len}
+use Rattle.std.proofs.Common.{◌++◌, length, length-append, map, filter, count_by, Contains, refl, sym, ap, ◌∙◌, arith}
+use Rattle.std.specs.List.{flat_map, range_with_len}
 use Rattle.std.proofs.Math.Nat.{min-eq_left}
 use Rattle.std.proofs.lemmas.List.{append-nil}
 use Rattle.std.proofs.lemmas.List.Elements.{filter-append}
@@ -79,12 +78,6 @@ module _ {X Y : Type 0} where
     where
       one_more : (k : ℕ) → n + k * n ≡ suc k * n
       one_more k = grind arith
-
-      length-append : (first second : List Y) → length (first ++ second) ≡ length first + length second
-      length-append [] second = omega arith
-      length-append (y ∷ first) second =
-          let rest : length (first ++ second) ≡ length first + length second = length-append first second in
-          omega (arith, rest)
 
 -- a range with one number more
 range-more : (a n : ℕ) → range_with_len a (suc n) ≡ range_with_len a n ++ (a + n) ∷ []

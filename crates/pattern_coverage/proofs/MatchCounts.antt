@@ -1,22 +1,18 @@
 -- How many matches of a pattern of a list pass a test: as many as its tries.
-use Rattle.std.proofs.Common.{inl, inr, ◌≡◌, ℕ, zero, suc, ◌+◌, ◌*◌, ◌<◌, Bool, true, false, ◌&&◌, cond, eqb, List, []}
+use Rattle.std.proofs.Common.{◌≡◌, ℕ, zero, suc, ◌+◌, ◌*◌, ◌<◌, Bool, false, ◌&&◌, eqb, List, []}
 use Rattle.std.proofs.Common.{◌∷◌}
-use Rattle.std.proofs.Common.{map, filter, count_by, Option, Some, None, slice_get, refl, sym, ap, ◌∙◌, subst, arith}
+use Rattle.std.proofs.Common.{map, filter, count_by, Some, slice_get, refl, sym, ap, ◌∙◌, arith}
 use Rattle.std.specs.List.{flat_map, range_with_len, enumerate_from}
-use Rattle.std.proofs.lemmas.Bool.{eq-eqb, eqb-true, cases_Bool}
+use Rattle.std.proofs.lemmas.Bool.{eq-eqb, ne_eqb}
+use Rattle.std.proofs.Math.Bool.{and-false}
 use Rattle.std.proofs.lemmas.Option.{none-some, same_Some}
 use Rattle.pat_types.specs.declared.pattern.Pattern.{Pattern}
 use Rattle.pat_types.specs.Marks.{count_of}
 use Rattle.match_rules.specs.declared.found.Match.{Match}
 use Rattle.match_rules.specs.Match.{matches_under, matches_of_one, matches_by}
-use Rattle.pattern_coverage.specs.Ends.{tries_among, tries_of}
+use Rattle.pattern_coverage.specs.Ends.{tries_of}
 use Rattle.pattern_coverage.proofs.ListCounts.{count-append, count-same, count-none, count-filter, count-map}
 use Rattle.pattern_coverage.proofs.ListCounts.{count-joined}
-
--- different numbers are told apart
-apart : (k n : ℕ) → (k ≡ n → ⊥) → eqb k n ≡ false
-apart k n differ =
-    elim (cases_Bool (eqb k n)) [ inl same ↦ absurd (differ (eqb-true k n same)) | inr other ↦ other ]
 
 module _ (q : ℕ → ℕ → Bool) (n s : ℕ) where
   -- the match is one of the pattern with the number n, and passes the test
@@ -52,13 +48,9 @@ module _ (q : ℕ → ℕ → Bool) (n s : ℕ) where
         (λ t. matches_under (test t) number t s) (range_with_len 0 (count_of p.mark))
         (λ t. under t
         ∙ count-none (λ m. test t m && (eqb number n && q t m)) (range_with_len 0 (s * s))
-        (λ m. ap (λ b. test t m && (b && q t m)) (apart number n differ) ∙ never (test t m))
+        (λ m. ap (λ b. test t m && (b && q t m)) (ne_eqb number n differ) ∙ and-false (test t m))
         ∙ sym (count-none (λ (z : Match). false) (matches_under (test t) number t s) (λ z. refl)))
         ∙ count-none (λ (z : Match). false) (matches_of_one test number p s) (λ z. refl)
-      where
-        never : (b : Bool) → (b && false) ≡ false
-        never true = refl
-        never false = refl
 
   module _ (test : ℕ → Pattern → ℕ → ℕ → Bool) where
     -- the matches of the patterns that are numbered from i on

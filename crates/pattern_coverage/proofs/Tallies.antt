@@ -4,7 +4,7 @@ use Rattle.std.proofs.Common.{◌∷◌, ◌++◌, length, get_or, count_by, min
 use Rattle.std.proofs.Common.{◌∙◌, subst, arith}
 use Rattle.std.proofs.Common.{set as set_at, length-set}
 use Rattle.std.proofs.Math.Nat.{min-eq_left, min-eq_right}
-use Rattle.std.proofs.lemmas.Bool.{cases_eq, cases_lt, cases_Bool, eq-eqb, eqb-true}
+use Rattle.std.proofs.lemmas.Bool.{cases_eq, cases_lt, eq-eqb, ne_eqb}
 use Rattle.std.proofs.lemmas.List.{get_or-set_other}
 use Rattle.std.proofs.lemmas.Grind.{get_or-set_at}
 use Rattle.std.proofs.lemmas.Option.{slice_get_within, slice_get-get_or, get_or_from_slice_get}
@@ -12,11 +12,6 @@ use Rattle.pattern_coverage.specs.declared.counts.PartCounts.{PartCounts}
 use Rattle.pattern_coverage.specs.declared.ends.End.{End}
 use Rattle.pattern_coverage.specs.Tally.{IsTallyOf}
 use Rattle.pattern_coverage.proofs.ListCounts.{count-append, count-cons}
-
--- numbers that differ are told apart
-eqb-no : (k n : ℕ) → (k ≡ n → ⊥) → eqb k n ≡ false
-eqb-no k n differ =
-    elim (cases_Bool (eqb k n)) [ inl same ↦ absurd (differ (eqb-true k n same)) | inr other ↦ other ]
 
 -- a count that goes as far as a u64, and one more
 one_more : (n before after : ℕ) → before ≡ min n (2 ^ 64 - 1) → after ≡ min (before + 1) (2 ^ 64 - 1)
@@ -64,7 +59,7 @@ module _ (ends : List End) (end : End) where
         are place part c there low
         ∙ sym (ap (λ n. min n (2 ^ 64 - 1)) (counted-same place part
         (ap (λ b. b && eqb end.part part)
-        (eqb-no end.pattern place (λ same. omega (arith, same, past, within))))))
+        (ne_eqb end.pattern place (λ same. omega (arith, same, past, within))))))
 
     module _ (was one : PartCounts) (there : slice_get counts end.pattern ≡ Some was)
         (counted : (part : ℕ) → part < 7 → slice_index one.counts part
@@ -88,10 +83,10 @@ module _ (ends : List End) (end : End) where
           | inr other ↦
               let test : (eqb end.pattern end.pattern && eqb end.part part) ≡ false =
               ap (λ b. b && eqb end.part part) (eq-eqb end.pattern end.pattern refl)
-              ∙ eqb-no end.part part (λ same. other (sym same)) in
+              ∙ ne_eqb end.part part (λ same. other (sym same)) in
               counted part low
               ∙ ap (λ b. cond b (min (slice_index was.counts part + 1) (2 ^ 64 - 1)) (slice_index was.counts part))
-              (eqb-no part end.part other)
+              (ne_eqb part end.part other)
               ∙ are end.pattern part was there low
               ∙ sym (ap (λ n. min n (2 ^ 64 - 1)) (counted-same end.pattern part test))
         ]
@@ -117,5 +112,5 @@ module _ (ends : List End) (end : End) where
                   sym (get_or-set_other counts end.pattern place one c other) ∙ read in
                   are place part c (slice_get-get_or counts place c on ∙ ap Some old) low
                   ∙ sym (ap (λ n. min n (2 ^ 64 - 1)) (counted-same place part
-                  (ap (λ b. b && eqb end.part part) (eqb-no end.pattern place (λ same. other (sym same))))))
+                  (ap (λ b. b && eqb end.part part) (ne_eqb end.pattern place (λ same. other (sym same))))))
             ]

@@ -1,4 +1,4 @@
-use Rattle.std.proofs.Common.{◌≡◌, ◌<◌, ℕ, sym, ap, ◌∙◌, arith, count_by}
+use Rattle.std.proofs.Common.{◌<◌, ℕ, ap, ◌∙◌, arith, count_by}
 use Rattle.go_rules.specs.Transform.{transformations}
 use Rattle.match_rules.specs.Fits.{fits}
 use Rattle.match_engine.proofs.ByAutomaton.{count_within}

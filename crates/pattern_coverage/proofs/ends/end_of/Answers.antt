@@ -1,7 +1,6 @@
 use Rattle.std.proofs.Common.{length, refl}
 use Rattle.std.proofs.lemmas.Option.{slice_get_read}
 use Rattle.helpers.specs.HelperStates.{says_yes}
-use Rattle.helpers.specs.Agreement.{asks_of}
 use Rattle.helpers.specs.Slots.{states_of}
 use Rattle.pattern_coverage.proofs.Advice.{says-kept}
 use Rattle.pattern_coverage.proofs.AllEnds.{end-is}

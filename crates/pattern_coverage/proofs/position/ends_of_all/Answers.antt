@@ -1,7 +1,6 @@
-use Rattle.std.proofs.Common.{◌≡◌, ◌<◌, List, length, take, subst, rules, arith, refl, ◌≤◌}
+use Rattle.std.proofs.Common.{◌<◌, length, subst, rules, arith, refl, ◌≤◌}
 use Rattle.std.proofs.lemmas.Option.{slice_get_read, slice_get-get_or}
 use Rattle.std.proofs.lemmas.List.{take_all}
-use Rattle.pat_types.specs.declared.pattern.Pattern.{Pattern}
 use Rattle.pattern_coverage.specs.Ends.{AreAllEnds}
 use Rattle.pattern_coverage.proofs.AllEnds.{AreAllEnds-next}
 use Rattle.pattern_coverage.proofs.position.ends_of_all.Goals as goal

@@ -1,8 +1,6 @@
-use Rattle.std.proofs.Common.{◌≡◌, ℕ, ◌+◌, ◌*◌, ◌<◌, ◌≤◌, ◌^◌, ap, sym, ◌∙◌, subst, arith, rules, length, count_by}
-use Rattle.std.proofs.Common.{List}
+use Rattle.std.proofs.Common.{◌≡◌, ℕ, ◌*◌, ◌<◌, ◌^◌, ap, sym, ◌∙◌, subst, arith, rules, length, count_by}
 use Rattle.std.specs.List.{All}
 use Rattle.std.proofs.Math.Nat.{min-eq_left}
-use Rattle.go_rules.specs.Board.{largest_points}
 use Rattle.match_rules.specs.Fits.{fits}
 use Rattle.pat_types.specs.Marks.{count_of}
 use Rattle.pattern_coverage.specs.Ends.{ends_at, is_blocked, tries_among}

@@ -1,4 +1,4 @@
-use Rattle.std.proofs.Common.{◌≡◌, ℕ, ◌-◌, ◌<◌, ◌^◌, sym, ap, ◌∙◌, subst, length, map, min, Some, slice_get, Contains}
+use Rattle.std.proofs.Common.{◌≡◌, ◌-◌, ◌<◌, ◌^◌, sym, ap, ◌∙◌, subst, length, map, min, Some, slice_get, Contains}
 use Rattle.helpers.specs.HelperStates.{says_yes}
 use Rattle.helpers.specs.Slots.{states_of}
 use Rattle.dfa_core.specs.States.{IsAutomatonOf}

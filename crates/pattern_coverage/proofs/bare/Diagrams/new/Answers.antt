@@ -1,4 +1,4 @@
-use Rattle.std.proofs.Common.{ℕ, ◌<◌, sym, ap, ◌∙◌, subst, Contains, length, List}
+use Rattle.std.proofs.Common.{ℕ, ◌<◌, sym, subst, Contains, length, List}
 use Rattle.dfa_core.specs.Automata.{Row, accepted}
 use Rattle.dfa_core.specs.States.{IsAutomatonOf}
 use Rattle.dfa_core.specs.Words.{Word}
