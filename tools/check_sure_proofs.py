@@ -4,13 +4,16 @@ usage: python3 tools/check_sure_proofs.py GOPAT_SURE REGRESSION [CHANGES [SEED [
 
 REGRESSION is the folder regression/ of GNU Go's source. In the stated and in the wider tree, at these depths (15:4 if
 none are named), gopat_sure is asked for the proofs of all sure captures of the suites' `attack` and `defend` questions;
-`check_proof` and the second checker should accept each. Then so many proofs (1,000 if no number stands) are changed at
+`check_proof` and the second checker should accept each. A proof of more than 65,000 bytes is given to `check_proof` in
+a file, since a line of the protocol has at most 65,536. Then so many proofs (1,000 if no number stands) are changed at
 random, each in a word, the code, the depths or a stone, and both are asked about each. Prints what differs, counts and
 the longest proof. The exit status is 1 if anything differs, else 0.
 """
 
+import pathlib
 import random
 import sys
+import tempfile
 import time
 from collections import Counter
 from typing import NamedTuple
@@ -25,6 +28,8 @@ from sure_proofs import Reading, Refused
 
 # A proof is changed only if it has at most so many words, since the second checker is slow.
 MOST_WORDS = 400
+# A proof with more bytes is given to `check_proof` in a file.
+MOST_BYTES = 65_000
 
 
 class GopatSure(check_proofs.Gopat):
@@ -88,13 +93,24 @@ def printed(gopat: GopatSure, asked: list[Question], depths: Depths) -> Told:
     return Told(proofs, sure, lacking)
 
 
-def asked_again(gopat: GopatSure, change: Change) -> bool:
+def given(words: list[str], folder: str) -> str:
+    """The words as `check_proof` takes them: in its line, or if they are too long for it in a file of the folder, each
+    on a line."""
+    text = " ".join(words)
+    if len(text) <= MOST_BYTES:
+        return text
+    file = pathlib.Path(folder, "proof")
+    file.write_text("".join(f"{word}\n" for word in words), encoding="ascii")
+    return f"@{file}"
+
+
+def asked_again(gopat: GopatSure, change: Change, folder: str) -> bool:
     """Whether both say the same of a proof, or of a change of one."""
     question, text = change.question, " ".join(change.words)
     position = position_of(tuple(change.set_up))
     ours = verdict(position, question.kind, question.vertex, change.depths, change.code, text)
     gopat.replies([*change.set_up, depths_line(change.depths)])
-    theirs = gopat.timed(check_line(question, change.code, text))
+    theirs = gopat.timed(check_line(question, change.code, given(change.words, folder)))
     if ours != theirs:
         print(f"{change.set_up} {change.depths} {question.kind} {question.vertex}: {ours}, {theirs}: {text[:200]}")
     COUNTS[change.sort, theirs] += 1
@@ -104,13 +120,15 @@ def asked_again(gopat: GopatSure, change: Change) -> bool:
 COUNTS: Counter[tuple[str, str]] = Counter()
 
 
-def in_tree(program: str, asked: list[Question], depths: Depths, changes: int, choose: random.Random) -> int:
+def in_tree(
+    program: str, asked: list[Question], depths: Depths, changes: int, choose: random.Random, folder: str
+) -> int:
     """How much differs in a tree."""
     tree = "wider" if depths.is_wider else "stated"
     gopat, start = GopatSure(program, tree), time.perf_counter()
     COUNTS.clear()
     told = printed(gopat, asked, depths)
-    differ = sum(not asked_again(gopat, Change("proof", one.question.set_up, *one)) for one in told.proofs)
+    differ = sum(not asked_again(gopat, Change("proof", one.question.set_up, *one), folder) for one in told.proofs)
     refused = COUNTS["proof", "false"]
     print(f"{tree} {depths.plies} {depths.wide}: {told.sure} sure captures, {len(told.proofs)} proofs,",
           f"{sum(len(one.words) for one in told.proofs)} words, the longest {check_proofs.longest(told.proofs)} bytes;",
@@ -118,7 +136,7 @@ def in_tree(program: str, asked: list[Question], depths: Depths, changes: int, c
           f"and {refused} refused", flush=True)
     short = [one for one in told.proofs if len(one.words) <= MOST_WORDS and not check_proofs.is_short(one)]
     for _ in range(changes if short else 0):
-        differ += not asked_again(gopat, check_proofs.changed(choose, choose.choice(short)))
+        differ += not asked_again(gopat, check_proofs.changed(choose, choose.choice(short)), folder)
     for sort in sorted({sort for sort, _ in COUNTS} - {"proof"}):
         told_of = [f"{count} {text}" for (one, text), count in sorted(COUNTS.items()) if one == sort]
         print(f"another {sort}: " + ", ".join(told_of))
@@ -131,10 +149,11 @@ def main(program: str, regression: str, changes: str = "1000", seed: str = "1", 
     plies, wide = map(int, depths.split(":"))
     asked, choose = list(questions(regression)), random.Random(int(seed))
     sys.setrecursionlimit(10_000)
-    return int(sum([
-        in_tree(program, asked, Depths(plies, wide, is_wider), (int(changes) + 1 - is_wider) // 2, choose)
-        for is_wider in (False, True)
-    ]) > 0)
+    with tempfile.TemporaryDirectory() as folder:
+        return int(sum([
+            in_tree(program, asked, Depths(plies, wide, is_wider), (int(changes) + 1 - is_wider) // 2, choose, folder)
+            for is_wider in (False, True)
+        ]) > 0)
 
 
 if __name__ == "__main__":

@@ -1,6 +1,6 @@
 pub mod CommandReplies
 pub mod MoveAnswers
-pub mod RecordAnswers
+pub mod FileAnswers
 pub mod StoneAnswers
 pub mod LineAnswers
 pub mod ProofAnswers

@@ -1,10 +1,13 @@
 -- The files that lines load: their names and their contents, as a loader gives them.
-use Rattle.std.specs.Prelude.{◌≡◌, ℕ, Bool, ◌==◌, List, [], length, Option, Some, None, if◌then◌else◌}
+use Rattle.std.specs.Prelude.{◌≡◌, ℕ, Bool, ◌==◌, List, [], ◌∷◌, length, Option, Some, None, if◌then◌else◌}
 use Rattle.std.specs.Str.Lossy.{utf8_valid_len}
 use Rattle.gtp_cmd.specs.Spans.{spanned}
 use Rattle.gtp_cmd.specs.Words.{cleaned}
+use Rattle.gtp_cmd.specs.declared.refusals.RefuseText.TheVariants.{SyntaxError, CannotLoadFile}
 use Rattle.gtp_cmd.specs.declared.spans.Span.{Span}
 use Rattle.gtp_io.specs.Loading.{IsLoaded}
+use Rattle.sure_lines.specs.Effects.{Effect, refused, growing}
+use Rattle.sure_lines.specs.Machine.{Machine}
 
 -- the contents of the file of each name, if they are fixed; a file whose contents are not fixed may hold one text now
 -- and another later
@@ -27,3 +30,9 @@ named_file name = if is_utf8 name then Some name else None
 abbrev pub IsFileOf : Contents → Option (List ℕ) → List ℕ → Type 0
 IsFileOf contents None file = Unit {0}
 IsFileOf contents (Some name) file = IsLoaded (contents name) [] file
+
+-- a line that loads the file of this name has this effect; it is refused if the name is not in UTF-8. The file may be
+-- one that cannot be loaded, and there may be no memory for its name and its text
+abbrev pub by_file : Machine → List ℕ → Effect → Effect
+by_file old name effect =
+    growing (if is_utf8 name then record effect { excuses = CannotLoadFile ∷ effect.excuses } else refused old SyntaxError)

@@ -15,7 +15,7 @@ use Rattle.sure_lines.specs.Effects.{Effect, refused, told, ended, growing, repl
 use Rattle.sure_lines.specs.Files.{Contents, word_at}
 use Rattle.sure_lines.specs.Heard.{heard, bytes_in, asked_words, names_own}
 use Rattle.sure_lines.specs.Names.{names_text}
-use Rattle.sure_lines.specs.ProofCommands.{proved, checked, kind_of}
+use Rattle.sure_lines.specs.ProofCommands.{proved, checked_by, kind_of}
 use Rattle.sure_lines.specs.QuestionCommands.{read}
 use Rattle.sure_lines.specs.RecordCommands.{loaded_by}
 use Rattle.sure_lines.specs.Replies.{word_of}
@@ -42,7 +42,7 @@ effect_of old line file (command.Defend p) = read old Defend p
 effect_of old line file (command.AttackProof p) = proved old Attack p file
 effect_of old line file (command.DefendProof p) = proved old Defend p file
 effect_of old line file (command.CheckProof attack p code span) =
-    checked old (kind_of attack) p code (spanned line span)
+    checked_by old (kind_of attack) p code (spanned line span) file
 effect_of old line file (command.Depths plies wide) = deepened old plies wide
 effect_of old line file (command.LoadSgf span) = loaded_by old (word_at line span) file
 effect_of old line file _ = refused old UnknownCommand

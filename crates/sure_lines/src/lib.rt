@@ -10,6 +10,7 @@
 mod answer;
 mod answer_text;
 mod board_commands;
+mod files;
 mod heard;
 mod line;
 mod machine;

@@ -81,7 +81,7 @@ impl SureMachine {
                 target,
                 code,
                 tokens,
-            } => self.check_proof(attack, target, code, line, tokens),
+            } => self.check_proof(alloc, attack, target, code, line, tokens, files),
             Command::Depths { plies, wide } => self.deepen(plies, wide),
             Command::LoadSgf(span) => self.load_record(alloc, line, span, files),
             _ => Answer::Refused(RefuseText::UnknownCommand),

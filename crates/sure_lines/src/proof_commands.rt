@@ -1,26 +1,37 @@
 //! The commands that print why a capture is sure, and that check such a proof.
 
-ghost use Rattle.std.specs.Prelude.{◌≡◌, ◌≢◌, ◌*◌, ◌<◌, ◌≤◌, ◌&&◌, List, ℕ, [], Ok, Some, IfOk};
-ghost use Rattle.go_rules.specs.Strings.{cell_at};
+ghost use Rattle.std.specs.Prelude.{◌≡◌, ◌≢◌, ◌+◌, ◌*◌, ◌<◌, ◌≤◌, ◌&&◌, true, List, ℕ, [], Ok, Some, IfOk};
+ghost use Rattle.go_rules.specs.Strings.{cell_at, is_stone};
 ghost use Rattle.gtp_cmd.specs.Spans.{spanned, IsSpanOf};
 ghost use Rattle.read_rules.specs.Answer.{asked_in, first_node};
 ghost use Rattle.read_proof.specs.Tokens.{words_in};
 ghost use Rattle.sure_lines.specs.Answers.{IsAnswer};
-ghost use Rattle.sure_lines.specs.Machine.{Machine};
+ghost use Rattle.sure_lines.specs.Files.{named_file, IsFileOf, by_file, word_at};
+ghost use Rattle.sure_lines.specs.Machine.{Machine, present};
 ghost use Rattle.sure_lines.specs.ProofCommands.{code_of_capture, has_allowances, coded_proof, proof_told, proved};
-ghost use Rattle.sure_lines.specs.ProofCommands.{IsProofTold, is_sure_proof, checked, kind_of};
+ghost use Rattle.sure_lines.specs.ProofCommands.{IsProofTold, is_sure_proof, judged, checked_by, kind_of, names_file};
+ghost use Rattle.sure_lines.specs.ProofCommands.{proof_name, proof_in, blank_for_line_feed};
 
 use crate::answer::{Answer, told};
+use crate::files::load_file;
 use crate::line::word;
 use crate::machine::SureMachine;
 use crate::question_commands::sure_answer;
 use go_base::{Bytes, Cell, NoMemory, Point, Position};
 use gtp_cmd::{RefuseText, Span};
+use gtp_io::Loader;
 use itoa::Buffer;
 use read_rules::{Depths, Kind};
 use std::alloc::Global;
 use sure_proof::checks_surely;
 use write_sure::{SureProofError, sure_proof};
+
+/// The kind of question that a proof is about: an attack if `attack`, else a defence.
+fn kind_of(attack: bool) -> Kind
+    ensures { result ≡ kind_of attack }
+{
+    if attack { Kind::Attack } else { Kind::Defend }
+}
 
 /// The code under whose ko allowances the capture is sure, if `code` is the code of an answer: for an attack `code`
 /// itself, for a defence the next code, which the defence does not attain.
@@ -97,6 +108,32 @@ fn is_proof(
     checks_surely(position, kind, p, depths, code, text)
 }
 
+/// Whether a text names a file: whether its first byte is `@`.
+fn names_file(text: &[u8]) -> bool
+    ensures { result ≡ names_file text.now }
+{
+    match text.first() {
+        Some(b) => *b == b'@',
+        None => false,
+    }
+}
+
+/// The byte, with a blank in place of a line feed.
+fn blank_for_line_feed(b: u8) -> u8
+    ensures { result ≡ blank_for_line_feed b }
+{
+    if b == b'\n' { b' ' } else { b }
+}
+
+/// Puts a blank in the place of each line feed, so that words that stand on lines are words of one line.
+fn join_lines(text: &mut [u8])
+    ensures { text.new ≡ proof_in text.old }
+{
+    'bytes: for b in text.iter_mut() {
+        *b = blank_for_line_feed(*b);
+    }
+}
+
 /// Whether both are true.
 fn are_both(first: bool, second: bool) -> bool
     ensures { result ≡ (first && second) }
@@ -122,29 +159,90 @@ impl SureMachine {
     }
 
     /// Answers whether the words in the part `tokens` of the line are a proof that the string of `p` is surely captured
-    /// under the ko allowances that belong to `code`.
-    pub(crate) fn check_proof(
+    /// under the ko allowances that belong to `code`; refused if no stone stands there. If the words begin with `@`, what
+    /// follows names a file, and the words in this file are checked in their place: the name and the text of the file
+    /// take memory.
+    pub(crate) fn check_proof<L: Loader>(
         &self,
+        alloc: Global,
         attack: bool,
         p: Point,
         code: u8,
         line: &[u8],
         tokens: Span,
+        files: &mut L,
     ) -> Answer
         requires on_board { p < self.now.game.base.size * self.now.game.base.size }
         requires code { code ≤ 3 }
         requires span { IsSpanOf line.now tokens }
-        ensures { IsAnswer (checked self.now (kind_of attack) p code (spanned line.now tokens)) result self.now
+        ensures answer { (file : List ℕ) × IsFileOf (L.contents files.old) (proof_name (spanned line.now tokens)) file
+            × IsAnswer (checked_by self.now (kind_of attack) p code (spanned line.now tokens) file) result self.now
             self.now }
+        ensures contents { L.contents files.new ≡ L.contents files.old }
     {
-        let position = self.position();
-        if position.cell(p) == Cell::Empty {
+        if !self.has_stone(p) {
             return Answer::Refused(RefuseText::VertexEmpty);
         }
-        let kind = if attack { Kind::Attack } else { Kind::Defend };
-        let under = code_of_capture(kind, code);
+        let kind = kind_of(attack);
         let words = &line[tokens.from as usize..tokens.to as usize];
-        let holds = is_proof(&position, kind, p, self.depths, under, words);
+        if !names_file(words) {
+            return self.judge(kind, p, code, words);
+        }
+        let name = Span {
+            from: tokens.from + 1,
+            to: tokens.to,
+        };
+        self.judge_file(alloc, kind, p, code, line, name, files)
+    }
+
+    /// Whether a stone stands at `p`.
+    fn has_stone(&self, p: Point) -> bool
+        requires { p < self.now.game.base.size * self.now.game.base.size }
+        ensures { result ≡ is_stone (cell_at (present self.now).cells p) }
+    {
+        self.position().cell(p) != Cell::Empty
+    }
+
+    /// Answers whether the words of a text are a proof that the string of `p` is surely captured under the ko allowances
+    /// that belong to `code`.
+    fn judge(&self, kind: Kind, p: Point, code: u8, words: &[u8]) -> Answer
+        requires on_board { p < self.now.game.base.size * self.now.game.base.size }
+        requires stone { is_stone (cell_at (present self.now).cells p) ≡ true }
+        requires code { code ≤ 3 }
+        ensures { IsAnswer (judged self.now kind p code words.now) result self.now self.now }
+    {
+        let under = code_of_capture(kind, code);
+        let holds = is_proof(&self.position(), kind, p, self.depths, under, words);
         told(word(are_both(has_allowances(under), holds)))
+    }
+
+    /// Answers the same of the words in the file whose name stands in the part `name` of the line. Takes memory for the
+    /// name and the text of the file.
+    fn judge_file<L: Loader>(
+        &self,
+        alloc: Global,
+        kind: Kind,
+        p: Point,
+        code: u8,
+        line: &[u8],
+        name: Span,
+        files: &mut L,
+    ) -> Answer
+        requires on_board { p < self.now.game.base.size * self.now.game.base.size }
+        requires stone { is_stone (cell_at (present self.now).cells p) ≡ true }
+        requires code { code ≤ 3 }
+        requires span { IsSpanOf line.now name }
+        ensures answer { (file : List ℕ) × IsFileOf (L.contents files.old) (named_file (word_at line.now name)) file
+            × IsAnswer (by_file self.now (word_at line.now name) (judged self.now kind p code (proof_in file))) result
+            self.now self.now }
+        ensures contents { L.contents files.new ≡ L.contents files.old }
+    {
+        match load_file(alloc, line, name, files) {
+            Ok(mut text) => {
+                join_lines(text.as_mut_slice());
+                self.judge(kind, p, code, text.as_slice())
+            }
+            Err(said) => said,
+        }
     }
 }

@@ -8,13 +8,12 @@ ghost use Rattle.sure_lines.specs.Files.{named_file, IsFileOf, word_at};
 ghost use Rattle.sure_lines.specs.RecordCommands.{loaded_by, recorded};
 
 use crate::answer::{Answer, told};
+use crate::files::load_file;
 use crate::machine::SureMachine;
-use go_base::Bytes;
-use gtp_cmd::{RefuseText, Span, text};
-use gtp_io::{LoadError, Loader};
+use gtp_cmd::{RefuseText, Span};
+use gtp_io::Loader;
 use sgf_read::read;
 use std::alloc::Global;
-use std::str::from_utf8;
 
 impl SureMachine {
     /// Loads the file whose name stands in the part `span` of the line, and begins again from the position of its game
@@ -31,16 +30,9 @@ impl SureMachine {
             × IsAnswer (loaded_by self.old (word_at line.now span) file) result self.old self.new }
         ensures contents { L.contents files.new ≡ L.contents files.old }
     {
-        let Ok(word) = text(line, span, Bytes::new(alloc)) else {
-            return Answer::NoMemory;
-        };
-        let Ok(name) = from_utf8(word.as_slice()) else {
-            return Answer::Refused(RefuseText::SyntaxError);
-        };
-        match files.load(name, Vec::new(alloc)) {
+        match load_file(alloc, line, span, files) {
             Ok(contents) => self.set_record(contents.as_slice()),
-            Err(LoadError::Failed) => Answer::Refused(RefuseText::CannotLoadFile),
-            Err(LoadError::NoMemory) => Answer::NoMemory,
+            Err(said) => said,
         }
     }
 

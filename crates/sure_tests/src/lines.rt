@@ -10,11 +10,42 @@ const PIECE: usize = 7;
 /// How many bytes the sink takes at most, in all and at once.
 const ROOM: usize = 1000;
 
-/// The name of the only file that can be loaded.
-const NAME: &str = "corner.sgf";
+/// A file that can be loaded.
+struct File {
+    /// Its name.
+    name: &'static str,
+    /// Its bytes.
+    bytes: &'static [u8],
+}
 
-/// The game record in the file: a stone in the corner, black A1 and white B2.
-const RECORD: &[u8] = b"(;SZ[5]AB[ae]AW[bd])";
+/// All files that can be loaded: the record of a stone in the corner, black A1 and white B2, and texts. The texts of
+/// `line` and `many lines` are a proof that A1 is captured in three plies; the other texts are none.
+static FILES: [File; 6] = [
+    File {
+        name: "corner.sgf",
+        bytes: b"(;SZ[5]AB[ae]AW[bd])",
+    },
+    File {
+        name: "line",
+        bytes: b"A2 * B1 . B1 C1 . C1 B1 . ;",
+    },
+    File {
+        name: "many lines",
+        bytes: b"A2 *\nB1 .\r\n\tB1 C1 .\n\nC1\nB1 .\n;\n",
+    },
+    File {
+        name: "joined",
+        bytes: b"A2*\nB1 . B1 C1 . C1 B1 . ;\n",
+    },
+    File {
+        name: "changed",
+        bytes: b"A2 * B1 . B1 C1 . C1 C1 . ;\n",
+    },
+    File {
+        name: "empty",
+        bytes: b"",
+    },
+];
 
 /// A session: its lines, the calls of source and sink that fail, the bytes that are written, and how the session ends.
 struct Row {
@@ -33,7 +64,7 @@ struct Row {
 }
 
 /// Sessions, each named by what it shows.
-static ROWS: [Row; 9] = [
+static ROWS: [Row; 12] = [
     Row {
         name: "a last line without a line feed is answered",
         lines: b"boardsize 5\nplay b A1\nplay w B2\n\n# a comment\ndepths 3 0\n1 attack a1",
@@ -86,6 +117,38 @@ static ROWS: [Row; 9] = [
         end: End::Done,
     },
     Row {
+        name: "a file that is named behind @ holds the words of a proof, on one line or on many",
+        lines: b"loadsgf corner.sgf\ndepths 3 0\n1 check_proof attack A1 3 @line\n\
+            2 check_proof attack A1 3 \t@many lines # a name with a blank\n3 check_proof attack A1 3 @joined\n\
+            4 check_proof attack A1 3 @changed\n5 check_proof attack A1 0 @line\n6 check_proof defend A1 2 @line\n\
+            7 check_proof attack A1 3 @empty\ndepths 2 0\n8 check_proof attack A1 3 @line\n",
+        input_fails: &[],
+        output_fails: &[],
+        put: b"=\n\n=\n\n=1 true\n\n=2 true\n\n=3 false\n\n=4 false\n\n=5 false\n\n=6 false\n\n=7 false\n\n\
+            =\n\n=8 false\n\n",
+        end: End::Done,
+    },
+    Row {
+        name: "the file of a proof that is not there is refused, and a name that is not UTF-8 is none",
+        lines: b"loadsgf corner.sgf\ndepths 3 0\n1 check_proof attack A1 3 @lines\n2 check_proof attack A1 3 @\n\
+            3 check_proof attack A1 3 @ line\n4 check_proof attack A1 3 @l\xffine\n5 check_proof attack E5 3 @lines\n\
+            6 check_proof attack E5 3 @l\xffine\n7 attack_proof A1\n",
+        input_fails: &[],
+        output_fails: &[],
+        put: b"=\n\n=\n\n?1 cannot load file\n\n?2 cannot load file\n\n?3 cannot load file\n\n?4 syntax error\n\n\
+            ?5 vertex must not be empty\n\n?6 vertex must not be empty\n\n=7 3 A2 * B1 . B1 C1 . C1 B1 . ;\n\n",
+        end: End::Done,
+    },
+    Row {
+        name: "only the first byte of the words names a file",
+        lines: b"loadsgf corner.sgf\ndepths 3 0\n1 check_proof attack A1 3 A2 @line\n2 check_proof attack A1 3 line\n\
+            3 check_proof attack A1 3\n4 check_proof attack A1 @line\n",
+        input_fails: &[],
+        output_fails: &[],
+        put: b"=\n\n=\n\n=1 false\n\n=2 false\n\n=3 false\n\n?4 syntax error\n\n",
+        end: End::Done,
+    },
+    Row {
         name: "behind quit nothing is answered",
         lines: b"name\nquit\nname\n",
         input_fails: &[],
@@ -111,12 +174,16 @@ static ROWS: [Row; 9] = [
     },
 ];
 
-/// The loader in memory, with the only file.
+/// The loader in memory, with all files.
 fn shelf(alloc: Global) -> Option<Shelf> {
     let mut names = Vec::new(alloc);
-    names.push(String::from_str(alloc, NAME).ok()?).ok()?;
     let mut contents = Vec::new(alloc);
-    contents.push(Vec::from_slice(alloc, RECORD).ok()?).ok()?;
+    for file in &FILES {
+        names.push(String::from_str(alloc, file.name).ok()?).ok()?;
+        contents
+            .push(Vec::from_slice(alloc, file.bytes).ok()?)
+            .ok()?;
+    }
     Some(Shelf::new(names, contents, Vec::new(alloc)))
 }
 

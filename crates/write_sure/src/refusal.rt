@@ -6,7 +6,7 @@ use thiserror::Error;
 /// Why no proof of a sure capture is answered.
 #[derive(Clone, Copy, Debug, PartialEq, Eq, Error)]
 pub enum SureProofError {
-    /// The proof has more than 60,000 bytes.
+    /// The proof has more than 1,048,576 bytes.
     #[error("proof too long")]
     TooLong,
     /// There was no memory for the proof.

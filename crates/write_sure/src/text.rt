@@ -1,17 +1,18 @@
 //! A text that grows word by word until it is too long.
 
 ghost use Rattle.std.specs.Prelude.{◌≡◌, ◌*◌, ◌<◌, ◌≤◌, ◌↔◌, IsTrue, length};
+ghost use Rattle.write_sure.specs.Room.{longest_proof};
 
 use crate::refusal::SureProofError;
 use go_base::{Bytes, Point, Size};
 use vertices::vertex_text;
 
 /// How many bytes a proof may have at most.
-const MAX_BYTES: usize = 60_000;
+const MAX_BYTES: usize = 1_048_576;
 
-/// Whether the text has at most 60,000 bytes.
+/// Whether the text has at most 1,048,576 bytes.
 pub(crate) fn is_short(text: &[u8]) -> bool
-    ensures { IsTrue result ↔ (length text.now ≤ 60000) }
+    ensures { IsTrue result ↔ (length text.now ≤ longest_proof) }
 {
     text.len() <= MAX_BYTES
 }

@@ -6,6 +6,7 @@ ghost use Rattle.read_rules.specs.Answer.{asked_in, first_node};
 ghost use Rattle.read_proof.specs.Tokens.{words_in};
 ghost use Rattle.sure_rules.specs.SureTree.{surely_wins};
 ghost use Rattle.sure_proof.specs.SureProofs.{IsSureProof};
+ghost use Rattle.write_sure.specs.Room.{longest_proof};
 
 use crate::refusal::SureProofError;
 use crate::text::is_short;
@@ -30,7 +31,7 @@ fn is_sure(pos: &Position, node: Node, plies: u8) -> bool
 fn accepted(alloc: Global, pos: &Position, node: Node, plies: u8) -> Result<Bytes, SureProofError>
     requires { node.turn.target < pos.now.size * pos.now.size }
     ensures proof { IfOk result (λ text. IsSureProof plies node pos.now (words_in text)) }
-    ensures short { IfOk result (λ text. length text ≤ 60000) }
+    ensures short { IfOk result (λ text. length text ≤ longest_proof) }
 {
     let mut text = Bytes::new(alloc);
     write_first(pos, node, plies, &mut text)?;
@@ -53,7 +54,7 @@ fn node_proof(
 ) -> Result<Option<Bytes>, SureProofError>
     requires { node.turn.target < pos.now.size * pos.now.size }
     ensures proof { IfOk result (λ told. IfSome told (λ text. IsSureProof plies node pos.now (words_in text))) }
-    ensures short { IfOk result (λ told. IfSome told (λ text. length text ≤ 60000)) }
+    ensures short { IfOk result (λ told. IfSome told (λ text. length text ≤ longest_proof)) }
     ensures not_sure { result ≡ Ok None ↔ (surely_wins plies node pos.now ≡ false) }
 {
     if !is_sure(pos, node, plies) {
@@ -85,7 +86,7 @@ pub fn sure_proof(
     ensures proof { IfOk result (λ told. IfSome told (λ text. IsSureProof depths.plies
         (first_node (asked_in depths.tree pos.now of target depths.plies depths.wide) code) pos.now
         (words_in text))) }
-    ensures short { IfOk result (λ told. IfSome told (λ text. length text ≤ 60000)) }
+    ensures short { IfOk result (λ told. IfSome told (λ text. length text ≤ longest_proof)) }
     ensures not_sure { result ≡ Ok None ↔ (surely_wins depths.plies
         (first_node (asked_in depths.tree pos.now of target depths.plies depths.wide) code) pos.now ≡ false) }
 {

@@ -1,20 +1,16 @@
--- What is answered if a game record is loaded, by what the loader says of its file.
+-- What is answered to a line that loads a file, by what the loader says of the file.
 use Rattle.std.proofs.Common.{◌≡◌, ℕ, Bool, true, cond, eqb, List, [], ◌∷◌, ◌++◌, length, Option, Some, None}
-use Rattle.std.proofs.Common.{Result, Ok, Err, inl, inr, refl, sym, ap, subst, ◌∙◌, arith}
+use Rattle.std.proofs.Common.{inl, inr, refl, sym, ap, subst, ◌∙◌, arith}
 use Rattle.std.proofs.lemmas.Bool.Decides.{nat_tests}
 use Rattle.std.proofs.lemmas.Str.{utf8_valid_len-IsUtf8}
 use Rattle.std.specs.Prelude.{IsUtf8}
 use Rattle.std.specs.Str.Lossy.{utf8_valid_len}
-use Rattle.go_rules.specs.Position.{BoardState}
-use Rattle.sgf_rules.specs.declared.kind.FaultKind.{FaultKind}
-use Rattle.sgf_rules.specs.Game.{game_of}
 use Rattle.gtp_cmd.specs.declared.refusals.RefuseText.{RefuseText}
 use Rattle.gtp_cmd.specs.declared.refusals.RefuseText.TheVariants.{CannotLoadFile, SyntaxError, OutOfMemory}
 use Rattle.gtp_io.specs.Loading.{IsLoaded}
 use Rattle.sure_lines.specs.Answers.{IsAnswer}
 use Rattle.sure_lines.specs.Effects.{Effect, IsExcused, refused, growing}
-use Rattle.sure_lines.specs.Files.{Contents, IsFileOf, named_file, is_utf8}
-use Rattle.sure_lines.specs.RecordCommands.{recorded, loaded, loaded_by}
+use Rattle.sure_lines.specs.Files.{Contents, IsFileOf, named_file, is_utf8, by_file}
 use Rattle.sure_lines.specs.declared.answer.Answer.{Answer}
 use Rattle.sure_lines.specs.declared.answer.Answer.TheVariants as answer
 use Rattle.sure_lines.specs.Machine.{Machine}
@@ -53,12 +49,6 @@ more-excused effect excuses (answer.Refused text) old new more (inl is) = inl is
 more-excused effect excuses (answer.Refused text) old new more (inr is) = inr (more text is.0, is.1)
 more-excused effect excuses answer.Ended old new more is = is
 
--- what a record does has no excuse
-none-excused : (old : Machine) (game : Result BoardState FaultKind) (text : RefuseText)
-    → IsExcused (recorded old game).excuses text → ⊥
-none-excused old (Ok board) text is = is
-none-excused old (Err kind) text is = is
-
 -- what was loaded by a name, behind nothing, is what the loader gives by the word that the name is
 pub loaded-anew : (contents : Contents) (word name into bytes file : List ℕ) → name ≡ word → into ≡ [] → file ≡ bytes
     → IsLoaded (contents name) into bytes → IsLoaded (contents word) [] file
@@ -75,19 +65,19 @@ module _ (name : List ℕ) (utf8 : is_utf8 name ≡ true) where
   given-file contents bytes is =
       subst (λ b. IsFileOf contents (cond b (Some name) None) bytes) (sym utf8) is
 
-  module _ (old : Machine) (file : List ℕ) where
-    -- what a load does, if its name is a text or not
+  module _ (old : Machine) (effect : Effect) where
+    -- the effect of the line, if its name is a text or not
     abbrev done : Bool → Effect
-    done b = growing (cond b (loaded old file) (refused old SyntaxError))
+    done b = growing (cond b (record effect { excuses = CannotLoadFile ∷ effect.excuses }) (refused old SyntaxError))
 
-    -- a record's answer is one of its load
-    pub record-loaded : (said : Answer) (new : Machine) → IsAnswer (recorded old (game_of file)) said old new
-        → IsAnswer (loaded_by old name file) said old new
-    record-loaded said new is = subst (λ b. IsAnswer (done b) said old new) (sym utf8)
-        (more-excused (recorded old (game_of file)) (OutOfMemory ∷ CannotLoadFile ∷ []) said old new
-        (λ text excused. absurd (none-excused old (game_of file) text excused)) is)
+    -- an answer of the effect is one of the line
+    pub file-answered : (said : Answer) (new : Machine) → IsAnswer effect said old new
+        → IsAnswer (by_file old name effect) said old new
+    file-answered said new is = subst (λ b. IsAnswer (done b) said old new) (sym utf8)
+        (more-excused effect (OutOfMemory ∷ CannotLoadFile ∷ effect.excuses) said old new
+        (λ text excused. inr (inr excused)) is)
 
-    -- so is that its file could not be loaded
-    pub file-not-loaded : IsAnswer (loaded_by old name file) (answer.Refused CannotLoadFile) old old
+    -- so is that the file could not be loaded
+    pub file-not-loaded : IsAnswer (by_file old name effect) (answer.Refused CannotLoadFile) old old
     file-not-loaded = subst (λ b. IsAnswer (done b) (answer.Refused CannotLoadFile) old old) (sym utf8)
         (inr (inr (inl refl), refl))
