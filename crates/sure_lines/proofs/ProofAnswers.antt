@@ -1,6 +1,6 @@
 -- What is answered to the commands about proofs.
 use Rattle.std.proofs.Common.{◌≡◌, ◌↔◌, ℕ, ◌+◌, ◌-◌, ◌<◌, Bool, true, false, cond, List, [], ◌∷◌, take, drop, Option}
-use Rattle.std.proofs.Common.{Some, None, IsTrue, inl, refl, sym, ap, subst, ◌∙◌, arith}
+use Rattle.std.proofs.Common.{Some, None, IsTrue, inl, refl, sym, ap, subst, ◌∙◌, arith, zero, suc}
 use Rattle.std.proofs.lemmas.List.{drop-take, drop-drop}
 use Rattle.go_rules.specs.Strings.{cell_at, is_stone}
 use Rattle.gtp_cmd.specs.Spans.{spanned, span_between}
@@ -41,6 +41,15 @@ spanned-behind line span some =
 pub word-behind : (line : List ℕ) (span : Span) → span.from < span.to
     → word_at line (span_between (span.from + 1) span.to) ≡ name_behind (spanned line span)
 word-behind line span some = ap cleaned (spanned-behind line span some)
+
+-- so many first bytes that name a file are some
+front-some : (n : ℕ) (text : List ℕ) → names_file (take n text) ≡ true → 0 < n
+front-some zero text names = absurd (let same = names in cc)
+front-some (suc n) text names = omega arith
+
+-- a part of a line that names a file has a byte
+pub named-some : (line : List ℕ) (span : Span) → names_file (spanned line span) ≡ true → span.from < span.to
+named-some line span names = omega (arith, front-some (span.to - span.from) (drop span.from line) names)
 
 -- What is answered if a proof is checked.
 module _ (contents : Contents) (machine : Machine) (p code : ℕ) (text : List ℕ) (said : Answer) where

@@ -134,6 +134,14 @@ fn join_lines(text: &mut [u8])
     }
 }
 
+/// The text of the proof that a file with this text holds: the words of all its lines on one line.
+fn joined(mut file: Vec<u8>) -> Vec<u8>
+    ensures { result.items ≡ proof_in file.items }
+{
+    join_lines(file.as_mut_slice());
+    file
+}
+
 /// Whether both are true.
 fn are_both(first: bool, second: bool) -> bool
     ensures { result ≡ (first && second) }
@@ -238,10 +246,7 @@ impl SureMachine {
         ensures contents { L.contents files.new ≡ L.contents files.old }
     {
         match load_file(alloc, line, name, files) {
-            Ok(mut text) => {
-                join_lines(text.as_mut_slice());
-                self.judge(kind, p, code, text.as_slice())
-            }
+            Ok(file) => self.judge(kind, p, code, joined(file).as_slice()),
             Err(said) => said,
         }
     }
