@@ -35,7 +35,7 @@ spanned-behind line span some =
     let left : ℕ = span.to - (span.from + 1) in
     let all : 1 + left ≡ span.to - span.from = omega (arith, some) in
     ap (take left) (sym (drop-drop 1 span.from line)) ∙ sym (drop-take 1 left (drop span.from line))
-        ∙ ap (λ n. drop 1 (take n (drop span.from line))) all
+    ∙ ap (λ n. drop 1 (take n (drop span.from line))) all
 
 -- the word behind the first byte of a part of a line is the name that the text of the part has behind its first byte
 pub word-behind : (line : List ℕ) (span : Span) → span.from < span.to
@@ -62,13 +62,21 @@ module _ (contents : Contents) (machine : Machine) (p code : ℕ) (text : List �
   abbrev of_point : Kind → List ℕ → Bool → Effect
   of_point kind file b = cond b (judged_by machine kind p code text file) (refused machine VertexEmpty)
 
+  -- the effect of the check of a stone, if the text names a file or not
+  abbrev of_text : Kind → List ℕ → Bool → Effect
+  of_text kind file b = cond b (by_file machine (name_behind text) (judged machine kind p code (proof_in file)))
+      (judged machine kind p code text)
+
   -- at an empty point the check is refused
   pub empty-checked : (kind : Kind) → is_stone (cell_at (present machine).cells p) ≡ false
       → said ≡ answer.Refused VertexEmpty → IsChecked kind
   empty-checked kind empty is =
-      let file = some_file contents (proof_name text) in
-      (file.0, file.1, subst (λ b. IsAnswer (of_point kind file.0 b) said machine machine) (sym empty)
-      (subst (λ a. IsAnswer (refused machine VertexEmpty) a machine machine) (sym is) (inl (refl, refl, refl))))
+      let file = some_file contents (proof_name text) in (
+        file.0,
+        file.1,
+        subst (λ b. IsAnswer (of_point kind file.0 b) said machine machine) (sym empty)
+            (subst (λ a. IsAnswer (refused machine VertexEmpty) a machine machine) (sym is) (inl (refl, refl, refl))),
+      )
 
   module _ (kind : Kind) (stone : is_stone (cell_at (present machine).cells p) ≡ true) where
     -- the words of the line are judged if they name no file
@@ -78,8 +86,7 @@ module _ (contents : Contents) (machine : Machine) (p code : ℕ) (text : List �
       [],
       subst (λ b. IsFileOf contents (cond b (named_file (name_behind text)) None) []) (sym words) tt,
       subst (λ b. IsAnswer (of_point kind [] b) said machine machine) (sym stone)
-      (subst (λ b. IsAnswer (cond b (by_file machine (name_behind text) (judged machine kind p code (proof_in [])))
-      (judged machine kind p code text)) said machine machine) (sym words) is),
+          (subst (λ b. IsAnswer (of_text kind [] b) said machine machine) (sym words) is),
     )
 
     -- if they name a file, the words of the file are judged
@@ -91,10 +98,9 @@ module _ (contents : Contents) (machine : Machine) (p code : ℕ) (text : List �
         let file = is.0 in (
           file,
           subst (λ b. IsFileOf contents (cond b (named_file (name_behind text)) None) file) (sym names)
-          (subst (λ n. IsFileOf contents (named_file n) file) same is.1),
+              (subst (λ n. IsFileOf contents (named_file n) file) same is.1),
           subst (λ b. IsAnswer (of_point kind file b) said machine machine) (sym stone)
-          (subst (λ b. IsAnswer (cond b (by_file machine (name_behind text) (judged machine kind p code (proof_in file)))
-          (judged machine kind p code text)) said machine machine) (sym names)
-          (subst (λ n. IsAnswer (by_file machine n (judged machine kind p code (proof_in file))) said machine machine)
-          same is.2)),
+              (subst (λ b. IsAnswer (of_text kind file b) said machine machine) (sym names)
+              (subst (λ n. IsAnswer (by_file machine n (judged machine kind p code (proof_in file))) said machine
+              machine) same is.2)),
         )

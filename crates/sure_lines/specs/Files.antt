@@ -31,8 +31,11 @@ abbrev pub IsFileOf : Contents → Option (List ℕ) → List ℕ → Type 0
 IsFileOf contents None file = Unit {0}
 IsFileOf contents (Some name) file = IsLoaded (contents name) [] file
 
--- a line that loads the file of this name has this effect; it is refused if the name is not in UTF-8. The file may be
--- one that cannot be loaded, and there may be no memory for its name and its text
+-- the effect of a line whose file may be one that cannot be loaded
+abbrev pub loading : Effect → Effect
+loading effect = record effect { excuses = CannotLoadFile ∷ effect.excuses }
+
+-- a line that loads the file of this name has this effect; it is refused if the name is not in UTF-8. There may be no
+-- memory for the name and the text of the file
 abbrev pub by_file : Machine → List ℕ → Effect → Effect
-by_file old name effect =
-    growing (if is_utf8 name then record effect { excuses = CannotLoadFile ∷ effect.excuses } else refused old SyntaxError)
+by_file old name effect = growing (if is_utf8 name then loading effect else refused old SyntaxError)

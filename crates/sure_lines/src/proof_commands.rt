@@ -1,6 +1,6 @@
 //! The commands that print why a capture is sure, and that check such a proof.
 
-ghost use Rattle.std.specs.Prelude.{◌≡◌, ◌≢◌, ◌+◌, ◌*◌, ◌<◌, ◌≤◌, ◌&&◌, true, List, ℕ, [], Ok, Some, IfOk};
+ghost use Rattle.std.specs.Prelude.{◌≡◌, ◌≢◌, ◌*◌, ◌<◌, ◌≤◌, ◌&&◌, true, List, ℕ, [], Ok, Some, IfOk};
 ghost use Rattle.go_rules.specs.Strings.{cell_at, is_stone};
 ghost use Rattle.gtp_cmd.specs.Spans.{spanned, IsSpanOf};
 ghost use Rattle.read_rules.specs.Answer.{asked_in, first_node};
@@ -167,9 +167,9 @@ impl SureMachine {
     }
 
     /// Answers whether the words in the part `tokens` of the line are a proof that the string of `p` is surely captured
-    /// under the ko allowances that belong to `code`; refused if no stone stands there. If the words begin with `@`, what
-    /// follows names a file, and the words in this file are checked in their place: the name and the text of the file
-    /// take memory.
+    /// under the ko allowances that belong to `code`; refused if no stone stands there. If the words begin with `@`,
+    /// what follows is the name of a file, and the words in this file are checked in their place: then the name and the
+    /// text of the file take memory.
     pub(crate) fn check_proof<L: Loader>(
         &self,
         alloc: Global,
@@ -211,8 +211,8 @@ impl SureMachine {
         self.position().cell(p) != Cell::Empty
     }
 
-    /// Answers whether the words of a text are a proof that the string of `p` is surely captured under the ko allowances
-    /// that belong to `code`.
+    /// Answers whether the words of a text are a proof that the string of `p` is surely captured under the ko
+    /// allowances that belong to `code`.
     fn judge(&self, kind: Kind, p: Point, code: u8, words: &[u8]) -> Answer
         requires on_board { p < self.now.game.base.size * self.now.game.base.size }
         requires stone { is_stone (cell_at (present self.now).cells p) ≡ true }

@@ -19,8 +19,8 @@ returns-in-Ok-load-clause-text g c =
     let name : c.in-Ok-from_utf8.name.now ≡ word = c.in-Ok-from_utf8.ensures.cases.0 ∙ same in (
       utf8,
       given-file word utf8 contents c.in-Ok-load.contents.items
-      (loaded-anew contents word c.in-Ok-from_utf8.name.now c.new-2.result.items c.in-Ok-load.contents.items
-      c.in-Ok-load.contents.items name c.new-2.ensures.items refl c.in-Ok-load.ensures.loaded),
+          (loaded-anew contents word c.in-Ok-from_utf8.name.now c.new-2.result.items c.in-Ok-load.contents.items
+          c.in-Ok-load.contents.items name c.new-2.ensures.items refl c.in-Ok-load.ensures.loaded),
     )
 
 -- the file could not be loaded

@@ -24,7 +24,7 @@ returns-clause-answer g c =
     let machine = c.args.self.now in
     let text = spanned c.args.line.now c.args.tokens in
     let stone : is_stone (cell_at (present machine).cells c.args.p) ≡ true =
-        sym c.has_stone.ensures ∙ c.if-not-has_stone.false in
+    sym c.has_stone.ensures ∙ c.if-not-has_stone.false in
     let names : names_file text ≡ true = sym c.names_file.ensures ∙ c.if-not-names_file.false in
     let name = word_at c.args.line.now (span_between (c.args.tokens.from + 1) c.args.tokens.to) in
     subst (IsChecked contents machine c.args.p c.args.code text c.judge_file.result) c.kind_of-kind.ensures

@@ -16,8 +16,8 @@ returns-in-Ok-clause-answer g c =
       file,
       c.in-Ok.ensures.text.1,
       file-answered word c.in-Ok.ensures.text.0 machine (effect (proof_in file)) c.judge.result machine
-      (subst (λ text. IsAnswer (effect text) c.judge.result machine machine)
-      (c.as_slice.ensures.value ∙ c.joined.ensures) c.judge.ensures),
+          (subst (λ text. IsAnswer (effect text) c.judge.result machine machine)
+          (c.as_slice.ensures.value ∙ c.joined.ensures) c.judge.ensures),
     )
 
 -- no text was loaded, whatever the file is

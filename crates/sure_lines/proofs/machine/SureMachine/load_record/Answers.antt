@@ -16,9 +16,9 @@ returns-in-Ok-clause-answer g c =
       file,
       c.in-Ok.ensures.text.1,
       file-answered word c.in-Ok.ensures.text.0 old (recorded old (game_of file)) c.set_record.result
-      c.set_record.new.self
-      (subst (λ text. IsAnswer (recorded old (game_of text)) c.set_record.result old c.set_record.new.self)
-      c.as_slice.ensures.value c.set_record.ensures),
+          c.set_record.new.self
+          (subst (λ text. IsAnswer (recorded old (game_of text)) c.set_record.result old c.set_record.new.self)
+          c.as_slice.ensures.value c.set_record.ensures),
     )
 
 -- no text was loaded, whatever the file is
