@@ -1,5 +1,5 @@
 -- The files that lines load: their names and their contents, as a loader gives them.
-use Rattle.std.specs.Prelude.{◌≡◌, ℕ, Bool, ◌==◌, List, [], ◌∷◌, length, Option, Some, None, if◌then◌else◌}
+use Rattle.std.specs.Prelude.{ℕ, Bool, ◌==◌, List, [], ◌∷◌, length, Option, Some, None, if◌then◌else◌}
 use Rattle.std.specs.Str.Lossy.{utf8_valid_len}
 use Rattle.gtp_cmd.specs.Spans.{spanned}
 use Rattle.gtp_cmd.specs.Words.{cleaned}
