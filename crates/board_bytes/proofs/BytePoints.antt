@@ -16,10 +16,7 @@ use Rattle.board_bytes.specs.Bytes.{byte_at, has_byte, cell_of, stones_of}
 
 -- the numbers below the next one are those below, but for this one
 ltb-other : (q n : ℕ) → q ≢ n → ltb q (suc n) ≡ ltb q n
-ltb-other q n ne = elim (cases_lt q n) [
-  | inl l ↦ rw (lt-ltb q n l, lt-ltb q (suc n) (omega arith)) refl
-  | inr g ↦ rw (le-ltb q n g, le-ltb q (suc n) (omega arith)) refl
-]
+ltb-other q n ne = grind (arith, cases_lt, lt-ltb, le-ltb)
 
 -- no point lies below the first
 pub none_yet : (bytes : List ℕ) (b q : ℕ) (found : sets.FinSet nat_cmp) → found ≡ sets.empty
@@ -32,19 +29,13 @@ pub one_more : (bytes : List ℕ) (b n q : ℕ) (found next : sets.FinSet nat_cm
     → sets.contains found q ≡ has_byte bytes b n q → eqb (byte_at bytes n) b ≡ true → next ≡ sets.insert found n
     → sets.contains next q ≡ has_byte bytes b (n + 1) q
 one_more bytes b n q found next so is e =
-    ap (λ f. sets.contains f q) e ∙ contains-insert_nat found n q ∙ rw (so, add-one n) (elim (cases_eq q n) [
-      | inl same ↦ rw (same, eq-eqb n n refl, lt-ltb n (suc n) (omega arith), is) refl
-      | inr ne ↦ rw (ne_eqb q n ne, ltb-other q n ne) refl
-    ])
+    grind (arith, contains-insert_nat, add-one, cases_eq, eq-eqb, lt-ltb, ne_eqb, ltb-other)
 
 -- one more point, which has not
 pub no_more : (bytes : List ℕ) (b n q : ℕ) (found : sets.FinSet nat_cmp)
     → sets.contains found q ≡ has_byte bytes b n q → eqb (byte_at bytes n) b ≡ false
     → sets.contains found q ≡ has_byte bytes b (n + 1) q
-no_more bytes b n q found so not_so = rw (so, add-one n) (elim (cases_eq q n) [
-  | inl same ↦ rw (same, le-ltb n n (omega arith), lt-ltb n (suc n) (omega arith), not_so) refl
-  | inr ne ↦ rw (ltb-other q n ne) refl
-])
+no_more bytes b n q found so not_so = grind (arith, add-one, cases_eq, le-ltb, lt-ltb, ltb-other)
 
 -- the points of a set are those of the first n that have the byte
 abbrev pub ArePoints : List ℕ → ℕ → ℕ → sets.FinSet nat_cmp → Type 0
@@ -59,9 +50,7 @@ not_both true b = elim (cases_eq b 1) [ inl one ↦ rw one refl | inr other ↦ 
 none_in_common : (s : ℕ) (bytes : List ℕ) (black white : sets.FinSet nat_cmp) → ArePoints bytes 1 (s * s) black
     → ArePoints bytes 2 (s * s) white → have_common_point s black white ≡ false
 unfolding have_common_point
-none_in_common s bytes black white b w =
-    any_below_false (s * s) (λ p. sets.contains black p && sets.contains white p)
-    (λ p on. rw (b p, w p) (not_both (ltb p (s * s)) (byte_at bytes p)))
+none_in_common s bytes black white b w = grind (arith, any_below_false, not_both)
 
 -- the cell of a point by the two sets is that of its byte
 cell_by_sets : (s : ℕ) (bytes : List ℕ) (black white : sets.FinSet nat_cmp) (p : ℕ) → p < s * s

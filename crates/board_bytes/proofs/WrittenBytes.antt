@@ -1,6 +1,6 @@
 -- The bytes that are written of a position, and the position that is read from them.
 use Rattle.std.proofs.Common.{◌≡◌, ◌∙◌, ℕ, ◌+◌, ◌-◌, ◌*◌, ◌<◌, ◌≤◌, ◌++◌, true, false, List, [], ◌∷◌, map, length}
-use Rattle.std.proofs.Common.{refl, sym, ap, subst, arith, inl, inr, set, take, drop, replicate, length-take, length-set}
+use Rattle.std.proofs.Common.{refl, sym, ap, arith, set, take, drop, replicate, length-take, length-set}
 use Rattle.std.proofs.Common.{get_or-take, Option, Some, None, Ok}
 use Rattle.std.specs.Prelude.{slice_index_or, IfSome}
 use Rattle.std.specs.List.{list_all}
@@ -12,14 +12,14 @@ use Rattle.go_rules.specs.declared.Cell.{Cell}
 use Rattle.go_rules.specs.declared.Cell.TheVariants.{Empty, Black, White}
 use Rattle.go_rules.specs.declared.Colour.{Colour}
 use Rattle.go_rules.specs.declared.Colour.TheVariants.{Black as black, White as white}
-use Rattle.go_rules.specs.Board.{largest_points, largest_size, IsSize}
+use Rattle.go_rules.specs.Board.{largest_points, largest_size}
 use Rattle.go_rules.specs.Position.{BoardState, IsPosition, board_of}
-use Rattle.go_rules.specs.Strings.{cell_at, is_stone, liberties}
+use Rattle.go_rules.specs.Strings.{cell_at}
 use Rattle.go_base.specs.Setups.{has_dead_string}
 use Rattle.go_base.proofs.Setups.{none_dead}
 use Rattle.go_base.proofs.SidesOfPoints.{square_small}
 use Rattle.board_bytes.specs.declared.board.BoardBytes.{BoardBytes}
-use Rattle.board_bytes.specs.Bytes.{is_cell_byte, cell_of, byte_of, point_bytes, stones_of, with_ban, with_stones}
+use Rattle.board_bytes.specs.Bytes.{is_cell_byte, cell_of, byte_of, point_bytes, stones_of, with_ban}
 use Rattle.board_bytes.specs.Bytes.{position_of, bytes_of, ban_byte, ban_point}
 use Rattle.board_bytes.proofs.Boards.{by_stones}
 
@@ -41,17 +41,7 @@ IsWritten-none pos bytes e = record {
 pub IsWritten-more : {pos : BoardState} {n : ℕ} {bytes : List ℕ} → IsWritten pos n bytes → n < pos.size * pos.size
     → pos.size ≤ largest_size → IsWritten pos (n + 1) (set bytes n (byte_of (cell_at pos.cells n)))
 IsWritten-more {pos} {n} {bytes} h on small =
-    let few = square_small pos.size small in
-    let b = byte_of (cell_at pos.cells n) in
-    record {
-      whole = length-set bytes n b ∙ h.whole;
-      filled = λ k below. elim (cases_eq k n) [
-        | inl e ↦ subst (λ q. slice_index_or (set bytes n b) q 0 ≡ byte_of (cell_at pos.cells q)) (sym e)
-            (get_or-set_same bytes n b 0 (omega (arith, h.whole, few, on)))
-        | inr ne ↦ get_or-set_other bytes n k b 0 ne ∙ h.filled k (omega (arith, below, ne))
-      ];
-      padded = drop-set-lt (pos.size * pos.size) bytes n b on ∙ h.padded;
-    }
+    grind (arith, square_small, length-set, cases_eq, get_or-set_same, get_or-set_other, drop-set-lt)
 
 -- the bytes of the points are those of the cells
 points_written : (pos : BoardState) (bytes : List ℕ) → IsWritten pos (pos.size * pos.size) bytes → IsPosition pos
@@ -68,9 +58,7 @@ points_written pos bytes h is =
 pub IsWritten-all : (pos : BoardState) (bytes : List ℕ) → IsWritten pos (pos.size * pos.size) bytes → IsPosition pos
     → bytes ≡ map byte_of pos.cells ++ replicate (largest_points - pos.size * pos.size) 0
 IsWritten-all pos bytes h is =
-    sym (take-append-drop (pos.size * pos.size) bytes)
-    ∙ ap (λ t. t ++ drop (pos.size * pos.size) bytes) (points_written pos bytes h is)
-    ∙ ap (λ t. map byte_of pos.cells ++ t) h.padded
+    grind (arith, take-append-drop (pos.size * pos.size) bytes, points_written pos bytes h is)
 
 -- the byte of a cell names it
 cell_back : (cell : Cell) → cell_of (byte_of cell) ≡ cell
@@ -96,11 +84,7 @@ bytes_are_named (cell ∷ cells) = rw (byte_is_named cell, bytes_are_named cells
 
 -- no string of a position is dead
 none_is_dead : (pos : BoardState) → IsPosition pos → has_dead_string pos.size pos.cells ≡ false
-none_is_dead pos is = none_dead pos.size pos.cells (λ p on. elim (cases_Bool (is_stone (cell_at pos.cells p))) [
-  | inl stone ↦ let some = is.alive p on stone in
-      rw (stone, ne_eqb (liberties pos.size pos.cells p) 0 (λ none. omega (arith, some, none))) refl
-  | inr empty ↦ rw empty refl
-])
+none_is_dead pos is = grind (arith, none_dead, cases_Bool, ne_eqb)
 
 -- the stones of a position are read from their bytes
 stones_back : (pos : BoardState) → IsPosition pos
@@ -127,21 +111,14 @@ ban_back s cells (Some ban) h = ban_back_at s cells ban.0 ban.1 h.0 h.1
 -- the bytes of the points are those of the cells
 points_back : (pos : BoardState) → IsPosition pos → point_bytes (bytes_of pos) ≡ map byte_of pos.cells
 unfolding bytes_of
-points_back pos is =
-    ap (λ n. take n (map byte_of pos.cells ++ replicate (largest_points - pos.size * pos.size) 0))
-    (sym (length-map pos.cells byte_of ∙ is.cells))
-    ∙ take-append_seam (map byte_of pos.cells) (replicate (largest_points - pos.size * pos.size) 0)
+points_back pos is = grind (arith, length-map, take-append_seam)
 
 -- what is written of a position is read as this position
 pub read_back : (pos : BoardState) → IsPosition pos → position_of (bytes_of pos) ≡ Ok pos
 unfolding bytes_of
 read_back pos is =
-    let sized : IsSize pos.size = record { at_least = is.size_at_least; at_most = is.size_at_most } in
-    sym (by_stones (bytes_of pos) sized (ap (list_all is_cell_byte) (points_back pos is)
-    ∙ bytes_are_named pos.cells))
-    ∙ ap (λ bytes. with_stones (bytes_of pos) (stones_of pos.size bytes)) (points_back pos is)
-    ∙ ap (with_stones (bytes_of pos)) (stones_back pos is)
-    ∙ rw (ban_back pos.size pos.cells pos.ban is.ban) refl
+    grind (arith, by_stones (bytes_of pos), points_back pos is, bytes_are_named pos.cells, stones_back pos is,
+        ban_back pos.size pos.cells pos.ban is.ban)
 
 -- bytes that are those of a position are read as it
 pub read_back_from : (pos : BoardState) (bytes : BoardBytes) → bytes ≡ bytes_of pos → IsPosition pos

@@ -1,21 +1,17 @@
 -- Which of the two strings is named first does not matter.
 use Rattle.std.proofs.Common.{◌≡◌, ℕ, zero, suc, ◌*◌, ◌<◌, ◌&&◌, ◌||◌, Bool, true, false, not, cond, Ok, Err, Result}
-use Rattle.std.proofs.Common.{refl, sym, ap, subst, inl, inr, ◌∙◌}
+use Rattle.std.proofs.Common.{refl, sym, ap, subst, arith}
 use Rattle.std.proofs.lemmas.Bool.{cases_Bool, both_ways}
 use Rattle.go_rules.specs.declared.Colour.{Colour}
 use Rattle.go_rules.specs.declared.Illegal.{Illegal}
-use Rattle.go_rules.specs.Replay.{led_to}
-use Rattle.go_rules.specs.Strings.{cell_at, same_cell, is_liberty}
-use Rattle.go_rules.specs.Position.{BoardState, stone_of}
+use Rattle.go_rules.specs.Position.{BoardState}
 use Rattle.go_rules.specs.Play.{play, pass}
 use Rattle.go_rules.proofs.StringMembers.{string_back}
 use Rattle.go_rules.proofs.Counts.{any_below_same}
 use Rattle.go_rules.proofs.PlayLaws.{play_size}
-use Rattle.go_base.specs.Surroundings.{is_only_liberty, is_last_liberty_of_enemy}
 use Rattle.connect_rules.specs.declared.link.Link.{Link}
-use Rattle.connect_rules.specs.ConnectingMoves.{is_facing, is_between, is_capture, is_connecting_move}
-use Rattle.connect_rules.specs.Connection.{both_stand, is_one_string, mover_of, leads_to, is_move_to, some_move_to}
-use Rattle.connect_rules.specs.Connection.{can_connect}
+use Rattle.connect_rules.specs.ConnectingMoves.{is_between, is_capture, is_connecting_move}
+use Rattle.connect_rules.specs.Connection.{both_stand, is_one_string, mover_of, leads_to, some_move_to, can_connect}
 use Rattle.connect_rules.specs.InWords.{exchanged}
 
 -- two facts hold in either order
@@ -34,20 +30,12 @@ or_either false false = refl
 
 -- both strings stand in either order
 stand-exchanged : (link : Link) (pos : BoardState) → both_stand (exchanged link) pos ≡ both_stand link pos
-stand-exchanged link pos = and_either (same_cell (cell_at pos.cells link.b) (stone_of link.colour))
-    (same_cell (cell_at pos.cells link.a) (stone_of link.colour))
+stand-exchanged link pos = grind (arith, and_either)
 
 -- the string of the one holds the other in either order
 one_string-exchanged : (link : Link) (pos : BoardState) → link.a < pos.size * pos.size → link.b < pos.size * pos.size
     → is_one_string (exchanged link) pos ≡ is_one_string link pos
-one_string-exchanged link pos a_on b_on = elim (cases_Bool (is_one_string link pos)) [
-  | inl one ↦ string_back pos.size pos.cells link.a link.b a_on one ∙ sym one
-  | inr apart ↦ elim (cases_Bool (is_one_string (exchanged link) pos)) [
-    | inl one ↦ absurd
-        (both_ways (is_one_string link pos) apart (string_back pos.size pos.cells link.b link.a b_on one))
-    | inr both ↦ both ∙ sym apart
-  ]
-]
+one_string-exchanged link pos a_on b_on = grind (arith, cases_Bool, string_back, both_ways)
 
 -- the points between two strings lie between them in either order
 between_either : (s t f g o q : Bool) → ((t && s) || (g || f) || (q || o)) ≡ ((s && t) || (f || g) || (o || q))
@@ -57,14 +45,7 @@ between_either s t f g o q = rw (and_either t s, or_either g f, or_either q o) r
 move-exchanged : (link : Link) (pos : BoardState) (p : ℕ)
     → is_connecting_move (exchanged link) pos p ≡ is_connecting_move link pos p
 unfolding is_between is_capture
-move-exchanged link pos p =
-    let s = pos.size in
-    let cells = pos.cells in
-    ap (λ x. x || is_capture s cells link.b link.a p)
-    (between_either (is_liberty s cells link.a p) (is_liberty s cells link.b p) (is_facing s cells link.a link.b p)
-    (is_facing s cells link.b link.a p) (is_only_liberty s cells link.a p) (is_only_liberty s cells link.b p))
-    ∙ ap (λ x. is_between s cells link.a link.b p || x)
-    (or_either (is_last_liberty_of_enemy s cells link.b p) (is_last_liberty_of_enemy s cells link.a p))
+move-exchanged link pos p = grind (arith, between_either, or_either)
 
 -- tests that agree on the position that a play leads to agree on the play
 leads_same : (test other : BoardState → Bool) (r : Result BoardState Illegal)
@@ -76,17 +57,12 @@ leads_same test other (Err why) h = refl
 some_move-exchanged : (test other : BoardState → Bool) (link : Link) (own : Bool) (pos : BoardState)
     → ((p : ℕ) (new : BoardState) → play pos (mover_of link own) p ≡ Ok new → test new ≡ other new)
     → some_move_to test (exchanged link) own pos ≡ some_move_to other link own pos
-some_move-exchanged test other link own pos same =
-    any_below_same (pos.size * pos.size) (is_move_to test (exchanged link) own pos) (is_move_to other link own pos)
-    (λ p on. ap (λ x. x && leads_to test (play pos (mover_of link own) p)) (move-exchanged link pos p)
-    ∙ ap (λ x. is_connecting_move link pos p && x)
-    (leads_same test other (play pos (mover_of link own) p) (same p)))
+some_move-exchanged test other link own pos same = grind (arith, any_below_same, move-exchanged, leads_same)
 
 -- a play leaves a board of the same size
 pub size_after : (pos : BoardState) (c : Colour) (p : ℕ) (new : BoardState) → play pos c p ≡ Ok new → new.size ≡
     pos.size
-size_after pos c p new e =
-    subst (λ (r : Result BoardState Illegal). (led_to pos r).size ≡ pos.size) e (play_size pos c p)
+size_after pos c p new e = grind (arith, play_size pos c p)
 
 -- a node with the same parts is decided alike
 node_same : (own stand stand_too one one_too moves moves_too passed passed_too parts parts_too : Bool)
@@ -99,9 +75,7 @@ node_same own stand stand_too one one_too moves moves_too passed passed_too part
 pub exchange : (n : ℕ) (link : Link) (own : Bool) (pos : BoardState) → link.a < pos.size * pos.size
     → link.b < pos.size * pos.size → can_connect n (exchanged link) own pos ≡ can_connect n link own pos
 unfolding can_connect
-exchange zero link own pos a_on b_on =
-    ap (λ x. x && is_one_string (exchanged link) pos) (stand-exchanged link pos)
-    ∙ ap (λ x. both_stand link pos && x) (one_string-exchanged link pos a_on b_on)
+exchange zero link own pos a_on b_on = grind (arith, stand-exchanged, one_string-exchanged)
 exchange (suc n) link own pos a_on b_on =
     let here : (own : Bool) (side : Bool) (p : ℕ) (new : BoardState) → play pos (mover_of link side) p ≡ Ok new
     → can_connect n (exchanged link) own new ≡ can_connect n link own new =

@@ -1,8 +1,8 @@
 -- Where the reading of a node looks: in the active area of each question that has the node in its tree.
-use Rattle.std.proofs.Common.{◌≡◌, ◌⊎◌, ℕ, ◌*◌, ◌<◌, Bool, true, List, refl, sym, ap, subst, ◌∙◌, inl, inr}
+use Rattle.std.proofs.Common.{◌≡◌, ◌⊎◌, ℕ, ◌*◌, ◌<◌, Bool, true, List, refl, sym, ap, subst, ◌∙◌, inl, inr, arith}
 use Rattle.std.proofs.lemmas.Bool.{and_parts, eqb-true, eq-eqb}
 use Rattle.go_rules.specs.declared.Cell.{Cell}
-use Rattle.go_rules.specs.Strings.{cell_at, is_stone, same_cell, is_in_string, IsInString, IsLiberty}
+use Rattle.go_rules.specs.Strings.{cell_at, same_cell, is_in_string, IsInString, IsLiberty}
 use Rattle.go_rules.specs.Board.{are_neighbours}
 use Rattle.go_rules.specs.Neighbourhood.{neighbourhood_of}
 use Rattle.go_rules.specs.Position.{BoardState, stone_of}
@@ -91,9 +91,7 @@ move_near link pos p a_on b_on h = elim (move_gives link pos p h) [
 -- a stone of a colour is in its own string
 alone_in : (s : ℕ) (cells : List Cell) (link : Link) (t q : ℕ) → t < s * s
     → same_cell (cell_at cells t) (stone_of link.colour) ≡ true → alone t q ≡ true → is_in_string s cells t q ≡ true
-alone_in s cells link t q on stands h =
-    subst (λ r. is_in_string s cells t r ≡ true) (sym (eqb-true q t h))
-    (string_self s cells t on (ap is_stone (same_cell-true _ _ stands) ∙ stone_is link.colour))
+alone_in s cells link t q on stands h = grind (arith, eqb-true, string_self, same_cell-true, stone_is)
 
 -- the point names one of the two strings
 abbrev pub IsEnd : Link → ℕ → Type 0

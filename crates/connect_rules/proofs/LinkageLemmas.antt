@@ -4,21 +4,19 @@ use Rattle.std.proofs.Common.{Option, Some, None, is_some, refl, sym, ap, subst,
 use Rattle.std.proofs.lemmas.Bool.{cases_Bool, both_ways, and_parts, and_from}
 use Rattle.go_rules.specs.Below.{any_below, first_below}
 use Rattle.go_rules.specs.Position.{BoardState}
-use Rattle.go_rules.specs.Play.{play, pass}
 use Rattle.go_rules.proofs.Counts.{any_below_none, first_below_gives}
 use Rattle.read_rules.specs.declared.question.Spot.{Spot}
-use Rattle.read_rules.specs.declared.question.Spot.TheVariants.{At, Pass}
+use Rattle.read_rules.specs.declared.question.Spot.TheVariants.{Pass}
 use Rattle.read_rules.specs.GameTree.{at_point}
 use Rattle.connect_rules.specs.declared.link.Link.{Link}
 use Rattle.connect_rules.specs.declared.question.LinkKind.{LinkKind}
 use Rattle.connect_rules.specs.declared.question.LinkKind.TheVariants.{Connect, Disconnect}
 use Rattle.connect_rules.specs.declared.question.LinkQuestion.{LinkQuestion}
 use Rattle.connect_rules.specs.declared.question.Linkage.{Linkage}
-use Rattle.connect_rules.specs.Connection.{both_stand, is_one_string, mover_of, has_way}
+use Rattle.connect_rules.specs.Connection.{both_stand, is_one_string, has_way}
 use Rattle.connect_rules.specs.Connection.{can_connect, succeeds, first_success, pass_parts}
 use Rattle.connect_rules.specs.Linkages.{is_connect, link_of, is_about, is_attained, pass_attains}
-use Rattle.connect_rules.specs.Linkages.{first_move_of, is_yes}
-use Rattle.connect_rules.specs.Linkages.{linkage_of}
+use Rattle.connect_rules.specs.Linkages.{first_move_of, is_yes, linkage_of}
 use Rattle.connect_rules.specs.InWords.{Succeeds, IsFirstPoint, IsFirstMove}
 use Rattle.connect_rules.proofs.TreeLemmas.{connects-joined, connects-own, connects-other, leads_gives, leads_from}
 
@@ -30,10 +28,7 @@ or_true false = refl
 -- there is a least number that passes exactly if one passes
 pub first_any : (n : ℕ) (test : ℕ → Bool) → is_some (at_point (first_below n test)) ≡ any_below n test
 first_any zero test = refl
-first_any (suc n) test = elim (cases_Bool (any_below n test)) [
-  | inl t ↦ rw t (first_any n test ∙ t ∙ sym (or_true (test n)))
-  | inr f ↦ rw f (elim (cases_Bool (test n)) [ inl t ↦ rw t refl | inr g ↦ rw g refl ])
-]
+first_any (suc n) test = grind (arith, cases_Bool, or_true, first_any n test)
 
 -- the other side has its way by its pass or by a move
 by_pass_or_move : (c m : Bool) (move : Option Spot) → is_some move ≡ m
@@ -47,17 +42,14 @@ connect_apart : (n : ℕ) (link : Link) (pos : BoardState) → both_stand link p
     → is_one_string link pos ≡ false
     → can_connect (suc n) link true pos
     ≡ is_some (cond (is_one_string link pos) (Some Pass) (at_point (first_success n link true pos)))
-connect_apart n link pos stand apart = connects-own n link pos stand apart
-    ∙ rw apart (sym (first_any (pos.size * pos.size) (succeeds n link true pos)))
+connect_apart n link pos stand apart = grind (arith, connects-own, first_any)
 
 -- and parted exactly by a first move of the other side, its pass before all
 disconnect_apart : (n : ℕ) (link : Link) (pos : BoardState) → both_stand link pos ≡ true
     → is_one_string link pos ≡ false
     → not (can_connect (suc n) link false pos)
     ≡ is_some (cond (pass_parts n link pos) (Some Pass) (at_point (first_success n link false pos)))
-disconnect_apart n link pos stand apart = ap not (connects-other n link pos stand apart)
-    ∙ by_pass_or_move (can_connect n link true (pass pos)) (any_below (pos.size * pos.size) (succeeds n link false pos))
-    (at_point (first_success n link false pos)) (first_any (pos.size * pos.size) (succeeds n link false pos))
+disconnect_apart n link pos stand apart = grind (arith, connects-other, by_pass_or_move, first_any)
 
 -- the side that is asked about plays at the first node of strings that are apart: it has its way exactly by a first
 -- move
@@ -72,10 +64,7 @@ attained_by Disconnect n link pos stand apart = disconnect_apart n link pos stan
 -- a question about strings that are apart is attained exactly if it has a first move
 pub attained_apart : (q : LinkQuestion) (pos : BoardState) → q.plies ≢ 0 → both_stand (link_of q) pos ≡ true
     → is_one_string (link_of q) pos ≡ false → is_attained q pos ≡ is_some (first_move_of q pos)
-attained_apart q pos some stand apart =
-    let e : q.plies ≡ suc (q.plies - 1) = omega (arith, some) in
-    ap (λ n. has_way (is_connect q.kind) (can_connect n (link_of q) (is_connect q.kind) pos)) e
-    ∙ attained_by q.kind (q.plies - 1) (link_of q) pos stand apart
+attained_apart q pos some stand apart = grind (arith, attained_by q.kind)
 
 -- whether the question is attained on one string is by its kind alone
 one_by : (kind : LinkKind) (n : ℕ) (link : Link) (pos : BoardState) → both_stand link pos ≡ true
@@ -118,9 +107,8 @@ pub linkage_apart : (q : LinkQuestion) (pos : BoardState) → q.plies ≢ 0 → 
     → is_one_string (link_of q) pos ≡ false
     → linkage_of q pos ≡ record { yes = is_some (first_move_of q pos); at = first_move_of q pos }
 linkage_apart q pos some about apart =
-    let e = yes_about q pos about ∙ attained_apart q pos some (and_parts _ _ about).1 apart in
-    linkage_by q pos (is_some (first_move_of q pos)) e
-    ∙ ap (λ (at : Option Spot). record { yes = is_some (first_move_of q pos); at = at }) (if_some (first_move_of q pos))
+    grind (arith, yes_about q pos about, attained_apart q pos some, linkage_by q pos (is_some (first_move_of q pos)),
+        if_some (first_move_of q pos), and_parts)
 
 -- where strings are one, connect has the pass for its first move
 one_move : (kind : LinkKind) (one parts : Bool) (move : Option Spot) → one ≡ true
@@ -148,18 +136,12 @@ no_move q pos h =
 -- a point that succeeds by the test does so by the rules
 pub succeeds_gives : (n : ℕ) (link : Link) (own : Bool) (pos : BoardState) (p : ℕ) → succeeds n link own pos p ≡ true
     → Succeeds n link own pos p
-succeeds_gives n link own pos p h =
-    let parts = and_parts _ _ h in
-    let w = leads_gives (λ new. has_way own (can_connect n link (not own) new)) (play pos (mover_of link own) p)
-    parts.1 in
-    record { new = w.0; move = record { connecting = parts.0; legal = w.1 }; attains = w.2 }
+succeeds_gives n link own pos p h = grind (arith, and_parts, leads_gives)
 
 -- a point that succeeds by the rules does so by the test
 pub succeeds_from : (n : ℕ) (link : Link) (own : Bool) (pos : BoardState) (p : ℕ) → Succeeds n link own pos p
     → succeeds n link own pos p ≡ true
-succeeds_from n link own pos p w = and_from _ _ w.move.connecting
-    (leads_from (λ new. has_way own (can_connect n link (not own) new)) (play pos (mover_of link own) p) w.new
-    w.move.legal w.attains)
+succeeds_from n link own pos p w = grind (arith, and_from, leads_from)
 
 -- no number before the least passes
 before_first : (n : ℕ) (test : ℕ → Bool) (q r : ℕ) → first_below n test ≡ Some q → r < q → test r ≡ false
@@ -192,8 +174,7 @@ first_by : (q : LinkQuestion) (pos : BoardState) (passes : Bool) (found : Option
     → cond passes (Some Pass) (at_point found) ≡ Some spot → IsFirstMove q pos spot
 first_by q pos true found spot ps fs e = let same : Pass ≡ spot = cc in subst (IsFirstMove q pos) same ps
 first_by q pos false None spot ps fs e = absurd (let w = e in cc)
-first_by q pos false (Some p) spot ps fs e =
-    let same : At p ≡ spot = cc in subst (IsFirstMove q pos) same (first_point q pos p ps fs)
+first_by q pos false (Some p) spot ps fs e = grind (arith, first_point)
 
 -- a move that is there
 there_move : (move : Option Spot) → is_some move ≡ true → (spot : Spot) × (move ≡ Some spot)
@@ -209,15 +190,7 @@ one_first Disconnect one parts move h t = absurd (both_ways false refl t)
 -- a question that is attained has a first move
 has_first : (q : LinkQuestion) (pos : BoardState) → q.plies ≢ 0 → both_stand (link_of q) pos ≡ true
     → is_attained q pos ≡ true → (spot : Spot) × (first_move_of q pos ≡ Some spot)
-has_first q pos some stand h = elim (cases_Bool (is_one_string (link_of q) pos)) [
-  | inl one ↦ (
-    Pass,
-    one_first q.kind (is_one_string (link_of q) pos) (pass_parts (q.plies - 1) (link_of q) pos)
-        (at_point (first_success (q.plies - 1) (link_of q) (is_connect q.kind) pos)) one
-        (sym (attained_one q pos stand one) ∙ h),
-  )
-  | inr apart ↦ there_move (first_move_of q pos) (sym (attained_apart q pos some stand apart) ∙ h)
-]
+has_first q pos some stand h = grind (arith, cases_Bool, one_first, attained_one, there_move, attained_apart)
 
 -- an answer that is yes has the first move that attains it
 pub answer_first : (q : LinkQuestion) (pos : BoardState) → q.plies ≢ 0 → (linkage_of q pos).yes ≡ true
@@ -236,11 +209,9 @@ answer_first q pos some h =
 -- the answer to connect
 pub yes_connect : (q : LinkQuestion) (pos : BoardState) → is_about q pos ≡ true → q.kind ≡ Connect
     → (linkage_of q pos).yes ≡ can_connect q.plies (link_of q) true pos
-yes_connect q pos about e = yes_of q pos about
-    ∙ ap (λ k. has_way (is_connect k) (can_connect q.plies (link_of q) (is_connect k) pos)) e
+yes_connect q pos about e = grind (arith, yes_of)
 
 -- the answer to disconnect
 pub yes_disconnect : (q : LinkQuestion) (pos : BoardState) → is_about q pos ≡ true → q.kind ≡ Disconnect
     → (linkage_of q pos).yes ≡ not (can_connect q.plies (link_of q) false pos)
-yes_disconnect q pos about e = yes_of q pos about
-    ∙ ap (λ k. has_way (is_connect k) (can_connect q.plies (link_of q) (is_connect k) pos)) e
+yes_disconnect q pos about e = grind (arith, yes_of)

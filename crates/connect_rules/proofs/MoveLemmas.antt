@@ -1,5 +1,5 @@
 -- The test for a connecting move says what the rules say in terms of strings and liberties.
-use Rattle.std.proofs.Common.{◌≡◌, ℕ, ◌*◌, ◌<◌, ◌&&◌, ◌||◌, true, List, inl, inr}
+use Rattle.std.proofs.Common.{◌≡◌, ℕ, ◌*◌, ◌<◌, ◌&&◌, ◌||◌, true, List, inl, inr, arith}
 use Rattle.std.proofs.lemmas.Bool.{and_parts, and_from, or_cases, or_left, or_right}
 use Rattle.go_rules.specs.declared.Cell.{Cell}
 use Rattle.go_rules.specs.Strings.{is_liberty}
@@ -125,12 +125,4 @@ move_from link pos p a_on b_on w = test_from pos.size pos.cells link.a link.b p 
 -- a connecting move is a point of the board
 pub move_on : (link : Link) (pos : BoardState) (p : ℕ) → is_connecting_move link pos p ≡ true
     → p < pos.size * pos.size
-move_on link pos p h = elim (move_gives link pos p h) [
-  | shared x y ↦ x.on_board
-  | a_faces q w ↦ w.its.on_board
-  | b_faces q w ↦ w.its.on_board
-  | a_extends w ↦ w.last.on_board
-  | b_extends w ↦ w.last.on_board
-  | a_takes q w ↦ w.last.on_board
-  | b_takes q w ↦ w.last.on_board
-]
+move_on link pos p h = grind (arith, move_gives)

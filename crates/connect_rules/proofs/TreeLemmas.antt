@@ -1,6 +1,6 @@
 -- The five rules of the tree, and that more plies join no fewer strings.
 use Rattle.std.proofs.Common.{◌≡◌, ℕ, zero, suc, ◌*◌, ◌&&◌, Bool, true, false, not, Ok, Err, Result}
-use Rattle.std.proofs.Common.{refl, sym, ap, inl, inr, ◌∙◌}
+use Rattle.std.proofs.Common.{refl, sym, ap, inl, inr, ◌∙◌, arith}
 use Rattle.std.proofs.lemmas.Bool.{cases_Bool, both_ways, and_parts, and_from, not-true}
 use Rattle.go_rules.specs.declared.Illegal.{Illegal}
 use Rattle.go_rules.specs.Strings.{IsInString}
@@ -31,9 +31,7 @@ stand_from link pos w = and_from _ _ (same_cell-from _ _ w.a) (same_cell-from _ 
 
 -- both strings stand by the cells where they do by the test
 pub stand_gives : (link : Link) (pos : BoardState) → both_stand link pos ≡ true → BothStand link pos
-stand_gives link pos h =
-    let parts = and_parts _ _ h in
-    record { a = same_cell-true _ _ parts.0; b = same_cell-true _ _ parts.1 }
+stand_gives link pos h = grind (arith, and_parts, same_cell-true)
 
 -- the first rule: strings of which one is gone cannot be joined
 pub connects-gone : (n : ℕ) (link : Link) (own : Bool) (pos : BoardState) → both_stand link pos ≡ false
@@ -53,10 +51,7 @@ connects-joined (suc n) link own pos h one = rw (h, one) refl
 pub connects-no_plies : (link : Link) (own : Bool) (pos : BoardState) → is_one_string link pos ≡ false
     → can_connect 0 link own pos ≡ false
 unfolding can_connect
-connects-no_plies link own pos apart = elim (cases_Bool (both_stand link pos)) [
-  | inl t ↦ rw (t, apart) refl
-  | inr f ↦ rw f refl
-]
+connects-no_plies link own pos apart = grind (arith, cases_Bool)
 
 -- the fourth rule: at the turn of their own colour some move joins them
 pub connects-own : (n : ℕ) (link : Link) (pos : BoardState) → both_stand link pos ≡ true
@@ -77,11 +72,7 @@ connects-other n link pos h apart = rw (h, apart) refl
 pub some_move_gives : (test : BoardState → Bool) (link : Link) (own : Bool) (pos : BoardState)
     → some_move_to test link own pos ≡ true
     → (p : ℕ) × ((new : BoardState) × (IsMove link own pos p new × (test new ≡ true)))
-some_move_gives test link own pos h =
-    let p = any_below_gives (pos.size * pos.size) (is_move_to test link own pos) h in
-    let parts = and_parts _ _ p.2 in
-    let new = leads_gives test (play pos (mover_of link own) p.0) parts.1 in
-    (p.0, (new.0, (record { connecting = parts.0; legal = new.1 }, new.2)))
+some_move_gives test link own pos h = grind (arith, any_below_gives, and_parts, leads_gives)
 
 -- where a move passes a test, some does
 pub some_move_from : (test : BoardState → Bool) (link : Link) (own : Bool) (pos : BoardState) (p : ℕ) (new : BoardState)
@@ -101,9 +92,7 @@ apart_from link pos h = elim (cases_Bool (is_one_string link pos)) [
 -- at their own turn strings that can be joined have a move that does it, and the other way round
 pub own_gives : (n : ℕ) (link : Link) (pos : BoardState) → both_stand link pos ≡ true → is_one_string link pos ≡ false
     → can_connect (suc n) link true pos ≡ true → SomeMoveJoins n link pos
-own_gives n link pos stand apart h =
-    let w = some_move_gives (can_connect n link false) link true pos (sym (connects-own n link pos stand apart) ∙ h) in
-    record { point = w.0; new = w.1.0; move = w.1.1.0; joins = w.1.1.1 }
+own_gives n link pos stand apart h = grind (arith, some_move_gives, connects-own)
 
 -- a move that joins strings makes them such as can be joined
 pub own_from : (n : ℕ) (link : Link) (pos : BoardState) → both_stand link pos ≡ true → is_one_string link pos ≡ false
@@ -131,49 +120,17 @@ other_gives n link pos stand apart h =
 pub other_from : (n : ℕ) (link : Link) (pos : BoardState) → both_stand link pos ≡ true
     → is_one_string link pos ≡ false → NoMoveParts n link pos → can_connect (suc n) link false pos ≡ true
 other_from n link pos stand apart w =
-    let test : BoardState → Bool = λ new. not (can_connect n link true new) in
-    connects-other n link pos stand apart
-    ∙ and_from _ _ w.passed (elim (cases_Bool (some_move_to test link false pos)) [
-      | inl t ↦
-          let m = some_move_gives test link false pos t in
-          absurd (both_ways (can_connect n link true m.1.0) (not-true (can_connect n link true m.1.0) m.1.1.1)
-          (w.played m.0 m.1.0 m.1.1.0))
-      | inr f ↦ rw f refl
-    ])
+    grind (arith, connects-other, and_from, cases_Bool, some_move_gives, both_ways, not-true)
 
 -- strings that can be joined stand
 pub joined_stand : (n : ℕ) (link : Link) (own : Bool) (pos : BoardState) → can_connect n link own pos ≡ true
     → both_stand link pos ≡ true
-joined_stand n link own pos h = elim (cases_Bool (both_stand link pos)) [
-  | inl t ↦ t
-  | inr f ↦ absurd (both_ways (can_connect n link own pos) (connects-gone n link own pos f) h)
-]
+joined_stand n link own pos h = grind (arith, cases_Bool, both_ways, connects-gone)
 
 -- one more ply parts no strings
 pub one_more : (n : ℕ) (link : Link) (own : Bool) (pos : BoardState) → can_connect n link own pos ≡ true
     → can_connect (suc n) link own pos ≡ true
-one_more zero link own pos h = elim (cases_Bool (is_one_string link pos)) [
-  | inl one ↦ connects-joined 1 link own pos (joined_stand 0 link own pos h) one
-  | inr apart ↦ absurd (both_ways (can_connect 0 link own pos) (connects-no_plies link own pos apart) h)
-]
+one_more zero link own pos h = grind (arith, cases_Bool, connects-joined, joined_stand, both_ways, connects-no_plies)
 one_more (suc n) link own pos h =
-    let stand = joined_stand (suc n) link own pos h in
-    elim (cases_Bool (is_one_string link pos)) [
-      | inl one ↦ connects-joined (suc (suc n)) link own pos stand one
-      | inr apart ↦ elim (cases_Bool own) [
-        | inl t ↦
-            let w = own_gives n link pos stand apart (sym (ap (λ o. can_connect (suc n) link o pos) t) ∙ h) in
-            ap (λ o. can_connect (suc (suc n)) link o pos) t ∙ own_from (suc n) link pos stand apart (record {
-              point = w.point;
-              new = w.new;
-              move = w.move;
-              joins = one_more n link false w.new w.joins;
-            })
-        | inr f ↦
-            let w = other_gives n link pos stand apart (sym (ap (λ o. can_connect (suc n) link o pos) f) ∙ h) in
-            ap (λ o. can_connect (suc (suc n)) link o pos) f ∙ other_from (suc n) link pos stand apart (record {
-              passed = one_more n link true (pass pos) w.passed;
-              played = λ p new m. one_more n link true new (w.played p new m);
-            })
-      ]
-    ]
+    grind (arith, joined_stand, cases_Bool, connects-joined, own_gives, own_from, other_gives, other_from,
+        one_more n link false, one_more n link true (pass pos), one_more n link true)

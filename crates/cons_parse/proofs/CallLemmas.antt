@@ -62,17 +62,13 @@ pub no_item : (front : List Item) (tokens : List Token) (at : ℕ) (all : Option
     → at < length tokens
     → with_front front (items_after 0 (drop at tokens)) ≡ all
     → item_at (get_or tokens at d) (drop (at + 1) tokens) ≡ None → all ≡ None
-no_item front tokens at all d l h f =
-    let m = drop_more tokens at d l in
-    sym h ∙ ap (with_front front) (ap (items_after 0) m ∙ none_step (get_or tokens at d) (drop (at + 1) tokens) f)
+no_item front tokens at all d l h f = grind (arith, drop_more, none_step)
 
 -- at the end
 pub last_item : (front : List Item) (tokens : List Token) (at : ℕ) (all : Option (List Item)) → length tokens ≤ at
     → with_front front (items_after 0 (drop at tokens)) ≡ all → all ≡ Some front
 unfolding items_after
-last_item front tokens at all l h =
-    sym h ∙ (ap (λ (ts : List Token). with_front front (items_after 0 ts)) (drop_all at tokens l)
-    ∙ ap (λ is. Some is) (append-nil front))
+last_item front tokens at all l h = grind (arith, drop_all, append-nil)
 
 -- the arguments of a call: fewer than two tokens
 pub too_short : (ts : List Token) → length ts < 2 → arguments_at ts ≡ None
@@ -121,29 +117,20 @@ two_of ts at d h =
 -- an argument that was read and those behind it are one list
 args_more : (args : List Arg) (a : Arg) (at : ℕ) (rest : Option (List Arg × ℕ))
     → with_args args at (option_map (λ m. (a ∷ m.0, 2 + m.1)) rest) ≡ with_args (args ++ a ∷ []) (at + 2) rest
-args_more args a at None = refl
-args_more args a at (Some m) =
-    let e : args ++ a ∷ m.0 ≡ args ++ a ∷ [] ++ m.0 = sym (append_assoc args (a ∷ []) m.0) in
-    let n : at + (2 + m.1) ≡ at + 2 + m.1 = omega arith in
-    ap (λ (p : List Arg × ℕ). Some p) (rw (e, n) refl)
+args_more args a at v3 = grind (arith, append_assoc)
 
 -- what stands in an argument's place is none
 pub no_arg : (args : List Arg) (ts : List Token) (at : ℕ) (d : Token) (all : Option (List Arg × ℕ))
     → at + 1 < length ts → arg_of (get_or ts at d) ≡ None
     → with_args args at (listed_at (drop at ts)) ≡ all → all ≡ None
-no_arg args ts at d all l n h =
-    sym h ∙ ap (with_args args at)
-    (two_of ts at d l ∙ ap (λ (a : Option Arg). arg_before a (get_or ts (at + 1) d) (listed_at (drop (at + 2) ts))) n)
+no_arg args ts at d all l n h = grind (arith, two_of ts at d l)
 
 -- the last argument
 pub last_arg : (args : List Arg) (ts : List Token) (at : ℕ) (d : Token) (all : Option (List Arg × ℕ)) (a : Arg)
     → at + 1 < length ts → arg_of (get_or ts at d) ≡ Some a
     → is_close (get_or ts (at + 1) d) ≡ true
     → with_args args at (listed_at (drop at ts)) ≡ all → all ≡ Some (args ++ a ∷ [], at + 2)
-last_arg args ts at d all a l n e h =
-    sym h ∙ (ap (with_args args at)
-    (two_of ts at d l
-    ∙ ap (λ (a : Option Arg). arg_before a (get_or ts (at + 1) d) (listed_at (drop (at + 2) ts))) n) ∙ rw e refl)
+last_arg args ts at d all a l n e h = grind (arith, two_of ts at d l)
 
 -- an argument and a comma
 pub next_arg : (args : List Arg) (ts : List Token) (at : ℕ) (d : Token) (all : Option (List Arg × ℕ)) (a : Arg)
@@ -151,23 +138,14 @@ pub next_arg : (args : List Arg) (ts : List Token) (at : ℕ) (d : Token) (all :
     → is_close (get_or ts (at + 1) d) ≡ false → is_comma (get_or ts (at + 1) d) ≡ true
     → with_args args at (listed_at (drop at ts)) ≡ all
     → with_args (args ++ a ∷ []) (at + 2) (listed_at (drop (at + 2) ts)) ≡ all
-next_arg args ts at d all a l n e f h =
-    sym (args_more args a at (listed_at (drop (at + 2) ts)))
-    ∙ (sym (ap (with_args args at)
-    (two_of ts at d l
-    ∙ ap (λ (a : Option Arg). arg_before a (get_or ts (at + 1) d) (listed_at (drop (at + 2) ts))) n)
-    ∙ rw (e, f) refl) ∙ h)
+next_arg args ts at d all a l n e f h = grind (arith, args_more args, two_of ts at d l)
 
 -- an argument and neither
 pub stray_token : (args : List Arg) (ts : List Token) (at : ℕ) (d : Token) (all : Option (List Arg × ℕ)) (a : Arg)
     → at + 1 < length ts → arg_of (get_or ts at d) ≡ Some a
     → is_close (get_or ts (at + 1) d) ≡ false → is_comma (get_or ts (at + 1) d) ≡ false
     → with_args args at (listed_at (drop at ts)) ≡ all → all ≡ None
-stray_token args ts at d all a l n e f h =
-    sym h ∙ (ap (with_args args at)
-    (two_of ts at d l
-    ∙ ap (λ (a : Option Arg). arg_before a (get_or ts (at + 1) d) (listed_at (drop (at + 2) ts))) n)
-    ∙ rw (e, f) refl)
+stray_token args ts at d all a l n e f h = grind (arith, two_of ts at d l)
 
 -- arguments take two tokens at least
 listed_short : (ts : List Token) → length ts < 2 → listed_at ts ≡ None
@@ -179,5 +157,4 @@ listed_short (t ∷ u ∷ ts) h = absurd (omega arith)
 -- the tokens end before the parenthesis
 pub no_end : (args : List Arg) (ts : List Token) (at : ℕ) (all : Option (List Arg × ℕ)) → length ts ≤ at + 1
     → with_args args at (listed_at (drop at ts)) ≡ all → all ≡ None
-no_end args ts at all l h =
-    sym h ∙ ap (with_args args at) (listed_short (drop at ts) (omega (arith, length-drop at ts)))
+no_end args ts at all l h = grind (arith, listed_short, length-drop)

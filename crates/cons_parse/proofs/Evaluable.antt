@@ -1,7 +1,7 @@
 -- An expression without faults can be evaluated.
-use Rattle.std.proofs.Common.{◌≡◌, ℕ, suc, ◌+◌, ◌-◌, ◌≤◌, Bool, true, false, ◌&&◌, ◌||◌, nat_le, nat_lt, cond, List, []}
-use Rattle.std.proofs.Common.{◌∷◌, ◌++◌, length, refl, ap, sym, ◌∙◌, arith}
-use Rattle.std.specs.List.{list_any, list_all, slice_get}
+use Rattle.std.proofs.Common.{◌≡◌, ℕ, ◌+◌, ◌-◌, ◌≤◌, Bool, true, false, ◌&&◌, nat_le, nat_lt, cond, List, []}
+use Rattle.std.proofs.Common.{◌∷◌, ◌++◌, length, refl, arith}
+use Rattle.std.specs.List.{list_any, list_all}
 use Rattle.std.proofs.lemmas.Bool.{ltb-false, le-leb, and_parts, and_from, or_parts, not-false}
 use Rattle.std.proofs.lemmas.List.{length-append}
 use Rattle.pat_types.specs.declared.pattern.LabelAt.{LabelAt}
@@ -11,15 +11,13 @@ use Rattle.pat_types.specs.declared.expr.Function.{Function}
 use Rattle.pat_types.specs.declared.expr.Function.TheVariants.{OfPoint, OfPair, OfPoints, OfMoves}
 use Rattle.pat_types.specs.declared.expr.Expr.{Expr, Num, Call, Not', Neg', Bin'}
 use Rattle.pat_types.specs.declared.expr.Op.{Op}
-use Rattle.pat_types.specs.Labels.{names, arity_of, takes_moves, is_point, is_move, end_in_point, may_call}
-use Rattle.pat_types.specs.Labels.{can_evaluate, leaf_count}
+use Rattle.pat_types.specs.Labels.{names, arity_of, is_point, is_move, end_in_point, may_call, can_evaluate, leaf_count}
 use Rattle.cons_parse.specs.declared.token.Name.{Name}
 use Rattle.cons_parse.specs.declared.token.Name.TheVariants.{Letter, Known, Unknown}
 use Rattle.cons_parse.specs.declared.calls.Item.{Item}
-use Rattle.cons_parse.specs.declared.calls.Item.TheVariants as item
 use Rattle.cons_parse.specs.Grammar as written
 use Rattle.cons_parse.specs.Grammar.{Written, spelling}
-use Rattle.cons_parse.specs.Faults.{is_nowhere, is_some_nowhere, ends_nowhere, has_stray_pass, is_miscalled, misses}
+use Rattle.cons_parse.specs.Faults.{is_nowhere, ends_nowhere, is_miscalled, misses}
 use Rattle.cons_parse.specs.Faults.{is_unknown, is_unknown_call, is_unknown_label, is_unlabelled, some_call}
 use Rattle.cons_parse.specs.Trees.{Tree, NumTree, CallTree, NotTree, NegTree, BinTree, tree_of, meaning_of, call_tree}
 use Rattle.cons_parse.proofs.SmallNumbers.{is_small_item}
@@ -63,12 +61,7 @@ leaf_tree (Bin' op p a q b) = let x = leaf_tree a in let y = leaf_tree b in rw (
 -- all of two lists pass where all of each do
 all_append : (t : Item → Bool) (is js : List Item) → list_all t (is ++ js) ≡ (list_all t is && list_all t js)
 all_append t [] js = refl
-all_append t (i ∷ is) js =
-    ap (λ (b : Bool). t i && b) (all_append t is js) ∙ and_assoc (t i) (list_all t is) (list_all t js)
-  where
-    and_assoc : (a b c : Bool) → (a && (b && c)) ≡ ((a && b) && c)
-    and_assoc true b c = refl
-    and_assoc false b c = refl
+all_append t (i ∷ is) js = grind (arith, all_append t is js)
 
 -- arguments
 
@@ -89,19 +82,11 @@ move_of labels Nowhere k = refl
 all_points : (labels : List LabelAt) (args : List Arg) → list_any is_nowhere args ≡ false
     → list_any (is_unknown_label labels) args ≡ false → list_all (is_point labels) args ≡ true
 all_points labels [] h k = refl
-all_points labels (a ∷ args) h k =
-    let p = or_parts (is_nowhere a) (list_any is_nowhere args) h in
-    let q = or_parts (is_unknown_label labels a) (list_any (is_unknown_label labels) args) k in
-    and_from (is_point labels a) (list_all (is_point labels) args) (point_of labels a p.0 q.0)
-    (all_points labels args p.1 q.1)
+all_points labels (a ∷ args) h k = grind (arith, or_parts, and_from, point_of, all_points labels args)
 
 -- the last argument is the last of those behind the first
 last_of_more : (m p : Arg) (more : List Arg) → ends_nowhere (m ∷ p ∷ more) ≡ ends_nowhere (p ∷ more)
-last_of_more m p more =
-    let a : suc (suc (length more)) - 1 ≡ suc (length more) = omega arith in
-    let b : suc (length more) - 1 ≡ length more = omega arith in
-    ap (λ (n : ℕ). is_some_nowhere (slice_get (m ∷ p ∷ more) n)) a
-    ∙ ap (λ (n : ℕ). is_some_nowhere (slice_get (p ∷ more) n)) (sym b)
+last_of_more m p more = grind arith
 
 -- arguments without unknown labels, the last of them no pass, are moves and then a point
 moves_then_point : (labels : List LabelAt) (args : List Arg) → 1 ≤ length args → ends_nowhere args ≡ false
@@ -109,9 +94,7 @@ moves_then_point : (labels : List LabelAt) (args : List Arg) → 1 ≤ length ar
 moves_then_point labels [] l h k = absurd (omega arith)
 moves_then_point labels (p ∷ []) l h k = point_of labels p h (or_parts (is_unknown_label labels p) false k).0
 moves_then_point labels (m ∷ p ∷ more) l h k =
-    let q = or_parts (is_unknown_label labels m) (list_any (is_unknown_label labels) (p ∷ more)) k in
-    and_from (is_move labels m) (end_in_point labels (p ∷ more)) (move_of labels m q.0)
-    (moves_then_point labels (p ∷ more) (omega arith) (sym (last_of_more m p more) ∙ h) q.1)
+    grind (arith, or_parts, and_from, move_of, last_of_more, moves_then_point labels (p ∷ more))
 
 -- arguments without faults are as the function takes them
 args_if : (labels : List LabelAt) (v : Bool) (args : List Arg) → 1 ≤ length args
@@ -130,17 +113,7 @@ least_arity (OfMoves f) = omega arith
 -- a function without faults may be called so
 call_may : (labels : List LabelAt) (f : Function) (args : List Arg) → is_miscalled f args ≡ false
     → list_any (is_unknown_label labels) args ≡ false → may_call labels f args ≡ true
-call_may labels f args h k =
-    let p = or_parts (nat_lt (length args) (arity_of f).0 || nat_lt (arity_of f).1 (length args))
-    (has_stray_pass f args) h in
-    let q = or_parts (nat_lt (length args) (arity_of f).0) (nat_lt (arity_of f).1 (length args)) p.0 in
-    let low : (arity_of f).0 ≤ length args = ltb-false (length args) (arity_of f).0 q.0 in
-    let high : length args ≤ (arity_of f).1 = ltb-false (arity_of f).1 (length args) q.1 in
-    let some : 1 ≤ length args = omega (arith, low, least_arity f) in
-    and_from (nat_le (arity_of f).0 (length args) && nat_le (length args) (arity_of f).1) _
-    (and_from (nat_le (arity_of f).0 (length args)) (nat_le (length args) (arity_of f).1)
-    (le-leb (arity_of f).0 (length args) low) (le-leb (length args) (arity_of f).1 high))
-    (args_if labels (takes_moves f) args some p.1 k)
+call_may labels f args h k = grind (arith, or_parts, nat_lt, ltb-false, least_arity, and_from, nat_le, le-leb, args_if)
 
 -- a call without faults can be evaluated
 named_may : (labels : List LabelAt) (name : Name) (args : List Arg) → is_unknown name ≡ false
@@ -153,14 +126,12 @@ named_may labels Unknown args u h k = cc
 -- an expression in parentheses with small numbers has them inside
 small_inside : (e : Written) → list_all is_small_item (spelling (written.Parens e)) ≡ true
     → list_all is_small_item (spelling e) ≡ true
-small_inside e s = (and_parts (list_all is_small_item (spelling e)) true
-    (sym (all_append is_small_item (spelling e) (item.Close ∷ [])) ∙ s)).0
+small_inside e s = grind (arith, and_parts, all_append)
 
 -- an operator with small numbers has them on both sides
 small_sides : (op : Op) (a b : Written) → list_all is_small_item (spelling (written.Bin op a b)) ≡ true
     → (list_all is_small_item (spelling a) ≡ true) × (list_all is_small_item (spelling b) ≡ true)
-small_sides op a b s = and_parts (list_all is_small_item (spelling a)) (list_all is_small_item (spelling b))
-    (sym (all_append is_small_item (spelling a) (item.Operator op ∷ spelling b)) ∙ s)
+small_sides op a b s = grind (arith, and_parts, all_append)
 
 -- an expression with small numbers and no faults of its calls
 pub meaning_can : (labels : List LabelAt) (w : Written) → list_all is_small_item (spelling w) ≡ true
@@ -172,12 +143,7 @@ meaning_can labels (written.Parens e) s u h k = meaning_can labels e (small_insi
 meaning_can labels (written.Not e) s u h k = meaning_can labels e s u h k
 meaning_can labels (written.Neg e) s u h k = meaning_can labels e s u h k
 meaning_can labels (written.Bin op a b) s u h k =
-    let t = small_sides op a b s in
-    let v = or_parts (some_call is_unknown_call a) (some_call is_unknown_call b) u in
-    let i = or_parts (some_call misses a) (some_call misses b) h in
-    let l = or_parts (some_call (is_unlabelled labels) a) (some_call (is_unlabelled labels) b) k in
-    and_from (can_be labels (meaning_of a)) (can_be labels (meaning_of b)) (meaning_can labels a t.0 v.0 i.0 l.0)
-    (meaning_can labels b t.1 v.1 i.1 l.1)
+    grind (arith, small_sides, or_parts, and_from, meaning_can labels a, meaning_can labels b)
 
 -- a call is one leaf
 call_leaf : (name : Name) (args : List Arg) → leaves (call_tree name args) ≡ 1
@@ -189,9 +155,7 @@ call_leaf Unknown args = refl
 pub meaning_leaves : (w : Written) → leaves (meaning_of w) ≤ length (spelling w)
 meaning_leaves (written.Num n) = omega arith
 meaning_leaves (written.Call name args) = omega (arith, call_leaf name args)
-meaning_leaves (written.Parens e) = let h = meaning_leaves e in
-    omega (arith, length-append (spelling e) (item.Close ∷ []))
+meaning_leaves (written.Parens e) = grind (arith, length-append, meaning_leaves e)
 meaning_leaves (written.Not e) = let h = meaning_leaves e in omega arith
 meaning_leaves (written.Neg e) = let h = meaning_leaves e in omega arith
-meaning_leaves (written.Bin op a b) = let h = meaning_leaves a in let k = meaning_leaves b in
-    omega (arith, length-append (spelling a) (item.Operator op ∷ spelling b))
+meaning_leaves (written.Bin op a b) = grind (arith, length-append, meaning_leaves a, meaning_leaves b)

@@ -1,6 +1,6 @@
 -- The rows of functions: how they are searched, and that each is found by its name.
-use Rattle.std.proofs.Common.{◌≡◌, ℕ, Bool, cond, true, false, ◌&&◌, not, nat_lt, List, [], ◌∷◌, length, map, Some}
-use Rattle.std.proofs.Common.{refl, ap, ◌∙◌, All}
+use Rattle.std.proofs.Common.{◌≡◌, ℕ, Bool, true, false, ◌&&◌, not, nat_lt, List, [], ◌∷◌, length, map, Some}
+use Rattle.std.proofs.Common.{refl, All, arith}
 use Rattle.std.specs.Option.{option_map}
 use Rattle.std.specs.List.{find, list_all}
 use Rattle.std.specs.Str.{bytes_eq}
@@ -16,13 +16,7 @@ pub find-seen : {X : Type 0} (seen : X → FunctionRow) (is : List ℕ → Bool)
     → option_map (λ x. (seen x).function) (find (λ x. is (seen x).name) xs)
     ≡ option_map (λ r. r.function) (find (λ r. is r.name) (map seen xs))
 find-seen seen is [] = refl
-find-seen seen is (x ∷ xs) =
-    elim (is (seen x).name)
-    as (λ b. option_map (λ y. (seen y).function) (cond b (Some x) (find (λ y. is (seen y).name) xs))
-    ≡ option_map (λ r. r.function) (cond b (Some (seen x)) (find (λ r. is r.name) (map seen xs)))) [
-      | true ↦ refl
-      | false ↦ find-seen seen is xs
-    ]
+find-seen seen is (x ∷ xs) = grind (arith, find-seen seen is xs)
 
 -- the row is found by its name among these
 abbrev IsFoundIn : List FunctionRow → FunctionRow → Type 0
@@ -55,11 +49,7 @@ behind_first row all (r ∷ rows) apart found =
 -- if no two rows have one name, each is found by its own
 pub found_apart : (rows : List FunctionRow) → are_apart rows ≡ true → All (IsFoundIn rows) rows
 found_apart [] apart = All-nil (IsFoundIn [])
-found_apart (row ∷ rows) apart =
-    let parts = and_parts (list_all (differs row) rows) (are_apart rows) apart in
-    let own : bytes_eq row.name row.name ≡ true = (bytes_eq-Decides row.name row.name).1 refl in
-    All-cons (IsFoundIn (row ∷ rows)) row rows (rw own refl)
-    (behind_first row rows rows parts.0 (found_apart rows parts.1))
+found_apart (row ∷ rows) apart = grind (arith, and_parts, bytes_eq-Decides, behind_first, found_apart rows)
 
 -- the row's name has two bytes or more, so it is not taken for a label
 abbrev pub is_long : FunctionRow → Bool
@@ -75,8 +65,4 @@ long_name (b ∷ c ∷ bs) long = refl
 pub named_long : (rows : List FunctionRow) → list_all is_long rows ≡ true → All (IsFoundIn functions) rows
     → All IsNamed rows
 named_long [] long found = All-nil IsNamed
-named_long (r ∷ rows) long found =
-    let parts = and_parts (is_long r) (list_all is_long rows) long in
-    let named : IsNamed r =
-    long_name r.name parts.0 ∙ ap known_as (All-head (IsFoundIn functions) r rows found) in
-    All-cons IsNamed r rows named (named_long rows parts.1 (All-tail (IsFoundIn functions) r rows found))
+named_long (r ∷ rows) long found = grind (arith, and_parts, long_name, named_long rows)

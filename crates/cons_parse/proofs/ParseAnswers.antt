@@ -1,6 +1,6 @@
 -- What the parts of parsing say together of a text.
 use Rattle.std.proofs.Common.{◌≡◌, ℕ, ◌≤◌, Bool, true, false, ◌||◌, cond, nat_lt, List, [], ◌∷◌, ◌++◌, length, Option}
-use Rattle.std.proofs.Common.{Some, None, refl, ap, sym, ◌∙◌}
+use Rattle.std.proofs.Common.{Some, None, refl, arith}
 use Rattle.std.proofs.Math.Bool.{or-false, or_assoc}
 use Rattle.std.proofs.lemmas.Option.{same_Some}
 use Rattle.std.specs.List.{list_any}
@@ -13,12 +13,10 @@ use Rattle.cons_parse.specs.declared.error.ConsError.TheVariants.{Syntax, TooDee
 use Rattle.cons_parse.specs.declared.error.ConsError.TheVariants.{NoMemory}
 use Rattle.cons_parse.specs.declared.token.Name.{Name}
 use Rattle.cons_parse.specs.declared.calls.Item.{Item}
-use Rattle.cons_parse.specs.declared.calls.Item.TheVariants as item
 use Rattle.cons_parse.specs.Answers.{Fails}
 use Rattle.cons_parse.specs.Calls.{items_in}
 use Rattle.cons_parse.specs.Grammar.{Written, Num, Call, Parens, Not, Neg, Bin, spelling, Writes, most_bytes}
-use Rattle.cons_parse.specs.Faults.{is_too_deep, calls, some_call, first_of, fault_of, call_fault, is_unknown_call}
-use Rattle.cons_parse.specs.Faults.{misses, is_unlabelled}
+use Rattle.cons_parse.specs.Faults.{is_too_deep, calls, some_call, first_of, fault_of, call_fault}
 use Rattle.cons_parse.specs.Scan.{scanned}
 use Rattle.cons_parse.specs.Trees.{tree_of}
 use Rattle.cons_parse.specs.Building.{trees, built}
@@ -30,23 +28,17 @@ use Rattle.cons_parse.proofs.Spellings.{built_spelling, tree_is_meaning}
 -- some call passes exactly if the test of some item does
 any_append : (t : Item → Bool) (is js : List Item) → list_any t (is ++ js) ≡ (list_any t is || list_any t js)
 any_append t [] js = refl
-any_append t (i ∷ is) js =
-    ap (λ (b : Bool). t i || b) (any_append t is js) ∙ sym (or_assoc (t i) (list_any t is) (list_any t js))
+any_append t (i ∷ is) js = grind (arith, or_assoc, any_append t is js)
 
 -- some call of an expression passes exactly if some item of its spelling does
 pub some_call_spelled : (test : Name → List Arg → Bool) (w : Written)
     → list_any (calls test) (spelling w) ≡ some_call test w
 some_call_spelled test (Num n) = refl
 some_call_spelled test (Call name args) = or-false (test name args)
-some_call_spelled test (Parens e) =
-    any_append (calls test) (spelling e) (item.Close ∷ [])
-    ∙ (or-false (list_any (calls test) (spelling e)) ∙ some_call_spelled test e)
+some_call_spelled test (Parens e) = grind (arith, any_append, or-false, some_call_spelled test e)
 some_call_spelled test (Not e) = some_call_spelled test e
 some_call_spelled test (Neg e) = some_call_spelled test e
-some_call_spelled test (Bin op a b) =
-    any_append (calls test) (spelling a) (item.Operator op ∷ spelling b)
-    ∙ (ap (λ (t : Bool). t || list_any (calls test) (spelling b)) (some_call_spelled test a)
-    ∙ ap (λ (t : Bool). some_call test a || t) (some_call_spelled test b))
+some_call_spelled test (Bin op a b) = grind (arith, any_append, some_call_spelled test a, some_call_spelled test b)
 
 -- a text whose items are scanned to their end
 pub record IsScanned (text : List ℕ) (items : List Item) (deep : Bool) : Type 0 where
@@ -63,21 +55,12 @@ within_if false text items e h = (ltb-false most_bytes (length text) e, h)
 
 -- the items of what a text spells are those of the text
 pub written_within : (text : List ℕ) (w : Written) → Writes text w → items_within text ≡ Some (spelling w)
-written_within text w h =
-    ap (λ (t : Bool). cond t None (items_in text)) (le-ltb most_bytes (length text) h.short) ∙ h.spelled
+written_within text w h = grind (arith, le-ltb)
 
 -- items that are scanned to their end are spelled by an expression
 pub told : (text : List ℕ) (items : List Item) (deep : Bool) → items_within text ≡ Some items
     → scanned items ≡ Some deep → IsScanned text items deep
-told text items deep h s =
-    let p = within_if (nat_lt most_bytes (length text)) text items refl h in
-    let q = scanned_is_spelled items deep s in
-    record {
-      w = q.0;
-      writes = record { short = p.0; well = q.1; spelled = p.1 ∙ ap (λ (is : List Item). Some is) (sym q.2) };
-      spells = q.2;
-      depth = same_Some (is_too_deep 0 q.0) deep (sym (scanned_spelling q.0 q.1) ∙ (ap scanned q.2 ∙ s));
-    }
+told text items deep h s = grind (arith, within_if, nat_lt, scanned_is_spelled, same_Some, scanned_spelling)
 
 -- where a leaf stands too deep, TooDeep is the first fault
 pub too_deep : (labels : List LabelAt) (text : List ℕ) (items : List Item) → IsScanned text items true
@@ -89,25 +72,12 @@ too_deep labels text items t = record { written = t.w; writes = t.writes; first 
 shallow : (labels : List LabelAt) (w : Written) → is_too_deep 0 w ≡ false
     → fault_of labels w ≡ call_fault labels (spelling w)
 unfolding fault_of
-shallow labels w h =
-    rw (
-      h,
-      ← some_call_spelled is_unknown_call w,
-      ← some_call_spelled misses w,
-      ← some_call_spelled
-          (is_unlabelled labels) w,
-    ) refl
+shallow labels w h = grind (arith, some_call_spelled)
 
 -- if none stands too deep, the first fault of the calls is the first fault
 pub call_told : (labels : List LabelAt) (text : List ℕ) (items : List Item) (fault : Option ConsError)
     → IsScanned text items false → call_fault labels items ≡ fault → Tells labels text fault
-call_told labels text items fault t h =
-    record {
-      written = t.w;
-      writes = t.writes;
-      first =
-          shallow labels t.w t.depth ∙ (ap (call_fault labels) t.spells ∙ h);
-    }
+call_told labels text items fault t h = grind (arith, shallow)
 
 -- no fault of the calls is Syntax
 no_syntax : (a b c : Bool) → first_of ((a, UnknownFunction) ∷ (b, Arity) ∷ (c, UnknownLabel) ∷ []) ≡ Some Syntax → ⊥
@@ -119,9 +89,7 @@ no_syntax false false false h = cc
 -- a fault of the calls is refused rightly
 pub call_refused : (labels : List LabelAt) (text : List ℕ) (items : List Item) (e : ConsError)
     → IsScanned text items false → call_fault labels items ≡ Some e → Refuses labels text e
-call_refused labels text items Syntax t h =
-    absurd (no_syntax (list_any (calls is_unknown_call) items) (list_any (calls misses) items)
-    (list_any (calls (is_unlabelled labels)) items) h)
+call_refused labels text items Syntax t h = grind (arith, no_syntax)
 call_refused labels text items TooDeep t h = call_told labels text items (Some TooDeep) t h
 call_refused labels text items UnknownFunction t h = call_told labels text items (Some UnknownFunction) t h
 call_refused labels text items Arity t h = call_told labels text items (Some Arity) t h
@@ -131,9 +99,7 @@ call_refused labels text items NoMemory t h = tt
 -- items that are not in the grammar are refused rightly
 pub scan_refused : (labels : List LabelAt) (text : List ℕ) (items : List Item) (e : ConsError)
     → items_within text ≡ Some items → Fails e (scanned items) → Refuses labels text e
-scan_refused labels text items Syntax i h = λ w s.
-    let same : items ≡ spelling w = same_Some items (spelling w) (sym i ∙ written_within text w s) in
-    let q : Some (is_too_deep 0 w) ≡ None = sym (scanned_spelling w s.well) ∙ (ap scanned (sym same) ∙ h) in cc
+scan_refused labels text items Syntax i h = grind (arith, same_Some, written_within, scanned_spelling)
 scan_refused labels text items TooDeep i h = absurd h
 scan_refused labels text items UnknownFunction i h = absurd h
 scan_refused labels text items Arity i h = absurd h
@@ -143,10 +109,4 @@ scan_refused labels text items NoMemory i h = tt
 -- what is built of items without faults is what the text spells
 pub spelled : (labels : List LabelAt) (text : List ℕ) (items : List Item) (e : Expr) → IsScanned text items false
     → call_fault labels items ≡ None → tree_of e ≡ built trees items → Spells labels text e
-spelled labels text items e t h b =
-    record {
-      written = t.w;
-      writes = t.writes;
-      faultless = shallow labels t.w t.depth ∙ (ap (call_fault labels) t.spells ∙ h);
-      same = b ∙ (ap (built trees) (sym t.spells) ∙ (built_spelling trees t.w t.writes.well ∙ tree_is_meaning t.w));
-    }
+spelled labels text items e t h b = grind (arith, shallow, built_spelling, tree_is_meaning)

@@ -1,5 +1,5 @@
 -- A text spells one expression at most, and the computation finds it.
-use Rattle.std.proofs.Common.{◌≡◌, ℕ, Bool, List, Option, Some, None, refl, ap, sym, ◌∙◌, subst}
+use Rattle.std.proofs.Common.{◌≡◌, ℕ, Bool, List, Option, Some, None, refl, ap, sym, ◌∙◌, arith}
 use Rattle.std.proofs.lemmas.Option.{same_Some}
 use Rattle.std.specs.Option.{option_map, option_and_then}
 use Rattle.pat_types.specs.declared.pattern.LabelAt.{LabelAt}
@@ -10,7 +10,7 @@ use Rattle.cons_parse.specs.declared.error.ConsError.TheVariants.{NoMemory}
 use Rattle.cons_parse.specs.declared.calls.Item.{Item}
 use Rattle.cons_parse.specs.Grammar.{Written, Num, Call, Parens, Not, Neg, Bin, IsWell, spelling, Writes}
 use Rattle.cons_parse.specs.Scan.{scanned}
-use Rattle.cons_parse.specs.Trees.{Tree, tree_of, meaning_of}
+use Rattle.cons_parse.specs.Trees.{tree_of, meaning_of}
 use Rattle.cons_parse.specs.Building.{built, valued}
 use Rattle.cons_parse.specs.Parsing.{items_within, Tells, Spells, Refuses}
 use Rattle.cons_parse.specs.Reading.{as_written, written_of, expression_in, fault_of_reading, fault_in, Blames}
@@ -34,10 +34,7 @@ built_written w v = built_spelling as_written w v ∙ valued_written w
 -- what a text spells is found
 pub is_found : (text : List ℕ) (w : Written) → Writes text w → expression_in text ≡ Some w
 unfolding expression_in
-is_found text w h =
-    ap (λ (is : Option (List Item)). option_and_then written_of is) (written_within text w h)
-    ∙ (ap (λ (d : Option Bool). option_map (λ deep. built as_written (spelling w)) d) (scanned_spelling w h.well)
-    ∙ ap (λ (v : Written). Some v) (built_written w h.well))
+is_found text w h = grind (arith, written_within, scanned_spelling, built_written)
 
 -- a text writes one expression at most
 pub is_only : (text : List ℕ) (v w : Written) → Writes text v → Writes text w → v ≡ w
@@ -48,12 +45,7 @@ items_found : (text : List ℕ) (w : Written) (is : List Item) (d : Option Bool)
     → scanned is ≡ d
     → option_map (λ deep. built as_written is) d ≡ Some w → Writes text w
 items_found text w is None i s h = cc
-items_found text w is (Some d) i s h =
-    let t = told text is d i s in
-    let e : t.w ≡ w =
-    sym (built_written t.w t.writes.well)
-    ∙ (ap (built as_written) t.spells ∙ same_Some (built as_written is) w h) in
-    subst (λ (v : Written). Writes text v) e t.writes
+items_found text w is (Some d) i s h = grind (arith, told text is d i s, same_Some (built as_written is), built_written)
 
 -- what is built of the items of a text is spelled by it
 text_found : (text : List ℕ) (w : Written) (i : Option (List Item)) → items_within text ≡ i
@@ -75,9 +67,7 @@ spells_fault labels text e s = ap (fault_of_reading labels) (is_found text s.wri
 -- the expression that a text spells without faults is the computed one
 pub spells_tree : (labels : List LabelAt) (text : List ℕ) (e : Expr) → Spells labels text e
     → option_map meaning_of (expression_in text) ≡ Some (tree_of e)
-spells_tree labels text e s =
-    ap (λ (w : Option Written). option_map meaning_of w) (is_found text s.written s.writes)
-    ∙ ap (λ (t : Tree). Some t) (sym s.same)
+spells_tree labels text e s = grind (arith, is_found)
 
 -- the first fault of what a text spells is the computed one
 tells_fault : (labels : List LabelAt) (text : List ℕ) (f : Option ConsError) → Tells labels text f

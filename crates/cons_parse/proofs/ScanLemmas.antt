@@ -1,6 +1,6 @@
 -- A step of the scan.
 use Rattle.std.proofs.Common.{◌≡◌, ℕ, ◌+◌, ◌<◌, ◌≤◌, Bool, List, ◌∷◌, length, drop, get_or, Option, Some, None, refl}
-use Rattle.std.proofs.Common.{ap, sym, ◌∙◌}
+use Rattle.std.proofs.Common.{ap, sym, ◌∙◌, arith}
 use Rattle.std.proofs.lemmas.List.{drop_more, drop_all}
 use Rattle.cons_parse.specs.declared.calls.Item.{Item}
 use Rattle.cons_parse.specs.Scan.{Spot, advance, scanned_from, ended}
@@ -20,15 +20,13 @@ none_step s i is h = rw h refl
 pub next_place : (s t : Spot) (items : List Item) (at : ℕ) (d : Item) (all : Option Bool) → at < length items
     → advance s (get_or items at d) ≡ Some t
     → scanned_from s (drop at items) ≡ all → scanned_from t (drop (at + 1) items) ≡ all
-next_place s t items at d all l f h =
-    sym (ap (scanned_from s) (drop_more items at d l) ∙ place_step s t (get_or items at d) (drop (at + 1) items) f) ∙ h
+next_place s t items at d all l f h = grind (arith, drop_more, place_step)
 
 -- where an item may not stand, the whole gives nothing
 pub no_place : (s : Spot) (items : List Item) (at : ℕ) (d : Item) (all : Option Bool) → at < length items
     → scanned_from s (drop at items) ≡ all
     → advance s (get_or items at d) ≡ None → all ≡ None
-no_place s items at d all l h f =
-    sym h ∙ (ap (scanned_from s) (drop_more items at d l) ∙ none_step s (get_or items at d) (drop (at + 1) items) f)
+no_place s items at d all l h f = grind (arith, drop_more, none_step)
 
 -- at the end, the whole gives what the last place does
 pub at_end : (s : Spot) (items : List Item) (at : ℕ) (all : Option Bool) → length items ≤ at

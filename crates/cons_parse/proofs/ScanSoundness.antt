@@ -29,9 +29,7 @@ extended (Bin o a b) op e =
 spelling_if : (t : Bool) (o op : Op) (a b x e : Written) → spelling x ≡ spelling b ++ item.Operator op ∷ spelling e
     → spelling (cond t (Bin o a x) (Bin op (Bin o a b) e))
     ≡ (spelling a ++ item.Operator o ∷ spelling b) ++ item.Operator op ∷ spelling e
-spelling_if true o op a b x e h =
-    ap (λ (is : List Item). spelling a ++ item.Operator o ∷ is) h
-    ∙ sym (append_assoc (spelling a) (item.Operator o ∷ spelling b) (item.Operator op ∷ spelling e))
+spelling_if true o op a b x e h = grind (arith, append_assoc)
 spelling_if false o op a b x e h = refl
 
 -- an extended expression spells its parts in order
@@ -42,8 +40,7 @@ extended_spelling (Call name args) op e = refl
 extended_spelling (Parens a) op e = refl
 extended_spelling (Not a) op e = refl
 extended_spelling (Neg a) op e = refl
-extended_spelling (Bin o a b) op e =
-    spelling_if (nat_lt (level_of_op o) (level_of_op op)) o op a b (extended b op e) e (extended_spelling b op e)
+extended_spelling (Bin o a b) op e = grind (arith, spelling_if, nat_lt, extended_spelling b op e)
 
 -- a level below both parts is below the whole
 below_if : (k : ℕ) (t : Bool) (o op : Op) (a b x e : Written) → k < level_of_op o → k < level_of_op op
@@ -59,8 +56,7 @@ extended_level k (Call name args) op e h l = l
 extended_level k (Parens a) op e h l = l
 extended_level k (Not a) op e h l = l
 extended_level k (Neg a) op e h l = l
-extended_level k (Bin o a b) op e h l =
-    below_if k (nat_lt (level_of_op o) (level_of_op op)) o op a b (extended b op e) e h l
+extended_level k (Bin o a b) op e h l = grind (arith, below_if, nat_lt)
 
 -- an extended expression is of the grammar, by the levels of its operators
 well_if : (t : Bool) (o op : Op) (a b x e : Written) → nat_lt (level_of_op o) (level_of_op op) ≡ t
@@ -68,8 +64,7 @@ well_if : (t : Bool) (o op : Op) (a b x e : Written) → nat_lt (level_of_op o) 
     → (level_of_op o < level_of_op op → level_of_op o < level_of x) → IsWell x
     → IsWell (cond t (Bin o a x) (Bin op (Bin o a b) e))
 well_if true o op a b x e t v w l r y = (v.0, r (ltb-true (level_of_op o) (level_of_op op) t), v.2, y)
-well_if false o op a b x e t v w l r y =
-    (ltb-false (level_of_op o) (level_of_op op) t, omega (arith, op_level op), v, w)
+well_if false o op a b x e t v w l r y = grind (arith, ltb-false, op_level)
 
 -- an extended expression is of the grammar where its parts are
 extended_well : (a : Written) (op : Op) (e : Written) → IsWell a → IsWell e → 5 ≤ level_of e → IsWell (extended a op e)
@@ -127,17 +122,7 @@ record Settled (ms : List Opener) (is : List Item) : Type 0 where
 -- what an operand closes, by equal openers and equal items
 with_read : (ms ns : List Opener) (is js : List Item) → settled ms ≡ settled ns → is ≡ js → Settled ms is
     → Settled ns js
-with_read ms ns is js e f s =
-    record {
-      open_ps = s.open_ps;
-      now = s.now;
-      base = s.base;
-      good = s.good;
-      well = s.well;
-      openers =
-          s.openers ∙ e;
-      read = s.read ∙ f;
-    }
+with_read ms ns is js e f s = grind arith
 
 -- an operand closes nothing of a base
 base_settled : (ps : List (Pending Written)) → IsBase ps → openers_of ps ≡ settled (openers_of ps)
@@ -151,23 +136,15 @@ base_settled (OpenLeft op a ∷ ps) b = absurd b
 sign_closed : (ps : List (Pending Written)) (sign : Item) (e : Written)
     → Settled (openers_of ps) (read_by ps ++ sign ∷ spelling e)
     → Settled (Prefix ∷ openers_of ps) (read_by ps ++ sign ∷ [] ++ spelling e)
-sign_closed ps sign e = with_read (openers_of ps) (Prefix ∷ openers_of ps) (read_by ps ++ sign ∷ spelling e)
-    (read_by ps ++ sign ∷ [] ++ spelling e) refl (sym (append_assoc (read_by ps) (sign ∷ []) (spelling e)))
+sign_closed ps sign e = grind (arith, with_read, append_assoc)
 
 -- an operand joins the left side before it
 left_joined : (ps : List (Pending Written)) (op : Op) (a e : Written) → IsGood (OpenLeft op a ∷ ps) → IsWell e
     → 5 ≤ level_of e → Settled (openers_of (OpenLeft op a ∷ ps)) (read_by (OpenLeft op a ∷ ps) ++ spelling e)
-left_joined ps op a e g v l = record {
-  open_ps = ps;
-  now = extended a op e;
-  base = g.1;
-  good = g.2;
-  well = extended_well a op e g.0 v l;
-  openers = base_settled ps g.1;
-  read = ap (λ (is : List Item). read_by ps ++ is)
-      (extended_spelling a op e ∙ sym (append_assoc (spelling a) (item.Operator op ∷ []) (spelling e)))
-      ∙ sym (append_assoc (read_by ps) (spelling a ++ item.Operator op ∷ []) (spelling e));
-}
+left_joined ps op a e g v l =
+    grind (arith, extended_well a op e g.0 v l, base_settled ps g.1, extended_spelling a op e,
+        append_assoc (spelling a) (item.Operator op ∷ []) (spelling e),
+        append_assoc (read_by ps) (spelling a ++ item.Operator op ∷ []) (spelling e))
 
 -- an operand closes the signs before it and joins the left side
 settle : (ps : List (Pending Written)) (e : Written) → IsGood ps → IsWell e → 5 ≤ level_of e
@@ -207,11 +184,7 @@ from_sign : (t : Bool) (op : Op) (is : List Item) (ps : List (Pending Written)) 
     → option_and_then (λ s. scanned_from s is) (cond t (Some (to_come (Prefix ∷ openers_of ps) d)) None) ≡ Some x
     → IsSpelled (read_by ps ++ item.Operator op ∷ is)
 from_sign false op is ps d x f e h = cc
-from_sign true op is ps d x f e h =
-    spelled_along (read_by ps ++ item.Operator Sub ∷ [] ++ is) (read_by ps ++ item.Operator op ∷ is)
-    (append_assoc (read_by ps) (item.Operator Sub ∷ []) is
-    ∙ ap (λ (o : Op). read_by ps ++ item.Operator o ∷ is) (sym (sub_is op e)))
-    (f h)
+from_sign true op is ps d x f e h = grind (arith, spelled_along, append_assoc, sub_is)
 
 mutual
   unfolding scanned_from

@@ -1,19 +1,18 @@
 -- The tokens and the items of a text are no more than its bytes, and their numbers have six digits at most.
-use Rattle.std.proofs.Common.{◌≡◌, ℕ, zero, suc, ◌+◌, ◌-◌, ◌*◌, ◌^◌, ◌<◌, ◌≤◌, Bool, true, false, ◌&&◌, ◌==◌, nat_le}
+use Rattle.std.proofs.Common.{◌≡◌, ℕ, zero, suc, ◌+◌, ◌-◌, ◌*◌, ◌^◌, ◌<◌, ◌≤◌, Bool, true, false, nat_le}
 use Rattle.std.proofs.Common.{nat_lt, cond, List, [], ◌∷◌, length, take, Option, Some, None, refl, arith}
 use Rattle.std.specs.List.{list_all, prefix_len}
 use Rattle.std.specs.Option.{option_map, option_and_then}
 use Rattle.std.proofs.lemmas.Bool.{ltb-false, leb-true, lt-ltb, and_parts, and_from}
 use Rattle.db_lex.specs.Lines.{is_blank}
-use Rattle.pat_types.specs.declared.expr.Op.TheVariants.{Or, And, Eq, Ne, Lt, Le, Gt, Ge, Add, Sub}
 use Rattle.pat_types.specs.declared.expr.Arg.{Arg}
 use Rattle.cons_parse.specs.declared.token.Token.{Token}
 use Rattle.cons_parse.specs.declared.token.Token.TheVariants as token
 use Rattle.cons_parse.specs.declared.token.Name.{Name}
 use Rattle.cons_parse.specs.declared.calls.Item.{Item}
 use Rattle.cons_parse.specs.declared.calls.Item.TheVariants as item
-use Rattle.cons_parse.specs.Tokens.{is_digit, is_letter, is_name_byte, name_of, value_after, value_of, two_at, one_at}
-use Rattle.cons_parse.specs.Tokens.{with_more, or_shorter, sign_at, number_at, token_at, and_more as and_tokens}
+use Rattle.cons_parse.specs.Tokens.{is_digit, value_after, value_of, two_at, one_at}
+use Rattle.cons_parse.specs.Tokens.{with_more, or_shorter, sign_at, token_at, and_more as and_tokens}
 use Rattle.cons_parse.specs.Tokens.{tokens_after, tokens_of}
 use Rattle.cons_parse.specs.Calls.{item_at, arguments_at, and_more as and_items, items_after, items_of, items_in}
 
@@ -21,12 +20,7 @@ use Rattle.cons_parse.specs.Calls.{item_at, arguments_at, and_more as and_items,
 
 -- a digit is below ten
 digit_range : (d : ℕ) → is_digit d ≡ true → d - 48 < 10
-digit_range d h = range_if (nat_le 48 d) (nat_le d 57) refl refl h
-  where
-    range_if : (a b : Bool) → nat_le 48 d ≡ a → nat_le d 57 ≡ b → (a && b) ≡ true → d - 48 < 10
-    range_if true true e f h = let l = leb-true d 57 f in omega arith
-    range_if true false e f h = cc
-    range_if false b e f h = cc
+digit_range d h = grind (arith, nat_le, leb-true)
 
 -- one more digit makes a number at most ten times as large
 digit_step : (i n d : ℕ) → i < 6 → n < 10 ^ i → d < 10 → n * 10 + d < 10 ^ (i + 1)
@@ -54,9 +48,8 @@ value_small : (ds : List ℕ) (i n : ℕ) → i + length ds ≤ 6 → n < 10 ^ i
     → value_after n ds < 1000000
 value_small [] i n l h d = below_million i n (omega arith) h
 value_small (d ∷ ds) i n l h a =
-    let p = and_parts (is_digit d) (list_all is_digit ds) a in
-    value_small ds (i + 1) (n * 10 + (d - 48)) (omega arith)
-    (digit_step i n (d - 48) (omega arith) h (digit_range d p.0)) p.1
+    grind (arith, and_parts (is_digit d) (list_all is_digit ds) a, value_small ds (i + 1) (n * 10 + (d - 48)),
+        digit_step i n (d - 48), digit_range d)
 
 -- the digits at the front of a list, by its first byte
 front_if : (v : Bool) (b : ℕ) (bs : List ℕ) → is_digit b ≡ v
@@ -108,23 +101,11 @@ or_next false t o h k = k
 
 -- a sign of two bytes is small
 two_small : (b c : ℕ) → small_sign (two_at b c) ≡ true
-two_small b c =
-    or_next (b == 124 && c == 124) (token.Operator Or) _ refl
-    (or_next (b == 38 && c == 38) (token.Operator And) _ refl
-    (or_next (b == 61 && c == 61) (token.Operator Eq) _ refl
-    (or_next (b == 33 && c == 61) (token.Operator Ne) _ refl
-    (or_next (b == 60 && c == 61) (token.Operator Le) _ refl
-    (or_next (b == 62 && c == 61) (token.Operator Ge) None refl refl)))))
+two_small b c = grind (arith, or_next)
 
 -- a sign of one byte is small
 one_small : (b : ℕ) → small_sign (one_at b) ≡ true
-one_small b =
-    or_next (b == 60) (token.Operator Lt) _ refl
-    (or_next (b == 62) (token.Operator Gt) _ refl
-    (or_next (b == 43) (token.Operator Add) _ refl (or_next (b == 45) (token.Operator Sub) _ refl
-    (or_next (b == 33) token.Bang _ refl
-    (or_next (b == 40) token.Open _ refl (or_next (b == 41) token.Close _ refl (or_next (b == 44) token.Comma _ refl
-    (or_next (b == 42) token.Asterisk _ refl (or_next (b == 63) token.Question None refl refl)))))))))
+one_small b = grind (arith, or_next)
 
 -- a small sign stays small with its length
 with_small : (n : ℕ) (o : Option Token) → small_sign o ≡ true → small_token (with_more n o) ≡ true
@@ -140,9 +121,7 @@ shorter_small (Some t) p h k = h
 -- a sign is small
 sign_small : (b : ℕ) (bs : List ℕ) → small_token (sign_at b bs) ≡ true
 sign_small b [] = with_small 0 (one_at b) (one_small b)
-sign_small b (c ∷ bs) =
-    shorter_small (with_more 1 (two_at b c)) (with_more 0 (one_at b)) (with_small 1 (two_at b c) (two_small b c))
-    (with_small 0 (one_at b) (one_small b))
+sign_small b (c ∷ bs) = grind (arith, shorter_small, with_small, two_small, one_small)
 
 -- a number of at most six digits is small
 number_small : (v : Bool) (b : ℕ) (bs : List ℕ) → is_digit b ≡ true → nat_lt 5 (prefix_len is_digit bs) ≡ v
@@ -169,12 +148,7 @@ choice_small false o p h k = k
 -- each token is small
 token_small : (b : ℕ) (bs : List ℕ) → small_token (token_at b bs) ≡ true
 unfolding token_at
-token_small b bs =
-    choice_small (is_digit b) (number_at (prefix_len is_digit bs) (b ∷ bs)) _
-    (λ d. number_small (nat_lt 5 (prefix_len is_digit bs)) b bs d refl)
-    (choice_small (is_letter b)
-    (Some (token.Called (name_of (take (prefix_len is_name_byte bs + 1) (b ∷ bs))), prefix_len is_name_byte bs))
-    (sign_at b bs) (λ l. refl) (sign_small b bs))
+token_small b bs = grind (arith, choice_small, number_small, nat_lt, sign_small)
 
 -- how many there are, and whether each is small
 abbrev pub count_of : {X : Type 0} → Option (List X) → ℕ
@@ -205,8 +179,7 @@ few_more small n xs h = let c = h.count in record { count = omega arith; each = 
 few_and : {X : Type 0} (small : X → Bool) (n : ℕ) (x : X) (xs : Option (List X)) → small x ≡ true → AreFew small n xs
     → AreFew small (suc n) (option_map (λ ys. x ∷ ys) xs)
 few_and small n x None s h = record { count = omega arith; each = refl }
-few_and small n x (Some xs) s h = let c = h.count in
-    record { count = omega arith; each = and_from (small x) (list_all small xs) s h.each }
+few_and small n x (Some xs) s h = grind (arith, and_from)
 
 -- a token and those behind it are few
 tokens_then : (bs : List ℕ) (t : Option (Token × ℕ)) → small_token t ≡ true
@@ -274,18 +247,14 @@ unfolding items_after
 items_few [] zero h = record { count = omega arith; each = refl }
 items_few [] (suc n) h = record { count = omega arith; each = refl }
 items_few (t ∷ ts) (suc n) h =
-    few_more is_small_item (length ts) (items_after n ts)
-    (items_few ts n (and_parts (is_small t) (list_all is_small ts) h).1)
-items_few (t ∷ ts) zero h =
-    let p = and_parts (is_small t) (list_all is_small ts) h in
-    items_then ts (item_at t ts) (item_small t ts p.0) (λ k. items_few ts k p.1)
+    grind (arith, few_more, and_parts, items_few ts n (and_parts (is_small t) (list_all is_small ts) h).1)
+items_few (t ∷ ts) zero h = grind (arith, and_parts, items_then, item_small, items_few ts)
 
 -- few tokens have few items
 items_of_tokens : (n : ℕ) (ts : Option (List Token)) → AreFew is_small n ts
     → AreFew is_small_item n (option_and_then items_of ts)
 items_of_tokens n None h = record { count = omega arith; each = refl }
-items_of_tokens n (Some ts) h = let r = items_few ts 0 h.each in let c = h.count in let d = r.count in
-    record { count = omega arith; each = r.each }
+items_of_tokens n (Some ts) h = grind (arith, items_few ts 0 h.each)
 
 -- a text has at most as many items as bytes, and each is small
 pub text_few : (text : List ℕ) → AreFew is_small_item (length text) (items_in text)

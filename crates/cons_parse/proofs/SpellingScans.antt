@@ -43,13 +43,7 @@ sides : (op : Op) (a b : Written) (ms : List Opener) (d : Bool) (is : List Item)
     → scanned_from (to_come ms d) (spelling (Bin op a b) ++ is)
     ≡ scanned_from (come (settled ms) (d || is_too_deep (length ms) (Bin op a b))) is
 unfolding scanned_from
-sides op a b ms d is s left right =
-    ap (scanned_from (to_come ms d)) (append_assoc (spelling a) (item.Operator op ∷ spelling b) is)
-    ∙ (left
-    ∙ (ap (λ (m : List Opener). scanned_from (to_come m (d || is_too_deep (length ms) a)) (spelling b ++ is)) s
-    ∙ (right
-    ∙ ap (λ (q : Bool). scanned_from (come (settled ms) q) is)
-    (or_assoc d (is_too_deep (length ms) a) (is_too_deep (length ms) b)))))
+sides op a b ms d is s left right = grind (arith, append_assoc, or_assoc)
 
 -- the items of an expression, in front of others
 pub operand : (w : Written) (ms : List Opener) (d : Bool) (is : List Item) → IsWell w
@@ -59,15 +53,10 @@ pub operand : (w : Written) (ms : List Opener) (d : Bool) (is : List Item) → I
 unfolding scanned_from
 operand (Num n) ms d is v r = refl
 operand (Call name args) ms d is v r = refl
-operand (Parens e) ms d is v r =
-    ap (scanned_from (to_come (Parenthesis ∷ ms) d)) (append_assoc (spelling e) (item.Close ∷ []) is)
-    ∙ operand e (Parenthesis ∷ ms) d (item.Close ∷ is) v (λ _. refl)
+operand (Parens e) ms d is v r = grind (arith, append_assoc, operand e (Parenthesis ∷ ms) d (item.Close ∷ is) v)
 operand (Not e) ms d is v r = operand e (Prefix ∷ ms) d is v.1 (λ l. absurd (omega arith))
 operand (Neg e) ms d is v r = operand e (Prefix ∷ ms) d is v.1 (λ l. absurd (omega arith))
-operand (Bin op a b) ms d is v r =
-    let s : settled ms ≡ ms = r (omega (arith, op_level op)) in
-    sides op a b ms d is s (operand a ms d (item.Operator op ∷ (spelling b ++ is)) v.2 (λ _. s))
-    (operand b ms (d || is_too_deep (length ms) a) is v.3 (λ _. s))
+operand (Bin op a b) ms d is v r = grind (arith, op_level, sides, operand a, operand b)
 
 -- the items of a whole expression
 pub scanned_spelling : (w : Written) → IsWell w → scanned (spelling w) ≡ Some (is_too_deep 0 w)

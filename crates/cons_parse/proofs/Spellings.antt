@@ -1,11 +1,10 @@
 -- The run over the items that spell an expression builds its form.
-use Rattle.std.proofs.Common.{◌≡◌, ℕ, ◌<◌, ◌≤◌, Bool, cond, List, [], ◌∷◌, ◌++◌, drop, Some, refl, ap, sym, ◌∙◌, arith}
+use Rattle.std.proofs.Common.{◌≡◌, ℕ, ◌<◌, ◌≤◌, List, [], ◌∷◌, ◌++◌, drop, Some, refl, ap, sym, ◌∙◌, arith}
 use Rattle.std.proofs.Common.{append_assoc}
 use Rattle.std.proofs.lemmas.List.{append-nil}
 use Rattle.std.proofs.lemmas.Bool.{le-leb, lt-leb}
 use Rattle.pat_types.specs.declared.expr.Op.{Op}
 use Rattle.cons_parse.specs.declared.calls.Item.{Item}
-use Rattle.cons_parse.specs.declared.calls.Item.TheVariants as item
 use Rattle.cons_parse.specs.Grammar.{Written, Num, Call, Parens, Not, Neg, Bin, level_of_op, level_of, IsWell, spelling}
 use Rattle.cons_parse.specs.Trees.{meaning_of, NotTree, NegTree}
 use Rattle.cons_parse.specs.Building.{Forms, Pending, OpenNot, OpenNeg, OpenParens, OpenLeft, Standing, State}
@@ -45,8 +44,7 @@ loose_joined f k [] e h = refl
 loose_joined f k (OpenNot ∷ ps) e h = absurd h
 loose_joined f k (OpenNeg ∷ ps) e h = absurd h
 loose_joined f k (OpenParens ∷ ps) e h = refl
-loose_joined f k (OpenLeft op a ∷ ps) e h =
-    ap (λ (t : Bool). cond t (joined_in f k ps (f.joined op a e)) (OpenLeft op a ∷ ps, e)) (lt-leb k (level_of_op op) h)
+loose_joined f k (OpenLeft op a ∷ ps) e h = grind (arith, lt-leb)
 
 -- joining at a level from a pair
 abbrev pub joins : {P : Type 0} → Forms P → ℕ → Standing P → Standing P
@@ -82,10 +80,7 @@ runs_parens : {P : Type 0} (f : Forms P) (e : Written) (ps : List (Pending P)) �
     → (is : List Item)
     → run f (waiting ps) (spelling (Parens e) ++ is) ≡ run f (standing (settled_in f ps (f.parens (valued f e)))) is
 unfolding run
-runs_parens {P = P} f e ps s is =
-    ap (run f (waiting (OpenParens ∷ ps))) (append_assoc (spelling e) (item.Close ∷ []) is)
-    ∙ (s.runs (item.Close ∷ is)
-    ∙ ap (λ (t : State P). run f t is) (close_behind f s.left ps (valued f e) (s.joined_as 0 (omega arith))))
+runs_parens {P = P} f e ps s is = grind (arith, append_assoc, close_behind)
 
 -- what an expression behind a sign leaves open, the sign with it leaves open, where an operand closes the sign
 reads_sign : {P : Type 0} (f : Forms P) (e w : Written) (p : Pending P) (ps : List (Pending P)) → 5 ≤ level_of e
@@ -102,32 +97,21 @@ reads_sign f e w p ps tight same signs s = record {
 -- at the level of an operator what its left side leaves open is the left side, behind what was open
 left_side : {P : Type 0} (f : Forms P) (op : Op) (a : Written) (ps : List (Pending P)) → level_of_op op ≤ level_of a
     → IsLoose (level_of_op op) ps → (s : Reads f a ps) → joins f (level_of_op op) s.left ≡ (ps, valued f a)
-left_side f op a ps room h s =
-    s.joined_as (level_of_op op) room
-    ∙ (ap (joins f (level_of_op op)) (loose_settled f (level_of_op op) ps (valued f a) h)
-    ∙ loose_joined f (level_of_op op) ps (valued f a) h)
+left_side f op a ps room h s = grind (arith, loose_settled, loose_joined)
 
 -- the items of both sides with the operator between them lead to what the right side leaves open
 runs_sides : {P : Type 0} (f : Forms P) (op : Op) (a b : Written) (ps : List (Pending P)) (s : Reads f a ps)
     (t : Reads f b (OpenLeft op (valued f a) ∷ ps)) → joins f (level_of_op op) s.left ≡ (ps, valued f a)
     → (is : List Item) → run f (waiting ps) (spelling (Bin op a b) ++ is) ≡ run f (standing t.left) is
 unfolding run
-runs_sides {P = P} f op a b ps s t left_is is =
-    ap (run f (waiting ps)) (append_assoc (spelling a) (item.Operator op ∷ spelling b) is)
-    ∙ (s.runs (item.Operator op ∷ (spelling b ++ is))
-    ∙ (ap (λ (u : State P). run f u (spelling b ++ is)) (operator_behind f op s.left ps (valued f a) left_is)
-    ∙ t.runs is))
+runs_sides {P = P} f op a b ps s t left_is is = grind (arith, append_assoc, operator_behind)
 
 -- at each level up to that of an operator, what its right side leaves open is both sides joined, behind what was open
 joined_sides : {P : Type 0} (f : Forms P) (op : Op) (a b : Written) (ps : List (Pending P))
     → IsLoose (level_of_op op) ps → level_of_op op < level_of b → (t : Reads f b (OpenLeft op (valued f a) ∷ ps))
     → (k : ℕ) → k ≤ level_of_op op
     → joins f k t.left ≡ joins f k (settled_in f ps (f.joined op (valued f a) (valued f b)))
-joined_sides f op a b ps h tighter t k l =
-    t.joined_as k (omega (arith, tighter))
-    ∙ (ap (λ (q : Bool). cond q (joined_in f k ps (f.joined op (valued f a) (valued f b)))
-    (OpenLeft op (valued f a) ∷ ps, valued f b)) (le-leb k (level_of_op op) l)
-    ∙ sym (ap (joins f k) (loose_settled f (level_of_op op) ps (f.joined op (valued f a) (valued f b)) h)))
+joined_sides f op a b ps h tighter t k l = grind (arith, le-leb, loose_settled)
 
 -- both sides of an operator lead to what they leave open together
 reads_sides : {P : Type 0} (f : Forms P) (op : Op) (a b : Written) (ps : List (Pending P)) → IsWell (Bin op a b)

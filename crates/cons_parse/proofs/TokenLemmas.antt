@@ -97,9 +97,7 @@ pub next_blank : (front : List Token) (text : List ℕ) (at : ℕ) (all : Option
     → is_blank (get_or text at 0) ≡ true
     → with_front front (tokens_after 0 (drop at text)) ≡ all
     → with_front front (tokens_after 0 (drop (at + 1) text)) ≡ all
-next_blank front text at all l e h =
-    ap (with_front front)
-    (sym (ap (tokens_after 0) (drop_more text at 0 l) ∙ blank_step (get_or text at 0) (drop (at + 1) text) e)) ∙ h
+next_blank front text at all l e h = grind (arith, drop_more, blank_step)
 
 -- over a token
 pub next_token : (front : List Token) (text : List ℕ) (at : ℕ) (all : Option (List Token)) (t : Token) (more : ℕ)
@@ -121,15 +119,10 @@ pub no_token : (front : List Token) (text : List ℕ) (at : ℕ) (all : Option (
     → is_blank (get_or text at 0) ≡ false
     → first_token (drop at text) ≡ None
     → with_front front (tokens_after 0 (drop at text)) ≡ all → all ≡ None
-no_token front text at all l e f h =
-    let d = drop_more text at 0 l in
-    sym h ∙ ap (with_front front)
-    (ap (tokens_after 0) d ∙ none_step (get_or text at 0) (drop (at + 1) text) e (ap first_token (sym d) ∙ f))
+no_token front text at all l e f h = grind (arith, drop_more, none_step)
 
 -- at the end
 pub last_token : (front : List Token) (text : List ℕ) (at : ℕ) (all : Option (List Token)) → length text ≤ at
     → with_front front (tokens_after 0 (drop at text)) ≡ all → all ≡ Some front
 unfolding tokens_after
-last_token front text at all l h =
-    sym h ∙ (ap (λ (bs : List ℕ). with_front front (tokens_after 0 bs)) (drop_all at text l)
-    ∙ ap (λ ts. Some ts) (append-nil front))
+last_token front text at all l h = grind (arith, drop_all, append-nil)

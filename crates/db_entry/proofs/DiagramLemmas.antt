@@ -1,14 +1,14 @@
 -- What is kept of a main diagram decides what a further line does to it.
 use Rattle.go_rules.specs.Board.{largest_size}
 use Rattle.std.proofs.Common.{◌≡◌, ℕ, ◌+◌, Bool, true, false, not, cond, List, [], ◌∷◌, ◌++◌, length, Option, Some}
-use Rattle.std.proofs.Common.{None, refl, sym, ap, ◌∙◌, arith}
+use Rattle.std.proofs.Common.{None, refl, arith}
 use Rattle.std.specs.Prelude.{◌&&◌, ◌||◌, nat_lt, nat_le}
 use Rattle.std.proofs.lemmas.List.{length-append}
 use Rattle.pat_types.specs.Diagrams.{drawn_strip}
 use Rattle.db_entry.specs.declared.diagram.Diagram.{Diagram}
 use Rattle.db_rules.specs.declared.shape.Shape.{Shape}
 use Rattle.db_rules.specs.declared.kind.FaultKind.{FaultKind}
-use Rattle.db_rules.specs.declared.kind.FaultKind.TheVariants.{BadLetter, EdgePlace, Ragged, TooLarge}
+use Rattle.db_rules.specs.declared.kind.FaultKind.TheVariants.{EdgePlace, Ragged, TooLarge}
 use Rattle.db_rules.specs.Kinds.{first_of}
 use Rattle.db_rules.specs.Diagram.{is_edge_line, is_row, rows_of, has_top, has_bottom, wanted, line_shape, other_sides}
 use Rattle.db_rules.specs.Diagram.{other_width, is_misplaced, diagram_fault, letters_of_row}
@@ -17,7 +17,7 @@ use Rattle.db_rules.proofs.OneMoreLine.{letters_of-push, whole-push}
 use Rattle.db_entry.specs.declared.line.DiagramLine.{DiagramLine}
 use Rattle.db_entry.specs.DiagramLines.{is_edge, shape_on}
 use Rattle.db_entry.specs.Reads.{Draws, kept_fault}
-use Rattle.db_entry.proofs.LineLemmas.{Classifies, first-passes, later_tests}
+use Rattle.db_entry.proofs.LineLemmas.{Classifies, first-passes}
 
 -- the fault of a row or an edge line, by what is kept of the lines before it
 by_parts : ℕ → ℕ → Bool → Bool → Option Shape → Bool → Shape → ℕ → Option FaultKind
@@ -33,8 +33,7 @@ by_parts-is : (words : List (List ℕ)) (word : List ℕ) → (is_edge_line word
     (is_edge_line word) (line_shape word) (length word)
     ≡ diagram_fault words word
 unfolding diagram_fault is_misplaced by_parts
-by_parts-is words word line =
-    sym (first-passes (is_edge_line word || is_row word) BadLetter (later_tests words word) line)
+by_parts-is words word line = grind (arith, first-passes)
 
 -- what is kept of a diagram are these parts
 kept-by_parts : (d : Diagram) (line : DiagramLine) (bytes : ℕ)
@@ -46,9 +45,7 @@ kept-by_parts d line bytes = refl
 -- what is kept is enough
 pub fault_is : (d : Diagram) (words : List (List ℕ)) (word : List ℕ) (line : DiagramLine) → Draws d words
     → Classifies line word → kept_fault d line (length word) ≡ diagram_fault words word
-fault_is d words word line s is =
-    kept-by_parts d line (length word)
-    ∙ rw (s.lines, s.rows, s.top, s.bottom, s.shape, is.edge, is.shape) (by_parts-is words word is.some)
+fault_is d words word line s is = grind (arith, kept-by_parts, by_parts-is)
 
 -- the tests of a list of three faults of which none fits
 pub record AreThreeFalse (a b c : Bool) : Type 0 where
@@ -75,17 +72,5 @@ pub Draws-push : (d n : Diagram) (words : List (List ℕ)) (word : List ℕ) →
     → n.letters ≡ d.letters ++ cond (is_row word) (letters_of_row word) []
     → Draws n (words ++ word ∷ [])
 Draws-push d n words word s even lines rows top bottom shape letters =
-    let now_rows : n.rows ≡ length (rows_of (words ++ word ∷ [])) =
-    rows ∙ ap (λ m. m + drawn_strip (is_row word)) s.rows ∙ sym (length-rows_of-push words word) in
-    record {
-      lines = omega (arith, s.lines, length-append words (word ∷ []));
-      rows = now_rows;
-      top = top ∙ rw (s.lines, s.top) (sym (has_top-push words word));
-      bottom = bottom ∙ ap (λ m. nat_lt 0 m && is_edge_line word) now_rows
-          ∙ ap (λ b. nat_lt 0 (length (rows_of (words ++ word ∷ []))) && b) (sym (ends_in_edge-push words word));
-      shape = shape ∙ rw (s.lines, s.rows, s.shape) (sym (wanted-push words word));
-      letters =
-          letters ∙ ap (λ l. l ++ cond (is_row word) (letters_of_row word) []) s.letters
-          ∙ sym (letters_of-push words word);
-      whole = whole-push words word s.whole (ap (other_width (line_shape word)) (sym s.shape) ∙ even);
-    }
+    grind (arith, length-rows_of-push, length-append, has_top-push, ends_in_edge-push, wanted-push, letters_of-push,
+        whole-push)

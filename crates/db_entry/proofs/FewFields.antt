@@ -1,7 +1,7 @@
 -- Of a colon line with too many fields the first 19 show the fault.
 use Rattle.std.proofs.Common.{◌≡◌, ℕ, ◌<◌, ◌≤◌, Bool, true, false, List, [], ◌∷◌, ◌++◌, length, map, take, drop, None}
-use Rattle.std.proofs.Common.{refl, sym, ap, subst, ◌∙◌, ⊎_elim, arith}
-use Rattle.std.specs.Prelude.{nat_lt, is_none}
+use Rattle.std.proofs.Common.{refl, sym, ap, subst, ◌∙◌, arith}
+use Rattle.std.specs.Prelude.{nat_lt}
 use Rattle.std.proofs.lemmas.Bool.{lt-ltb, ltb-false, cases_lt, or_parts, true≢false}
 use Rattle.std.proofs.Math.Seq.{take-append_seam}
 use Rattle.std.proofs.lemmas.List.{length-append, length-take, length-drop, take_all}
@@ -34,11 +34,7 @@ faults_of_many helpers diagram (mark ∷ class ∷ more) many =
 -- the fields that are looked at have the fault of all of them
 pub faults_of_few : (helpers diagram all : List (List ℕ))
     → fields_fault helpers diagram (take most_fields all) ≡ fields_fault helpers diagram all
-faults_of_few helpers diagram all =
-    ⊎_elim
-    (λ few. ap (fields_fault helpers diagram) (take_all most_fields all (omega (arith, few))))
-    (λ many. faults_of_many helpers diagram all many)
-    (cases_lt (length all) most_fields)
+faults_of_few helpers diagram all = grind (arith, take_all, faults_of_many, cases_lt)
 
 -- of six tests of which none passes the fifth does not
 fifth_of_six : (a b c d e f : Bool) (k l m n o p : FaultKind)
@@ -62,9 +58,7 @@ third_of_six false false false d e f k l m n o p none = refl
 pub mark_is_there : (helpers diagram fields : List (List ℕ)) → fields_fault helpers diagram fields ≡ None
     → mark_of fields ≡ None → ⊥
 unfolding fields_fault
-mark_is_there helpers diagram fields none no_mark =
-    true≢false (sym (ap is_none no_mark)
-    ∙ third_of_six _ _ _ _ _ _ NoDiagram MoveCount BadMark BadClass BadItem UnknownHelper none)
+mark_is_there helpers diagram fields none no_mark = grind (arith, true≢false, third_of_six)
 
 -- where the fields that are looked at have no fault they are all
 pub few_are_all : (helpers diagram all : List (List ℕ)) → fields_fault helpers diagram (take most_fields all) ≡ None
@@ -90,5 +84,4 @@ whole_line_read old new parts all part whole last read few =
 -- where as many fields are read as are looked at, they are the first of all
 pub enough_read : (read more all : List (List ℕ)) → read ++ more ≡ all → length read ≡ most_fields
     → read ≡ take most_fields all
-enough_read read more all whole enough =
-    sym (take-append_seam read more) ∙ ap (λ n. take n (read ++ more)) enough ∙ ap (take most_fields) whole
+enough_read read more all whole enough = grind (arith, take-append_seam read more)

@@ -1,5 +1,5 @@
 -- Splitting at commas, one byte after the other.
-use Rattle.std.proofs.Common.{◌≡◌, ℕ, ◌+◌, ◌<◌, Bool, true, false, cond, List, [], ◌∷◌, ◌++◌, length, get_or, take}
+use Rattle.std.proofs.Common.{◌≡◌, ℕ, ◌+◌, ◌<◌, true, false, List, [], ◌∷◌, ◌++◌, length, get_or, take}
 use Rattle.std.proofs.Common.{drop, refl, sym, ap, ◌∙◌, append_assoc, arith}
 use Rattle.std.specs.Prelude.{◌==◌, ◌&&◌, nat_lt, if◌then◌else◌}
 use Rattle.std.proofs.lemmas.Bool.{lt-ltb, le-ltb}
@@ -38,14 +38,7 @@ with_front-some b (part ∷ more) = refl
 -- there is always a first part
 pub split-some : (text : List ℕ) → split_at_commas 0 text ≡ with_fronts [] (split_at_commas 0 text)
 split-some [] = rw (split-nil 0) refl
-split-some (b ∷ bs) = by_comma (b == comma && 0 == 0) (split-cons 0 b bs)
-  where
-    by_comma : (ends : Bool)
-        → split_at_commas 0 (b ∷ bs) ≡ cond ends ([] ∷ split_at_commas 0 bs)
-        (with_front b (split_at_commas (depth_after 0 b) bs))
-        → split_at_commas 0 (b ∷ bs) ≡ with_fronts [] (split_at_commas 0 (b ∷ bs))
-    by_comma true e = rw e refl
-    by_comma false e = e ∙ sym (ap (with_fronts []) e ∙ with_front-some b (split_at_commas (depth_after 0 b) bs))
+split-some (b ∷ bs) = grind (arith, split-cons, with_front-some)
 
 -- a byte that doesn't end the first part
 pub split-goes : (text : List ℕ) (i depth : ℕ) → i < length text → (get_or text i 0 == comma && depth == 0) ≡ false
@@ -53,13 +46,8 @@ pub split-goes : (text : List ℕ) (i depth : ℕ) → i < length text → (get_
     → split_at_commas 0 text ≡ with_fronts (take (i + 1) text)
     (split_at_commas (depth_after depth (get_or text i 0)) (drop (i + 1) text))
 split-goes text i depth lt goes so_far =
-    let b = get_or text i 0 in
-    let one : split_at_commas depth (drop i text) ≡ with_front b
-    (split_at_commas (depth_after depth b) (drop (i + 1) text)) =
-    at_drop_more (split_at_commas depth) text i 0 lt ∙ split-cons depth b (drop (i + 1) text) ∙ rw goes refl in
-    so_far ∙ ap (with_fronts (take i text)) one
-    ∙ with_fronts-push (take i text) b (split_at_commas (depth_after depth b) (drop (i + 1) text))
-    ∙ ap (λ t. with_fronts t (split_at_commas (depth_after depth b) (drop (i + 1) text))) (sym (take_more text i 0 lt))
+    grind (arith, at_drop_more (split_at_commas depth) text i 0 lt, split-cons depth, with_fronts-push (take i text),
+        take_more text i 0 lt)
 
 -- a comma outside parentheses ends it
 pub split-ends : (text : List ℕ) (i depth : ℕ) → i < length text → (get_or text i 0 == comma && depth == 0) ≡ true

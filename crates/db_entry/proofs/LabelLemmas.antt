@@ -23,9 +23,7 @@ pub repeats-lengths : (main word : List ℕ) → length main ≢ length word →
 repeats-lengths [] [] apart = absurd (apart refl)
 repeats-lengths [] (w ∷ ws) apart = refl
 repeats-lengths (m ∷ ms) [] apart = refl
-repeats-lengths (m ∷ ms) (w ∷ ws) apart =
-    and_right (w == m || is_label w
-    && is_letter m) (repeats ms ws) (repeats-lengths ms ws (λ e. apart (ap (λ (n : ℕ). suc n) e)))
+repeats-lengths (m ∷ ms) (w ∷ ws) apart = grind (arith, and_right, repeats-lengths ms ws)
 
 -- a word that repeats a main line is as long
 pub repeats-same : (main word : List ℕ) → repeats main word ≡ true → length main ≡ length word
@@ -57,12 +55,7 @@ labels_under-push : (row : ℕ) (mains words : List (List ℕ)) (word : List ℕ
     → labels_under row mains (words ++ word ∷ []) ≡ labels_under row mains words ++ labels_of_line
     (row + length (rows_of (take (length words) mains))) (get_or mains (length words) []) word
 labels_under-push row [] words word lt = absurd (omega arith)
-labels_under-push row (main ∷ mains) [] word lt =
-    under-cons row main mains word []
-    ∙ ap (λ l. labels_of_line row main word ++ l) (under-nil (row + drawn_strip (is_row main)) mains)
-    ∙ append-nil (labels_of_line row main word)
-    ∙ ap (λ n. labels_of_line n main word) (sym (add-zero row))
-    ∙ ap (λ l. l ++ labels_of_line (row + 0) main word) (sym (under-nil row (main ∷ mains)))
+labels_under-push row (main ∷ mains) [] word lt = grind (arith, under-cons, under-nil, append-nil, add-zero)
 labels_under-push row (main ∷ mains) (w ∷ words) word lt =
     let one = drawn_strip (is_row main) in
     let above = length (rows_of (main ∷ take (length words) mains)) in
@@ -79,11 +72,7 @@ labels_under-push row (main ∷ mains) (w ∷ words) word lt =
 pub labels_of-push : (mains words : List (List ℕ)) (word : List ℕ) → length words < length mains
     → labels_of mains (words ++ word ∷ []) ≡ labels_of mains words ++ labels_of_line
     (length (rows_of (take (length words) mains))) (get_or mains (length words) []) word
-labels_of-push mains words word lt =
-    labels_under-push 0 mains words word lt
-    ∙ ap (λ n. labels_of mains words ++ labels_of_line n (get_or mains (length words) []) word)
-    (let e : 0 + length (rows_of (take (length words) mains)) ≡ length (rows_of (take (length words) mains)) =
-    omega arith in e)
+labels_of-push mains words word lt = grind (arith, labels_under-push)
 
 -- a further line that has no main line is at fault
 pub constraint_fault-past : (mains words : List (List ℕ)) (word : List ℕ) → length mains ≤ length words
@@ -107,29 +96,13 @@ pub IsMarked-push : (m n : Marks) (mains words : List (List ℕ)) (word : List �
     → n.lines ≡ m.lines + 1 → n.rows ≡ m.rows + drawn_strip (is_row (get_or mains (length words) []))
     → n.labels ≡ labels_of mains (words ++ word ∷ []) → IsMarked n mains (words ++ word ∷ [])
 IsMarked-push m n mains words word s lt lines rows labels =
-    let more : length (words ++ word ∷ []) ≡ length words + 1 = omega (arith, length-append words (word ∷ [])) in
-    let above : length (rows_of (take (length words + 1) mains)) ≡ length
-    (rows_of (take (length words) mains)) + drawn_strip (is_row (get_or mains (length words) [])) =
-    ap (λ l. length (rows_of l)) (take_more mains (length words) [] lt)
-    ∙ length-rows_of-push (take (length words) mains) (get_or mains (length words) []) in
-    record {
-      lines = omega (arith, s.lines);
-      within = omega arith;
-      rows = rows ∙ ap (λ r. r + drawn_strip (is_row (get_or mains (length words) []))) s.rows ∙ sym above
-          ∙ ap (λ k. length (rows_of (take k mains))) (sym more);
-      labels = labels;
-    }
+    grind (arith, take_more mains, length-append, length-rows_of-push)
 
 -- the labels with those of a further line, by what is kept
 kept_labels : (m : Marks) (mains words : List (List ℕ)) (word main : List ℕ) → IsMarked m mains words
     → m.lines < length mains → main ≡ get_or mains m.lines []
     → m.labels ++ labels_of_line m.rows main word ≡ labels_of mains (words ++ word ∷ [])
-kept_labels m mains words word main s lt main_is =
-    let there : main ≡ get_or mains (length words) [] = main_is ∙ ap (λ k. get_or mains k []) s.lines in
-    ap (λ l. l ++ labels_of_line m.rows main word) s.labels
-    ∙ ap (λ n. labels_of mains words ++ labels_of_line n main word) s.rows
-    ∙ ap (λ w. labels_of mains words ++ labels_of_line (length (rows_of (take (length words) mains))) w word) there
-    ∙ sym (labels_of-push mains words word (omega (arith, s.lines)))
+kept_labels m mains words word main s lt main_is = grind (arith, labels_of-push)
 
 -- the fault of a further line, by its main line and all labels
 abbrev fault_by : List ℕ → List ℕ → List LabelAt → Option FaultKind
@@ -143,11 +116,7 @@ pub kept_fault_at : (m : Marks) (mains words : List (List ℕ)) (word main : Lis
           && are_apart (m.labels ++ labels_of_line m.rows main word)),
       ConstraintShape,
     ) ∷ [])
-kept_fault_at m mains words word main s lt main_is =
-    let there : main ≡ get_or mains (length words) [] = main_is ∙ ap (λ k. get_or mains k []) s.lines in
-    constraint_fault-at mains words word (omega (arith, s.lines))
-    ∙ ap (λ w. fault_by word w (labels_of mains (words ++ word ∷ []))) (sym there)
-    ∙ ap (fault_by word main) (sym (kept_labels m mains words word main s lt main_is))
+kept_fault_at m mains words word main s lt main_is = grind (arith, constraint_fault-at, kept_labels)
 
 -- what is kept after a further line
 pub kept_push : (m n : Marks) (mains words : List (List ℕ)) (word main : List ℕ) → IsMarked m mains words

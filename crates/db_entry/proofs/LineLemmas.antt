@@ -1,5 +1,5 @@
 -- The line that a word is, and what the words of the grammar say of it.
-use Rattle.std.proofs.Common.{◌≡◌, ℕ, Bool, true, false, not, cond, List, [], ◌∷◌, length, Some, None, refl, sym, subst}
+use Rattle.std.proofs.Common.{◌≡◌, ℕ, Bool, true, false, not, cond, List, [], ◌∷◌, length, Some, None, refl, sym, arith}
 use Rattle.std.specs.Prelude.{◌||◌, nat_lt, nat_le, is_some}
 use Rattle.go_rules.specs.Board.{largest_size}
 use Rattle.db_rules.specs.declared.shape.Shape.{Shape}
@@ -22,9 +22,7 @@ pub record Classifies (line : DiagramLine) (word : List ℕ) : Type 0 where
 
 -- a row has its kind and shape
 row_classifies : (word : List ℕ) → is_row_word word ≡ true → Classifies (Row (shape_of bar word)) word
-row_classifies word row =
-    let apart : is_edge_line word ≡ false = row_is_no_edge_line word row in
-    record { edge = sym apart; row = sym row; shape = rw row refl; some = rw (row, apart) refl }
+row_classifies word row = grind (arith, row_is_no_edge_line)
 
 -- and so has an edge line
 edge_classifies : (word : List ℕ) → is_row_word word ≡ false → is_edge_line word ≡ true
@@ -33,16 +31,7 @@ edge_classifies word row edge = record { edge = sym edge; row = sym row; shape =
 
 -- a word that is a line has its kind and shape
 pub line_classifies : (word : List ℕ) (line : DiagramLine) → line_of word ≡ Some line → Classifies line word
-line_classifies word line e = by_kind (is_row_word word) (is_edge_line word) refl refl e
-  where
-    by_kind : (row edge : Bool) → is_row_word word ≡ row → is_edge_line word ≡ edge
-        → cond row (Some (Row (shape_of bar word))) (cond edge (Some (Edge (shape_of plus word))) None) ≡ Some line
-        → Classifies line word
-    by_kind true edge r f e = let same : Row (shape_of bar word) ≡ line = cc in
-        subst (λ l. Classifies l word) same (row_classifies word r)
-    by_kind false true r f e = let same : Edge (shape_of plus word) ≡ line = cc in
-        subst (λ l. Classifies l word) same (edge_classifies word r f)
-    by_kind false false r f e = absurd cc
+line_classifies word line e = grind (arith, row_classifies, edge_classifies)
 
 -- where a test fails its fault is the first
 first-fails : (b : Bool) (kind : FaultKind) (more : List (Bool × FaultKind)) → b ≡ false
@@ -73,13 +62,4 @@ later_tests words word =
 pub no_line_fault : (words : List (List ℕ)) (word : List ℕ) → line_of word ≡ None
     → diagram_fault words word ≡ Some BadLetter
 unfolding diagram_fault
-no_line_fault words word e =
-    first-fails (is_edge_line word || is_row_word word) BadLetter (later_tests words word)
-    (by_kind (is_row_word word) (is_edge_line word) refl refl e)
-  where
-    by_kind : (row edge : Bool) → is_row_word word ≡ row → is_edge_line word ≡ edge
-        → cond row (Some (Row (shape_of bar word))) (cond edge (Some (Edge (shape_of plus word))) None) ≡ None
-        → (is_edge_line word || is_row_word word) ≡ false
-    by_kind true edge r f e = absurd cc
-    by_kind false true r f e = absurd cc
-    by_kind false false r f e = rw (r, f) refl
+no_line_fault words word e = grind (arith, first-fails)

@@ -1,7 +1,7 @@
 -- An entry with one line more.
 use Rattle.go_rules.specs.Board.{largest_size}
 use Rattle.std.proofs.Common.{◌≡◌, ℕ, zero, suc, ◌≤◌, Bool, true, false, cond, List, [], ◌∷◌, ◌++◌, length, get_or, map}
-use Rattle.std.proofs.Common.{sym, ap, subst, ◌∙◌, arith, Bor}
+use Rattle.std.proofs.Common.{arith, Bor}
 use Rattle.std.proofs.lemmas.List.{map_push}
 use Rattle.db_entry.specs.declared.marks.Marks.{Marks}
 use Rattle.db_entry.specs.Reads.{IsMarked}
@@ -20,26 +20,10 @@ pub shorts-pushed : (b : Bool) (old new : List (Bor (List ℕ))) (word : Bor (Li
     → new ≡ cond b (old ++ word ∷ []) old → ((k : ℕ) → length (get_or (map (λ w. w.now) old) k []) ≤ largest_size)
     → length word.now ≤ largest_size
     → (k : ℕ) → length (get_or (map (λ w. w.now) new) k []) ≤ largest_size
-shorts-pushed true old new word e all short k =
-    let pushed : map (λ w. w.now) new ≡ map (λ w. w.now) old ++ word.now ∷ [] =
-    ap (map (λ w. w.now)) e ∙ map_push (λ w. w.now) old word in
-    subst (λ ws. length (get_or ws k []) ≤ largest_size) (sym pushed)
-    (shorts-push (map (λ w. w.now) old) word.now all short k)
-shorts-pushed false old new word e all short k =
-    subst (λ (ws : List (Bor (List ℕ))). length (get_or (map (λ w. w.now) ws) k []) ≤ largest_size) (sym e) (all k)
+shorts-pushed true old new word e all short k = grind (arith, map_push, shorts-push)
+shorts-pushed false old new word e all short k = grind arith
 
 -- a constraint diagram without lines is one under any main diagram
 pub IsMarked-under : (m : Marks) (mains others words : List (List ℕ)) → words ≡ [] → IsMarked m mains words
     → IsMarked m others words
-IsMarked-under m mains others words none s =
-    subst (λ ws. IsMarked m others ws) (sym none) (under_none (subst (λ ws. IsMarked m mains ws) none s))
-  where
-    under_none : IsMarked m mains [] → IsMarked m others []
-    under_none t =
-        record {
-          lines = t.lines;
-          within = omega arith;
-          rows = t.rows;
-          labels = t.labels ∙ under-nil 0 mains
-              ∙ sym (under-nil 0 others);
-        }
+IsMarked-under m mains others words none s = grind (arith, under-nil)

@@ -1,6 +1,5 @@
 -- The expression of an entry: its lines one after another, its fault, and what it says.
-use Rattle.std.proofs.Common.{◌≡◌, ◌<◌, List, [], ◌∷◌, ◌++◌, length, refl, sym, ap, ◌∙◌}
-use Rattle.std.proofs.Common.{append_assoc, arith}
+use Rattle.std.proofs.Common.{◌≡◌, ◌<◌, List, [], ◌∷◌, ◌++◌, length, refl, sym, append_assoc, arith}
 use Rattle.db_lex.specs.Lines.{KeptLine}
 use Rattle.db_rules.specs.Expressions.{blank, text_on, expression_text}
 use Rattle.db_rules.specs.Faults.{first_number}
@@ -12,16 +11,7 @@ text-push : (lines : List KeptLine) (line : KeptLine) → 0 < length lines
     → expression_text (lines ++ line ∷ []) ≡ (expression_text lines ++ blank ∷ []) ++ text_on line
 text-push [] line some = absurd (omega (arith, some))
 text-push (first ∷ []) line some = sym (append_assoc (text_on first) (blank ∷ []) (text_on line))
-text-push (first ∷ next ∷ more) line some =
-    let front = text_on first in
-    let text = expression_text (next ∷ more) in
-    let rest = text-push (next ∷ more) line (omega arith) in
-    let regrouped : (front ++ blank ∷ text) ++ (blank ∷ []) ≡ front ++ blank ∷ (text ++ blank ∷ []) =
-    append_assoc front (blank ∷ text) (blank ∷ []) in
-    let joined : ((front ++ blank ∷ text) ++ blank ∷ []) ++ text_on line ≡ front ++ blank ∷
-    ((text ++ blank ∷ []) ++ text_on line) =
-    ap (λ t. t ++ text_on line) regrouped ∙ append_assoc front (blank ∷ (text ++ blank ∷ [])) (text_on line) in
-    ap (λ t. front ++ blank ∷ t) rest ∙ sym joined
+text-push (first ∷ next ∷ more) line some = grind (arith, append_assoc, text-push (next ∷ more) line)
 
 -- the first line stays the first behind one line more
 first-push : (lines : List KeptLine) (line : KeptLine) → 0 < length lines
@@ -32,12 +22,4 @@ first-push (first ∷ more) line some = refl
 -- the text of one line more is kept
 pub more_text : (old new : ExpressionText) (lines : List KeptLine) (line : KeptLine) → IsTextOf old lines
     → new.line ≡ old.line → new.text ≡ (old.text ++ blank ∷ []) ++ text_on line → IsTextOf new (lines ++ line ∷ [])
-more_text old new lines line kept number text = record {
-  some = some_more lines line;
-  line = number ∙ kept.line ∙ sym (first-push lines line kept.some);
-  text = text ∙ ap (λ t. (t ++ blank ∷ []) ++ text_on line) kept.text ∙ sym (text-push lines line kept.some);
-}
-  where
-    some_more : (lines : List KeptLine) (line : KeptLine) → 0 < length (lines ++ line ∷ [])
-    some_more [] line = omega arith
-    some_more (first ∷ more) line = omega arith
+more_text old new lines line kept number text = grind (arith, first-push, text-push)

@@ -1,6 +1,5 @@
 -- What is read of a line that the table takes, and the error of a line that is refused.
-use Rattle.std.proofs.Common.{◌≡◌, ℕ, false, List, Option, Some, None, refl, sym, ap, subst, ◌∙◌}
-use Rattle.std.specs.Prelude.{slice_index}
+use Rattle.std.proofs.Common.{◌≡◌, ℕ, false, List, Option, Some, None, refl, ap, arith}
 use Rattle.db_lex.specs.declared.line.LineKind.{LineKind}
 use Rattle.db_lex.specs.declared.line.LineKind.TheVariants.{Pattern, Colon, Semicolon, Action, Other}
 use Rattle.db_lex.specs.Lines.{KeptLine, kind_of}
@@ -15,7 +14,6 @@ use Rattle.db_rules.specs.Blocks.{Block, SoFar, table, cell_for, end_refused, af
 use Rattle.db_rules.specs.Faults.{Blames, at_line, own_fault, table_fault, closing_fault, found, found_at_end}
 use Rattle.db_rules.proofs.TableLemmas.{found_closing}
 use Rattle.db_read.specs.declared.error.DbError.{DbError}
-use Rattle.db_read.specs.declared.error.DbError.TheVariants as errors
 use Rattle.db_read.specs.declared.reader.Reader.{Reader}
 use Rattle.db_read.specs.Reading.{BlamesAt, error_at, Shows, settled, settled_stage}
 use Rattle.db_read.proofs.ReaderLemmas.{parts}
@@ -27,9 +25,7 @@ pub tabled_ok : (helpers : List (List ℕ)) (s : SoFar) (k : KeptLine) (kind : L
     → (own_fault helpers s k kind ≡ None) × Shows n (placed k next s kind)
     → (table_fault helpers s k (cell_for s.stage k) ≡ None) × Shows n (after_line s k)
 unfolding after_line
-tabled_ok helpers s k kind next n kind_is cell read =
-    let there = subst (λ t. (own_fault helpers s k t ≡ None) × Shows n (placed k next s t)) kind_is read in
-    subst (λ c. (table_fault helpers s k c ≡ None) × Shows n (with_cell s k c)) (sym cell) there
+tabled_ok helpers s k kind next n kind_is cell read = grind arith
 
 -- the error of a line of this number
 pub blames_line : (number : ℕ) (e : LineError) (kind : Option FaultKind) → Blames e kind
@@ -103,18 +99,7 @@ pub record IsSame (helpers : List (List ℕ)) (kind : LineKind) (s : SoFar) (lin
 pub same_behind : (helpers : List (List ℕ)) (kind : LineKind) (s : SoFar) (line : KeptLine) → kind ≡ kind_of line.bytes
     → IsSame helpers kind s line
 unfolding after_line
-same_behind helpers kind s line kind_is = subst (λ k. IsSame helpers k s line) (sym kind_is) (record {
-  fault = fault-by helpers (settled (Some (kind_of line.bytes)) s) line
-      (cell_for (settled_stage s.stage (Some (kind_of line.bytes))) line)
-      ∙ settled_fault helpers (kind_of line.bytes) s.stage s.front s.done s.now line (slice_index line.bytes 0)
-      ∙ sym (fault-by helpers s line (cell_for s.stage line));
-  after = λ none.
-      after-by (settled (Some (kind_of line.bytes)) s) line
-      (cell_for (settled_stage s.stage (Some (kind_of line.bytes))) line)
-      ∙ settled_after helpers (kind_of line.bytes) s.stage s.front s.done s.now line (slice_index line.bytes 0)
-      (sym (fault-by helpers s line (cell_for s.stage line)) ∙ none)
-      ∙ sym (after-by s line (cell_for s.stage line));
-})
+same_behind helpers kind s line kind_is = grind (arith, fault-by, settled_fault, after-by, settled_after)
 
 -- what the end closes changes nothing of the end
 pub same_end : (stage : Stage) → end_refused (settled_stage stage None) ≡ end_refused stage
@@ -140,13 +125,9 @@ action_no_semicolon same = absurd cc
 pub blames_closing : (helpers : List (List ℕ)) (s : SoFar) (k : KeptLine) (kind : LineKind) (e : DbError)
     → k.is_bad ≡ false
     → kind ≡ kind_of k.bytes → BlamesAt e (closing_fault k.number (Some kind) s) → BlamesAt e (found helpers s k)
-blames_closing helpers s k kind errors.NoMemory fine kind_is blames = tt
-blames_closing helpers s k kind (errors.Fault line fault) fine kind_is blames =
-    found_closing helpers s k kind (record { line = line; kind = fault }) fine kind_is blames
+blames_closing helpers s k kind v4 fine kind_is blames = grind (arith, found_closing)
 
 -- an error of what the end closes is one of the end
 pub blames_end : (number : ℕ) (s : SoFar) (e : DbError) → BlamesAt e (closing_fault number None s)
     → BlamesAt e (found_at_end number s)
-blames_end number s errors.NoMemory blames = tt
-blames_end number s (errors.Fault line fault) blames =
-    end_closing number s (record { line = line; kind = fault }) blames
+blames_end number s v2 blames = grind (arith, end_closing)

@@ -1,6 +1,6 @@
 -- What is handed out for a line, and what is found there and at the end.
 use Rattle.std.proofs.Common.{◌≡◌, ℕ, ◌+◌, Bool, true, false, List, ◌∷◌, length, Some, None, Result, Ok, Err, refl, sym}
-use Rattle.std.proofs.Common.{ap, ◌∙◌}
+use Rattle.std.proofs.Common.{◌∙◌, arith}
 use Rattle.std.specs.Prelude.{if◌then◌else◌}
 use Rattle.db_lex.specs.declared.line.BadByte.{BadByte}
 use Rattle.db_lex.specs.declared.line.Line.{Line}
@@ -41,8 +41,7 @@ pub record IsBadLine (k : KeptLine) (b : BadByte) : Type 0 where
 
 -- a line that is handed out as bad by the test of its bytes has a bad byte, and its number is told
 bad_by_test : (bad : Bool) (k : KeptLine) (b : BadByte) → k.is_bad ≡ bad → by_test bad k ≡ Err b → IsBadLine k b
-bad_by_test true k b t h = let same : bad_of k ≡ b =
-    cc in record { bad = t; number = ap (λ (x : BadByte). x.number) same }
+bad_by_test true k b t h = grind arith
 bad_by_test false k b t h = absurd cc
 
 -- a line that is handed out as bad has a bad byte, and its number is told
@@ -58,9 +57,7 @@ pub record IsFineLine (k : KeptLine) (l : Line) : Type 0 where
 -- a line that is handed out whole by the test of its bytes has no bad byte, and its number and kind are told
 fine_by_test : (bad : Bool) (k : KeptLine) (l : Line) → k.is_bad ≡ bad → by_test bad k ≡ Ok l → IsFineLine k l
 fine_by_test true k l t h = absurd cc
-fine_by_test false k l t h =
-    let same : line_of k ≡ l = cc in
-    record { fine = t; number = ap (λ (x : Line). x.number) same; kind = sym (ap (λ (x : Line). x.kind) same) }
+fine_by_test false k l t h = grind arith
 
 -- a line that is handed out whole has no bad byte, and its number and kind are told
 pub fine_line : (k : KeptLine) (l : Line) → shown k ≡ Ok l → IsFineLine k l

@@ -1,12 +1,11 @@
 -- A reader with one line more.
 use Rattle.std.proofs.Common.{◌≡◌, ◌≢◌, ℕ, ◌+◌, ◌<◌, Bool, true, false, List, [], ◌∷◌, ◌++◌, length, map, Option, Some}
 use Rattle.std.proofs.Common.{None, refl, sym, ap, subst, ◌∙◌, arith}
-use Rattle.std.specs.Prelude.{◌==◌, ◌&&◌, nat_lt}
+use Rattle.std.specs.Prelude.{◌&&◌, nat_lt}
 use Rattle.std.specs.Option.{option_to_list}
 use Rattle.std.proofs.lemmas.Bool.{eqb-true, not-false}
 use Rattle.std.proofs.lemmas.List.{length-append, map_push, map-append}
 use Rattle.pat_types.specs.declared.pattern.Pattern.{Pattern as PatternRead}
-use Rattle.pat_types.specs.Labels.{is_constraint}
 use Rattle.db_lex.specs.declared.line.LineKind.{LineKind}
 use Rattle.db_lex.specs.declared.line.LineKind.TheVariants.{Pattern, Colon, Semicolon, Action, Other}
 use Rattle.db_lex.specs.Lines.{KeptLine, word_of}
@@ -14,16 +13,14 @@ use Rattle.db_rules.specs.declared.stage.Stage.{Stage}
 use Rattle.db_rules.specs.declared.stage.Stage.TheVariants.{Start, Diagram, Labels, Expression, Actions}
 use Rattle.db_rules.specs.declared.stage.TableCell.TheVariants.{Next}
 use Rattle.db_rules.specs.declared.kind.FaultKind.{FaultKind}
-use Rattle.db_rules.specs.declared.kind.FaultKind.TheVariants.{NoDiagram, MoveCount, BadMark, BadClass, BadItem}
-use Rattle.db_rules.specs.declared.kind.FaultKind.TheVariants.{UnknownHelper, ConstraintShape}
+use Rattle.db_rules.specs.declared.kind.FaultKind.TheVariants.{ConstraintShape}
 use Rattle.db_rules.specs.Kinds.{first_of}
 use Rattle.db_rules.specs.Diagram.{diagram_fault, letters_of, star_count}
 use Rattle.db_rules.specs.Colon.{colon_fault, fields_fault}
 use Rattle.db_rules.specs.Labels.{constraint_fault, labels_closing_fault}
-use Rattle.db_rules.specs.Blocks.{Block, SoFar, words_in, blocks_of, begun_with, placed, table}
+use Rattle.db_rules.specs.Blocks.{Block, SoFar, words_in, begun_with, placed, table}
 use Rattle.db_rules.specs.Entries.{entry_of, entry_of_block}
-use Rattle.db_rules.specs.Faults.{own_fault, at_line, closes}
-use Rattle.db_rules.specs.Faults.{gathered_fault, closing_fault}
+use Rattle.db_rules.specs.Faults.{own_fault, at_line, closes, gathered_fault, closing_fault}
 use Rattle.db_read.specs.declared.draft.Draft.{Draft}
 use Rattle.db_read.specs.declared.error.DbError.{DbError}
 use Rattle.db_read.specs.declared.reader.Reader.{Reader}
@@ -38,12 +35,7 @@ parts stage front done now = record { stage = stage; front = front; done = done;
 Shows-now : (r n : Reader) (stage next : Stage) (front : List KeptLine) (done : List Block) (b d : Block)
     → Shows r (parts stage front done (Some b)) → n.stage ≡ next → n.done ≡ r.done → n.begun ≡ r.begun
     → Drafts n.draft d → IsAtStage next n.draft d → next ≢ Start → Shows n (parts next front done (Some d))
-Shows-now r n stage next front done b d s stage_is done_is begun_is drafts fresh on = record {
-  stage = stage_is;
-  entries = ap (λ v. map entry_of v.items) done_is ∙ s.entries;
-  count = begun_is ∙ s.count ∙ length-append done (b ∷ []) ∙ sym (length-append done (d ∷ []));
-  draft = (drafts, fresh, on);
-}
+Shows-now r n stage next front done b d s stage_is done_is begun_is drafts fresh on = grind (arith, length-append)
 
 -- lines with one line more are some
 some-pushed : (lines : List KeptLine) (line : KeptLine) → 0 < length (lines ++ line ∷ [])
@@ -65,10 +57,7 @@ none_of_six false false c d e f k l m n o p h = refl
 colon_one_star : (helpers diagram : List (List ℕ)) (line : List ℕ) → colon_fault helpers diagram line ≡ None
     → star_count (letters_of diagram) ≡ 1
 unfolding fields_fault
-colon_one_star helpers diagram line none =
-    eqb-true _ 1
-    (not-false (star_count (letters_of diagram) == 1)
-    (none_of_six _ _ _ _ _ _ NoDiagram MoveCount BadMark BadClass BadItem UnknownHelper none))
+colon_one_star helpers diagram line none = grind (arith, eqb-true, not-false, none_of_six)
 
 module _ (r n : Reader) (stage : Stage) (front : List KeptLine) (done : List Block) (k : KeptLine) where
   -- what the draft has of the expression stays
@@ -167,10 +156,7 @@ expression_ok r n stage front done k (Some b) number byte bytes e f next s ns nd
 
 -- a draft without an expression is judged: it has no constraint
 pub judged_without : (d : Draft) → IsUnjudged d → IsJudged d
-judged_without d h = record {
-  says = rw (h.no_line, h.no_constraint) refl;
-  kept = ap (is_constraint d.marks.labels) h.no_constraint;
-}
+judged_without d h = grind arith
 
 -- where an action line is taken behind a closed expression there is a colon line, and the draft is judged
 at_action_line : (stage : Stage) (byte : ℕ) (d : Draft) (b : Block) → table stage Action byte ≡ Next Actions
@@ -192,16 +178,7 @@ begun_before_actions Actions byte next start = absurd cc
 -- an action line is none of those that a draft is of
 with_actions : (d : Draft) (b : Block) (k : KeptLine) → Drafts d b
     → Drafts d (record b { actions = b.actions ++ k ∷ [] })
-with_actions d b k h = record {
-  name = h.name;
-  words = h.words;
-  diagram = h.diagram;
-  colon = h.colon;
-  marks = h.marks;
-  expression = h.expression;
-  drawn = h.drawn;
-  labelled = h.labelled;
-}
+with_actions d b k h = grind arith
 
 -- an action line is passed over
 pub action_ok : (r n : Reader) (stage : Stage) (front : List KeptLine) (done : List Block) (k : KeptLine)
@@ -209,8 +186,7 @@ pub action_ok : (r n : Reader) (stage : Stage) (front : List KeptLine) (done : L
     → Shows r (parts stage front done now)
     → n.stage ≡ Actions → n.done ≡ r.done → n.begun ≡ r.begun → n.draft ≡ r.draft
     → Shows n (placed k Actions (parts stage front done now) Action)
-action_ok r n stage front done k None byte next left s ns nd nb same =
-    absurd (begun_before_actions stage byte next s.draft)
+action_ok r n stage front done k None byte next left s ns nd nb same = grind (arith, begun_before_actions)
 action_ok r n stage front done k (Some b) byte next left s ns nd nb same =
     let there = at_action_line stage byte r.draft b next left s.draft.1 in
     let drafts : Drafts r.draft (record b { actions = b.actions ++ k ∷ [] }) = with_actions r.draft b k s.draft.0 in
@@ -229,8 +205,7 @@ pub labels_gathered : (r : Reader) (number : ℕ) (stage : Stage) (front : List 
     ) ∷ []))
 unfolding labels_closing_fault
 labels_gathered r number stage front done None stage_is s = absurd (cc (s.draft, stage_is))
-labels_gathered r number stage front done (Some b) stage_is s =
-    ap (λ t. gathered_fault number t (Some b)) stage_is ∙ rw (s.draft.0.diagram.lines, s.draft.0.marks.lines) refl
+labels_gathered r number stage front done (Some b) stage_is s = grind arith
 
 -- what is closed is a constraint diagram or an expression
 pub closed_stage : (stage : Stage) (kind : Option LineKind) → closes stage kind ≡ true → (stage ≡ Labels → ⊥)
@@ -253,21 +228,14 @@ pub close_ok : (d : Draft) (stage : Stage) (old new : List PatternRead) (p : Pat
     → ReadsNow d stage now
     → map entry_of new ≡ map entry_of old ++ map entry_of_block (option_to_list now)
 close_ok d stage old new p None on pushed finished reads = absurd (on reads)
-close_ok d stage old new p (Some b) on pushed finished reads =
-    ap (map entry_of) pushed ∙ map_push entry_of old p ∙ ap (λ e. map entry_of old ++ e ∷ []) (finished b reads.0)
+close_ok d stage old new p (Some b) on pushed finished reads = grind (arith, map_push)
 
 -- a block is begun
 pub pattern_ok : (r n : Reader) (s : SoFar) (k : KeptLine) → Shows r s → n.stage ≡ Diagram → n.begun ≡ r.begun + 1
     → Drafts n.draft (begun_with k) → IsUnjudged n.draft
     → map entry_of n.done.items ≡ map entry_of r.done.items ++ map entry_of_block (option_to_list s.now)
     → Shows n (placed k Diagram s Pattern)
-pattern_ok r n s k h stage begun drafts unjudged entries = record {
-  stage = stage;
-  entries =
-      entries ∙ ap (λ e. e ++ map entry_of_block (option_to_list s.now)) h.entries ∙ sym (entries-closed s.done s.now);
-  count = omega (arith, h.count, begun, length-append (blocks_of s) (begun_with k ∷ []));
-  draft = (drafts, (refl, refl, unjudged), λ e. absurd cc);
-}
+pattern_ok r n s k h stage begun drafts unjudged entries = grind (arith, entries-closed, length-append)
 
 -- where what was gathered has no fault, the line that closes it has none by it
 pub closed_fault : (number : ℕ) (kind : Option LineKind) (s : SoFar) → closes s.stage kind ≡ true

@@ -1,7 +1,7 @@
 -- The lines of a text without a fault are a front and then whole blocks, each line in its place.
 use Rattle.std.proofs.Common.{◌≡◌, ◌≢◌, ℕ, ◌<◌, ◌≤◌, Bool, true, false, cond, List, [], ◌∷◌, ◌++◌, length, Option, Some}
 use Rattle.std.proofs.Common.{None, refl, sym, ap, subst, ◌∙◌, append_assoc, arith}
-use Rattle.std.specs.Prelude.{fold, slice_index, nat_le}
+use Rattle.std.specs.Prelude.{fold, slice_index}
 use Rattle.std.specs.List.{All, flat_map}
 use Rattle.std.specs.Option.{option_to_list}
 use Rattle.std.proofs.lemmas.Bool.{leb-false}
@@ -12,12 +12,11 @@ use Rattle.db_lex.specs.declared.line.LineKind.{LineKind}
 use Rattle.db_lex.specs.declared.line.LineKind.TheVariants.{Pattern, Colon, Semicolon, Action, Other}
 use Rattle.db_lex.specs.Lines.{KeptLine, kind_of, word_of, kept_lines}
 use Rattle.db_rules.specs.declared.fault.Fault.{Fault}
-use Rattle.db_rules.specs.declared.stage.TableCell.{TableCell}
 use Rattle.db_rules.specs.declared.stage.TableCell.TheVariants.{Next, Refused}
 use Rattle.db_rules.specs.declared.stage.Stage.{Stage}
 use Rattle.db_rules.specs.declared.stage.Stage.TheVariants.{Start, Diagram, Labels, Expression, Actions}
 use Rattle.db_rules.specs.declared.kind.FaultKind.{FaultKind}
-use Rattle.db_rules.specs.declared.kind.FaultKind.TheVariants.{BadByte, StrayLine, NoName, TooManyPatterns}
+use Rattle.db_rules.specs.declared.kind.FaultKind.TheVariants.{StrayLine}
 use Rattle.db_rules.specs.Kinds.{first_of}
 use Rattle.db_rules.specs.Diagram.{diagram_fault}
 use Rattle.db_rules.specs.Labels.{constraint_fault, labels_closing_fault, labels_of}
@@ -28,7 +27,7 @@ use Rattle.db_rules.specs.Accepted as accepted
 use Rattle.db_rules.specs.Blocks.{Block, SoFar, blocks_of, lines_in, words_in, begun_with, placed, table, cell_for}
 use Rattle.db_rules.specs.Blocks.{with_cell, after_line, end_refused, at_start}
 use Rattle.db_rules.specs.Faults.{or_else, at_line, first_number, most_entries, is_unnamed, expression_kind}
-use Rattle.db_rules.specs.Faults.{pattern_fault, own_fault, table_fault, gathered_fault, closing_fault, found}
+use Rattle.db_rules.specs.Faults.{pattern_fault, own_fault, gathered_fault, closing_fault, found}
 use Rattle.db_rules.specs.Faults.{found_at_end, first_fault, end_number, closes}
 use Rattle.db_rules.specs.Database.{IsLineOf, IsInFront, IsColonLine, IsBlock, IsDatabase}
 use Rattle.db_rules.proofs.Walk.{walk, first_fault-walk}
@@ -44,16 +43,11 @@ all_in s = s.front ++ flat_map lines_in (blocks_of s)
 -- the block that goes on stands last
 lines_of_last : (front : List KeptLine) (done : List Block) (b : Block)
     → front ++ flat_map lines_in (done ++ b ∷ []) ≡ (front ++ flat_map lines_in done) ++ lines_in b
-lines_of_last front done b =
-    ap (λ l. front ++ l) (flat_map-append lines_in done (b ∷ [])
-    ∙ ap (λ l. flat_map lines_in done ++ l) (append-nil (lines_in b)))
-    ∙ sym (append_assoc front (flat_map lines_in done) (lines_in b))
+lines_of_last front done b = grind (arith, flat_map-append, append-nil, append_assoc)
 
 -- a line at the end of a list stands behind an empty list after it too
 past : (x y : List KeptLine) (line : KeptLine) → y ≡ [] → (x ++ line ∷ []) ++ y ≡ (x ++ y) ++ line ∷ []
-past x y line none =
-    subst (λ z. (x ++ line ∷ []) ++ z ≡ (x ++ z) ++ line ∷ []) (sym none) (append-nil (x ++ line ∷ [])
-    ∙ ap (λ l. l ++ line ∷ []) (sym (append-nil x)))
+past x y line none = grind (arith, append-nil)
 
 -- a line at the end of the second of two lists stands at the end of both
 at_end : (x y : List KeptLine) (line : KeptLine) → x ++ (y ++ line ∷ []) ≡ (x ++ y) ++ line ∷ []
@@ -70,35 +64,22 @@ AreEmptyBehindLabels b = (b.expression ≡ []) × (b.actions ≡ [])
 -- a line of the main diagram stands at the end of a block that has nothing behind it
 diagram_line_ends : (b : Block) (line : KeptLine) → AreEmptyBehindDiagram b
     → lines_in (record b { diagram = b.diagram ++ line ∷ [] }) ≡ lines_in b ++ line ∷ []
-diagram_line_ends b line h =
-    ap (λ t. b.head ∷ (t ++ b.constraint ++ b.expression ++ b.actions)) (past b.diagram b.colon line h.0)
-    ∙ ap (λ t. b.head ∷ (t ++ b.expression ++ b.actions)) (past (b.diagram ++ b.colon) b.constraint line h.1)
-    ∙ ap (λ t. b.head ∷ (t ++ b.actions)) (past (b.diagram ++ b.colon ++ b.constraint) b.expression line h.2)
-    ∙ ap (λ t. b.head ∷ t) (past (b.diagram ++ b.colon ++ b.constraint ++ b.expression) b.actions line h.3)
+diagram_line_ends b line h = grind (arith, past)
 
 -- a colon line stands at the end of a block that has nothing behind the main diagram
 colon_line_ends : (b : Block) (line : KeptLine) → AreEmptyBehindDiagram b
     → lines_in (record b { colon = b.colon ++ line ∷ [] }) ≡ lines_in b ++ line ∷ []
-colon_line_ends b line h =
-    ap (λ t. b.head ∷ (t ++ b.constraint ++ b.expression ++ b.actions)) (at_end b.diagram b.colon line)
-    ∙ ap (λ t. b.head ∷ (t ++ b.expression ++ b.actions)) (past (b.diagram ++ b.colon) b.constraint line h.1)
-    ∙ ap (λ t. b.head ∷ (t ++ b.actions)) (past (b.diagram ++ b.colon ++ b.constraint) b.expression line h.2)
-    ∙ ap (λ t. b.head ∷ t) (past (b.diagram ++ b.colon ++ b.constraint ++ b.expression) b.actions line h.3)
+colon_line_ends b line h = grind (arith, at_end, past)
 
 -- a line of the constraint diagram stands at the end of a block that has nothing behind it
 constraint_line_ends : (b : Block) (line : KeptLine) → AreEmptyBehindLabels b
     → lines_in (record b { constraint = b.constraint ++ line ∷ [] }) ≡ lines_in b ++ line ∷ []
-constraint_line_ends b line h =
-    ap (λ t. b.head ∷ (t ++ b.expression ++ b.actions)) (at_end (b.diagram ++ b.colon) b.constraint line)
-    ∙ ap (λ t. b.head ∷ (t ++ b.actions)) (past (b.diagram ++ b.colon ++ b.constraint) b.expression line h.0)
-    ∙ ap (λ t. b.head ∷ t) (past (b.diagram ++ b.colon ++ b.constraint ++ b.expression) b.actions line h.1)
+constraint_line_ends b line h = grind (arith, at_end, past)
 
 -- an expression line stands at the end of a block without action lines
 expression_line_ends : (b : Block) (line : KeptLine) → b.actions ≡ []
     → lines_in (record b { expression = b.expression ++ line ∷ [] }) ≡ lines_in b ++ line ∷ []
-expression_line_ends b line h =
-    ap (λ t. b.head ∷ (t ++ b.actions)) (at_end (b.diagram ++ b.colon ++ b.constraint) b.expression line)
-    ∙ ap (λ t. b.head ∷ t) (past (b.diagram ++ b.colon ++ b.constraint ++ b.expression) b.actions line h)
+expression_line_ends b line h = grind (arith, at_end, past)
 
 -- an action line stands at the end of its block
 action_line_ends : (b : Block) (line : KeptLine)
@@ -126,9 +107,7 @@ none_of_two false false k l none = (refl, refl)
 few_and_named : (entries : ℕ) (line : List ℕ) → pattern_fault entries line ≡ None → (entries < most_entries)
     × (is_unnamed line ≡ false)
 unfolding pattern_fault
-few_and_named entries line none =
-    let both = none_of_two (nat_le most_entries entries) (is_unnamed line) TooManyPatterns NoName none in
-    (leb-false most_entries entries both.0, both.1)
+few_and_named entries line none = grind (arith, none_of_two, leb-false)
 
 -- the stage that the table has is the one it has
 next_is : (a b : Stage) → Next a ≡ Next b → a ≡ b
@@ -169,10 +148,8 @@ gathered_where_closed : (number : ℕ) (kind : Option LineKind) (stage : Stage) 
 gathered_where_closed number kind stage front done None both none = refl
 gathered_where_closed number kind Start front done (Some b) both none = refl
 gathered_where_closed number kind Diagram front done (Some b) both none = refl
-gathered_where_closed number kind Labels front done (Some b) both none =
-    sym (ap (λ t. cond t (gathered_fault number Labels (Some b)) None) both.0) ∙ none
-gathered_where_closed number kind Expression front done (Some b) both none =
-    sym (ap (λ t. cond t (gathered_fault number Expression (Some b)) None) both.1) ∙ none
+gathered_where_closed number kind Labels front done (Some b) both none = grind arith
+gathered_where_closed number kind Expression front done (Some b) both none = grind arith
 gathered_where_closed number kind Actions front done (Some b) both none = refl
 
 -- a text whose end is not refused does not end in a main diagram
@@ -196,24 +173,7 @@ record IsFine (helpers : List (List ℕ)) (s : SoFar) (line : KeptLine) : Type 0
 nothing_found : (helpers : List (List ℕ)) (s : SoFar) (line : KeptLine) → found helpers s line ≡ None
     → IsFine helpers s line
 unfolding found
-nothing_found helpers s line none = by_bad line.is_bad refl none
-  where
-    by_cell : line.is_bad ≡ false → closing_fault line.number (Some (kind_of line.bytes)) s ≡ None → (cell : TableCell)
-        → cell_for s.stage line ≡ cell
-        → table_fault helpers s line cell ≡ None → IsFine helpers s line
-    by_cell clean closing (Next next) cell own =
-        record { clean = clean; closing = closing; next = next; cell = cell; own = own }
-    by_cell clean closing (Refused kind) cell own = absurd cc
-
-    by_bad : (bad : Bool) → line.is_bad ≡ bad
-        → cond bad (at_line line.number (Some BadByte))
-        (or_else (closing_fault line.number (Some (kind_of line.bytes)) s)
-        (at_line line.number (table_fault helpers s line (cell_for s.stage line)))) ≡ None
-        → IsFine helpers s line
-    by_bad true is_bad h = absurd cc
-    by_bad false clean h =
-        let both = or_none _ _ h in
-        by_cell clean both.0 (cell_for s.stage line) refl (no_kind line.number _ both.1)
+nothing_found helpers s line none = grind (arith, or_none, no_kind)
 
 module _ (helpers : List (List ℕ)) where
   -- a named Pattern line, and a main diagram below it without a fault
@@ -614,12 +574,7 @@ module _ (helpers : List (List ℕ)) where
 
 -- before the first line there is no front and no block
 stands_at_start : (helpers : List (List ℕ)) → Stands helpers at_start
-stands_at_start helpers = record {
-  front = All-nil IsInFront;
-  done = All-nil (IsBlock helpers);
-  few = omega arith;
-  fits = (refl, refl);
-}
+stands_at_start helpers = grind arith
 
 -- a text without a fault is a database
 pub faultless_is_database : (helpers : List (List ℕ)) (text : List ℕ) → first_fault helpers text ≡ None

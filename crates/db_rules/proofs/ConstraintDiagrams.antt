@@ -1,7 +1,7 @@
 -- The labels of a constraint diagram without a fault lie in the diagram and have different letters.
 use Rattle.std.proofs.Common.{◌≡◌, ℕ, zero, suc, ◌+◌, ◌-◌, ◌<◌, ◌≤◌, ◌⊎◌, inl, inr, Bool, true, false, cond, List, []}
 use Rattle.std.proofs.Common.{◌∷◌, ◌++◌, length, take, drop, get_or, None, refl, sym, ap, subst, ◌∙◌, arith}
-use Rattle.std.specs.Prelude.{◌&&◌, ◌||◌, ◌==◌, nat_lt, slice_get, slice_index}
+use Rattle.std.specs.Prelude.{◌&&◌, ◌||◌, ◌==◌, nat_lt, slice_index}
 use Rattle.std.specs.List.{list_all}
 use Rattle.std.proofs.lemmas.Bool.{and_parts, lt-ltb, eqb-true, cases_lt, not-false}
 use Rattle.std.proofs.lemmas.List.{length-take, get_or-take}
@@ -11,11 +11,10 @@ use Rattle.pat_types.specs.Diagrams.{drawn_strip}
 use Rattle.pat_types.specs.declared.pattern.LabelAt.{LabelAt}
 use Rattle.pat_types.specs.Labels.{is_in, are_apart, are_labels}
 use Rattle.db_rules.specs.declared.kind.FaultKind.{FaultKind}
-use Rattle.db_rules.specs.declared.kind.FaultKind.TheVariants.{ConstraintShape}
 use Rattle.db_rules.specs.Kinds.{first_of}
 use Rattle.db_rules.specs.Diagram.{is_letter, is_dash, plus, bar, ends, without_left, inner, is_edge_line, is_row}
 use Rattle.db_rules.specs.Diagram.{shape_of, rows_of, wanted, width_of}
-use Rattle.db_rules.specs.Labels.{is_label, repeats, labels_from, labels_of_line, labels_under, labels_of, repeats_main}
+use Rattle.db_rules.specs.Labels.{is_label, repeats, labels_from, labels_of_line, labels_under, labels_of}
 use Rattle.db_rules.specs.Labels.{constraint_fault}
 use Rattle.db_rules.specs.Accepted.{IsDrawn, IsLabelled, no_line, one_line_more}
 use Rattle.db_rules.proofs.OneMoreLine.{shape_of-width, row_letters}
@@ -26,27 +25,19 @@ each_passes : (P : ℕ → Bool) (bytes : List ℕ) (k : ℕ) → k < length byt
     → P (get_or bytes k 0) ≡ true
 each_passes P [] k lt all = absurd (omega arith)
 each_passes P (b ∷ bytes) zero lt all = (and_parts (P b) (list_all P bytes) all).0
-each_passes P (b ∷ bytes) (suc k) lt all =
-    each_passes P bytes k (omega (arith, lt)) (and_parts (P b) (list_all P bytes) all).1
+each_passes P (b ∷ bytes) (suc k) lt all = grind (arith, and_parts, each_passes P bytes k)
 
 -- a byte among the first n passes where these do
 byte_within : (P : ℕ → Bool) (n : ℕ) (bytes : List ℕ) (k : ℕ) → k < n → k < length bytes
     → list_all P (take n bytes) ≡ true → (k < length (take n bytes)) × (P (get_or bytes k 0) ≡ true)
-byte_within P n bytes k low lt all =
-    let within : k < length (take n bytes) = rw (length-take n bytes) (omega (arith, low, lt)) in
-    (within, ap P (sym (get_or-take n bytes k 0 low)) ∙ each_passes P (take n bytes) k within all)
+byte_within P n bytes k low lt all = grind (arith, length-take, get_or-take, each_passes)
 
 -- a byte of a rest is one of its inner part, or it is the edge's byte at the end
 byte_of_rest : (P : ℕ → Bool) (m : ℕ) (rest : List ℕ) (e : Bool) (k : ℕ) → (slice_index rest (length rest - 1) == m) ≡ e
     → list_all P (take (length rest - drawn_strip e) rest) ≡ true → k < length rest
     → ((k < length (take (length rest - drawn_strip e) rest)) × (P (get_or rest k 0) ≡ true)) ⊎ (get_or rest k 0 ≡ m)
 byte_of_rest P m rest false k end all lt = inl (byte_within P (length rest - 0) rest k (omega (arith, lt)) lt all)
-byte_of_rest P m rest true k end all lt = elim (cases_lt k (length rest - 1)) [
-  | inl before ↦ inl (byte_within P (length rest - 1) rest k before lt all)
-  | inr last ↦
-      let is_last : k ≡ length rest - 1 = omega (arith, lt, last) in
-      inr (ap (λ n. get_or rest n 0) is_last ∙ eqb-true _ m end)
-]
+byte_of_rest P m rest true k end all lt = grind (arith, cases_lt, byte_within, eqb-true)
 
 -- a byte of a word without its left edge is one of its inner part, or it is the edge's byte at the end
 byte_of_line : (P : ℕ → Bool) (m : ℕ) (word : List ℕ) (k : ℕ) → list_all P (inner m word) ≡ true
@@ -81,8 +72,7 @@ dashes_of_plus main edge = (and_parts (nat_lt 0 (length (inner plus main))) _ ed
 
 -- a dash and a plus are no letters
 no_letter : (b : ℕ) → (is_dash b ≡ true) ⊎ (b ≡ plus) → is_letter b ≡ true → ⊥
-no_letter b (inl dash) letter = let is : is_letter 45 ≡ true =
-    subst (λ x. is_letter x ≡ true) (eqb-true b 45 dash) letter in cc is
+no_letter b (inl dash) letter = grind (arith, eqb-true)
 no_letter b (inr cross) letter = let is : is_letter 43 ≡ true = subst (λ x. is_letter x ≡ true) cross letter in cc is
 
 -- each byte is a dash or a plus
@@ -91,10 +81,8 @@ AreDashes bytes = (n : ℕ) → n < length bytes → (is_dash (get_or bytes n 0)
 
 -- the bytes of an edge line without its left edge are dashes, and perhaps a plus
 dashes_behind : (main : List ℕ) → is_edge_line main ≡ true → AreDashes (without_left plus main)
-dashes_behind main edge n lt = elim (byte_of_line is_dash plus main n (dashes_of_plus main edge) lt) [
-  | inl inside ↦ inl inside.1
-  | inr cross ↦ inr cross
-]
+dashes_behind main edge n lt =
+    grind (arith, byte_of_line is_dash plus main n (dashes_of_plus main edge) lt, dashes_of_plus main edge)
 
 -- no byte of an edge line is a letter
 edge_has_no_letter : (main : List ℕ) → is_edge_line main ≡ true → (k : ℕ) → k < length main
@@ -127,27 +115,14 @@ letter_of_line (b ∷ bs) k letter = by_begin (b == bar) letter
 
 -- an edge line is a main line of any number of columns
 main_edge : (main : List ℕ) (cols : ℕ) → is_edge_line main ≡ true → IsMainLine cols main
-main_edge main cols edge =
-    record { in_columns = λ k lt letter. absurd (none k lt letter); of_row = λ k lt letter. absurd (none k lt letter) }
-  where
-    none : (k : ℕ) → k < length (without_left bar main) → is_letter (get_or (without_left bar main) k 0) ≡ true → ⊥
-    none k lt letter =
-        let there = letter_of_line main k (lt, letter) in
-        edge_has_no_letter main edge there.0 there.1.0 there.1.1
+main_edge main cols edge = grind (arith, letter_of_line, edge_has_no_letter)
 
 -- each line of a main diagram without a fault is a main line of its width
 main_lines : (diagram : List (List ℕ)) → IsDrawn diagram → (k : ℕ) → k < length diagram
     → IsMainLine (width_of (wanted diagram)) (get_or diagram k [])
 main_lines diagram drawn k lt =
-    by_kind (is_edge_line (get_or diagram k [])) (is_row (get_or diagram k [])) refl refl
-    (drawn_line_kinds diagram drawn k lt)
-  where
-    by_kind : (edge row : Bool) → is_edge_line (get_or diagram k []) ≡ edge → is_row (get_or diagram k []) ≡ row
-        → (edge || row) ≡ true → IsMainLine (width_of (wanted diagram)) (get_or diagram k [])
-    by_kind true row e r some = main_edge (get_or diagram k []) (width_of (wanted diagram)) e
-    by_kind false true e r some =
-        main_row (get_or diagram k []) (width_of (wanted diagram)) r (drawn_even diagram drawn k lt r)
-    by_kind false false e r some = absurd cc
+    grind (arith, drawn_line_kinds diagram drawn k lt, main_edge (get_or diagram k []) (width_of (wanted diagram)),
+        main_row (get_or diagram k []) (width_of (wanted diagram)), drawn_even diagram drawn k lt)
 
 -- a byte that repeats the line adds no label, and one over a letter adds one that stands where the letter does
 label_in : (row col total cols m w : ℕ) (rest : List LabelAt) (same : Bool)
@@ -155,9 +130,7 @@ label_in : (row col total cols m w : ℕ) (rest : List LabelAt) (same : Bool)
     → (is_letter m ≡ true → (row < total) × (col < cols))
     → list_all (is_in total cols) (cond same rest (record { letter = w; row = row; col = col } ∷ rest)) ≡ true
 label_in row col total cols m w rest true over all here = all
-label_in row col total cols m w rest false over all here =
-    let place = here (and_parts (is_label w) (is_letter m) over).1 in
-    rw (lt-ltb row total place.0, lt-ltb col cols place.1) all
+label_in row col total cols m w rest false over all here = grind (arith, and_parts, lt-ltb)
 
 -- where the letters of a line stand in so many columns, its labels do; they stand over letters alone
 labels_from_in : (row col total cols : ℕ) (main word : List ℕ) → repeats main word ≡ true
@@ -181,29 +154,17 @@ labels_of_line_in row total cols (m ∷ ms) (w ∷ ws) same fine above = by_edge
   where
     within : (body : List ℕ) → without_left bar (m ∷ ms) ≡ body → (k : ℕ) → k < length body
         → is_letter (get_or body k 0) ≡ true → (row < total) × (0 + k < cols)
-    within body is k lt letter =
-        let there = subst (λ r. HasLetter r k) (sym is) (lt, letter) in
-        let column = fine.in_columns k there.0 there.1 in
-        (above (fine.of_row k there.0 there.1), omega (arith, column))
+    within body is k lt letter = grind arith
 
     by_edge : (c : Bool) → (m == bar) ≡ c
         → list_all (is_in total cols) (cond c (labels_from row 0 ms ws) (labels_from row 0 (m ∷ ms) (w ∷ ws))) ≡ true
-    by_edge true is =
-        labels_from_in row 0 total cols ms ws (and_parts (w == m || is_label w
-        && is_letter m) (repeats ms ws) same).1 (within ms (ap (λ x. drop (drawn_strip x) (m ∷ ms)) is))
-    by_edge false is =
-        labels_from_in row 0 total cols (m ∷ ms) (w ∷ ws) same
-        (within (m ∷ ms) (ap (λ x. drop (drawn_strip x) (m ∷ ms)) is))
+    by_edge true is = grind (arith, labels_from_in, and_parts, within)
+    by_edge false is = grind (arith, labels_from_in row 0 total cols (m ∷ ms) (w ∷ ws) same, within (m ∷ ms))
 
 -- the rows of a diagram with one line in front
 pub length-rows_of-cons : (main : List ℕ) (mains : List (List ℕ))
     → length (rows_of (main ∷ mains)) ≡ drawn_strip (is_row main) + length (rows_of mains)
-length-rows_of-cons main mains = by_row (is_row main)
-  where
-    by_row : (b : Bool) → length (cond b (main ∷ rows_of mains) (rows_of mains))
-        ≡ drawn_strip b + length (rows_of mains)
-    by_row true = omega arith
-    by_row false = omega arith
+length-rows_of-cons main mains = grind arith
 
 -- each of the words repeats the main line at its place
 abbrev Repeat : List (List ℕ) → List (List ℕ) → Type 0
@@ -245,21 +206,7 @@ fine_label_line : (diagram words : List (List ℕ)) (word : List ℕ) → constr
     → IsFineLabelLine diagram words word
 unfolding constraint_fault
 fine_label_line diagram words word none =
-    let both =
-    and_parts (repeats_main (slice_get diagram (length words)) word)
-    (are_apart (labels_of diagram (words ++ word ∷ []))) (not-false _ (none_of_one _ ConstraintShape none)) in
-    elim (cases_lt (length words) (length diagram)) [
-      | inl within ↦ record {
-        within = within;
-        same =
-            subst (λ o. repeats_main o word ≡ true) (slice_get-get_or diagram (length words) [] within) both.0;
-        apart =
-            both.1;
-      }
-      | inr past ↦ let never : repeats_main None word ≡ true =
-          subst (λ o. repeats_main o word ≡ true) (slice_get_past diagram (length words) past) both.0 in
-          absurd (cc never)
-    ]
+    grind (arith, and_parts, not-false, none_of_one, cases_lt, slice_get-get_or, slice_get_past)
 
 -- each line of a constraint diagram without a fault repeats its main line
 labelled_repeat : (diagram words : List (List ℕ)) → IsLabelled diagram words → Repeat diagram words

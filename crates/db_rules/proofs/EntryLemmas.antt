@@ -1,7 +1,7 @@
 -- The diagram of an entry without a fault is one that a pattern may have.
-use Rattle.std.proofs.Common.{◌≡◌, ℕ, zero, suc, false, ◌+◌, ◌*◌, ◌/◌, ◌%◌, ◌<◌, List, length, Option, Some, None, refl}
+use Rattle.std.proofs.Common.{◌≡◌, ℕ, zero, suc, false, ◌+◌, ◌*◌, ◌/◌, ◌%◌, ◌<◌, List, length}
 use Rattle.std.proofs.Common.{sym, ap, subst, ◌∙◌, arith}
-use Rattle.std.specs.Prelude.{◌==◌, IfSome, unwrap_or}
+use Rattle.std.specs.Prelude.{◌==◌}
 use Rattle.std.specs.List.{position_or_len}
 use Rattle.std.proofs.Math.Nat.{div-lt_iff_lt-mul, mod-lt, mod-add-div'}
 use Rattle.pat_types.specs.Diagrams.{IsDiagram, is_star}
@@ -18,19 +18,11 @@ no_shape = record { left = false; right = false; width = 0 }
 
 -- the width that is wanted is that of the shape
 pub width_of-shape_in : (diagram : List (List ℕ)) → width_of (wanted diagram) ≡ (shape_in diagram).width
-width_of-shape_in diagram = by_shape (wanted diagram)
-  where
-    by_shape : (o : Option Shape) → width_of o ≡ (unwrap_or o no_shape).width
-    by_shape None = refl
-    by_shape (Some s) = refl
+width_of-shape_in diagram = grind arith
 
 -- the shape of a diagram that has a letter fits
 fit_shape : (diagram : List (List ℕ)) → IsDrawn diagram → 0 < width_of (wanted diagram) → IsFit (shape_in diagram)
-fit_shape diagram drawn wide = by_shape (wanted diagram) (drawn_fits diagram drawn) wide
-  where
-    by_shape : (o : Option Shape) → IfSome o IsFit → 0 < width_of o → IsFit (unwrap_or o no_shape)
-    by_shape None fits wide = absurd (omega (arith, wide))
-    by_shape (Some s) fits wide = fits
+fit_shape diagram drawn wide = grind (arith, drawn_fits)
 
 -- a product above a number has factors above 0
 pub factors : (a b n : ℕ) → n < a * b → (0 < a) × (0 < b)

@@ -1,22 +1,19 @@
 -- What is true of the main diagram of an entry without a fault.
 use Rattle.std.proofs.Common.{◌≡◌, ℕ, zero, suc, ◌+◌, ◌-◌, ◌*◌, ◌<◌, ◌≤◌, Bool, true, false, not, cond, List, [], ◌∷◌}
-use Rattle.std.proofs.Common.{◌++◌, length, take, drop, get_or, Option, Some, None, refl, sym, ap, subst, ◌∙◌, arith}
-use Rattle.std.specs.Prelude.{◌&&◌, ◌||◌, ◌==◌, nat_lt, nat_le, slice_index, is_some, IfSome}
+use Rattle.std.proofs.Common.{◌++◌, length, take, get_or, Option, Some, None, refl, sym, ap, subst, ◌∙◌, arith}
+use Rattle.std.specs.Prelude.{◌&&◌, ◌||◌, ◌==◌, nat_lt, slice_index, is_some, IfSome}
 use Rattle.std.specs.List.{list_all}
 use Rattle.std.proofs.lemmas.Bool.{and_parts, or_parts, ltb-false, leb-false, ltb-true, eqb-true, cases_lt, not-false}
 use Rattle.std.proofs.lemmas.Bool.{false_from_ne_true}
-use Rattle.std.proofs.Common.{inl, inr}
 use Rattle.std.proofs.Math.ListN.{get_or-append}
 use Rattle.std.proofs.Math.Seq.{get_or-append_seam}
 use Rattle.std.proofs.lemmas.List.{length-append, length-take}
 use Rattle.go_rules.specs.Board.{largest_size}
 use Rattle.pat_types.specs.Diagrams.{drawn_strip}
 use Rattle.db_rules.specs.declared.shape.Shape.{Shape}
-use Rattle.db_rules.specs.declared.kind.FaultKind.TheVariants.{BadLetter, EdgePlace, Ragged, TooLarge}
-use Rattle.db_rules.specs.Diagram.{is_letter, is_dash, plus, bar, begins, without_left, ends, inner, is_edge_line}
-use Rattle.db_rules.specs.Diagram.{is_row, shape_of, rows_of, has_row, has_top, has_bottom, wanted, wanted_of}
-use Rattle.db_rules.specs.Diagram.{line_shape, other_sides, other_width, is_misplaced, diagram_fault, letters_of}
-use Rattle.db_rules.specs.Diagram.{width_of}
+use Rattle.db_rules.specs.Diagram.{is_letter, is_dash, plus, bar, begins, without_left, inner, is_edge_line}
+use Rattle.db_rules.specs.Diagram.{is_row, shape_of, rows_of, has_top, has_bottom, wanted}
+use Rattle.db_rules.specs.Diagram.{line_shape, other_width, is_misplaced, diagram_fault, letters_of, width_of}
 use Rattle.db_rules.specs.Accepted.{IsDrawn, no_line, one_line_more}
 use Rattle.db_rules.proofs.OneMoreLine.{none_of_four, length-rows_of-push, has_top-push, ends_in_edge-push, wanted-push}
 use Rattle.db_rules.proofs.OneMoreLine.{whole-push}
@@ -30,60 +27,31 @@ front_passes P (suc k) b bs some all = (and_parts (P b) (list_all P (take k bs))
 -- the first byte of a word whose inner part has a byte, all of which pass, is the edge's byte or passes
 first_passes : (P : ℕ → Bool) (m b : ℕ) (bs : List ℕ)
     → (nat_lt 0 (length (inner m (b ∷ bs))) && list_all P (inner m (b ∷ bs))) ≡ true → (b == m) ≡ false → P b ≡ true
-first_passes P m b bs both apart =
-    let parts = and_parts (nat_lt 0 (length (inner m (b ∷ bs)))) (list_all P (inner m (b ∷ bs))) both in
-    let left : without_left m (b ∷ bs) ≡ b ∷ bs = rw apart refl in
-    front_passes P (length (without_left m (b ∷ bs)) - drawn_strip (ends m (b ∷ bs))) b bs
-    (subst (λ w. nat_lt 0
-    (length (take (length (without_left m (b ∷ bs)) - drawn_strip (ends m (b ∷ bs))) w)) ≡ true) left parts.0)
-    (subst (λ w. list_all P
-    (take (length (without_left m (b ∷ bs)) - drawn_strip (ends m (b ∷ bs))) w) ≡ true) left parts.1)
+first_passes P m b bs both apart = grind (arith, and_parts, front_passes)
 
 -- a byte that a row may begin with is none that an edge line may begin with
 begins_one : (b : ℕ) (barred crossed : Bool) → (b == bar) ≡ barred → (b == plus) ≡ crossed
     → (barred ≡ false → is_letter b ≡ true) → (crossed ≡ false → is_dash b ≡ true) → ⊥
-begins_one b true true e f letter dash =
-    let is_bar : b ≡ 124 = eqb-true b 124 e in
-    let is_plus : b ≡ 43 = eqb-true b 43 f in
-    omega (arith, is_bar, is_plus)
-begins_one b true false e f letter dash =
-    let is_bar : b ≡ 124 = eqb-true b 124 e in
-    let is_minus : b ≡ 45 = eqb-true b 45 (dash refl) in
-    omega (arith, is_bar, is_minus)
-begins_one b false true e f letter dash =
-    let plus_is : is_letter 43 ≡ true = subst (λ x. is_letter x ≡ true) (eqb-true b 43 f) (letter refl) in absurd cc
-begins_one b false false e f letter dash =
-    let minus_is : is_letter 45 ≡ true =
-    subst (λ x. is_letter x ≡ true) (eqb-true b 45 (dash refl)) (letter refl) in absurd cc
+begins_one b v1 v2 e f letter dash = grind (arith, eqb-true)
 
 -- a row is no edge line
 pub row_is_no_edge_line : (word : List ℕ) → is_row word ≡ true → is_edge_line word ≡ false
 unfolding is_row is_edge_line
 row_is_no_edge_line [] row = absurd cc
-row_is_no_edge_line (b ∷ bs) row =
-    false_from_ne_true _ (λ edge. begins_one b _ _ refl refl (λ apart. first_passes is_letter bar b bs row apart)
-    (λ apart. first_passes is_dash plus b bs edge apart))
+row_is_no_edge_line (b ∷ bs) row = grind (arith, false_from_ne_true, begins_one, first_passes)
 
 -- the inner part of a rest and the byte behind it are within the rest, where the byte is not 0
 pub inner_within : (m : ℕ) (rest : List ℕ) → (0 == m) ≡ false
     → length (take (length rest - drawn_strip (slice_index rest (length rest - 1) == m)) rest) + drawn_strip
     (slice_index rest (length rest - 1) == m) ≤ length rest
 inner_within m [] apart = rw apart (omega arith)
-inner_within m (x ∷ xs) apart = by_end (slice_index (x ∷ xs) (length (x ∷ xs) - 1) == m)
-  where
-    by_end : (b : Bool) → length (take (length (x ∷ xs) - drawn_strip b) (x ∷ xs)) + drawn_strip b ≤ length (x ∷ xs)
-    by_end true = rw (length-take (length (x ∷ xs) - 1) (x ∷ xs)) (omega arith)
-    by_end false = rw (length-take (length (x ∷ xs) - 0) (x ∷ xs)) (omega arith)
+inner_within m (x ∷ xs) apart = grind (arith, length-take)
 
 -- a word without its left edge, and that edge, are the word
 pub left_within : (m : ℕ) (word : List ℕ) → (0 == m) ≡ false
     → drawn_strip (begins m word) + length (without_left m word) ≤ length word
 left_within m [] apart = rw apart (omega arith)
-left_within m (b ∷ bs) apart = by_begin (b == m)
-  where
-    by_begin : (c : Bool) → drawn_strip c + length (drop (drawn_strip c) (b ∷ bs)) ≤ length (b ∷ bs)
-    by_begin true = omega arith
-    by_begin false = omega arith
+left_within m (b ∷ bs) apart = grind arith
 
 -- a shape and its edges lie within the word that has it
 pub shape_within : (m : ℕ) (word : List ℕ) → (0 == m) ≡ false
@@ -109,15 +77,7 @@ wide_edge word edge = ltb-true 0 (length (inner plus word)) (and_parts (nat_lt 0
 -- a row or an edge line that is short enough has a shape that fits
 line_fits : (word : List ℕ) → (is_edge_line word || is_row word) ≡ true → length word ≤ largest_size
     → IsFit (line_shape word)
-line_fits word line short = by_row (is_row word) (is_edge_line word) refl refl line
-  where
-    by_row : (row edge : Bool) → is_row word ≡ row → is_edge_line word ≡ edge → (edge || row) ≡ true
-        → IsFit (cond row (shape_of bar word) (shape_of plus word))
-    by_row true edge r e some =
-        record { some = wide_row word r; within = omega (arith, short, shape_within bar word refl) }
-    by_row false true r e some =
-        record { some = wide_edge word e; within = omega (arith, short, shape_within plus word refl) }
-    by_row false false r e some = absurd cc
+line_fits word line short = grind (arith, wide_row, shape_within, wide_edge)
 
 -- what is true of a further line of a diagram that has no fault
 pub record IsFineLine (words : List (List ℕ)) (word : List ℕ) : Type 0 where
@@ -130,21 +90,7 @@ pub record IsFineLine (words : List (List ℕ)) (word : List ℕ) : Type 0 where
 -- a further line without a fault passes each test
 pub fine_line : (words : List (List ℕ)) (word : List ℕ) → diagram_fault words word ≡ None → IsFineLine words word
 unfolding diagram_fault is_misplaced
-fine_line words word none =
-    let tests = none_of_four _ _ _ _ BadLetter EdgePlace Ragged TooLarge none in
-    let placed =
-    or_parts (is_edge_line word && not (has_row words) && has_top words
-    || has_bottom words) (other_sides (line_shape word) (wanted words)) tests.second in
-    let top_or_bottom =
-    or_parts (is_edge_line word && not (has_row words) && has_top words) (has_bottom words) placed.0 in
-    let large = or_parts (nat_lt largest_size (length word)) (nat_le largest_size (length words)) tests.fourth in
-    record {
-      line = not-false (is_edge_line word || is_row word) tests.first;
-      no_bottom = top_or_bottom.1;
-      even = tests.third;
-      short = ltb-false _ _ large.0;
-      few = leb-false _ _ large.1;
-    }
+fine_line words word none = grind (arith, none_of_four, or_parts, not-false, ltb-false, leb-false)
 
 -- a diagram without a fault has at most as many lines as the largest board has rows
 pub drawn_few : (words : List (List ℕ)) → IsDrawn words → length words ≤ largest_size
@@ -164,8 +110,7 @@ one_more rows lines true false top false true line apart first some counted = om
 one_more rows lines true false top false false line apart first some counted = omega (arith, counted)
 one_more rows lines false true top true true line apart first some counted = omega (arith, counted)
 one_more rows lines false true top true false line apart first some counted = omega (arith, counted)
-one_more rows lines false true top false true line apart first some counted =
-    omega (arith, counted, first refl, some refl)
+one_more rows lines false true top false true line apart first some counted = grind arith
 one_more rows lines false true top false false line apart first some counted = omega (arith, counted, first refl)
 one_more rows lines false false top begun rowed line apart first some counted = absurd cc
 
@@ -188,8 +133,7 @@ drawn_lines _ (one_line_more words word drawn none) =
 pub drawn_whole : (words : List (List ℕ)) → IsDrawn words
     → length (letters_of words) ≡ length (rows_of words) * width_of (wanted words)
 drawn_whole _ no_line = omega arith
-drawn_whole _ (one_line_more words word drawn none) =
-    whole-push words word (drawn_whole words drawn) (fine_line words word none).even
+drawn_whole q1 (one_line_more words word drawn none) = grind (arith, whole-push, fine_line, drawn_whole words drawn)
 
 -- its shape fits, if it has one
 pub drawn_fits : (words : List (List ℕ)) → IsDrawn words → IfSome (wanted words) IsFit
@@ -208,12 +152,7 @@ drawn_fits _ (one_line_more words word drawn none) =
 -- a diagram with a line has a shape
 has_shape : (words : List (List ℕ)) → 0 < length words → is_some (wanted words) ≡ true
 unfolding wanted
-has_shape words some = by_rows (rows_of words) words some
-  where
-    by_rows : (rows lines : List (List ℕ)) → 0 < length lines → is_some (wanted_of rows lines) ≡ true
-    by_rows (row ∷ rows) lines some = refl
-    by_rows [] (line ∷ lines) some = refl
-    by_rows [] [] some = absurd (omega arith)
+has_shape words some = grind arith
 
 -- a shape of the same width leaves the width
 same_width : (kept : Bool) (s : Shape) (o : Option Shape) → is_some o ≡ true → other_width s o ≡ false
@@ -235,19 +174,13 @@ is_kept words word = nat_lt 0 (length (rows_of words)) || not (is_row word) && n
 
 -- a shape that is kept is there
 kept_there : (words : List (List ℕ)) (word : List ℕ) → is_kept words word ≡ true → is_some (wanted words) ≡ true
-kept_there [] word kept = absurd (by_row (is_row word) kept)
-  where
-    by_row : (row : Bool) → (false || not row && false) ≡ true → ⊥
-    by_row true e = cc e
-    by_row false e = cc e
+kept_there [] word kept = grind arith
 kept_there (w ∷ words) word kept = has_shape (w ∷ words) (omega arith)
 
 -- a further line that is no first one leaves the width
 width_stays : (words : List (List ℕ)) (word : List ℕ) → 0 < length words → IsFineLine words word
     → width_of (wanted (words ++ word ∷ [])) ≡ width_of (wanted words)
-width_stays words word some fine =
-    ap width_of (wanted-push words word)
-    ∙ same_width (is_kept words word) (line_shape word) (wanted words) (has_shape words some) fine.even
+width_stays words word some fine = grind (arith, wanted-push, same_width, has_shape)
 
 -- the shape of a row is its shape as a line
 line_shape-row : (word : List ℕ) → is_row word ≡ true → shape_of bar word ≡ line_shape word
@@ -257,13 +190,7 @@ line_shape-row word row = rw row refl
 pub each_more : (P : ℕ → List ℕ → Type 0) (words : List (List ℕ)) (word : List ℕ)
     → ((k : ℕ) → k < length words → P k (get_or words k [])) → P (length words) word
     → (k : ℕ) → k < length (words ++ word ∷ []) → P k (get_or (words ++ word ∷ []) k [])
-each_more P words word all last k lt = elim (cases_lt k (length words)) [
-  | inl before ↦ subst (P k) (sym (get_or-append words (word ∷ []) [] k before)) (all k before)
-  | inr behind ↦
-      let is_last : k ≡ length words = omega (arith, length-append words (word ∷ [])) in
-      subst (λ n. P n (get_or (words ++ word ∷ []) n [])) (sym is_last)
-      (subst (P (length words)) (sym (get_or-append_seam words word [] [])) last)
-]
+each_more P words word all last k lt = grind (arith, cases_lt, get_or-append, length-append, get_or-append_seam)
 
 -- each row of the diagram has its width
 pub drawn_even : (words : List (List ℕ)) → IsDrawn words → (k : ℕ) → k < length words

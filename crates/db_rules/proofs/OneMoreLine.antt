@@ -1,13 +1,12 @@
 -- A main diagram with one line more: its rows, its edges, its shape and its letters.
-use Rattle.std.proofs.Common.{◌≡◌, ℕ, suc, ◌+◌, ◌*◌, Bool, true, false, not, cond, List, [], ◌∷◌, ◌++◌, length, Option}
-use Rattle.std.proofs.Common.{Some, None, refl, sym, ap, ◌∙◌, arith}
-use Rattle.std.specs.Prelude.{◌&&◌, ◌||◌, ◌==◌, nat_lt, is_some}
-use Rattle.std.specs.List.{list_all, flat_map, filter_map, cons_option}
+use Rattle.std.proofs.Common.{◌≡◌, ℕ, ◌+◌, ◌*◌, Bool, true, false, not, cond, List, [], ◌∷◌, ◌++◌, length}
+use Rattle.std.proofs.Common.{Some, None, refl, arith}
+use Rattle.std.specs.Prelude.{◌&&◌, ◌||◌, nat_lt}
+use Rattle.std.specs.List.{list_all, filter_map}
 use Rattle.std.proofs.lemmas.Bool.{lt-ltb, and_parts, not-false, eqb-true}
 use Rattle.std.proofs.lemmas.List.{length-append, append-nil}
 use Rattle.std.proofs.lemmas.List.Elements.{filter-append}
 use Rattle.std.proofs.lemmas.List.Concat.{flat_map-append}
-use Rattle.pat_types.specs.declared.letter.Letter.{Letter}
 use Rattle.pat_types.specs.Diagrams.{drawn_strip}
 use Rattle.db_rules.specs.declared.shape.Shape.{Shape}
 use Rattle.db_rules.specs.declared.kind.FaultKind.{FaultKind}
@@ -35,21 +34,12 @@ none_of_four false false false false k l m n e = record { first = refl; second =
 -- a further line is one more of the rows where it is a row
 pub rows_of-push : (words : List (List ℕ)) (word : List ℕ)
     → rows_of (words ++ word ∷ []) ≡ rows_of words ++ cond (is_row word) (word ∷ []) []
-rows_of-push words word = filter-append is_row words (word ∷ []) ∙ ap (λ r. rows_of words ++ r) (one (is_row word))
-  where
-    one : (b : Bool) → cond b (word ∷ []) [] ≡ cond b (word ∷ []) []
-    one b = refl
+rows_of-push words word = grind (arith, filter-append)
 
 -- a further line is counted as a row where it is one
 pub length-rows_of-push : (words : List (List ℕ)) (word : List ℕ)
     → length (rows_of (words ++ word ∷ [])) ≡ length (rows_of words) + drawn_strip (is_row word)
-length-rows_of-push words word =
-    ap length (rows_of-push words word) ∙ length-append (rows_of words) (cond (is_row word) (word ∷ []) [])
-    ∙ one (is_row word)
-  where
-    one : (b : Bool) → length (rows_of words) + length (cond b (word ∷ []) []) ≡ length (rows_of words) + drawn_strip b
-    one true = refl
-    one false = refl
+length-rows_of-push words word = grind (arith, rows_of-push, length-append)
 
 -- the first line alone decides whether there is a top edge
 pub has_top-push : (words : List (List ℕ)) (word : List ℕ)
@@ -77,34 +67,17 @@ pub wanted-push : (words : List (List ℕ)) (word : List ℕ)
     → wanted (words ++ word ∷ []) ≡ cond (nat_lt 0 (length (rows_of words)) || not (is_row word)
     && nat_lt 0 (length words)) (wanted words) (Some (line_shape word))
 unfolding wanted
-wanted-push words word =
-    ap (λ r. wanted_of r (words ++ word ∷ [])) (rows_of-push words word)
-    ∙ wanted_of-push (rows_of words) words word (is_row word) refl
+wanted-push words word = grind (arith, rows_of-push, wanted_of-push)
 
 -- the letters of a further row stand behind those of the rows above it
 pub letters_of-push : (words : List (List ℕ)) (word : List ℕ)
     → letters_of (words ++ word ∷ []) ≡ letters_of words ++ cond (is_row word) (letters_of_row word) []
-letters_of-push words word =
-    ap (flat_map letters_of_row) (rows_of-push words word)
-    ∙ flat_map-append letters_of_row (rows_of words) (cond (is_row word) (word ∷ []) []) ∙ one (is_row word)
-  where
-    one : (b : Bool)
-        → letters_of words ++ flat_map letters_of_row (cond b (word ∷ []) []) ≡ letters_of words ++ cond b
-        (letters_of_row word) []
-    one true = ap (λ l. letters_of words ++ l) (append-nil (letters_of_row word))
-    one false = refl
+letters_of-push words word = grind (arith, rows_of-push, flat_map-append, append-nil)
 
 -- bytes that are letters come to as many letters
 length-letters : (bytes : List ℕ) → list_all is_letter bytes ≡ true → length (filter_map letter_of bytes) ≡ length bytes
 length-letters [] e = refl
-length-letters (b ∷ bs) e =
-    let parts = and_parts (is_letter b) (list_all is_letter bs) e in
-    by_letter (letter_of b) parts.0 (length-letters bs parts.1)
-  where
-    by_letter : (o : Option Letter) → is_some o ≡ true → length (filter_map letter_of bs) ≡ length bs
-        → length (cons_option o (filter_map letter_of bs)) ≡ suc (length bs)
-    by_letter None h k = absurd cc
-    by_letter (Some l) h k = ap (λ (n : ℕ). suc n) k
+length-letters (b ∷ bs) e = grind (arith, and_parts, length-letters bs)
 
 -- what stands between the edges of a row are letters
 pub row_letters : (word : List ℕ) → is_row word ≡ true → list_all is_letter (inner bar word) ≡ true
@@ -119,10 +92,7 @@ shape_of-width b word = refl
 -- a row has as many letters as its shape is wide
 pub length-letters_of_row : (word : List ℕ) → is_row word ≡ true
     → length (letters_of_row word) ≡ (line_shape word).width
-length-letters_of_row word e =
-    let shape : line_shape word ≡ shape_of bar word = rw e refl in
-    length-letters (inner bar word) (row_letters word e) ∙ sym (shape_of-width bar word)
-    ∙ ap (λ (s : Shape). s.width) (sym shape)
+length-letters_of_row word e = grind (arith, length-letters, row_letters, shape_of-width)
 
 -- with one line more there are still as many letters as the rows and the width of a row come to
 count_letters : (rows words : List (List ℕ)) (letters : ℕ) (s : Shape) (row : Bool)
@@ -131,15 +101,7 @@ count_letters : (rows words : List (List ℕ)) (letters : ℕ) (s : Shape) (row 
     && nat_lt 0 (length words)) (wanted_of rows words) (Some s))
 count_letters [] words letters s true whole even = omega arith
 count_letters [] words letters s false whole even = omega arith
-count_letters (r ∷ rows) words letters s row whole even =
-    let same : s.width ≡ (shape_of bar r).width = eqb-true _ _ (not-false (s.width == (shape_of bar r).width) even) in
-    let n = length (r ∷ rows) in
-    rw (lt-ltb 0 n (omega arith)) (by_row row same)
-  where
-    by_row : (row : Bool) → s.width ≡ (shape_of bar r).width
-        → letters + cond row s.width 0 ≡ (length (r ∷ rows) + drawn_strip row) * (shape_of bar r).width
-    by_row true e = omega arith
-    by_row false e = omega arith
+count_letters (r ∷ rows) words letters s row whole even = grind (arith, eqb-true, not-false, lt-ltb)
 
 -- with a further line as wide as is wanted a diagram has as many letters as its rows and its width come to
 pub whole-push : (words : List (List ℕ)) (word : List ℕ)
@@ -149,17 +111,7 @@ pub whole-push : (words : List (List ℕ)) (word : List ℕ)
     (wanted (words ++ word ∷ []))
 unfolding wanted
 whole-push words word whole even =
-    let letters : length (letters_of (words ++ word ∷ [])) ≡ length (letters_of words) + cond (is_row word)
-    (line_shape word).width 0 =
-    ap length (letters_of-push words word)
-    ∙ length-append (letters_of words) (cond (is_row word) (letters_of_row word) [])
-    ∙ ap (λ n. length (letters_of words) + n) (one (is_row word) refl) in
-    letters ∙ count_letters (rows_of words) words (length (letters_of words)) (line_shape word) (is_row word) whole even
-    ∙ ap (λ (n : ℕ). n * width_of (cond (nat_lt 0 (length (rows_of words)) || not (is_row word)
-    && nat_lt 0 (length words)) (wanted words) (Some (line_shape word)))) (sym (length-rows_of-push words word))
-    ∙ ap (λ o. length (rows_of (words ++ word ∷ [])) * width_of o) (sym (wanted-push words word))
-  where
-    one : (row : Bool) → is_row word ≡ row
-        → length (cond row (letters_of_row word) []) ≡ cond row (line_shape word).width 0
-    one true e = length-letters_of_row word e
-    one false e = refl
+    grind (arith, letters_of-push words word,
+        length-append (letters_of words) (cond (is_row word) (letters_of_row word) []),
+        count_letters (rows_of words) words (length (letters_of words)) (line_shape word) (is_row word) whole even,
+        length-rows_of-push words word, wanted-push words word, length-letters_of_row word)

@@ -1,5 +1,5 @@
 -- What the table of stages says, read backwards, and what is found at a line.
-use Rattle.std.proofs.Common.{◌≡◌, ℕ, Bool, true, false, cond, List, Some, None, refl, sym, ap, ◌∙◌}
+use Rattle.std.proofs.Common.{◌≡◌, ℕ, Bool, true, false, cond, List, Some, None, refl, arith}
 use Rattle.db_lex.specs.declared.line.LineKind.{LineKind}
 use Rattle.db_lex.specs.declared.line.LineKind.TheVariants.{Pattern, Other}
 use Rattle.db_lex.specs.Lines.{KeptLine, kind_of}
@@ -47,17 +47,11 @@ pub found_closing : (helpers : List (List ℕ)) (s : SoFar) (k : KeptLine) (kind
     → k.is_bad ≡ false → kind ≡ kind_of k.bytes → closing_fault k.number (Some kind) s ≡ Some f
     → found helpers s k ≡ Some f
 unfolding found
-found_closing helpers s k kind f fine kind_is closing =
-    let here : closing_fault k.number (Some (kind_of k.bytes)) s ≡ Some f =
-    ap (λ t. closing_fault k.number (Some t) s) (sym kind_is) ∙ closing in
-    rw (fine, here) refl
+found_closing helpers s k kind f fine kind_is closing = grind arith
 
 -- where a line closes nothing that is at fault, what is found at it is what the table and its own list have
 pub found_table : (helpers : List (List ℕ)) (s : SoFar) (k : KeptLine) (kind : LineKind) → k.is_bad ≡ false
     → kind ≡ kind_of k.bytes → closing_fault k.number (Some kind) s ≡ None
     → found helpers s k ≡ at_line k.number (table_fault helpers s k (cell_for s.stage k))
 unfolding found
-found_table helpers s k kind fine kind_is closing =
-    let here : closing_fault k.number (Some (kind_of k.bytes)) s ≡ None =
-    ap (λ t. closing_fault k.number (Some t) s) (sym kind_is) ∙ closing in
-    rw (fine, here) refl
+found_table helpers s k kind fine kind_is closing = grind arith

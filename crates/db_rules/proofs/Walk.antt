@@ -1,6 +1,6 @@
 -- The first fault is met by going over the lines once, with what the lines before come to.
-use Rattle.std.proofs.Common.{◌≡◌, ℕ, zero, suc, List, [], ◌∷◌, length, take, Option, Some, None, refl, sym, ap, ◌∙◌}
-use Rattle.std.proofs.Common.{add-one}
+use Rattle.std.proofs.Common.{◌≡◌, ℕ, zero, suc, List, [], ◌∷◌, length, take, Option, Some, None, refl, sym, ap}
+use Rattle.std.proofs.Common.{add-one, arith}
 use Rattle.std.specs.Prelude.{fold, slice_get, map}
 use Rattle.db_lex.specs.Lines.{KeptLine, kept_lines}
 use Rattle.db_rules.specs.declared.fault.Fault.{Fault}
@@ -33,9 +33,7 @@ least-shift : (at : ℕ → Option Fault) (n : ℕ)
     → least_fault at (suc n) ≡ or_else (at 0) (least_fault (λ k. at (suc k)) n)
 unfolding least_fault
 least-shift at zero = sym (or_else-none (at 0))
-least-shift at (suc n) =
-    ap (λ f. or_else f (at (suc n))) (least-shift at n)
-    ∙ or_else-assoc (at 0) (least_fault (λ k. at (suc k)) n) (at (suc n))
+least-shift at (suc n) = grind (arith, or_else-assoc, least-shift at n)
 
 -- below the first place there is no fault
 least-zero : (at : ℕ → Option Fault) → least_fault at 0 ≡ None
@@ -46,13 +44,9 @@ least-zero at = refl
 least-walk : (helpers : List (List ℕ)) (end : ℕ) (s : SoFar) (lines : List KeptLine)
     → least_fault (at_from helpers end s lines) (suc (length lines)) ≡ walk helpers end s lines
 unfolding at_from walk
-least-walk helpers end s [] =
-    least-shift (at_from helpers end s []) 0
-    ∙ ap (or_else (found_at_end end s)) (least-zero (λ k. at_from helpers end s [] (suc k)))
-    ∙ or_else-none (found_at_end end s)
+least-walk helpers end s [] = grind (arith, least-shift, at_from, least-zero, or_else-none)
 least-walk helpers end s (line ∷ lines) =
-    least-shift (at_from helpers end s (line ∷ lines)) (suc (length lines))
-    ∙ ap (or_else (found helpers s line)) (least-walk helpers end (after_line s line) lines)
+    grind (arith, least-shift, at_from, least-walk helpers end (after_line s line) lines)
 
 -- going over the lines finds the first fault
 pub first_fault-walk : (helpers : List (List ℕ)) (text : List ℕ)
@@ -75,19 +69,14 @@ Reaches-start helpers text = record { fault = sym (first_fault-walk helpers text
 pub Reaches-step : (helpers : List (List ℕ)) (text : List ℕ) (s : SoFar) (line : KeptLine) (left : List KeptLine)
     → Reaches helpers text s (line ∷ left) → found helpers s line ≡ None → Reaches helpers text (after_line s line) left
 unfolding walk
-Reaches-step helpers text s line left r none =
-    let one : walk helpers (end_number text) s (line ∷ left) ≡ walk helpers (end_number text) (after_line s line) left =
-    rw none refl in
-    record { fault = sym one ∙ r.fault; all = r.all }
+Reaches-step helpers text s line left r none = grind arith
 
 -- a line with a fault is the first that has one
 pub Reaches-fault : (helpers : List (List ℕ)) (text : List ℕ) (s : SoFar) (line : KeptLine) (left : List KeptLine)
     (f : Fault) → Reaches helpers text s (line ∷ left) → found helpers s line ≡ Some f
     → first_fault helpers text ≡ Some f
 unfolding walk
-Reaches-fault helpers text s line left f r some =
-    let one : walk helpers (end_number text) s (line ∷ left) ≡ Some f = rw some refl in
-    sym r.fault ∙ one
+Reaches-fault helpers text s line left f r some = grind arith
 
 -- if no line is left, the first fault of the text is the one at its end
 pub Reaches-end : (helpers : List (List ℕ)) (text : List ℕ) (s : SoFar) → Reaches helpers text s []

@@ -8,7 +8,7 @@ use Rattle.std.proofs.lemmas.List.{append-nil, length-append, map-append}
 use Rattle.std.proofs.lemmas.List.Elements.{All-head, All-tail}
 use Rattle.db_lex.specs.declared.line.LineKind.{LineKind}
 use Rattle.db_lex.specs.declared.line.LineKind.TheVariants.{Pattern, Colon, Semicolon, Action, Other}
-use Rattle.db_lex.specs.Lines.{KeptLine, kept_lines, kind_of, word_of}
+use Rattle.db_lex.specs.Lines.{KeptLine, kept_lines, word_of}
 use Rattle.db_rules.specs.declared.fault.Fault.{Fault}
 use Rattle.db_rules.specs.declared.stage.TableCell.TheVariants.{Next}
 use Rattle.db_rules.specs.declared.stage.Stage.{Stage}
@@ -18,10 +18,10 @@ use Rattle.db_rules.specs.Diagram.{diagram_fault}
 use Rattle.db_rules.specs.Labels.{constraint_fault, labels_closing_fault}
 use Rattle.db_rules.specs.Accepted.{IsDrawn, IsLabelled}
 use Rattle.db_rules.specs.Accepted as accepted
-use Rattle.db_rules.specs.Blocks.{Block, SoFar, blocks_of, lines_in, words_in, begun_with, placed, table, cell_for}
-use Rattle.db_rules.specs.Blocks.{with_cell, after_line, end_refused, at_start, so_far}
-use Rattle.db_rules.specs.Faults.{or_else, at_line, first_number, most_entries, is_unnamed, expression_kind}
-use Rattle.db_rules.specs.Faults.{pattern_fault, own_fault, table_fault, closes, closing_fault, found, found_at_end}
+use Rattle.db_rules.specs.Blocks.{Block, SoFar, blocks_of, lines_in, words_in, begun_with, placed, table}
+use Rattle.db_rules.specs.Blocks.{after_line, end_refused, at_start, so_far}
+use Rattle.db_rules.specs.Faults.{at_line, most_entries, is_unnamed, expression_kind}
+use Rattle.db_rules.specs.Faults.{pattern_fault, own_fault, closing_fault, found, found_at_end}
 use Rattle.db_rules.specs.Faults.{first_fault, end_number, entries}
 use Rattle.db_rules.specs.Database.{IsLineOf, IsInFront, IsColonLine, IsBlock, IsDatabase}
 use Rattle.db_rules.proofs.TableLemmas.{found_table}
@@ -44,8 +44,7 @@ below-push fault above (w ∷ words) word below none =
 -- each line of a main diagram has no fault below the lines above it
 drawn_below : (words : List (List ℕ)) → IsDrawn words → AreBelow diagram_fault [] words
 drawn_below _ accepted.no_line = tt
-drawn_below _ (accepted.one_line_more words word drawn none) =
-    below-push diagram_fault [] words word (drawn_below words drawn) none
+drawn_below q1 (accepted.one_line_more words word drawn none) = grind (arith, below-push, drawn_below words drawn)
 
 -- each line of a constraint diagram has no fault below the lines above it
 labelled_below : (diagram words : List (List ℕ)) → IsLabelled diagram words
@@ -78,10 +77,7 @@ leads-more : {helpers : List (List ℕ)} {s t u : SoFar} {line : KeptLine} {line
     → (found helpers s line ≡ None) × (after_line s line ≡ t) → Leads helpers t lines u
     → Leads helpers s (line ∷ lines) u
 unfolding AreClean
-leads-more {helpers} {lines = lines} one more = record {
-  clean = (one.0, subst (λ v. AreClean helpers v lines) (sym one.1) more.clean);
-  there = ap (λ v. fold after_line v lines) one.1 ∙ more.there;
-}
+leads-more {helpers} {lines = lines} one more = grind arith
 
 -- lines that lead on, and more behind them
 leads-append : {helpers : List (List ℕ)} (lines : List KeptLine) {more : List KeptLine} {s t u : SoFar}
@@ -98,16 +94,7 @@ taken : (helpers : List (List ℕ)) (s : SoFar) (line : KeptLine) (kind : LineKi
     → own_fault helpers s line kind ≡ None → (found helpers s line ≡ None)
     × (after_line s line ≡ placed line stage s kind)
 unfolding after_line
-taken helpers s line kind stage of_kind next closing own =
-    let cell : cell_for s.stage line ≡ Next stage =
-    ap (λ k. table s.stage k (slice_index line.bytes 0)) of_kind.kind_is ∙ next in
-    let own_here : own_fault helpers s line (kind_of line.bytes) ≡ None =
-    ap (λ k. own_fault helpers s line k) of_kind.kind_is ∙ own in
-    let table_fine : table_fault helpers s line (cell_for s.stage line) ≡ None =
-    ap (λ c. table_fault helpers s line c) cell ∙ own_here in (
-      found_table helpers s line kind of_kind.clean (sym of_kind.kind_is) closing ∙ ap (at_line line.number) table_fine,
-      ap (λ c. with_cell s line c) cell ∙ ap (λ k. placed line stage s k) of_kind.kind_is,
-    )
+taken helpers s line kind stage of_kind next closing own = grind (arith, found_table)
 
 -- each of these lines is fine behind the lines above it
 AreFine : (List KeptLine → KeptLine → Type 0) → List KeptLine → List KeptLine → Type 0
@@ -143,8 +130,7 @@ leads_over : (helpers : List (List ℕ)) (at : List KeptLine → SoFar) (Fine : 
     → (found helpers (at above) line ≡ None) × (after_line (at above) line ≡ at (above ++ line ∷ [])))
     → (above lines : List KeptLine) → AreFine Fine above lines → Leads helpers (at above) lines (at (above ++ lines))
 unfolding AreFine
-leads_over helpers at Fine step above [] fine =
-    subst (λ l. Leads helpers (at above) [] (at l)) (sym (append-nil above)) leads-none
+leads_over helpers at Fine step above [] fine = grind (arith, append-nil, leads-none)
 leads_over helpers at Fine step above (line ∷ lines) fine =
     let more = leads_over helpers at Fine step (above ++ line ∷ []) lines fine.1 in
     leads-more (step above line fine.0)
@@ -286,32 +272,13 @@ settled_before_actions : (helpers : List (List ℕ)) (front : List KeptLine) (do
     → labels_closing_fault (words_in b.diagram) (words_in b.constraint) ≡ None → expression_kind b ≡ None
     → (number : ℕ) (kind : Option LineKind)
     → closing_fault number kind (parts (moved Expression Labels lines) front done (Some b)) ≡ None
-settled_before_actions helpers front done b [] closed judged number kind =
-    on_condition (closes Labels kind) _ (ap (at_line number) closed)
-settled_before_actions helpers front done b (line ∷ lines) closed judged number kind =
-    on_condition (closes Expression kind) _ (ap (at_line (first_number b.expression)) judged)
+settled_before_actions helpers front done b [] closed judged number kind = grind (arith, on_condition)
+settled_before_actions helpers front done b (line ∷ lines) closed judged number kind = grind (arith, on_condition)
 
 -- behind a whole block the next one may begin, or the text may end
 ready_behind : (helpers : List (List ℕ)) (front : List KeptLine) (done : List Block) (b : Block) → IsBlock helpers b
     → IsReady (parts (behind b) front done (Some b))
-ready_behind helpers front done b block = by_actions b.actions
-  where
-    stage_next : (lines : List KeptLine) (byte : ℕ) → table (moved Expression Labels lines) Pattern byte ≡ Next Diagram
-    stage_next [] byte = refl
-    stage_next (line ∷ lines) byte = refl
-
-    stage_ends : (lines : List KeptLine) → end_refused (moved Expression Labels lines) ≡ None
-    stage_ends [] = refl
-    stage_ends (line ∷ lines) = refl
-
-    by_actions : (lines : List KeptLine)
-        → IsReady (parts (moved Actions (moved Expression Labels b.expression) lines) front done (Some b))
-    by_actions [] = record {
-      settled = settled_before_actions helpers front done b b.expression block.closed block.judged;
-      next = stage_next b.expression;
-      ends = stage_ends b.expression;
-    }
-    by_actions (line ∷ lines) = record { settled = λ number kind. refl; next = λ byte. refl; ends = refl }
+ready_behind helpers front done b block = grind (arith, settled_before_actions)
 
 -- a named Pattern line among few enough has no fault
 named_line : (entries : ℕ) (line : List ℕ) → entries < most_entries → is_unnamed line ≡ false
@@ -351,8 +318,7 @@ record Arrives (helpers : List (List ℕ)) (s : SoFar) (blocks : List Block) : T
 -- whole blocks have no fault, and are read as what they are
 over_blocks : (helpers : List (List ℕ)) (s : SoFar) (blocks : List Block) → IsReady s → All (IsBlock helpers) blocks
     → length (blocks_of s) + length blocks ≤ most_entries → Arrives helpers s blocks
-over_blocks helpers s [] ready all few =
-    record { last = s; leads = leads-none; ready = ready; front = refl; all = sym (append-nil (blocks_of s)) }
+over_blocks helpers s [] ready all few = grind (arith, leads-none, append-nil)
 over_blocks helpers s (b ∷ blocks) ready all few =
     let block = All-head (IsBlock helpers) b blocks all in
     let next = parts (behind b) s.front (blocks_of s) (Some b) in
@@ -374,8 +340,7 @@ no_fault : (helpers : List (List ℕ)) (end : ℕ) (s : SoFar) (lines : List Kep
 unfolding AreClean walk
 no_fault helpers end s [] clean ends = ends
 no_fault helpers end s (line ∷ lines) clean ends =
-    ap (λ f. or_else f (walk helpers end (after_line s line) lines)) clean.0
-    ∙ no_fault helpers end (after_line s line) lines clean.1 ends
+    grind (arith, no_fault helpers end (after_line s line) lines clean.1 ends)
 
 -- where the text may end nothing is found at its end
 nothing_at_end : (number : ℕ) (s : SoFar) → IsReady s → found_at_end number s ≡ None
@@ -409,9 +374,7 @@ database_is_read helpers text d =
     let ends : found_at_end (end_number text) (fold after_line at_start (kept_lines text)) ≡ None =
     ap (found_at_end (end_number text)) leads.there ∙ nothing_at_end (end_number text) blocks.last blocks.ready in
     record {
-      faultless =
-          first_fault-walk helpers text
-          ∙ no_fault helpers (end_number text) at_start (kept_lines text) leads.clean ends;
+      faultless = grind (arith, first_fault-walk, no_fault);
       front_is = ap (λ (s : SoFar). s.front) leads.there ∙ blocks.front;
       blocks_are = ap blocks_of leads.there ∙ blocks.all;
     }

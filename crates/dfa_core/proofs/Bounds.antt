@@ -1,17 +1,16 @@
 -- Drawn cells lie within the largest offset of the anchor, by rows and by columns.
-use Rattle.std.proofs.Common.{◌≡◌, ℕ, ◌+◌, ◌<◌, Bool, true, false, ◌&&◌, cond, eqb, ltb, Option, Some, None, position}
-use Rattle.std.proofs.Common.{ℤ, pos, negsuc, ◌-ℤ◌, ◌≤ℤ◌, neg_ℤ, refl, ap, arith}
+use Rattle.std.proofs.Common.{◌≡◌, ℕ, ◌+◌, ◌<◌, Bool, true, false, ◌&&◌, cond, eqb, ltb}
+use Rattle.std.proofs.Common.{ℤ, pos, negsuc, ◌-ℤ◌, ◌≤ℤ◌, neg_ℤ, refl, arith}
 use Rattle.std.proofs.lemmas.Int.{ints}
 use Rattle.std.proofs.lemmas.Nat.{div_below}
 use Rattle.std.proofs.lemmas.List.Quantifiers.{position-Some}
 use Rattle.std.proofs.lemmas.Bool.{false≢true, and_parts, eqb-true, ltb-true}
 use Rattle.go_rules.specs.Transform.{IsNear}
-use Rattle.pat_types.specs.declared.letter.Letter.TheVariants.{Friend}
 use Rattle.pat_types.specs.declared.cell.Strip.{Strip}
 use Rattle.pat_types.specs.declared.cell.Strip.TheVariants.{Crosses, Edge, Beyond}
 use Rattle.pat_types.specs.declared.pattern.Pattern.{Pattern}
 use Rattle.pat_types.specs.Diagrams.{drawn_strip}
-use Rattle.pat_types.specs.Cells.{strip_at, drawn_by, drawn_at, is_stone, anchor_from, anchor_of}
+use Rattle.pat_types.specs.Cells.{strip_at, drawn_by, drawn_at, anchor_of}
 use Rattle.dfa_core.specs.Fits.{is_drawn}
 
 -- the strip crosses the letters or is an edge
@@ -29,26 +28,20 @@ pub record IsAround (n : ℕ) (before after : Bool) (z : ℤ) : Type 0 where
 strip_behind : (n k : ℕ) (after within edge : Bool) → ltb k n ≡ within → (eqb k n && after) ≡ edge
     → is_strip (cond within (Crosses k) (cond edge Edge Beyond)) ≡ true → k < n + drawn_strip after
 strip_behind n k after true edge low at e = omega (arith, ltb-true k n low)
-strip_behind n k after false true low at e =
-    let parts = and_parts (eqb k n) after at in omega (arith, eqb-true k n parts.0, ap drawn_strip parts.1)
+strip_behind n k after false true low at e = grind (arith, and_parts, eqb-true)
 strip_behind n k after false false low at e = absurd (false≢true e)
 
 -- nor before them
 strip_before : (k : ℕ) (before edge : Bool) → (eqb k 0 && before) ≡ edge → is_strip (cond edge Edge Beyond) ≡ true
     → (k ≡ 0) × (drawn_strip before ≡ 1)
-strip_before k before true at e =
-    let parts = and_parts (eqb k 0) before at in (eqb-true k 0 parts.0, ap drawn_strip parts.1)
+strip_before k before true at e = grind (arith, and_parts, eqb-true)
 strip_before k before false at e = absurd (false≢true e)
 
 -- a strip that crosses the letters or is an edge is around them
 pub strip_around : (n : ℕ) (before after : Bool) (z : ℤ) → is_strip (strip_at n before after z) ≡ true
     → IsAround n before after z
-strip_around n before after (pos k) e =
-    let behind = strip_behind n k after (ltb k n) (eqb k n && after) refl refl e in
-    record { low = omega (arith, ints); high = omega (arith, ints, behind) }
-strip_around n before after (negsuc k) e =
-    let edge = strip_before k before (eqb k 0 && before) refl e in
-    record { low = omega (arith, ints, edge.0, edge.1); high = omega (arith, ints) }
+strip_around n before after (pos k) e = grind (arith, strip_behind)
+strip_around n before after (negsuc k) e = grind (arith, strip_before)
 
 -- both strips that meet at a drawn cell cross the letters or are edges
 pub drawn_strips : (p : Pattern) (row column : Strip) → is_drawn (drawn_by p row column) ≡ true
@@ -64,16 +57,7 @@ drawn_strips p (Crosses r) (Crosses c) e = (refl, refl)
 -- the anchor is a cell of the letters
 pub anchor_within : (p : Pattern) → ((anchor_of p).0 < p.rows) × ((anchor_of p).1 < p.cols)
 unfolding anchor_of
-anchor_within p = by (position is_stone p.letters) refl
-  where
-    by : (o : Option ℕ) → position is_stone p.letters ≡ o
-        → ((anchor_from p o).0 < p.rows) × ((anchor_from p o).1 < p.cols)
-    by None e = (p.diagram.star_row, p.diagram.star_column)
-    by (Some i) e =
-        let at = position-Some is_stone p.letters i Friend e in (
-          div_below i p.cols p.rows (omega (arith, p.diagram.columns_from)) (omega (arith, at.0, p.diagram.size)),
-          omega (arith, p.diagram.columns_from),
-        )
+anchor_within p = grind (arith, position-Some, div_below)
 
 -- a drawn cell lies within the largest offset of the anchor
 pub drawn_near : (p : Pattern) (r c : ℤ) → is_drawn (drawn_at p r c) ≡ true

@@ -1,7 +1,6 @@
 -- Entries: rows beside their kinds.
 use Rattle.std.proofs.Common.{◌≡◌, ℕ, zero, suc, ◌+◌, ◌*◌, ◌/◌, ◌%◌, ◌<◌, List, [], ◌∷◌, ◌++◌, length, take, drop}
-use Rattle.std.proofs.Common.{map, get_or, refl, sym}
-use Rattle.std.proofs.Common.{ap, ◌∙◌, subst, arith}
+use Rattle.std.proofs.Common.{map, get_or, refl, sym, ap, ◌∙◌, subst, arith}
 use Rattle.std.specs.List.{All}
 use Rattle.std.proofs.Math.Seq.{take-append_seam}
 use Rattle.std.proofs.lemmas.List.{get_or_default, get_or-map}
@@ -30,9 +29,7 @@ row_of-entry kind row = omega (arith, kind_below kind)
 -- the rows of the entries of some rows are these rows
 pub rows_of-entries : (kinds : List RowKind) (targets : List ℕ) → map row_of (map (entry_in kinds) targets) ≡ targets
 rows_of-entries kinds [] = refl
-rows_of-entries kinds (t ∷ ts) =
-    ap (λ r. r ∷ map row_of (map (entry_in kinds) ts)) (row_of-entry (get_or kinds t Plain) t)
-    ∙ ap (λ rs. t ∷ rs) (rows_of-entries kinds ts)
+rows_of-entries kinds (t ∷ ts) = grind (arith, row_of-entry, rows_of-entries kinds ts)
 
 -- a row has four letters
 pub letter_below : (x : Seen) → letter_number x < 4
@@ -107,9 +104,4 @@ module _ (targets starts numbers depths entries : List ℕ) (kinds : List RowKin
 -- a row with an even entry accepts nothing
 pub silent_entry : (rows : List Row) (row : ℕ) → entry_with (kind_at rows row) row % 2 ≡ 0
     → (row_at rows row).numbers ≡ []
-silent_entry rows row even = by (kind_at rows row) refl even
-  where
-    by : (kind : RowKind) → kind_at rows row ≡ kind → entry_with kind row % 2 ≡ 0 → (row_at rows row).numbers ≡ []
-    by Plain is e = kind-plain rows row is
-    by Accepting is e = absurd (omega (arith, e))
-    by Dead is e = (kind-dead rows row is).silent
+silent_entry rows row even = grind (arith, kind-plain, kind-dead)

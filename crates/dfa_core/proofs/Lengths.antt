@@ -1,6 +1,5 @@
 -- What a pattern draws along the spiral, and its length.
-use Rattle.std.proofs.Common.{◌≡◌, ℕ, zero, suc, ◌-◌, ◌<◌, ◌≤◌, inl, inr, true, false, cond, ℤ, pos, ◌+ℤ◌, refl, ap}
-use Rattle.std.proofs.Common.{◌∙◌, sym, arith}
+use Rattle.std.proofs.Common.{◌≡◌, ℕ, zero, suc, ◌-◌, ◌<◌, ◌≤◌, true, false, cond, ℤ, pos, ◌+ℤ◌, refl, ap, arith}
 use Rattle.std.proofs.lemmas.Bool.{cases_Bool}
 use Rattle.go_rules.specs.Transform.{Offset}
 use Rattle.spiral.specs.Spiral.{offset_at, offset_count}
@@ -30,23 +29,13 @@ length_below-blank p i e = ap (λ b. cond b (suc i) (length_below p i)) e
 -- where a cell is drawn at the last index, that is the greatest
 pub length_at_drawn : (p : Pattern) (n : ℕ) → 0 < n → is_drawn (drawn_along p (n - 1)) ≡ true → n ≡ length_below p n
 length_at_drawn p zero more drawn = absurd (omega arith)
-length_at_drawn p (suc i) more drawn = at_suc (ap (λ k. is_drawn (drawn_along p k)) less ∙ drawn)
-  where
-    less : i ≡ suc i - 1
-    less = omega arith
-
-    at_suc : is_drawn (drawn_along p i) ≡ true → suc i ≡ length_below p (suc i)
-    at_suc e = sym (length_below-drawn p i e)
+length_at_drawn p (suc i) more drawn = grind (arith, length_below-drawn)
 
 -- and where none is, one index fewer does
 pub length_at_blank : (p : Pattern) (n : ℕ) → 0 < n → is_drawn (drawn_along p (n - 1)) ≡ false
     → length_below p (n - 1) ≡ length_below p n
 length_at_blank p zero more blank = absurd (omega arith)
-length_at_blank p (suc i) more blank =
-    ap (length_below p) (sym less) ∙ sym (length_below-blank p i (ap (λ k. is_drawn (drawn_along p k)) less ∙ blank))
-  where
-    less : i ≡ suc i - 1
-    less = omega arith
+length_at_blank p (suc i) more blank = grind (arith, length_below-blank)
 
 -- nothing is drawn below the first index
 pub length_below-zero : (p : Pattern) (n : ℕ) → n ≡ 0 → 0 ≡ length_below p n
@@ -56,11 +45,7 @@ length_below-zero p n e = rw e refl
 -- the length below n is at most n
 length_below-most : (p : Pattern) (n : ℕ) → length_below p n ≤ n
 length_below-most p zero = omega (arith, length_below-zero p 0 refl)
-length_below-most p (suc n) =
-    elim (cases_Bool (is_drawn (drawn_along p n))) [
-      | inl last ↦ omega (arith, length_below-drawn p n last)
-      | inr blank ↦ omega (arith, length_below-blank p n blank, length_below-most p n)
-    ]
+length_below-most p (suc n) = grind (arith, cases_Bool, length_below-drawn, length_below-blank, length_below-most p n)
 
 -- no pattern is longer than the spiral
 pub pattern_length-most : (p : Pattern) → pattern_length p ≤ offset_count

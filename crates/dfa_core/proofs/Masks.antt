@@ -36,12 +36,7 @@ has_each mask = has_letter mask Friend && has_letter mask Enemy && has_letter ma
 -- a mask of the pattern has every letter where nothing is drawn, and nowhere else
 has_each-blank : (p : Pattern) (i : ℕ) (mask : LetterMask) → ((x : Seen) → has_letter mask x ≡ admits p i x)
     → has_each mask ≡ not (is_drawn (drawn_along p i))
-has_each-blank p i mask is =
-    ap (λ a. a && has_letter mask Enemy && has_letter mask Empty && has_letter mask Off) (is Friend)
-    ∙ ap (λ a. admits p i Friend && a && has_letter mask Empty && has_letter mask Off) (is Enemy)
-    ∙ ap (λ a. admits p i Friend && admits p i Enemy && a && has_letter mask Off) (is Empty)
-    ∙ ap (λ a. admits p i Friend && admits p i Enemy && admits p i Empty && a) (is Off)
-    ∙ all_admitted (drawn_along p i)
+has_each-blank p i mask is = grind (arith, all_admitted (drawn_along p i))
 
 module _ (p : Pattern) (masks : List LetterMask) (n : ℕ) (are : AreMasks p (length masks) masks) (some : 0 < n)
     (low : n ≤ length masks) (mask : LetterMask) (last : mask ≡ get_or masks (n - 1) no_mask) where
@@ -67,10 +62,7 @@ AreMasks-more p i masks more mask before longer is = record {
   each = λ k x low. ap (λ ms. has_letter (get_or ms k no_mask) x) longer ∙ elim (cases_lt k i) [
     | inl old ↦ ap (λ m. has_letter m x) (get_or_append_left masks (mask ∷ []) no_mask k (omega (arith, before.size)))
         ∙ before.each k x old
-    | inr last ↦
-        let same : i ≡ k = omega arith in
-        ap (λ m. has_letter m x) (get_or_push masks mask no_mask k (before.size ∙ same)) ∙ is x
-        ∙ ap (λ j. admits p j x) same
+    | inr last ↦ grind (arith, get_or_push masks mask no_mask)
   ];
 }
 
@@ -84,6 +76,4 @@ AreMasks-slice p count masks slice are same =
 pub length-by_masks : (p : Pattern) (count n : ℕ) (masks slice : List LetterMask) → AreMasks p count masks
     → slice ≡ masks → length_below p count ≡ pattern_length p
     → (AreMasks p (length slice) slice → n ≡ length_below p (length slice)) → n ≡ pattern_length p
-length-by_masks p count n masks slice are same all found =
-    found (AreMasks-slice p count masks slice are same)
-    ∙ ap (length_below p) (ap length same ∙ are.size) ∙ all
+length-by_masks p count n masks slice are same all found = grind (arith, AreMasks-slice)

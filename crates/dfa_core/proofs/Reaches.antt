@@ -1,6 +1,6 @@
 -- How far from the anchor the cells of a pattern are drawn, and so how long it can be.
 use Rattle.std.proofs.Common.{◌≡◌, ℕ, zero, suc, ◌+◌, ◌*◌, ◌<◌, ◌≤◌, Bool, true, false, nat_lt, max, min, ℤ, pos}
-use Rattle.std.proofs.Common.{negsuc, ◌+ℤ◌, ◌≤ℤ◌, neg_ℤ, nat_abs, refl, sym, ap, ◌∙◌, arith, inl, inr}
+use Rattle.std.proofs.Common.{negsuc, ◌+ℤ◌, ◌≤ℤ◌, neg_ℤ, nat_abs, refl, ap, arith, inl, inr}
 use Rattle.std.proofs.lemmas.Bool.{cases_Bool, cases_lt, agree_below, agree_below_at, ltb-true}
 use Rattle.std.proofs.lemmas.Int.{ints}
 use Rattle.std.proofs.Math.Nat.{mul-le-mul_left, mul-le-mul_right}
@@ -47,9 +47,7 @@ strip_most false = omega arith
 -- a drawn line is no farther from a line of the letters than there are letters
 strip_near : (n a k : ℕ) (before after : Bool) (z : ℤ) → IsAround n before after (pos a +ℤ z) → a < n → n ≤ k
     → nat_abs z ≤ k
-strip_near n a k before after z around on few =
-    nat_abs-most z k (omega (arith, ints, around.low, strip_most before))
-    (omega (arith, ints, around.high, strip_most after))
+strip_near n a k before after z around on few = grind (arith, nat_abs-most, strip_most)
 
 -- past the square of a pattern nothing is drawn
 blank_outside : (p : Pattern) (k i : ℕ) → p.rows ≤ k → p.cols ≤ k → (2 * k + 1) * (2 * k + 1) ≤ i → i < offset_count
@@ -73,12 +71,7 @@ blank_outside p k i rows columns past low =
 length_below-blanks : (p : Pattern) (n m : ℕ) → n ≤ m → ((i : ℕ) → n ≤ i → i < m → is_drawn (drawn_along p i) ≡ false)
     → length_below p n ≡ length_below p m
 length_below-blanks p n zero low blank = ap (length_below p) (omega (arith, low))
-length_below-blanks p n (suc m) low blank =
-    elim (cases_lt m n) [
-      | inl all ↦ ap (length_below p) (omega (arith, low, all))
-      | inr more ↦ length_below-blanks p n m more (λ i from to. blank i from (omega (arith, to)))
-          ∙ sym (length_below-blank p m (blank m more (omega arith)))
-    ]
+length_below-blanks p n (suc m) low blank = grind (arith, cases_lt, length_below-blank, length_below-blanks p n m)
 
 -- the length of a pattern is found below the end of its square
 pub length-inside : (p : Pattern) (k n : ℕ) → k ≡ min (max p.rows p.cols) largest_offset
@@ -86,13 +79,6 @@ pub length-inside : (p : Pattern) (k n : ℕ) → k ≡ min (max p.rows p.cols) 
 unfolding pattern_length
 length-inside p k n is square =
     elim (cases_lt k largest_offset) [
-      | inr all ↦
-          let same : k ≡ largest_offset = omega (arith, is, all) in
-          ap (length_below p) (square ∙ ap (λ j. (2 * j + 1) * (2 * j + 1)) same)
-      | inl inside ↦
-          let few : 2 * k + 1 ≤ 2 * largest_offset + 1 = omega (arith, inside) in
-          ap (length_below p) square
-          ∙ length_below-blanks p ((2 * k + 1) * (2 * k + 1)) offset_count
-          (omega (arith, mul-le-mul_left (2 * k + 1) few, mul-le-mul_right (2 * largest_offset + 1) few))
-          (λ i from to. blank_outside p k i (omega (arith, is, inside)) (omega (arith, is, inside)) from to)
+      | inr all ↦ grind arith
+      | inl inside ↦ grind (arith, length_below-blanks p, blank_outside p, mul-le-mul_left, mul-le-mul_right)
     ]

@@ -1,6 +1,5 @@
 -- The kinds of rows, and how they grow with the table.
-use Rattle.std.proofs.Common.{◌≡◌, ℕ, ◌+◌, Bool, true, false, cond, List, [], ◌∷◌, ◌++◌, length}
-use Rattle.std.proofs.Common.{refl, sym, ap, ◌∙◌, arith, inl, inr}
+use Rattle.std.proofs.Common.{◌≡◌, ℕ, ◌+◌, Bool, true, false, cond, List, [], ◌∷◌, ◌++◌, length, refl, arith}
 use Rattle.std.proofs.lemmas.Bool.{cases_lt}
 use Rattle.std.proofs.lemmas.List.{length_push, get_or_push, get_or_append_left}
 use Rattle.std.proofs.lemmas.Bool.Decides.{nat_tests}
@@ -8,31 +7,13 @@ use Rattle.dfa_core.specs.declared.automaton.Seen.{Seen}
 use Rattle.dfa_core.specs.declared.automaton.Seen.TheVariants.{Friend, Enemy, Empty, Off}
 use Rattle.dfa_core.specs.declared.kind.RowKind.{RowKind}
 use Rattle.dfa_core.specs.declared.kind.RowKind.TheVariants.{Plain, Dead}
-use Rattle.dfa_core.specs.Automata.{Row, no_row, row_at, step_at, IsDead}
+use Rattle.dfa_core.specs.Automata.{Row, row_at, step_at, IsDead}
 use Rattle.dfa_core.specs.RowKinds.{stays_at, kind_with, kind_at, AreKinds}
-
--- no rows have no kinds
-pub AreKinds-none : (rows : List Row) (kinds : List RowKind) → rows ≡ [] → kinds ≡ [] → AreKinds rows kinds
-AreKinds-none rows kinds no_rows no_kinds = record {
-  one_each = ap length no_kinds ∙ sym (ap length no_rows);
-  each = λ r low. absurd (omega (arith, ap length no_rows));
-}
 
 -- one more row comes with its kind
 AreKinds-push : (rows : List Row) (row : Row) (kinds : List RowKind) (kind : RowKind) → AreKinds rows kinds
     → kind ≡ kind_with (length rows) row.targets row.numbers → AreKinds (rows ++ row ∷ []) (kinds ++ kind ∷ [])
-AreKinds-push rows row kinds kind before is = record {
-  one_each = length_push kinds kind ∙ ap (λ n. n + 1) before.one_each ∙ sym (length_push rows row);
-  each = λ r low. elim (cases_lt r (length rows)) [
-    | inl old ↦ get_or_append_left kinds (kind ∷ []) Plain r (omega (arith, before.one_each)) ∙ before.each r old
-        ∙ ap (λ (x : Row). kind_with r x.targets x.numbers) (sym (get_or_append_left rows (row ∷ []) no_row r old))
-    | inr last ↦
-        let same : length rows ≡ r = omega (arith, length_push rows row) in
-        get_or_push kinds kind Plain r (before.one_each ∙ same) ∙ is
-        ∙ ap (λ n. kind_with n row.targets row.numbers) same
-        ∙ ap (λ (x : Row). kind_with r x.targets x.numbers) (sym (get_or_push rows row no_row r same))
-  ];
-}
+AreKinds-push rows row kinds kind before is = grind (arith, length_push, cases_lt, get_or_append_left, get_or_push)
 
 -- the kinds of a list of rows that is known to be longer by one row
 pub AreKinds-more : (rows all : List Row) (row : Row) (kinds more : List RowKind) (kind : RowKind) → AreKinds rows kinds
@@ -55,19 +36,8 @@ stays-each rows r stays Off = grind (arith, nat_tests)
 
 -- a row of the kind `Dead` is dead
 pub kind-dead : (rows : List Row) (r : ℕ) → kind_at rows r ≡ Dead → IsDead rows r
-kind-dead rows r e = by (row_at rows r).numbers refl e
-  where
-    by : (numbers : List ℕ) → (row_at rows r).numbers ≡ numbers → kind_with r (row_at rows r).targets numbers ≡ Dead
-        → IsDead rows r
-    by [] none is =
-        record { silent = none; stays = stays-each rows r (dead-stays (stays_at r (row_at rows r).targets) is) }
-    by (n ∷ ns) some is = absurd (let h : ⊥ = cc in h)
+kind-dead rows r e = grind (arith, stays-each, dead-stays)
 
 -- a row of the kind `Plain` accepts nothing
 pub kind-plain : (rows : List Row) (r : ℕ) → kind_at rows r ≡ Plain → (row_at rows r).numbers ≡ []
-kind-plain rows r e = by (row_at rows r).numbers refl e
-  where
-    by : (numbers : List ℕ) → (row_at rows r).numbers ≡ numbers → kind_with r (row_at rows r).targets numbers ≡ Plain
-        → (row_at rows r).numbers ≡ []
-    by [] none is = none
-    by (n ∷ ns) some is = absurd (let h : ⊥ = cc in h)
+kind-plain rows r e = grind arith

@@ -1,14 +1,13 @@
 -- Every list of patterns has a number of states: the words that are longer than every pattern reach the sink, and the
 -- others are finitely many.
-use Rattle.std.proofs.Common.{◌≡◌, ℕ, zero, suc, ◌+◌, ◌<◌, ◌≤◌, ◌⊎◌, inl, inr, Bool, true, false, not, cond, eqb, List}
-use Rattle.std.proofs.Common.{[], ◌∷◌, length, map, drop, replicate, get_or, refl, sym, ap, ◌∙◌, arith}
+use Rattle.std.proofs.Common.{◌≡◌, ℕ, zero, suc, ◌+◌, ◌<◌, ◌≤◌, ◌⊎◌, inl, inr, Bool, true, false, cond, eqb, List}
+use Rattle.std.proofs.Common.{[], ◌∷◌, length, map, replicate, get_or, refl, sym, ap, ◌∙◌, arith}
 use Rattle.std.proofs.lemmas.Bool.{cases_eq, cases_lt, eq-eqb, ne_eqb, and_left, lt-leb, true≢false, false≢true}
 use Rattle.std.proofs.lemmas.List.{length-replicate}
 use Rattle.spiral.specs.Spiral.{offset_count}
 use Rattle.pat_types.specs.declared.pattern.Pattern.{Pattern}
 use Rattle.dfa_core.specs.declared.automaton.Seen.TheVariants.{Friend, Enemy, Empty, Off}
 use Rattle.dfa_core.specs.Words.{Word}
-use Rattle.dfa_core.specs.Fits.{pattern_length, is_refuted}
 use Rattle.dfa_core.specs.States.{State, is_live, state_of, HasStates}
 use Rattle.dfa_core.proofs.Lengths.{pattern_length-most}
 use Rattle.dfa_core.proofs.StateLemmas.{some_live, state_same}
@@ -58,14 +57,7 @@ module _ {X : Type 0} (f : Word → X) (same_or_not : (x y : X) → (x ≡ y) �
   module _ (P : Word → Type 0) (v : Word) (n : ℕ) (t : TakesOn f P n) where
     -- a word with one of these values adds none
     add_known : (i : ℕ) → i < n → f v ≡ f (t.word i) → TakesOn f (λ w. P w ⊎ (f w ≡ f v)) n
-    add_known i low same = record {
-      word = t.word;
-      apart = t.apart;
-      all = λ w either. elim either [
-        | inl before ↦ t.all w before
-        | inr as_v ↦ (i, low, as_v ∙ same)
-      ];
-    }
+    add_known i low same = grind arith
 
     -- the value of a word with a number below n, among the words with v behind them
     old_value : (i : ℕ) → i < n → f (with_last t.word n v i) ≡ f (t.word i)
@@ -84,26 +76,14 @@ module _ {X : Type 0} (f : Word → X) (same_or_not : (x y : X) → (x ≡ y) �
     -- values are apart, and a new one too
     with_last-apart : ((i : ℕ) → i < n → f v ≡ f (t.word i) → ⊥) → (i j : ℕ) → i < suc n → j < suc n
         → f (with_last t.word n v i) ≡ f (with_last t.word n v j) → i ≡ j
-    with_last-apart new i j p q e = elim (cases_lt i n) [
-      | inl low ↦ elim (cases_lt j n) [
-        | inl low' ↦ t.apart i j low low' (sym (old_value i low) ∙ e ∙ old_value j low')
-        | inr high' ↦ absurd (new_apart new i j low (omega (arith, q, high')) e)
-      ]
-      | inr high ↦ elim (cases_lt j n) [
-        | inl low' ↦ absurd (new_apart new j i low' (omega (arith, p, high)) (sym e))
-        | inr high' ↦ omega (arith, p, q, high, high')
-      ]
-    ]
+    with_last-apart new i j p q e = grind (arith, cases_lt, old_value, new_apart)
 
     -- a word with a new value adds this one
     add_new : ((i : ℕ) → i < n → f v ≡ f (t.word i) → ⊥) → TakesOn f (λ w. P w ⊎ (f w ≡ f v)) (suc n)
     add_new new = record {
       word = with_last t.word n v;
       apart = with_last-apart new;
-      all = λ w either. elim either [
-        | inl before ↦ let r = t.all w before in (r.0, omega (arith, r.1), r.2 ∙ sym (old_value r.0 r.1))
-        | inr as_v ↦ (n, omega arith, as_v ∙ sym new_value)
-      ];
+      all = grind (arith, old_value, new_value);
     }
 
   -- one word more
@@ -216,30 +196,19 @@ cases_lives : (xs ys : List Bool) → (xs ≡ ys) ⊎ (xs ≡ ys → ⊥)
 cases_lives [] [] = inl refl
 cases_lives [] (y ∷ ys) = inr (λ e. absurd (omega (arith, ap length e)))
 cases_lives (x ∷ xs) [] = inr (λ e. absurd (omega (arith, ap length e)))
-cases_lives (true ∷ xs) (true ∷ ys) =
-    elim (cases_lives xs ys) [ inl e ↦ inl (ap (λ zs. true ∷ zs) e) | inr ne ↦ inr (λ e. ne (ap (drop 1) e)) ]
-cases_lives (false ∷ xs) (false ∷ ys) =
-    elim (cases_lives xs ys) [ inl e ↦ inl (ap (λ zs. false ∷ zs) e) | inr ne ↦ inr (λ e. ne (ap (drop 1) e)) ]
+cases_lives (true ∷ xs) (true ∷ ys) = grind (arith, cases_lives xs ys)
+cases_lives (false ∷ xs) (false ∷ ys) = grind (arith, cases_lives xs ys)
 cases_lives (true ∷ xs) (false ∷ ys) = inr (λ e. true≢false (ap (λ zs. get_or zs 0 true) e))
 cases_lives (false ∷ xs) (true ∷ ys) = inr (λ e. false≢true (ap (λ zs. get_or zs 0 true) e))
 
 -- two states are one or not
 cases_state : (s t : State) → (s ≡ t) ⊎ (s ≡ t → ⊥)
-cases_state s t = elim (cases_eq s.0 t.0) [
-  | inl depths ↦ elim (cases_lives s.1 t.1) [
-    | inl lives ↦ inl (λ i. (depths i, lives i))
-    | inr ne ↦ inr (λ e. ne (ap (λ r. r.1) e))
-  ]
-  | inr ne ↦ inr (λ e. ne (ap (λ r. r.0) e))
-]
+cases_state s t = grind (arith, cases_eq s.0 t.0, cases_lives s.1 t.1)
 
 -- no pattern is live after a word that is longer than the spiral
 none_live : (ps : List Pattern) (w : Word) → offset_count < length w → map (is_live w) ps ≡ map (λ _. false) ps
 none_live [] w long = refl
-none_live (p ∷ ps) w long =
-    ap (λ b. b ∷ map (is_live w) ps) (and_left _ (not (is_refuted p w))
-    (lt-leb (length w) (pattern_length p) (omega (arith, long, pattern_length-most p))))
-    ∙ ap (λ bs. false ∷ bs) (none_live ps w long)
+none_live (p ∷ ps) w long = grind (arith, and_left, lt-leb, pattern_length-most, none_live ps w long)
 
 -- a list in which no pattern is live has none that is
 some_live-none : (ps : List Pattern) → some_live (map (λ _. false) ps) ≡ false
@@ -249,9 +218,7 @@ some_live-none (p ∷ ps) = some_live-none ps
 -- two words that are longer than the spiral reach one state
 long_same : (ps : List Pattern) (u v : Word) → offset_count < length u → offset_count < length v
     → state_of ps u ≡ state_of ps v
-long_same ps u v long long' =
-    state_same ps u v (none_live ps u long ∙ sym (none_live ps v long'))
-    (λ some. absurd (false≢true (sym (some_live-none ps) ∙ ap some_live (sym (none_live ps u long)) ∙ some)))
+long_same ps u v long long' = grind (arith, state_same, none_live, false≢true, some_live-none)
 
 -- a word that is longer than the spiral
 long_word : Word
@@ -270,9 +237,7 @@ by_short ps (n, t) = (
     word = t.word;
     apart = t.apart;
     all = λ w. elim (cases_lt (offset_count + 1) (length w)) [
-      | inl long ↦
-          let r = t.all long_word (omega (arith, long_length)) in
-          (r.0, r.1, long_same ps w long_word (omega (arith, long)) (omega (arith, long_length)) ∙ r.2)
+      | inl long ↦ grind (arith, long_same ps w long_word, long_word, long_length)
       | inr short ↦ t.all w short
     ];
   },

@@ -32,9 +32,7 @@ first_rows-at t (suc n) r low =
     elim (cases_lt r n) [
       | inl before ↦ get_or_append_left (first_rows t n) (row_in t n ∷ []) no_row r
           (omega (arith, length-first_rows t n)) ∙ first_rows-at t n r before
-      | inr last ↦
-          let same : n ≡ r = omega arith in
-          get_or_push (first_rows t n) (row_in t n) no_row r (length-first_rows t n ∙ same) ∙ ap (row_in t) same
+      | inr last ↦ grind (arith, length-first_rows t, get_or_push)
     ]
 
 -- the row with a number is the one that the lists show at it
@@ -44,15 +42,11 @@ row_at-rows t r low = first_rows-at t (length t.depths) r low
 
 -- a part of a list is as before when more comes behind
 part-old : (xs ys : List ℕ) (from to : ℕ) → from ≤ to → to ≤ length xs → part_of (xs ++ ys) from to ≡ part_of xs from to
-part-old xs ys from to order low =
-    ap (take (to - from)) (drop-append-le from xs ys (omega arith))
-    ∙ take-append-le (to - from) (drop from xs) ys (omega (arith, length-drop from xs))
+part-old xs ys from to order low = grind (arith, drop-append-le, take-append-le, length-drop)
 
 -- the part that comes behind
 part-new : (xs ys : List ℕ) (from to : ℕ) → length xs ≡ from → from + length ys ≡ to → part_of (xs ++ ys) from to ≡ ys
-part-new xs ys from to first last =
-    ap (λ n. take (to - n) (drop n (xs ++ ys))) (sym first) ∙ ap (take (to - length xs)) (drop-append_seam xs ys)
-    ∙ take_all (to - length xs) ys (omega arith)
+part-new xs ys from to first last = grind (arith, drop-append_seam, take_all)
 
 module _ (t : Flat) (ts ns : List ℕ) (d : ℕ) (good : IsFlat t) (four : length ts ≡ 4) where
   -- the lists with one row more
@@ -175,20 +169,6 @@ pub rows_in-none : (t : Flat) → t.depths ≡ [] → rows_in t ≡ []
 unfolding rows_in
 rows_in-none t none = ap (λ ds. first_rows t (length ds)) none
 
--- the lists of a table without rows belong together
-pub IsFlat-none : (t : Flat) → t.targets ≡ [] → t.starts ≡ 0 ∷ [] → t.numbers ≡ [] → t.depths ≡ [] → IsFlat t
-IsFlat-none t targets starts numbers depths = rw (targets, starts, numbers, depths) (record {
-  targets = refl;
-  starts = refl;
-  first = refl;
-  last = refl;
-  ordered = λ r low. absurd (omega arith);
-  within = λ r low. at_zero r (omega arith);
-})
-  where
-    at_zero : (r : ℕ) → r ≡ 0 → get_or (0 ∷ []) r 0 ≤ 0
-    at_zero r e = let zeros : List ℕ = 0 ∷ [] in omega (arith, ap {B = ℕ} (λ n. get_or zeros n 0) e)
-
 module _ (t : Flat) (good : IsFlat t) where
   -- the first n rows are the front of all
   take-first_rows : (n r : ℕ) → r ≤ n → take r (first_rows t n) ≡ first_rows t r
@@ -285,9 +265,4 @@ row_below t rows r same low = omega (arith, ap length same, length-rows t)
 
 -- each row of a table has four targets
 pub four_targets : (t : Flat) → IsFlat t → HaveFourTargets (rows_in t)
-four_targets t flat r low =
-    let inside : r < length t.depths = omega (arith, low, length-rows t) in
-    ap (λ row. length row.targets) (row_at-rows t r inside)
-    ∙ length-take-le (4 * r + 4 - 4 * r) (drop (4 * r) t.targets)
-    (omega (arith, inside, flat.targets, length-drop (4 * r) t.targets))
-    ∙ omega arith
+four_targets t flat r low = grind (arith, length-rows, row_at-rows, length-take-le, length-drop)

@@ -1,5 +1,5 @@
 -- What is drawn fits at a place exactly if it admits what is seen there.
-use Rattle.std.proofs.Common.{◌≡◌, ℕ, false, not, ◌||◌, Option, Some, None, refl, sym, ap, ◌∙◌}
+use Rattle.std.proofs.Common.{◌≡◌, ℕ, false, not, Option, Some, None, refl, sym, ap, arith}
 use Rattle.go_rules.specs.declared.Cell.{Cell}
 use Rattle.go_rules.specs.declared.Cell.TheVariants.{Empty as empty_cell, Black as black_stone, White as white_stone}
 use Rattle.go_rules.specs.declared.Colour.{Colour}
@@ -40,12 +40,8 @@ admits_seen : (l : Letter) (cell : Cell) (friend : Colour)
 admits_seen Friend cell friend = (is_seen cell friend).friends
 admits_seen Enemy cell friend = (is_seen cell friend).enemies
 admits_seen Empty cell friend = (is_seen cell friend).empty
-admits_seen FriendOrEmpty cell friend =
-    ap (λ b. b || same_cell cell empty_cell) (is_seen cell friend).friends
-    ∙ ap (λ b. is_friend (seen_of friend cell) || b) (is_seen cell friend).empty
-admits_seen EnemyOrEmpty cell friend =
-    ap (λ b. b || same_cell cell empty_cell) (is_seen cell friend).enemies
-    ∙ ap (λ b. is_enemy (seen_of friend cell) || b) (is_seen cell friend).empty
+admits_seen FriendOrEmpty cell friend = grind (arith, is_seen)
+admits_seen EnemyOrEmpty cell friend = grind (arith, is_seen)
 admits_seen Any cell friend = sym (ap not (is_seen cell friend).on_board)
 admits_seen Star cell friend = (is_seen cell friend).empty
 

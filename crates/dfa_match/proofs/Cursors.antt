@@ -15,10 +15,7 @@ some_rows (suc s) m on = omega arith
 -- the point whose square begins where that of the point m does is m
 pub anchor_of_corner : (s m : ℕ) → s ≤ largest_size → m < s * s → anchor_at_corner s (corner_at s m) ≡ m
 unfolding anchor_at_corner
-anchor_of_corner s m few on =
-    let column : m % s < padded_side = omega (arith, few, mod_below m s (some_rows s m on)) in
-    ap (λ n. n * s + corner_at s m % padded_side) (div-mul-add (m / s) padded_side (m % s) column)
-    ∙ ap (λ n. m / s * s + n) (mod-mul-add (m / s) padded_side (m % s) column) ∙ div-add-mod' m s
+anchor_of_corner s m few on = grind (arith, mod_below, some_rows, div-mul-add, mod-mul-add, div-add-mod')
 
 -- the square around a point begins no later than that around the last point of the largest board
 pub corner_low : (s m : ℕ) → 0 < s → s ≤ largest_size → m < s * s → corner_at s m ≤ last_corner

@@ -2,7 +2,7 @@
 use Rattle.std.proofs.Common.{◌≡◌, ℕ, zero, suc, ◌+◌, ◌-◌, ◌≤◌, Bool, true, false, not, cond, eqb, List, [], ◌∷◌}
 use Rattle.std.proofs.Common.{length, Contains, Some, slice_get, refl, sym, ap, ◌∙◌, subst, arith, inl, inr}
 use Rattle.std.proofs.lemmas.Bool.{and_parts, eqb-true}
-use Rattle.std.proofs.lemmas.List.Elements.{Contains-append_cases, Contains-append_left, Contains-append_right}
+use Rattle.std.proofs.lemmas.List.Elements.{Contains-append_cases, Contains-append_right}
 use Rattle.go_rules.specs.declared.Colour.{Colour}
 use Rattle.go_rules.specs.Position.{BoardState}
 use Rattle.pat_types.specs.declared.pattern.Pattern.{Pattern}
@@ -59,11 +59,7 @@ numbered k (p ∷ ps) w n here =
 number_of : (k : ℕ) (ps : List Pattern) (w : Word) (i : ℕ) (p : Pattern) → slice_get ps i ≡ Some p
     → is_matched w p ≡ true → Contains (matched_from k ps w) (k + i)
 number_of k [] w i p at matched = absurd (let h : ⊥ = cc in h)
-number_of k (q ∷ ps) w zero p at matched =
-    let same : q ≡ p = cc in
-    let none : k ≡ k + 0 = omega arith in
-    Contains-append_left (cond (is_matched w q) (k ∷ []) []) (matched_from (suc k) ps w) (k + 0)
-    (subst (λ b. Contains (cond b (k ∷ []) []) (k + 0)) (sym (ap (is_matched w) same ∙ matched)) (0, omega arith, none))
+number_of k (q ∷ ps) w zero p at matched = grind arith
 number_of k (q ∷ ps) w (suc i) p at matched =
     let sums : suc k + i ≡ k + suc i = omega arith in
     Contains-append_right (cond (is_matched w q) (k ∷ []) []) (matched_from (suc k) ps w) (k + suc i)

@@ -1,7 +1,6 @@
 -- The hits that are given out where walks stand, and how they join those before.
 use Rattle.std.proofs.Common.{◌≡◌, ℕ, ◌+◌, ◌-◌, ◌*◌, ◌<◌, ◌≤◌, ◌⊎◌, inl, inr, nat_le, cond, List}
-use Rattle.std.proofs.Common.{[], ◌∷◌, ◌++◌, if◌then◌else◌, length, Contains, refl, sym, ap, ◌∙◌, subst}
-use Rattle.std.proofs.Common.{arith}
+use Rattle.std.proofs.Common.{[], ◌∷◌, ◌++◌, if◌then◌else◌, length, Contains, refl, sym, ap, ◌∙◌, subst, arith}
 use Rattle.std.specs.List.{flat_map, AllPairs}
 use Rattle.std.proofs.lemmas.Bool.{cases_lt, cases_Bool, leb-true, le-leb}
 use Rattle.std.proofs.lemmas.List.{length-map, get_or-map}
@@ -11,8 +10,7 @@ use Rattle.go_rules.specs.Position.{BoardState}
 use Rattle.go_rules.specs.Transform.{transformations}
 use Rattle.spiral.specs.Spiral.{offset_count}
 use Rattle.match_rules.proofs.Lists.{Contains-map, Contains-map_from, Contains-flat_map, Contains-flat_map_from}
-use Rattle.match_rules.proofs.Lists.{Contains-first, Contains-rest, Contains-nil}
-use Rattle.match_rules.proofs.Lists.{AllPairs-flat_map}
+use Rattle.match_rules.proofs.Lists.{Contains-first, Contains-rest, Contains-nil, AllPairs-flat_map}
 use Rattle.dfa_core.specs.Words.{Word}
 use Rattle.dfa_core.specs.Automata.{Row, row_at, accepted, AreDistinct, IsAutomaton}
 use Rattle.dfa_core.specs.Entries.{row_of}
@@ -29,14 +27,7 @@ use Rattle.dfa_match.proofs.WalkResults.{accepts_now}
 
 -- elements that are no two the same are distinct
 AreDistinct-from_pairs : {X : Type 0} (xs : List X) → AllPairs (λ x y. x ≡ y → ⊥) xs → AreDistinct xs
-AreDistinct-from_pairs xs apart i j d p q e =
-    elim (cases_lt i j) [
-      | inl before ↦ absurd (apart i j d before q e)
-      | inr rest ↦ elim (cases_lt j i) [
-        | inl after ↦ absurd (apart j i d after p (sym e))
-        | inr same ↦ omega arith
-      ]
-    ]
+AreDistinct-from_pairs xs apart i j d p q e = grind (arith, cases_lt)
 
 -- distinct elements are no two the same
 pairs_from_distinct : {X : Type 0} (xs : List X) → AreDistinct xs → AllPairs (λ x y. x ≡ y → ⊥) xs

@@ -1,6 +1,6 @@
 -- Lists whose elements are changed and filtered in place, each written before it is known whether it stays.
 use Rattle.std.proofs.Common.{◌≡◌, ℕ, ◌+◌, ◌<◌, ◌≤◌, ◌++◌, [], ◌∷◌, Bool, true, false, cond, List, length, map, filter}
-use Rattle.std.proofs.Common.{get_or, take, drop, sym, ap, ◌∙◌, subst, arith}
+use Rattle.std.proofs.Common.{get_or, take, drop, sym, ap, ◌∙◌, arith}
 use Rattle.std.proofs.Math.ListN.{set}
 use mir.Val.{bool_byte}
 use Rattle.std.proofs.lemmas.List.{append-nil, length-set, map_more, take_more_set, take-set-le, drop_more, drop-set-lt}
@@ -90,5 +90,4 @@ pub FiltersInPlace-count : {X : Type 0} {p : X → Bool} {xs ys : List X} {k i :
     → FiltersInPlace p xs (set ys k x) (k + bool_byte b) (i + 1)
 FiltersInPlace-count true h low passes is = FiltersInPlace-more_set h low passes is
 FiltersInPlace-count {X} {p} {xs} {ys} {k} {i} {x} false h low fails is =
-    let same : k ≡ k + bool_byte false = omega arith in
-    subst (λ n. FiltersInPlace p xs (set ys k x) n (i + 1)) same (FiltersInPlace-over h low fails is)
+    grind (arith, FiltersInPlace-over h low fails is, bool_byte)

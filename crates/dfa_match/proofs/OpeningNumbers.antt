@@ -1,5 +1,5 @@
 -- The numbers of words, as they grow letter by letter.
-use Rattle.std.proofs.Common.{◌≡◌, ℕ, suc, ◌+◌, ◌*◌, ◌^◌, ◌<◌, ◌≤◌, [], ◌∷◌, ◌++◌, refl, sym, ap, ◌∙◌, arith}
+use Rattle.std.proofs.Common.{◌≡◌, ℕ, suc, ◌+◌, ◌*◌, ◌^◌, ◌<◌, [], ◌∷◌, ◌++◌, refl, sym, ap, ◌∙◌, arith}
 use Rattle.std.proofs.Math.Nat.{pow-suc, pow-le-pow_right}
 use denote.Enum.Declared.{tag_of}
 use Rattle.dfa_core.specs.contracts.automaton.Seen.{the_type}
@@ -45,6 +45,4 @@ number_low n number x low =
 
 -- the number of a ring has room for its last letter
 pub number_room : (n number : ℕ) → n < ring_letters → number < 4 ^ n → number < 4 ^ 7
-number_room n number few low =
-    let most : 4 ^ n ≤ 4 ^ 7 = pow-le-pow_right {n = 4} (omega arith) {i = n} {j = 7} (omega (arith, few)) in
-    omega (arith, low, most)
+number_room n number few low = grind (arith, pow-le-pow_right)

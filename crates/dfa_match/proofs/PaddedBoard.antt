@@ -21,15 +21,7 @@ use Rattle.dfa_match.specs.Sights.{AreSightsBelow, AreSights}
 
 -- a strip of the board is its number
 strip_from : (s : ℕ) (z : ℤ) (k : ℕ) → strip_of s z ≡ Some k → (z ≡ pos k) × (k < s)
-strip_from s (pos n) k e =
-    elim (cases_lt n s) [
-      | inl low ↦
-          let here : Some n ≡ Some k = sym (ap (λ b. cond b (Some n) None) (lt-ltb n s low)) ∙ e in
-          let same : n ≡ k = cc in
-          (ap pos same, omega arith)
-      | inr high ↦ let none : None ≡ Some k = sym (ap (λ b. cond b (Some n) None) (le-ltb n s high)) ∙ e in
-          absurd (let h : ⊥ = cc in h)
-    ]
+strip_from s (pos n) k e = grind (arith, cases_lt, lt-ltb, pos, le-ltb)
 strip_from s (negsuc n) k e = absurd (let h : ⊥ = cc in h)
 
 -- a number below the size is a strip of the board
@@ -48,8 +40,7 @@ record HasParts (s : ℕ) (a b : Option ℕ) (q : ℕ) : Type 0 where
 point_parts : (s : ℕ) (a b : Option ℕ) (q : ℕ) → point_of s a b ≡ Some q → HasParts s a b q
 point_parts s None b q e = absurd (let h : ⊥ = cc in h)
 point_parts s (Some r) None q e = absurd (let h : ⊥ = cc in h)
-point_parts s (Some r) (Some c) q e =
-    record { row = r; column = c; in_row = refl; in_column = refl; number = let same : r * s + c ≡ q = cc in same }
+point_parts s (Some r) (Some c) q e = grind arith
 
 -- a point of the padded board stands in the row and the column of its number
 record IsThere (s r c q : ℕ) : Type 0 where
@@ -76,13 +67,7 @@ point_from s r c q e =
 
 -- behind the margin each point of the board stands in its row and column
 point_there : (s q : ℕ) → 0 < s → q < s * s → padded_point s (q / s + largest_offset) (q % s + largest_offset) ≡ Some q
-point_there s q some low =
-    let row : strip_of s (pos (q / s + largest_offset) -ℤ pos largest_offset) ≡ Some (q / s) =
-    strip_there s (q / s) _ (omega (arith, ints)) (div_below q s s some low) in
-    let column : strip_of s (pos (q % s + largest_offset) -ℤ pos largest_offset) ≡ Some (q % s) =
-    strip_there s (q % s) _ (omega (arith, ints)) (mod_below q s some) in
-    ap (λ o. point_of s o (strip_of s (pos (q % s + largest_offset) -ℤ pos largest_offset))) row
-    ∙ ap (point_of s (Some (q / s))) column ∙ ap (λ n. Some n) (div-add-mod' q s)
+point_there s q some low = grind (arith, pos, strip_there, div_below, mod_below, div-add-mod')
 
 -- the row and the column of a point lie on the padded board
 pub row_low : (s q : ℕ) → 0 < s → s ≤ largest_size → q < s * s → q / s + largest_offset < padded_side

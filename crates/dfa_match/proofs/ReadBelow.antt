@@ -1,14 +1,11 @@
 -- Below how many letters the words of each point have been read.
 use Rattle.std.proofs.Common.{◌≡◌, ℕ, ◌+◌, ◌<◌, ◌⊎◌, inl, inr, false, ◌==◌, cond, List}
-use Rattle.std.proofs.Common.{[], ◌∷◌, if◌then◌else◌, map, Contains, refl, ap, ◌∙◌}
-use Rattle.std.proofs.Common.{arith}
+use Rattle.std.proofs.Common.{[], ◌∷◌, if◌then◌else◌, map, Contains, refl, ap, ◌∙◌, arith}
 use Rattle.std.specs.List.{AllPairs}
 use Rattle.std.proofs.lemmas.Bool.{cases_Bool, eqb-true, eqb-false, eq-eqb, ne_eqb}
 use Rattle.spiral.specs.Spiral.{offset_count}
-use Rattle.match_rules.proofs.Lists.{Contains-cons_cases, Contains-first, Contains-rest, Contains-nil}
-use Rattle.match_rules.proofs.Lists.{AllPairs-rest, AllPairs-before}
+use Rattle.match_rules.proofs.Lists.{Contains-cons_cases, Contains-rest, Contains-nil, AllPairs-rest, AllPairs-before}
 use Rattle.dfa_match.specs.declared.walks.Walk.{Walk}
-use Rattle.dfa_match.specs.Steps.{anchor_at_corner}
 use Rattle.dfa_match.specs.Walks.{anchor_of}
 
 -- below how many letters the words of the point m of a board of size s have been read: as f says of its walk, and all
@@ -40,26 +37,12 @@ another_walk s f w walks m other (inl later) = inl (
   later.2,
   ap (λ b. cond b (f w) (read_below s f walks m)) other ∙ later.3,
 )
-another_walk s f w walks m other (inr none) = inr (
-  (λ v there same. elim (Contains-cons_cases w walks v there) [
-    | inl first ↦ eqb-false (anchor_of s w) m other (ap (anchor_of s) first ∙ same)
-    | inr later ↦ none.0 v later same
-  ]),
-  ap (λ b. cond b (f w) (read_below s f walks m)) other ∙ none.1,
-)
+another_walk s f w walks m other (inr none) = grind (arith, eqb-false)
 
 -- a point has a walk, or none
 pub read_cases : (s : ℕ) (f : Walk → ℕ) (walks : List Walk) (m : ℕ) → HasWalkOrNone s f walks m
 read_cases s f [] m = inr ((λ w there same. Contains-nil w there), refl)
-read_cases s f (w ∷ walks) m = elim (cases_Bool (anchor_of s w == m)) [
-  | inl here ↦ inl (
-    w,
-    Contains-first w walks w refl,
-    eqb-true (anchor_of s w) m here,
-    ap (λ b. cond b (f w) (read_below s f walks m)) here,
-  )
-  | inr other ↦ another_walk s f w walks m other (read_cases s f walks m)
-]
+read_cases s f (w ∷ walks) m = grind (arith, cases_Bool, eqb-true, another_walk, read_cases s f walks m)
 
 -- where anchors rise the point of a walk has that one
 pub read_there : (s : ℕ) (f : Walk → ℕ) (walks : List Walk) (w : Walk)
@@ -82,16 +65,11 @@ read_there s f (v ∷ walks) w rising there = elim (Contains-cons_cases v walks 
 pub read_none : (s : ℕ) (f : Walk → ℕ) (walks : List Walk) (m : ℕ)
     → ((w : Walk) → Contains walks w → anchor_of s w ≡ m → ⊥)
     → read_below s f walks m ≡ offset_count + 1
-read_none s f walks m none = elim (read_cases s f walks m) [
-  | inl some ↦ absurd (none some.0 some.1 some.2)
-  | inr still ↦ still.1
-]
+read_none s f walks m none = grind (arith, read_cases)
 
 -- walks that are changed, but for their anchors, are counted behind the change
 pub read_changed : (s : ℕ) (f : Walk → Walk) (h : Walk → ℕ) (walks : List Walk) (m : ℕ)
     → ((w : Walk) → (f w).corner ≡ w.corner)
     → read_below s h (map f walks) m ≡ read_below s (λ w. h (f w)) walks m
 read_changed s f h [] m keeps = refl
-read_changed s f h (w ∷ walks) m keeps = ap (λ k. cond (k == m) (h (f w)) (read_below s h (map f walks) m))
-    (ap (anchor_at_corner s) (keeps w))
-    ∙ ap (λ n. cond (anchor_of s w == m) (h (f w)) n) (read_changed s f h walks m keeps)
+read_changed s f h (w ∷ walks) m keeps = grind (arith, read_changed s f h walks m keeps)

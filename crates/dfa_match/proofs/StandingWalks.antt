@@ -1,6 +1,6 @@
 -- Where walks stand, and what they give out there.
-use Rattle.std.proofs.Common.{◌≡◌, ℕ, suc, ◌+◌, ◌*◌, ◌<◌, ◌≤◌, ◌++◌, Bool, true, false, cond, not, eqb}
-use Rattle.std.proofs.Common.{nat_lt, nat_le, List, [], ◌∷◌, length, get_or, refl, sym, ap, ◌∙◌, subst, arith}
+use Rattle.std.proofs.Common.{◌≡◌, ℕ, suc, ◌+◌, ◌*◌, ◌<◌, ◌≤◌, ◌++◌, true, false, not}
+use Rattle.std.proofs.Common.{nat_lt, nat_le, List, [], ◌∷◌, refl, ap, ◌∙◌, subst, arith}
 use Rattle.std.proofs.lemmas.Bool.{and_parts, ltb-true}
 use Rattle.std.proofs.lemmas.List.Elements.{All-map}
 use Rattle.std.specs.List.{All, range_with_len}
@@ -8,14 +8,13 @@ use denote.Enum.Declared.{tag_of}
 use Rattle.spiral.specs.Spiral.{offset_count}
 use Rattle.dfa_core.specs.contracts.kind.RowKind.{the_type}
 use Rattle.dfa_core.specs.declared.automaton.Seen.{Seen}
-use Rattle.dfa_core.specs.declared.automaton.Seen.TheVariants.{Off}
 use Rattle.dfa_core.specs.declared.kind.RowKind.{RowKind}
 use Rattle.dfa_core.specs.declared.kind.RowKind.TheVariants.{Plain, Accepting, Dead}
 use Rattle.dfa_core.specs.Automata.{Row, row_at, IsAutomaton}
 use Rattle.dfa_core.specs.Entries.{kind_number, row_of}
 use Rattle.dfa_core.specs.RowKinds.{kind_at}
 use Rattle.dfa_core.proofs.Entries.{row_of-entry}
-use Rattle.dfa_shortcuts.specs.Openings.{opening_letters, unknown}
+use Rattle.dfa_shortcuts.specs.Openings.{unknown}
 use Rattle.dfa_shortcuts.specs.Shortcuts.{is_accepting_entry, is_dead_entry, AreShortcuts}
 use Rattle.dfa_shortcuts.proofs.EntryRows.{silent_row}
 use Rattle.dfa_shortcuts.proofs.ShortcutRows.{shortcut_row}
@@ -25,8 +24,7 @@ use Rattle.dfa_match.specs.Hits.{hits_at}
 use Rattle.dfa_match.specs.Steps.{corner_at, cursor_at, last_corner}
 use Rattle.dfa_match.specs.Walks.{first_walks_of}
 use Rattle.dfa_match.specs.Walks.{anchor_of, entry_at_row, after_letters, after_opening, opening_of, given_at, hits_of}
-use Rattle.dfa_match.specs.Walks.{goes_on}
-use Rattle.dfa_match.specs.Walks.{IsStanding}
+use Rattle.dfa_match.specs.Walks.{goes_on, IsStanding}
 
 -- the walk from the point m of a board of size s, before the first letter
 abbrev pub first_walk : List Row → ℕ → ℕ → Walk
@@ -46,30 +44,18 @@ kind_tag Dead = refl
 pub first_walk-is : (automaton : List Row) (s m : ℕ) (kind : RowKind) (at : Cursor)
     → kind ≡ kind_at automaton 0 → at ≡ cursor_at s m
     → record { entry = tag_of the_type kind; letters = 0; corner = at.corner } ≡ first_walk automaton s m
-first_walk-is automaton s m kind at is stands =
-    let entry : tag_of the_type kind ≡ entry_at_row automaton 0 = omega (arith, kind_tag kind, ap kind_number is) in
-    let corner : at.corner ≡ corner_at s m = ap (λ (c : Cursor). c.corner) stands in
-    λ i. record { entry = entry i; letters = 0; corner = corner i }
+first_walk-is automaton s m kind at is stands = grind (arith, tag_of, kind_tag)
 
 -- it stands at the start
 pub first_standing : (automaton : List Row) (s m : ℕ) → IsAutomaton automaton → corner_at s m ≤ last_corner
     → IsStanding automaton (first_walk automaton s m)
-first_standing automaton s m good low =
-    let start : row_of (entry_at_row automaton 0) ≡ 0 = row_of-entry (kind_at automaton 0) 0 in
-    record {
-      row = subst (λ r. r < length automaton) (sym start) good.start;
-      kind = ap (entry_at_row automaton) (sym start);
-      corner = low;
-    }
+first_standing automaton s m good low = grind (arith, row_of-entry)
 
 -- behind a letter, and those that are passed over, a walk stands at a row
 pub standing_after : (automaton : List Row) (entries passed steps : List ℕ) (letters : List Seen) (w : Walk)
     → IsAutomaton automaton → AreShortcuts automaton entries passed → IsStanding automaton w
     → IsStanding automaton (after_letters entries passed steps letters w)
-standing_after automaton entries passed steps letters w good are standing =
-    let is = shortcut_row automaton entries passed (row_of w.entry)
-    (get_or letters (w.corner + get_or steps w.letters 0) Off) good are standing.row in
-    record { row = is.row; kind = is.kind; corner = standing.corner }
+standing_after automaton entries passed steps letters w good are standing = grind (arith, shortcut_row)
 
 -- a walk that goes on has letters left
 pub letters_left : (w : Walk) → goes_on w ≡ true → w.letters < offset_count
@@ -79,13 +65,7 @@ letters_left w going = ltb-true w.letters offset_count
 -- if nothing is known of the row behind the opening, the walk stays as it was
 pub unopened : (openings steps : List ℕ) (letters : List Seen) (w : Walk)
     → opening_of openings steps letters w ≡ unknown → w ≡ after_opening openings steps letters w
-unopened openings steps letters w is =
-    let test : eqb (opening_of openings steps letters w) unknown ≡ true = ap (λ n. eqb n unknown) is in
-    sym (ap (λ b. cond b w (record {
-      entry = opening_of openings steps letters w;
-      letters = opening_letters;
-      corner = w.corner;
-    })) test)
+unopened openings steps letters w is = grind arith
 
 -- a walk whose entry is not that of an accepting row stands at one that accepts nothing
 pub silent_standing : (automaton : List Row) (w : Walk) → IsStanding automaton w → is_accepting_entry w.entry ≡ false
@@ -96,11 +76,7 @@ silent_standing automaton w standing silent =
 -- a walk at a row that accepts nothing gives out nothing
 pub given_at-silent : (automaton : List Row) (w : Walk) → (row_at automaton (row_of w.entry)).numbers ≡ []
     → given_at automaton w ≡ []
-given_at-silent automaton w silent = given_none (nat_le w.letters offset_count)
-  where
-    given_none : (few : Bool) → cond few (row_at automaton (row_of w.entry)).numbers [] ≡ []
-    given_none true = silent
-    given_none false = refl
+given_at-silent automaton w silent = grind (arith, nat_le)
 
 -- walks at rows that accept nothing give out nothing
 pub hits_of-silent : (automaton : List Row) (s t : ℕ) (walks : List Walk)

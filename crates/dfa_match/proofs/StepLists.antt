@@ -9,12 +9,7 @@ use Rattle.dfa_match.specs.Steps.{step_by, step_count, last_step, AreStepsBehind
 
 -- behind the old list stand no steps
 pub steps_none : (t : ℕ) (old : List ℕ) → AreStepsBehind t 0 old old
-steps_none t old = record {
-  all = omega arith;
-  before = λ k low. refl;
-  each = λ i low few. absurd (omega (arith, low));
-  past = λ i low. absurd (omega (arith, low));
-}
+steps_none t old = grind arith
 
 module _ (t n : ℕ) (old steps more : List ℕ) (step : ℕ) (before : AreStepsBehind t n old steps)
     (added : more ≡ steps ++ step ∷ []) where

@@ -33,17 +33,7 @@ word-eight seen = refl
 number_turns : (a b c d e f g h : Seen)
     → word_number (c ∷ d ∷ e ∷ f ∷ g ∷ h ∷ a ∷ b ∷ [])
     ≡ turned_number (word_number (a ∷ b ∷ c ∷ d ∷ e ∷ f ∷ g ∷ h ∷ []))
-number_turns a b c d e f g h = omega (
-  arith,
-  letter_below a,
-  letter_below b,
-  letter_below c,
-  letter_below d,
-  letter_below e,
-  letter_below f,
-  letter_below g,
-  letter_below h,
-)
+number_turns a b c d e f g h = grind (arith, letter_below)
 
 -- a letter before eight others is the highest digit
 number_before : (x a b c d e f g h : Seen) → word_number (x ∷ a ∷ b ∷ c ∷ d ∷ e ∷ f ∷ g ∷ h ∷ [])

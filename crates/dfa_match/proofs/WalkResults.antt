@@ -1,15 +1,13 @@
 -- Which hits have been given out, as walks begin, go on and end.
 use Rattle.std.proofs.Common.{◌≡◌, ℕ, ◌+◌, ◌*◌, ◌<◌, ◌≤◌, ◌⊎◌, inl, inr, Bool, false, List}
-use Rattle.std.proofs.Common.{[], map, filter, Contains, ◌∙◌, subst}
-use Rattle.std.proofs.Common.{arith}
+use Rattle.std.proofs.Common.{[], map, filter, Contains, ◌∙◌, subst, arith}
 use Rattle.std.specs.List.{range_with_len}
 use Rattle.std.proofs.lemmas.Bool.{cases_lt, cases_Bool}
 use Rattle.go_rules.specs.declared.Colour.{Colour}
 use Rattle.go_rules.specs.Position.{BoardState}
 use Rattle.go_rules.specs.Transform.{transformations}
 use Rattle.spiral.specs.Spiral.{offset_count}
-use Rattle.match_rules.proofs.Lists.{Contains-map_from}
-use Rattle.match_rules.proofs.Lists.{Contains-nil, Contains-filter}
+use Rattle.match_rules.proofs.Lists.{Contains-map_from, Contains-nil, Contains-filter}
 use Rattle.match_rules.proofs.Lists.{Contains-filter_from, Contains-below_from}
 use Rattle.dfa_core.specs.Automata.{Row, accepted}
 use Rattle.dfa_match.specs.declared.Hit.{Hit}
@@ -38,9 +36,7 @@ module _ (automaton : List Row) (pos : BoardState) (friend : Colour) where
     -- what a hit under this transformation accepts
     pub accepts_now : (hit : Hit) (is : IsHit automaton pos friend hit) → hit.transform ≡ t
         → Contains (accepted automaton (word_at pos friend t hit.anchor is.letters)) hit.pattern
-    accepts_now hit is transform =
-        subst (λ u. Contains (accepted automaton (word_at pos friend u hit.anchor is.letters)) hit.pattern) transform
-        is.accepts
+    accepts_now hit is transform = grind arith
 
     -- words of more letters have been read if nothing is accepted at the end of these
     hits_past : (below more : ℕ → ℕ) (hits : List Hit) → AreHitsBefore automaton pos friend t below hits
@@ -99,13 +95,7 @@ module _ (automaton : List Row) (pos : BoardState) (friend : Colour) where
           | inl less ↦ record { is = is.is; before = inl less }
           | inr here ↦ record {
             is = is.is;
-            before = inr (
-              omega (arith, here, earlier),
-              elim (read_cases pos.size f walks hit.anchor) [
-                | inl some ↦ omega (arith, is.is.spiral, some.3, past some.0 some.1)
-                | inr none ↦ omega (arith, is.is.spiral, none.1)
-              ],
-            );
+            before = grind (arith, read_cases pos.size f walks hit.anchor);
           }
         ]
         | inr never ↦ absurd (omega (arith, never.1))

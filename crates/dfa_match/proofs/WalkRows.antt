@@ -1,7 +1,6 @@
 -- Rows where walks stand: dead ones, and those behind anchors, openings and letters.
-use Rattle.std.proofs.Common.{◌≡◌, ◌≢◌, ℕ, ◌+◌, ◌≤◌, ◌⊎◌, inl, inr, true, false, ◌==◌, cond, not}
-use Rattle.std.proofs.Common.{List, get_or, map, filter, refl, sym, ap, subst}
-use Rattle.std.proofs.Common.{arith, nat_lt}
+use Rattle.std.proofs.Common.{◌≡◌, ◌≢◌, ℕ, ◌+◌, ◌≤◌, ◌⊎◌, inl, inr, true, false}
+use Rattle.std.proofs.Common.{List, get_or, map, filter, refl, sym, subst, arith, nat_lt}
 use Rattle.std.specs.List.{All}
 use Rattle.std.proofs.lemmas.Bool.{cases_Bool, and_cases, not-false, eqb-true, eqb-false, ltb-false}
 use Rattle.std.proofs.lemmas.List.Elements.{All-map, All-filter}
@@ -40,11 +39,7 @@ dead_row automaton w stands dead = kind-dead automaton (row_of w.entry)
 -- a walk that does not go on stands at a dead row, or has no letters left
 pub ended_cases : (automaton : List Row) (w : Walk) → IsStanding automaton w → goes_on w ≡ false
     → IsDead automaton (row_of w.entry) ⊎ (offset_count ≤ w.letters)
-ended_cases automaton w stands ends =
-    elim (and_cases (not (is_dead_entry w.entry)) (nat_lt w.letters offset_count) ends) [
-      | inl dead ↦ inl (dead_row automaton w stands (not-false (is_dead_entry w.entry) dead))
-      | inr past ↦ inr (ltb-false w.letters offset_count past)
-    ]
+ended_cases automaton w stands ends = grind (arith, and_cases, nat_lt, dead_row, not-false, ltb-false)
 
 -- the walk behind an opening that is known
 abbrev pub opened : List ℕ → List ℕ → List Seen → Walk → Walk
@@ -59,31 +54,17 @@ pub opening_cases : (openings steps : List ℕ) (letters : List Seen) (w : Walk)
     → (after_opening openings steps letters w ≡ w)
     ⊎ ((after_opening openings steps letters w ≡ opened openings steps letters w)
     × (opening_of openings steps letters w ≢ unknown))
-opening_cases openings steps letters w =
-    let entry : ℕ = opening_of openings steps letters w in
-    elim (cases_Bool (entry == unknown)) [
-      | inl same ↦ inl (ap (λ b. cond b w (opened openings steps letters w)) same)
-      | inr other ↦ inr (
-        ap (λ b. cond b w (opened openings steps letters w)) other,
-        eqb-false entry unknown other,
-      )
-    ]
+opening_cases openings steps letters w = grind (arith, cases_Bool, eqb-false)
 
 -- behind its opening a walk is from the same anchor
 pub opening_corner : (openings steps : List ℕ) (letters : List Seen) (w : Walk)
     → (after_opening openings steps letters w).corner ≡ w.corner
-opening_corner openings steps letters w = elim (opening_cases openings steps letters w) [
-  | inl same ↦ ap (λ (v : Walk). v.corner) same
-  | inr known ↦ ap (λ (v : Walk). v.corner) known.0
-]
+opening_corner openings steps letters w = grind (arith, opening_cases)
 
 -- behind its opening a walk that had read one letter has read one or more
 pub opening_more : (openings steps : List ℕ) (letters : List Seen) (w : Walk) → w.letters ≡ 1
     → 1 ≤ (after_opening openings steps letters w).letters
-opening_more openings steps letters w one = elim (opening_cases openings steps letters w) [
-  | inl same ↦ omega (arith, one, ap (λ (v : Walk). v.letters) same)
-  | inr known ↦ omega (arith, ap (λ (v : Walk). v.letters) known.0)
-]
+opening_more openings steps letters w one = grind (arith, opening_cases)
 
 module _ (automaton : List Row) (good : IsAutomaton automaton) where
   -- behind the letter of its anchor a walk stands at a row

@@ -49,14 +49,7 @@ module _ (p : Pattern) (seen : ℕ → Seen) where
 drawn_below : (p : Pattern) (n i : ℕ) → i < n → is_drawn (drawn_along p i) ≡ true → i < length_below p n
 drawn_below p zero i low drawn = absurd (omega arith)
 drawn_below p (suc n) i low drawn =
-    elim (cases_Bool (is_drawn (drawn_along p n))) [
-      | inl last ↦ omega (arith, length_below-drawn p n last)
-      | inr blank ↦ elim (cases_eq i n) [
-        | inl same ↦ absurd (both_ways (is_drawn (drawn_along p n)) blank
-            (ap (λ k. is_drawn (drawn_along p k)) (sym same) ∙ drawn))
-        | inr other ↦ omega (arith, length_below-blank p n blank, drawn_below p n i (omega arith) drawn)
-      ]
-    ]
+    grind (arith, cases_Bool, length_below-drawn, cases_eq, both_ways, length_below-blank, drawn_below p n i)
 
 -- if nothing is drawn anything is admitted
 blank_admits : (d : Drawn) (x : Seen) → is_drawn d ≡ false → drawn_admits d x ≡ true

@@ -1,7 +1,6 @@
 -- The points that some fact is about, one after another.
-use Rattle.std.proofs.Common.{◌≡◌, ℕ, ◌+◌, ◌<◌, ◌≤◌, ◌||◌, ◌&&◌, ◌∙◌}
-use Rattle.std.proofs.Common.{Bool, true, false, ltb, refl, sym, ap, arith, inl, inr}
-use Rattle.std.proofs.Common.{subst, ◌*◌, ◌↔◌}
+use Rattle.std.proofs.Common.{◌≡◌, ℕ, ◌+◌, ◌<◌, ◌≤◌, ◌||◌, ◌&&◌, Bool, true, false, ltb, refl, arith, inl, inr}
+use Rattle.std.proofs.Common.{◌*◌, ◌↔◌}
 use Rattle.std.proofs.lemmas.Bool.{cases_lt, lt-ltb, le-ltb, and_parts, and_from, or_left, or_right, or_cases}
 use Rattle.std.specs.Ordering.{nat_cmp}
 use Rattle.go_rules.specs.declared.Cell.{Cell}
@@ -28,46 +27,18 @@ one_of_five false false false d e = refl
 -- numbers that fail add nothing to the set below
 pub set_below-skip : (test : ℕ → Bool) (n m : ℕ) → n ≤ m → ((r : ℕ) → n ≤ r → r < m → test r ≡ false)
     → set_below n test ≡ set_below m test
-set_below-skip test n m l none =
-    same_nat_set _ _ (λ r. contains-set_below n test r ∙ same r ∙ sym (contains-set_below m test r))
-  where
-    same : (r : ℕ) → (ltb r n && test r) ≡ (ltb r m && test r)
-    same r = elim (cases_lt r n) [
-      | inl below ↦ rw (lt-ltb r n below, lt-ltb r m (omega arith)) refl
-      | inr from ↦ elim (cases_lt r m) [
-        | inl between ↦ rw (le-ltb r n from, lt-ltb r m between, none r from between) refl
-        | inr past ↦ rw (le-ltb r n from, le-ltb r m past) refl
-      ]
-    ]
+set_below-skip test n m l none = grind (arith, same_nat_set, contains-set_below, cases_lt, lt-ltb, le-ltb)
 
 -- the next number that passes comes after those that fail
 pub set_below-next : (test : ℕ → Bool) (n m : ℕ) → n ≤ m → ((r : ℕ) → n ≤ r → r < m → test r ≡ false) → test m ≡ true
     → set.insert (set_below n test) m ≡ set_below (m + 1) test
-set_below-next test n m l none hit =
-    ap (λ s. set.insert s m) (set_below-skip test n m l none) ∙ set_below-hit m test hit
+set_below-next test n m l none hit = grind (arith, set_below-skip, set_below-hit)
 
 -- a point with a fact of its own is among those that the facts are about
 fact_from : (f : Facts) (p : ℕ) → HasFactOf f p → (ltb p (f.size * f.size) && is_fact_at f p) ≡ true
 fact_from f p (SizeIs n, is, at) = absurd at
-fact_from f p (CellIs q cell, is, at) =
-    let parts = and_parts _ _ is in
-    subst (λ r. (ltb r (f.size * f.size) && is_fact_at f r) ≡ true) at
-    (and_from _ _ parts.0 (or_left _ _ (seen cell parts.1)))
-  where
-    seen : (cell : Cell) → is_marked (seen_as f cell) q ≡ true
-        → (is_marked (seen_as f Empty) q || (is_marked (seen_as f Black) q || is_marked (seen_as f White) q)) ≡ true
-    seen Empty h = or_left _ _ h
-    seen Black h = or_right _ _ (or_left _ _ h)
-    seen White h = or_right _ _ (or_right _ _ h)
-fact_from f p (BanIs q c forbidden, is, at) =
-    let parts = and_parts _ _ is in
-    subst (λ r. (ltb r (f.size * f.size) && is_fact_at f r) ≡ true) at
-    (and_from _ _ parts.0 (or_right _ _ (asked c (and_parts _ _ parts.1).0)))
-  where
-    asked : (c : Colour) → is_marked (asked_of f c) q ≡ true
-        → (is_marked (asked_of f black) q || is_marked (asked_of f white) q) ≡ true
-    asked black h = or_left _ _ h
-    asked white h = or_right _ _ h
+fact_from f p (CellIs q cell, is, at) = grind (arith, and_parts, and_from, or_left, or_right)
+fact_from f p (BanIs q c forbidden, is, at) = grind (arith, and_parts, and_from, or_right, or_left)
 
 -- and each of these has one
 fact_to : (f : Facts) (p : ℕ) → (ltb p (f.size * f.size) && is_fact_at f p) ≡ true → HasFactOf f p
@@ -94,6 +65,4 @@ fact_to f p h =
 -- the set of the points that are marked for a fact has those with a fact of their own
 pub points_with_facts : (f : Facts) (points : set.FinSet nat_cmp) → points ≡ set_below (f.size * f.size) (is_fact_at f)
     → (p : ℕ) → (set.contains points p ≡ true) ↔ HasFactOf f p
-points_with_facts f points e p =
-    let has = ap (λ s. set.contains s p) e ∙ contains-set_below (f.size * f.size) (is_fact_at f) p in
-    (λ h. fact_to f p (sym has ∙ h), λ h. has ∙ fact_from f p h)
+points_with_facts f points e p = grind (arith, contains-set_below, fact_to, fact_from)

@@ -1,11 +1,9 @@
 -- Where a colour may play, by the ban; and the points below a number that pass a test, one after another.
-use Rattle.std.proofs.Common.{◌≡◌, ℕ, suc, ◌+◌, ◌*◌, Bool, true, false, cond, refl, sym, ap, arith, inl, inr, ◌∙◌}
-use Rattle.std.proofs.Common.{is_ok}
+use Rattle.std.proofs.Common.{◌≡◌, ℕ, ◌+◌, ◌*◌, Bool, true, false, refl, arith, is_ok}
 use Rattle.std.proofs.lemmas.Bool.{cases_Bool}
 use Rattle.std.specs.Ordering.{nat_cmp}
 use Rattle.std.specs.FinSet as sets
 use Rattle.go_rules.specs.declared.Colour.{Colour}
-use Rattle.go_rules.specs.Strings.{cell_at, is_stone}
 use Rattle.go_rules.specs.Below.{set_below}
 use Rattle.go_rules.specs.Position.{BoardState, is_banned}
 use Rattle.go_rules.specs.Play.{play_free, is_legal, legal_points}
@@ -14,18 +12,12 @@ use Rattle.go_rules.proofs.Results.{free_occupied, play_occupied, play_ko, play_
 -- a play on which the ban is is not legal
 pub banned_is_illegal : (pos : BoardState) (c : Colour) (p : ℕ) → is_banned pos.ban c p ≡ true
     → false ≡ is_legal pos c p
-banned_is_illegal pos c p banned = elim (cases_Bool (is_stone (cell_at pos.cells p))) [
-  | inl stone ↦ ap is_ok (play_occupied pos c p stone)
-  | inr none ↦ ap is_ok (play_ko pos c p none banned)
-]
+banned_is_illegal pos c p banned = grind (arith, cases_Bool, is_ok, play_occupied, play_ko)
 
 -- any other play is legal if it is with the ban dropped
 pub free_is_legal : (pos : BoardState) (c : Colour) (p : ℕ) → is_banned pos.ban c p ≡ false
     → is_ok (play_free pos c p) ≡ is_legal pos c p
-free_is_legal pos c p free = elim (cases_Bool (is_stone (cell_at pos.cells p))) [
-  | inl stone ↦ ap is_ok (sym (free_occupied pos c p stone) ∙ play_occupied pos c p stone)
-  | inr none ↦ ap is_ok (play_else pos c p none free)
-]
+free_is_legal pos c p free = grind (arith, cases_Bool, is_ok, free_occupied, play_occupied, play_else)
 
 -- no point is below 0
 pub set_below-none : (test : ℕ → Bool) (found : sets.FinSet nat_cmp) → found ≡ sets.empty → found ≡ set_below 0 test
@@ -36,18 +28,13 @@ set_below-none test found e = e
 pub set_below-passes : (test : ℕ → Bool) (n : ℕ) (found new : sets.FinSet nat_cmp) → found ≡ set_below n test
     → test n ≡ true → new ≡ sets.insert found n → new ≡ set_below (n + 1) test
 unfolding set_below
-set_below-passes test n found new e t is =
-    let one : suc n ≡ n + 1 = omega arith in
-    is ∙ ap (λ s. sets.insert s n) e ∙ ap (λ b. cond b (sets.insert (set_below n test) n) (set_below n test)) (sym t)
-    ∙ ap (λ k. set_below k test) one
+set_below-passes test n found new e t is = grind arith
 
 -- one point more, which fails it
 pub set_below-fails : (test : ℕ → Bool) (n : ℕ) (found : sets.FinSet nat_cmp) → found ≡ set_below n test
     → test n ≡ false → found ≡ set_below (n + 1) test
 unfolding set_below
-set_below-fails test n found e f =
-    let one : suc n ≡ n + 1 = omega arith in
-    e ∙ ap (λ b. cond b (sets.insert (set_below n test) n) (set_below n test)) (sym f) ∙ ap (λ k. set_below k test) one
+set_below-fails test n found e f = grind arith
 
 -- the points of the whole board
 pub legal_points-all : (pos : BoardState) (c : Colour)

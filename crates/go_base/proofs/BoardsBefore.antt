@@ -1,5 +1,5 @@
 -- What a play took is put back, and the board is as before it.
-use Rattle.std.proofs.Common.{◌≡◌, ℕ, ◌*◌, ◌<◌, true, false, ◌≢◌, cond, eqb, List, length, map, refl, sym, ap, arith}
+use Rattle.std.proofs.Common.{◌≡◌, ℕ, ◌*◌, ◌<◌, true, false, ◌≢◌, cond, eqb, List, length, map, sym, ap, arith}
 use Rattle.std.proofs.Common.{inl, inr, ◌∙◌}
 use Rattle.std.proofs.Math.ListN.{set, length-set}
 use Rattle.std.specs.List.{range_with_len}
@@ -49,8 +49,7 @@ put_back s c p taken now back on is =
 -- boards that hold the same on each point are the same
 same_board : (n : ℕ) (a b : List Cell) → length a ≡ n → length b ≡ n → ((k : ℕ) → k < n → cell_at a k ≡ cell_at b k)
     → a ≡ b
-same_board n a b la lb h =
-    fill_by_all (cell_at b) a n Empty la h ∙ sym (fill_by_all (cell_at b) b n Empty lb (λ k on. refl))
+same_board n a b la lb h = grind (arith, fill_by_all (cell_at b) a n Empty la h, fill_by_all (cell_at b) b n Empty lb)
 
 module _ {s : ℕ} {old put after : List Cell} {c : Colour} {p : ℕ} {taken : sets.FinSet nat_cmp}
     (h : PlaysOn s old put after c p taken) where

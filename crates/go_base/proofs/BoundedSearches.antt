@@ -1,5 +1,5 @@
 -- What a search has found that stops where it sees more liberties than its bound.
-use Rattle.std.proofs.Common.{◌≡◌, ◌≢◌, ℕ, ◌+◌, ◌*◌, ◌<◌, ◌≤◌, ◌&&◌, Bool, true, false, eqb, refl, Some, List, sym, ap}
+use Rattle.std.proofs.Common.{◌≡◌, ◌≢◌, ℕ, ◌+◌, ◌*◌, ◌<◌, ◌≤◌, ◌&&◌, Bool, true, eqb, refl, Some, List, sym, ap}
 use Rattle.std.proofs.Common.{subst, arith, inl, inr, ◌∙◌}
 use Rattle.std.proofs.lemmas.Bool.{cases_eq, cases_lt, ne_eqb, and_parts, and_from, lt-ltb}
 use Rattle.std.specs.Ordering.{nat_cmp}
@@ -86,10 +86,7 @@ FloodsUnder-next asked s cells own p q most old new wait held waits on h st few 
         | inl before ↦ h.part r before
         | inr fresh ↦ step path fresh.0 fresh.1 (same_cell-true _ _ fresh.2 ∙ sym like ∙ path_same s cells p path)
       ];
-      seen = λ x b. elim (sp.spreads.liberties.only x b) [
-        | inl before ↦ h.seen x before
-        | inr fresh ↦ (fresh.0, same_cell-true _ _ fresh.2, q, path, fresh.1)
-      ];
+      seen = grind (arith, same_cell-true);
       whole = λ still. FloodsOut-next asked s cells own p q old new wait held waits on (h.whole few) st like
           (subst (λ k. SpreadsOut asked s cells own q k old new) (sp.whole still) sp.spreads);
     }
@@ -98,8 +95,7 @@ FloodsUnder-next asked s cells own p q most old new wait held waits on h st few 
 seen_below : (s : ℕ) (cells : List Cell) (p : ℕ) (free : sets.FinSet nat_cmp)
     → ((l : ℕ) → sets.contains free l ≡ true → IsSeen s cells p l) → free ≡ set_below (s * s) (sets.contains free)
 seen_below s cells p free seen =
-    same_nat_set _ _ (λ l. same_tests _ _ (λ b. and_from _ _ (lt-ltb l (s * s) (seen l b).0) b)
-    (λ t. (and_parts _ _ t).1) ∙ sym (contains-set_below (s * s) (sets.contains free) l))
+    grind (arith, same_nat_set, same_tests, and_from, lt-ltb, and_parts, contains-set_below)
 
 -- points that are all liberties are no more than the string has
 seen_are_liberties : (s : ℕ) (cells : List Cell) (p : ℕ) (free : sets.FinSet nat_cmp) → p < s * s
@@ -155,40 +151,23 @@ Searches-none s cells p most found e stones free = record {
 -- a search that saw no more liberties than most has counted those of the string
 pub Searches-count : (s : ℕ) (cells : List Cell) (p most n : ℕ) (found : Searched) → Searches s cells p most found
     → n ≡ sets.len found.liberties → n ≤ most → n ≡ liberties s cells p
-Searches-count s cells p most n found h count few =
-    count ∙ ap sets.len (h.liberties (omega (arith, count, few))) ∙ len-liberty_points s cells p
+Searches-count s cells p most n found h count few = grind (arith, len-liberty_points)
 
 -- a search for one liberty has seen none exactly if the string has none
 pub none_seen : (s : ℕ) (cells : List Cell) (p n : ℕ) (found : Searched) → Searches s cells p 0 found
     → n ≡ sets.len found.liberties → eqb n 0 ≡ eqb (liberties s cells p) 0
-none_seen s cells p n found h count = elim (cases_eq n 0) [
-  | inl z ↦ ap (λ k. eqb k 0) (Searches-count s cells p 0 n found h count (omega arith))
-  | inr nz ↦
-      let over = h.more (omega (arith, count, nz)) in
-      ne_eqb n 0 nz ∙ sym (ne_eqb (liberties s cells p) 0 (λ z. omega (arith, over, z)))
-]
+none_seen s cells p n found h count = grind (arith, cases_eq, Searches-count, ne_eqb)
 
 -- a search for two liberties has seen one if the string has one
 pub one_seen : (s : ℕ) (cells : List Cell) (p n : ℕ) (found : Searched) → Searches s cells p 1 found
     → n ≡ sets.len found.liberties → liberties s cells p ≡ 1 → n ≡ 1
-one_seen s cells p n found h count one = elim (cases_lt 1 n) [
-  | inl more ↦ (let over = h.more (omega (arith, count, more)) in absurd (omega (arith, over, one)))
-  | inr few ↦ Searches-count s cells p 1 n found h count few ∙ one
-]
+one_seen s cells p n found h count one = grind (arith, cases_lt 1 n, Searches-count s cells p 1 n found h count)
 
 -- a search for two liberties tells whether the string is one stone with one liberty
 pub one_of_each : (s : ℕ) (cells : List Cell) (p stones free : ℕ) (found : Searched) → Searches s cells p 1 found
     → stones ≡ sets.len found.stones → free ≡ sets.len found.liberties
     → (eqb stones 1 && eqb free 1) ≡ (eqb (sets.len (string_at s cells p)) 1 && eqb (liberties s cells p) 1)
 one_of_each s cells p stones free found h counted count = elim (cases_lt 1 free) [
-  | inl more ↦
-      let over = h.more (omega (arith, count, more)) in
-      let none : eqb free 1 ≡ false = ne_eqb free 1 (λ e. omega (arith, e, more)) in
-      let none_there : eqb (liberties s cells p) 1 ≡ false =
-      ne_eqb (liberties s cells p) 1 (λ e. omega (arith, e, over)) in
-      ap (λ b. eqb stones 1 && b) none ∙ and-false _
-      ∙ sym (ap (λ b. eqb (sets.len (string_at s cells p)) 1 && b) none_there ∙ and-false _)
-  | inr few ↦
-      ap (λ n. eqb n 1 && eqb free 1) (counted ∙ ap sets.len (h.stones (omega (arith, count, few))))
-      ∙ ap (λ n. eqb (sets.len (string_at s cells p)) 1 && eqb n 1) (Searches-count s cells p 1 free found h count few)
+  | inl more ↦ grind (arith, ne_eqb, and-false)
+  | inr few ↦ grind (arith, Searches-count s cells p 1 free found h count few)
 ]

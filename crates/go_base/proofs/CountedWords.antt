@@ -18,13 +18,7 @@ use Rattle.go_base.proofs.UsedWords.{with_word}
 count_first : (n : ℕ) (test : ℕ → Bool)
     → count_below (suc n) test ≡ cond (test 0) 1 0 + count_below n (λ k. test (suc k))
 count_first zero test = refl
-count_first (suc n) test =
-    let one : ℕ = cond (test (suc n)) 1 0 in
-    let rest = count_first n test in
-    ap (λ m. one + m) rest ∙ swapped one (cond (test 0) 1 0) (count_below n (λ k. test (suc k)))
-  where
-    swapped : (a b c : ℕ) → a + (b + c) ≡ b + (a + c)
-    swapped a b c = omega arith
+count_first (suc n) test = grind (arith, count_first n test)
 
 -- a bit counts as it is
 bit_counts : (b : ℕ) → b < 2 → cond (eqb b 1) 1 0 ≡ b
@@ -55,12 +49,7 @@ word_counted word h = ones_counted 64 word h
 -- numbers below a sum are those below its first part, and the others
 count_sum : (a b : ℕ) (test : ℕ → Bool)
     → count_below (a + b) test ≡ count_below a test + count_below b (λ k. test (a + k))
-count_sum a zero test =
-    let none : a + zero ≡ a = omega arith in
-    ap (λ n. count_below n test) none ∙ plus_zero (count_below a test)
-  where
-    plus_zero : (m : ℕ) → m ≡ m + 0
-    plus_zero m = omega arith
+count_sum a zero test = grind arith
 count_sum a (suc b) test =
     let next : a + suc b ≡ suc (a + b) = omega arith in
     ap (λ n. count_below n test) next
@@ -73,18 +62,7 @@ count_sum a (suc b) test =
 -- if no number from n on passes, those below n are counted alone
 count_past : (n spare all : ℕ) (test : ℕ → Bool) → all ≡ n + spare → ((q : ℕ) → test q ≡ true → q < n)
     → count_below all test ≡ count_below n test
-count_past n spare all test e below =
-    ap (λ m. count_below m test) e ∙ count_sum n spare test
-    ∙ plus_none (count_below n test) (count_below spare (λ k. test (n + k))) (count_below_none spare _ past)
-  where
-    plus_none : (m k : ℕ) → k ≡ 0 → m + k ≡ m
-    plus_none m k h = omega (arith, h)
-
-    past : (k : ℕ) → k < spare → test (n + k) ≡ false
-    past k l = elim (cases_Bool (test (n + k))) [
-      | inl t ↦ absurd (let low = below (n + k) t in omega (arith, low))
-      | inr f ↦ f
-    ]
+count_past n spare all test e below = grind (arith, count_sum, count_below_none, cases_Bool)
 
 -- no point of no word is marked
 pub counted_none : (words : List ℕ) → 0 ≡ count_below (0 * 64) (is_marked words)
@@ -96,13 +74,7 @@ pub counted_next : (words : List ℕ) (i count ones : ℕ) → count ≡ count_b
     → count + ones ≡ count_below ((i + 1) * 64) (is_marked words)
 unfolding bits_set
 counted_next words i count ones before here =
-    ap (λ n. n + ones) before
-    ∙ ap (λ n. count_below (i * 64) (is_marked words) + n) (here ∙ count_below_same 64 _ _ same)
-    ∙ sym (count_sum (i * 64) 64 (is_marked words))
-    ∙ ap (λ n. count_below n (is_marked words)) (omega arith)
-  where
-    same : (k : ℕ) → k < 64 → eqb (bit_at (get_or words i 0) k) 1 ≡ is_marked words (i * 64 + k)
-    same k l = rw (div-mul-add i 64 k l, mod-mul-add i 64 k l) refl
+    grind (arith, count_below_same 64, count_sum (i * 64) 64 (is_marked words), div-mul-add i 64, mod-mul-add i 64)
 
 -- a word has no more ones than bits
 pub bits_set_few : (word : ℕ) → bits_set word ≤ 64
@@ -129,20 +101,14 @@ pub record IsNoteBelow (words : List ℕ) (n used : ℕ) : Type 0 where
 
 -- no word is noted
 pub noted_none : (words : List ℕ) → IsNoteBelow words 0 0
-noted_none words = record {
-  noted = λ q below h. absurd (omega (arith, below));
-  only = λ i h. absurd (let zero : bit_at 0 i ≡ 0 = bit_at-zero i in omega (arith, zero, h));
-}
+noted_none words = grind (arith, bit_at-zero)
 
 -- word n marks a point, and is noted
 pub noted_next : (words : List ℕ) (n used : ℕ) → n < set_words
     → (q : ℕ) × (q / 64 ≡ n) × (is_marked words q ≡ true) → IsNoteBelow words n used
     → IsNoteBelow words (n + 1) (with_word used n)
 noted_next words n used on some is = record {
-  noted = λ q below h. elim (cases_eq (q / 64) n) [
-    | inl e ↦ ap (bit_at (with_word used n)) e ∙ bit_at_set_same w16 used n small
-    | inr ne ↦ bit_at_set_other w16 used n small (q / 64) ne ∙ is.noted q (omega (arith, below, ne)) h
-  ];
+  noted = grind (arith, bit_at_set_same w16 used n small, bit_at_set_other w16 used n small, cases_eq, small);
   only = λ i h. elim (cases_eq i n) [
     | inl e ↦ (omega (arith, e), (some.0, some.1 ∙ sym e, some.2))
     | inr ne ↦
@@ -157,10 +123,4 @@ noted_next words n used on some is = record {
 -- word n marks none, and is not
 pub noted_passed : (words : List ℕ) (n used : ℕ) → ((q : ℕ) → q / 64 ≡ n → is_marked words q ≡ false)
     → IsNoteBelow words n used → IsNoteBelow words (n + 1) used
-noted_passed words n used none is = record {
-  noted = λ q below h. elim (cases_eq (q / 64) n) [
-    | inl e ↦ absurd (both_ways (is_marked words q) (none q e) h)
-    | inr ne ↦ is.noted q (omega (arith, below, ne)) h
-  ];
-  only = λ i h. let before = is.only i h in (omega (arith, before.0), before.1);
-}
+noted_passed words n used none is = grind (arith, cases_eq, both_ways)

@@ -26,21 +26,13 @@ use Rattle.go_base.proofs.SidesOfPoints.{neighbour_at-all, neighbour_at-near}
 pub len_on_board : (s : ℕ) (stones : sets.FinSet nat_cmp) → ((r : ℕ) → sets.contains stones r ≡ true → r < s * s)
     → sets.len stones ≤ s * s
 len_on_board s stones on =
-    rw (ap sets.len (same_nat_set stones (set_below (s * s) (sets.contains stones)) (λ q. same_tests _ _
-    (λ b. and_from _ _ (lt-ltb q (s * s) (on q b)) b) (λ t. (and_parts _ _ t).1)
-    ∙ sym (contains-set_below (s * s) (sets.contains stones) q)))
-    ∙ len-set_below (s * s) (sets.contains stones)) (count_below_at_most (s * s) (sets.contains stones))
+    grind (arith, same_nat_set stones (set_below (s * s) (sets.contains stones)),
+        contains-set_below (s * s) (sets.contains stones), len-set_below (s * s) (sets.contains stones),
+        count_below_at_most (s * s) (sets.contains stones), same_tests, and_from, lt-ltb, and_parts)
 
 -- no stone came
 pub Finds-none : (s : ℕ) (old wait : sets.FinSet nat_cmp) → Finds s old old wait wait
-Finds-none s old wait = record {
-  kept = λ r h. h;
-  on_board = λ r h. inl h;
-  still = λ r h. h;
-  fresh = λ r h. inl h;
-  among = λ r h. inl h;
-  count = (0, omega arith, omega arith);
-}
+Finds-none s old wait = grind arith
 
 -- stones came twice
 pub Finds-more : (s : ℕ) (old mid new wait held waits : sets.FinSet nat_cmp) → Finds s old mid wait held
@@ -49,14 +41,8 @@ Finds-more s old mid new wait held waits a b = record {
   kept = λ r h. b.kept r (a.kept r h);
   on_board = λ r h. elim (b.on_board r h) [ inl m ↦ a.on_board r m | inr on ↦ inr on ];
   still = λ r h. b.still r (a.still r h);
-  fresh = λ r h. elim (b.fresh r h) [
-    | inl m ↦ elim (a.fresh r m) [ inl o ↦ inl o | inr w ↦ inr (b.still r w) ]
-    | inr w ↦ inr w
-  ];
-  among = λ r h. elim (b.among r h) [
-    | inl m ↦ elim (a.among r m) [ inl w ↦ inl w | inr n ↦ inr (b.kept r n) ]
-    | inr n ↦ inr n
-  ];
+  fresh = grind arith;
+  among = grind arith;
   count = (a.count.0 + b.count.0, omega (arith, a.count, b.count), omega (arith, a.count, b.count));
 }
 
@@ -73,35 +59,20 @@ still_there old r is q h = ap (λ t. sets.contains t q) is ∙ contains-insert_n
 -- and nothing else is
 there_only : (old : sets.FinSet nat_cmp) (r : ℕ) {new : sets.FinSet nat_cmp} → new ≡ sets.insert old r
     → (q : ℕ) → sets.contains new q ≡ true → (q ≡ r) ⊎ (sets.contains old q ≡ true)
-there_only old r is q h =
-    elim (or_cases _ _ (sym (ap (λ t. sets.contains t q) is ∙ contains-insert_nat old r q) ∙ h))
-    [ inl e ↦ inl (eqb-true q r e) | inr before ↦ inr before ]
+there_only old r is q h = grind (arith, or_cases, contains-insert_nat, eqb-true)
 
 -- a stone came that was not found before, and waits
 Finds-new : (s r : ℕ) (old new wait waits : sets.FinSet nat_cmp) → r < s * s → sets.contains old r ≡ false
     → sets.contains wait r ≡ false → new ≡ sets.insert old r → waits ≡ sets.insert wait r → Finds s old new wait waits
-Finds-new s r old new wait waits on unfound unseen stones waiting = record {
-  kept = still_there old r stones;
-  on_board = λ q h. elim (there_only old r stones q h)
-      [ inl e ↦ inr (subst (λ x. x < s * s) (sym e) on) | inr before ↦ inl before ];
-  still = still_there wait r waiting;
-  fresh = λ q h. elim (there_only old r stones q h)
-      [ inl e ↦ inr (ap (sets.contains waits) e ∙ is_there wait r waiting) | inr before ↦ inl before ];
-  among = λ q h. elim (there_only wait r waiting q h)
-      [ inl e ↦ inr (ap (sets.contains new) e ∙ is_there old r stones) | inr before ↦ inl before ];
-  count = (1, ap sets.len stones ∙ len-insert_new old r unfound, ap sets.len waiting ∙ len-insert_new wait r unseen);
-}
+Finds-new s r old new wait waits on unfound unseen stones waiting =
+    grind (arith, still_there, there_only, is_there, len-insert_new)
 
 -- a stone came, unless it was found before
 pub Finds-one : (s r : ℕ) (old new wait waits : sets.FinSet nat_cmp) → r < s * s
     → ((q : ℕ) → sets.contains wait q ≡ true → sets.contains old q ≡ true) → new ≡ sets.insert old r
     → waits ≡ cond (sets.contains old r) wait (sets.insert wait r) → Finds s old new wait waits
 Finds-one s r old new wait waits on within stones waiting = elim (cases_Bool (sets.contains old r)) [
-  | inl t ↦
-      let same : waits ≡ wait = rw t at waiting in
-      let again : new ≡ old = stones ∙ sym (insert-member old r t) in
-      subst (λ x. Finds s old x wait waits) (sym again)
-      (subst (λ x. Finds s old old wait x) (sym same) (Finds-none s old wait))
+  | inl t ↦ grind (arith, Finds-none s, insert-member)
   | inr f ↦
       let unseen = false_from_ne_true (sets.contains wait r) (λ w. both_ways (sets.contains old r) f (within r w)) in
       Finds-new s r old new wait waits on f unseen stones (rw f at waiting)
@@ -111,8 +82,7 @@ Finds-one s r old new wait waits on within stones waiting = elim (cases_Bool (se
 pub Finds-within : (s : ℕ) (old new wait waits : sets.FinSet nat_cmp) → Finds s old new wait waits
     → ((q : ℕ) → sets.contains wait q ≡ true → sets.contains old q ≡ true)
     → (q : ℕ) → sets.contains waits q ≡ true → sets.contains new q ≡ true
-Finds-within s old new wait waits h within q w =
-    elim (h.among q w) [ inl before ↦ h.kept q (within q before) | inr n ↦ n ]
+Finds-within s old new wait waits h within q w = grind arith
 
 -- the stones that do not wait have their neighbours among the stones
 pub record Flooded (s : ℕ) (cells : List Cell) (p : ℕ) (stones wait : sets.FinSet nat_cmp) : Type 0 where
@@ -151,8 +121,7 @@ first_found p found is = is_there sets.empty p is
 -- at first each stone waits
 pub none_visited : (p q : ℕ) (stones wait : sets.FinSet nat_cmp) → Begins p stones wait
     → sets.contains stones q ≡ true → sets.contains wait q ≡ false → ⊥
-none_visited p q stones wait b h w =
-    both_ways (sets.contains wait q) w (ap (λ t. sets.contains t q) (b.waiting_are ∙ sym b.stones_are) ∙ h)
+none_visited p q stones wait b h w = grind (arith, both_ways)
 
 -- at first the point alone is found
 pub Flooded-start : (s : ℕ) (cells : List Cell) (p : ℕ) (stones wait : sets.FinSet nat_cmp) → Begins p stones wait
@@ -172,42 +141,26 @@ pub record Steps (s q : ℕ) (old new wait held waits : sets.FinSet nat_cmp) : T
 -- what still waits waited
 pub waited_before : (q r : ℕ) (wait held : sets.FinSet nat_cmp) → held ≡ sets.remove wait q
     → sets.contains held r ≡ true → sets.contains wait r ≡ true
-waited_before q r wait held taken h =
-    (and_parts _ _ (sym (ap (λ t. sets.contains t r) taken ∙ contains-remove_nat wait q r) ∙ h)).1
+waited_before q r wait held taken h = grind (arith, and_parts, contains-remove_nat)
 
 -- with each step fewer points are left to come or to be visited
 pub Steps-smaller : (s q most : ℕ) (old new wait held waits : sets.FinSet nat_cmp) → Steps s q old new wait held waits
     → sets.contains wait q ≡ true → ((r : ℕ) → sets.contains new r ≡ true → r < s * s) → s * s ≤ most
     → 2 * (most - sets.len new) + sets.len waits < 2 * (most - sets.len old) + sets.len wait
-Steps-smaller s q most old new wait held waits st member on few =
-    let fits = len_on_board s new on in
-    let one : sets.len wait ≡ sets.len held + 1 =
-    len-remove_member wait q member ∙ ap (λ t. sets.len t + 1) (sym st.taken) in
-    let came : sets.len new ≡ sets.len old + st.finds.count.0 = st.finds.count.1 in
-    let wait_now : sets.len waits ≡ sets.len held + st.finds.count.0 = st.finds.count.2 in
-    omega (arith, fits, one, came, wait_now)
+Steps-smaller s q most old new wait held waits st member on few = grind (arith, len_on_board, len-remove_member)
 
 -- what waited and was not visited waits still
 waits_still : (s q x : ℕ) (old new wait held waits : sets.FinSet nat_cmp) → Steps s q old new wait held waits
     → sets.contains wait x ≡ true → x ≢ q → sets.contains waits x ≡ true
-waits_still s q x old new wait held waits h w ne =
-    h.finds.still x (ap (λ t. sets.contains t x) h.taken ∙ contains-remove_nat wait q x ∙ rw (ne_eqb x q ne) w)
+waits_still s q x old new wait held waits h w ne = grind (arith, contains-remove_nat, ne_eqb)
 
 -- a stone that waits no longer is the one that was visited, or was found before and waited no longer then
 pub visited_before : (s q x : ℕ) (old new wait held waits : sets.FinSet nat_cmp) → Steps s q old new wait held waits
     → sets.contains new x ≡ true → sets.contains waits x ≡ false
     → (x ≡ q) ⊎ ((sets.contains old x ≡ true) × (sets.contains wait x ≡ false))
-visited_before s q x old new wait held waits h has gone = elim (cases_eq x q) [
-  | inl e ↦ inl e
-  | inr ne ↦ inr (
-    elim (h.finds.fresh x has) [
-      | inl before ↦ before
-      | inr w ↦ absurd (both_ways (sets.contains waits x) gone w)
-    ],
-    false_from_ne_true (sets.contains wait x)
-        (λ w. both_ways (sets.contains waits x) gone (waits_still s q x old new wait held waits h w ne)),
-  )
-]
+visited_before s q x old new wait held waits h has gone =
+    grind (arith, cases_eq x q, both_ways (sets.contains waits x) gone, false_from_ne_true (sets.contains wait x),
+        waits_still s q x old new wait held waits h)
 
 -- the neighbours of one more stone came
 pub Flooded-next : (s : ℕ) (cells : List Cell) (own : Cell) (p q : ℕ) (old new wait held waits : sets.FinSet nat_cmp)
@@ -223,9 +176,7 @@ Flooded-next s cells own p q old new wait held waits on h st like sp =
         | inr fresh ↦ step path fresh.0 fresh.1 (same_cell-true _ _ fresh.2 ∙ sym like ∙ path_same s cells p path)
       ];
       closed = λ x has gone r r_on near same. elim (visited_before s q x old new wait held waits st has gone) [
-        | inl e ↦
-            let side = neighbour_at-all s q r q_on r_on (ap (λ y. are_neighbours s y r) (sym e) ∙ near) in
-            sp.all side.0 side.1 r side.2 (same_cell-from _ _ (same ∙ ap (cell_at cells) e ∙ like))
+        | inl e ↦ grind (arith, neighbour_at-all s q r q_on r_on, same_cell-from)
         | inr before ↦ st.finds.kept r (h.closed x before.0 before.1 r r_on near same)
       ];
     }
@@ -245,9 +196,7 @@ pub string_has : (s : ℕ) (cells : List Cell) (r q : ℕ) → r < s * s → is_
     → sets.contains (string_at s cells r) q ≡ true
 unfolding string_at
 string_has s cells r q on stone path =
-    contains-set_below (s * s) (is_in_string s cells r) q
-    ∙ and_from _ _ (lt-ltb q (s * s) (path_on_board s cells r on path))
-    (is_is_in_string-from_fact s cells r q on (record { stone = stone; path = path }))
+    grind (arith, contains-set_below, and_from, lt-ltb, path_on_board, is_is_in_string-from_fact)
 
 -- if no stone waits, the stones are the string
 pub string_is : (s : ℕ) (cells : List Cell) (p : ℕ) (stones wait : sets.FinSet nat_cmp) → p < s * s
@@ -281,18 +230,13 @@ stone_from White h = refl
 -- what a side gives is around the point
 pub at_side : (s p side q : ℕ) → p < s * s → neighbour_at s p side ≡ Some q → (r : ℕ) → eqb r q ≡ true
     → around s p r ≡ true
-at_side s p side q on e r h =
-    let near = neighbour_at-near s p side q on e in
-    let is_q = eqb-true r q h in
-    and_from _ _ (lt-ltb r (s * s) (subst (λ x. x < s * s) (sym is_q) near.0))
-    (or_right _ _ (ap (are_neighbours s p) is_q ∙ near.1))
+at_side s p side q on e r h = grind (arith, neighbour_at-near, eqb-true, and_from, lt-ltb, or_right)
 
 -- stones that are all on the board are on it still
 pub on_board_more : (s : ℕ) (old new wait waits : sets.FinSet nat_cmp)
     → ((r : ℕ) → sets.contains old r ≡ true → r < s * s) → Finds s old new wait waits
     → (r : ℕ) → sets.contains new r ≡ true → r < s * s
-on_board_more s old new wait waits before more r h =
-    elim (more.on_board r h) [ inl o ↦ before r o | inr on ↦ on ]
+on_board_more s old new wait waits before more r h = grind arith
 
 -- the first stone is on the board
 pub on_board_one : (s p : ℕ) (stones : sets.FinSet nat_cmp) → p < s * s → stones ≡ sets.insert sets.empty p

@@ -75,11 +75,7 @@ module _ (s : ℕ) (cells : List Cell) (test : Cell → Bool) (q : ℕ) where
 -- where enemies are asked for one came, and else none
 pub met_alone : (asked : Bool) (r : ℕ) (old new : sets.FinSet nat_cmp) → new ≡ cond asked (sets.insert old r) old
     → (q : ℕ) → sets.contains new q ≡ true → (sets.contains old q ≡ true) ⊎ (q ≡ r)
-met_alone true r old new is q h =
-    elim (or_cases _ _ (sym (ap (λ t. sets.contains t q) is ∙ contains-insert_nat old r q) ∙ h)) [
-      | inl here ↦ inr (eqb-true q r here)
-      | inr before ↦ inl before
-    ]
+met_alone true r old new is q h = grind (arith, or_cases, contains-insert_nat, eqb-true)
 met_alone false r old new is q h = inl (ap (λ t. sets.contains t q) (sym is) ∙ h)
 
 module _ (asked : Bool) (s : ℕ) (cells : List Cell) (own : Cell) (q : ℕ) where
@@ -137,15 +133,10 @@ Gathered-next : (s : ℕ) (cells : List Cell) (test : Cell
     → Gathered s cells test new waits next
 Gathered-next s cells test q old new wait held waits found next h on st g = record {
   all = λ x has gone l l_on near t. elim (visited_before s q x old new wait held waits st has gone) [
-    | inl e ↦
-        let side = neighbour_at-all s q l on l_on (ap (λ y. are_neighbours s y l) (sym e) ∙ near) in
-        g.all side.0 side.1 l side.2 t
+    | inl e ↦ grind (arith, neighbour_at-all s q l on l_on)
     | inr before ↦ g.kept l (h.all x before.0 before.1 l l_on near t)
   ];
-  only = λ l k. elim (g.only l k) [
-    | inl before ↦ let o = h.only l before in (o.0, st.finds.kept o.0 o.1, o.2, o.3, o.4)
-    | inr fresh ↦ (q, st.finds.kept q st.waited, fresh.0, fresh.1, fresh.2)
-  ];
+  only = grind arith;
 }
 
 -- what a flood has gathered if no stone waits
@@ -185,11 +176,7 @@ pub liberties_beside : (s : ℕ) (cells : List Cell) (p : ℕ)
     → set_below (s * s) (λ l. is_beside_string s cells p l && same_cell (cell_at cells l) Empty)
     ≡ liberty_points s cells p
 unfolding liberty_points is_liberty is_beside_string
-liberties_beside s cells p =
-    same_nat_set _ _ (λ x. contains-set_below (s * s)
-    (λ l. is_beside_string s cells p l && same_cell (cell_at cells l) Empty) x
-    ∙ and_swapped (ltb x (s * s)) (is_beside_string s cells p x) (same_cell (cell_at cells x) Empty)
-    ∙ sym (contains-set_below (s * s) (is_liberty s cells p) x))
+liberties_beside s cells p = grind (arith, same_nat_set, contains-set_below, and_swapped)
 
 -- what the stones gave that do not wait
 pub record FloodsOut (asked : Bool) (s : ℕ) (cells : List Cell) (own : Cell) (p : ℕ) (found : Found)
@@ -252,13 +239,7 @@ module _ (asked : Bool) (s : ℕ) (cells : List Cell) (own : Cell) (p : ℕ) (fo
 -- nothing is next to an empty point's string
 beside_empty : (s : ℕ) (cells : List Cell) (p q : ℕ) → cell_at cells p ≡ Empty → is_beside_string s cells p q ≡ false
 unfolding is_beside_string is_in_string
-beside_empty s cells p q e = elim (cases_Bool (is_beside_string s cells p q)) [
-  | inl t ↦
-      let it = any_below_gives (s * s) _ t in
-      let stone = (and_parts _ _ (and_parts _ _ it.2).0).0 in
-      absurd (both_ways (is_stone (cell_at cells p)) (ap is_stone e) stone)
-  | inr f ↦ f
-]
+beside_empty s cells p q e = grind (arith, cases_Bool, any_below_gives, and_parts, both_ways)
 
 -- an empty point's string has no neighbour of any kind
 none_beside : (s : ℕ) (cells : List Cell) (p : ℕ) (test : Cell → Bool) (found : sets.FinSet nat_cmp)

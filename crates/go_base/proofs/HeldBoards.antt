@@ -22,23 +22,14 @@ use Rattle.go_base.specs.Positions.{position_of, padding, HoldsPosition, Holds}
 -- the cells fill their array
 kept_length : (a : Inside) → HoldsPosition a → a.size ≤ largest_size → length a.cells ≡ largest_points
 kept_length a k small =
-    let few = square_small a.size small in
-    let front = k.position.cells in
-    let back = ap length k.padded ∙ length-replicate (largest_points - a.size * a.size) Empty in
-    ap length (sym (take-append-drop (a.size * a.size) a.cells))
-    ∙ length-append (take (a.size * a.size) a.cells) (drop (a.size * a.size) a.cells)
-    ∙ omega (arith, few, front, back)
+    grind (arith, square_small a.size small, length-replicate (largest_points - a.size * a.size) Empty,
+        take-append-drop (a.size * a.size) a.cells,
+        length-append (take (a.size * a.size) a.cells) (drop (a.size * a.size) a.cells))
 
 -- the board that a position is kept as holds the position
 pub holds_of : (a : Inside) (pos : BoardState) → position_of a ≡ pos → HoldsPosition a → a.size ≤ largest_size
     → Holds pos (record { size = a.size; cells = a.cells })
-holds_of a pos e k small = record {
-  position = subst IsPosition e k.position;
-  size = ap (λ x. x.size) e;
-  cells = ap (λ x. x.cells) e;
-  whole = (kept_length a k small, small);
-  padded = k.padded;
-}
+holds_of a pos e k small = grind (arith, kept_length)
 
 -- a board that keeps the rest is as long as before
 pub whole_after : (old new : Flat) → KeepsRest old new → (length old.cells ≡ largest_points) × (old.size ≤ largest_size)
@@ -48,8 +39,7 @@ whole_after old new k w = (k.length ∙ w.0, subst (λ n. n ≤ largest_size) (s
 -- the code's test for a stone is that of the definition
 pub stone_is_test : (a : Inside) (p : ℕ) (r : Bool) → p < a.size * a.size
     → r ≡ not (sameb the_type (cell_at a.cells p) Empty) → r ≡ is_stone (cell_at (take (a.size * a.size) a.cells) p)
-stone_is_test a p r on e =
-    e ∙ stone_test (cell_at a.cells p) ∙ ap is_stone (sym (get_or-take (a.size * a.size) a.cells p Empty on))
+stone_is_test a p r on e = grind (arith, stone_test, get_or-take)
 
 -- a play does not ask for the ban
 free_board : (pos : BoardState) (c : Colour) (p : ℕ) → play_free (board_of pos.size pos.cells) c p ≡ play_free pos c p
@@ -100,24 +90,9 @@ module _ {pos : BoardState} {old new : Flat} (c : Colour) (p : ℕ) (ban : Optio
 -- the board as a position, where it holds one
 pub held_position : {pos : BoardState} {board : Flat} → Holds pos board
     → IsPosition (board_of board.size (take (board.size * board.size) board.cells))
-held_position {pos} {board} h =
-    subst IsPosition (sym (ap (λ n. board_of n (take (board.size * board.size) board.cells)) h.size
-    ∙ ap (board_of pos.size) h.cells))
-    (record {
-      size_at_least = h.position.size_at_least;
-      size_at_most = h.position.size_at_most;
-      cells = h.position.cells;
-      alive = h.position.alive;
-      ban = tt;
-    })
+held_position {pos} {board} h = grind arith
 
 -- a board whose cells came back holds the position still
 pub holds_again : {pos : BoardState} {old new : Flat} → Holds pos old → KeepsRest old new
     → take (new.size * new.size) new.cells ≡ take (old.size * old.size) old.cells → Holds pos new
-holds_again {pos} {old} {new} h k back = record {
-  position = h.position;
-  size = k.size ∙ h.size;
-  cells = back ∙ h.cells;
-  whole = whole_after old new k h.whole;
-  padded = subst (λ n. drop (n * n) new.cells ≡ padding n) (sym k.size) (k.rest ∙ h.padded);
-}
+holds_again {pos} {old} {new} h k back = grind (arith, whole_after)

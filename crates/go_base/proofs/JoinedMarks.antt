@@ -1,7 +1,7 @@
 -- Words that have the bits of two others.
-use Rattle.std.proofs.Common.{◌≡◌, ◌≢◌, ℕ, zero, suc, ◌+◌, ◌/◌, ◌%◌, ◌<◌, ◌≤◌, ◌||◌, ◌&&◌, ◌∙◌}
-use Rattle.std.proofs.Common.{false, eqb, ltb, max, List, length, get_or, bit_or, refl, sym}
-use Rattle.std.proofs.Common.{ap, arith, inl, inr, get_or-set_same, get_or-set_other, length-set}
+use Rattle.std.proofs.Common.{◌≡◌, ◌≢◌, ℕ, zero, suc, ◌+◌, ◌/◌, ◌<◌, ◌≤◌, ◌||◌, ◌&&◌}
+use Rattle.std.proofs.Common.{false, eqb, ltb, max, List, length, get_or, bit_or, refl}
+use Rattle.std.proofs.Common.{arith, get_or-set_same, get_or-set_other, length-set}
 use Rattle.std.proofs.Math.ListN.{set, get_or-eq_default}
 use Rattle.std.proofs.lemmas.Bool.{cases_eq, cases_lt, lt-ltb, le-ltb}
 use Rattle.std.proofs.lemmas.Nat.Bits.{bit_at_or, bit_at-lt, bit_at-zero}
@@ -21,8 +21,7 @@ larger_bit (suc zero) (suc (suc b)) h k = absurd (omega arith)
 
 -- a bit of two words together is set exactly if it is in one of them
 pub bit_of_both : (a b k : ℕ) → eqb (bit_at (bit_or a b) k) 1 ≡ (eqb (bit_at a k) 1 || eqb (bit_at b k) 1)
-bit_of_both a b k =
-    ap (λ n. eqb n 1) (bit_at_or a b k) ∙ larger_bit (bit_at a k) (bit_at b k) (bit_at-lt a k) (bit_at-lt b k)
+bit_of_both a b k = grind (arith, bit_at_or, larger_bit, bit_at-lt)
 
 -- the words below n have the bits of both, and those from n on have the bits of the old ones
 pub record HasBoth (old more : List ℕ) (n : ℕ) (new : List ℕ) : Type 0 where
@@ -35,10 +34,7 @@ both_none old more six = record { length = six; bits = λ q. rw (le-ltb (q / 64)
 
 -- a test that fails for n passes for n + 1 if the number is n, and for each other number is as before
 below_next : (k n : ℕ) → k ≢ n → ltb k (n + 1) ≡ ltb k n
-below_next k n ne = elim (cases_lt k n) [
-  | inl l ↦ lt-ltb k (n + 1) (omega arith) ∙ sym (lt-ltb k n l)
-  | inr g ↦ le-ltb k (n + 1) (omega arith) ∙ sym (le-ltb k n g)
-]
+below_next k n ne = grind (arith, cases_lt, lt-ltb, le-ltb)
 
 -- word n with the bits of both
 abbrev pub with_both : List ℕ → List ℕ → ℕ → List ℕ
@@ -47,41 +43,15 @@ with_both new more n = set new n (bit_or (get_or new n 0) (get_or more n 0))
 -- word n has them now
 pub both_next : (old more new : List ℕ) (n : ℕ) → n < set_words → HasBoth old more n new
     → HasBoth old more (n + 1) (with_both new more n)
-both_next old more new n on h = record { length = length-set new n _ ∙ h.length; bits = bits }
-  where
-    within : n < length new
-    within = omega (arith, h.length)
-
-    here : (q : ℕ) → q / 64 ≡ n → is_marked (with_both new more n) q ≡ (is_marked new q || is_marked more q)
-    here q e =
-        rw e (ap (λ w. eqb (bit_at w (q % 64)) 1) (get_or-set_same new n _ 0 within)
-        ∙ bit_of_both (get_or new n 0) (get_or more n 0) (q % 64))
-
-    bits : (q : ℕ)
-        → is_marked (with_both new more n) q ≡ (is_marked old q || (ltb (q / 64) (n + 1) && is_marked more q))
-    bits q = elim (cases_eq (q / 64) n) [
-      | inl e ↦
-          let before : is_marked new q ≡ is_marked old q =
-          h.bits q
-          ∙ ap (λ b. is_marked old q || (b && is_marked more q)) (le-ltb (q / 64) n (omega arith))
-          ∙ sym (or-false _) in
-          here q e ∙ ap (λ b. b || is_marked more q) before
-          ∙ ap (λ b. is_marked old q || (b && is_marked more q)) (sym (lt-ltb (q / 64) (n + 1) (omega arith)))
-      | inr ne ↦ ap (λ w. eqb (bit_at w (q % 64)) 1) (get_or-set_other new n (q / 64) _ 0 ne) ∙ h.bits q
-          ∙ ap (λ b. is_marked old q || (b && is_marked more q)) (sym (below_next (q / 64) n ne))
-    ]
+both_next old more new n on h =
+    grind (arith, length-set, get_or-set_same, bit_of_both, cases_eq, le-ltb, or-false, lt-ltb, get_or-set_other,
+        below_next)
 
 -- no point past the last word is marked
 none_past : (words : List ℕ) (q : ℕ) → length words ≡ set_words → set_words ≤ q / 64 → is_marked words q ≡ false
-none_past words q six g =
-    ap (λ w. eqb (bit_at w (q % 64)) 1) (get_or-eq_default words 0 (omega (arith, six)))
-    ∙ ap (λ n. eqb n 1) (bit_at-zero (q % 64))
+none_past words q six g = grind (arith, get_or-eq_default, bit_at-zero)
 
 -- where every word has them, the words mark what one of the two marks
 pub both_all : (old more new : List ℕ) (n : ℕ) → n ≡ set_words → length more ≡ set_words → HasBoth old more n new
     → (q : ℕ) → is_marked new q ≡ (is_marked old q || is_marked more q)
-both_all old more new n all six h q = h.bits q ∙ elim (cases_lt (q / 64) n) [
-  | inl l ↦ ap (λ b. is_marked old q || (b && is_marked more q)) (lt-ltb (q / 64) n l)
-  | inr g ↦ ap (λ b. is_marked old q || (b && is_marked more q)) (le-ltb (q / 64) n g)
-      ∙ ap (λ b. is_marked old q || b) (sym (none_past more q six (omega (arith, all))))
-]
+both_all old more new n all six h q = grind (arith, cases_lt, lt-ltb, le-ltb, none_past)

@@ -1,12 +1,11 @@
 -- The last liberties of the enemy strings next to a string, gathered string by string.
-use Rattle.std.proofs.Common.{◌≡◌, ℕ, ◌+◌, ◌*◌, ◌<◌, ◌≤◌, ◌&&◌, true, eqb, List, sym, ap, subst, arith, inl, inr, ◌∙◌}
+use Rattle.std.proofs.Common.{◌≡◌, ℕ, ◌+◌, ◌*◌, ◌<◌, ◌≤◌, true, List, sym, ap, arith, inl, inr, ◌∙◌}
 use Rattle.std.proofs.lemmas.Bool.{cases_eq, cases_lt, or_cases, or_left, or_right, eqb-true, eq-eqb, both_ways}
 use Rattle.std.proofs.lemmas.Bool.{and_parts, and_from, lt-ltb}
 use Rattle.std.specs.Ordering.{nat_cmp}
 use Rattle.std.specs.Cmp.{nat_cmp_total}
 use Rattle.std.specs.FinSet as sets
 use Rattle.go_rules.specs.declared.Cell.{Cell}
-use Rattle.go_rules.specs.Below.{count_below}
 use Rattle.go_rules.specs.Strings.{cell_at, is_in_string, string_at, is_liberty, liberties, liberty_points}
 use Rattle.go_rules.specs.BesideStrings.{is_enemy, is_beside_string}
 use Rattle.go_rules.proofs.Counts.{any_below_gives, any_below_from, count_below_same}
@@ -43,22 +42,13 @@ same_liberty s cells p q l on h = same_tests _ _
 same_only : (s : ℕ) (cells : List Cell) (p q l : ℕ) → p < s * s → is_in_string s cells p q ≡ true
     → is_only_liberty s cells p l ≡ is_only_liberty s cells q l
 unfolding is_only_liberty liberties
-same_only s cells p q l on h =
-    ap (λ n. eqb n 1 && is_liberty s cells p l)
-    (count_below_same (s * s) (is_liberty s cells p) (is_liberty s cells q)
-    (λ k i. same_liberty s cells p q k on h))
-    ∙ ap (λ b. eqb (count_below (s * s) (is_liberty s cells q)) 1 && b) (same_liberty s cells p q l on h)
+same_only s cells p q l on h = grind (arith, count_below_same, same_liberty)
 
 -- the one liberties of the enemy strings that the points below n belong to are there, and nothing else is
 pub record Lasts (s : ℕ) (cells : List Cell) (p n : ℕ) (last : sets.FinSet nat_cmp) : Type 0 where
   pub only : (l : ℕ) → sets.contains last l ≡ true → is_last_liberty_of_enemy s cells p l ≡ true
   pub all : (q : ℕ) → q < n → is_beside_string s cells p q ≡ true → is_enemy (cell_at cells p) (cell_at cells q) ≡ true
       → (l : ℕ) → is_only_liberty s cells q l ≡ true → sets.contains last l ≡ true
-
--- a string that was seen adds nothing
-pub AddsLast-seen : (s : ℕ) (cells : List Cell) (q : ℕ) (seen last : sets.FinSet nat_cmp) → KnowsLast s cells seen last
-    → sets.contains seen q ≡ true → AddsLast s cells q last last
-AddsLast-seen s cells q seen last knows h = record { kept = λ l i. i; only = λ l i. inl i; all = λ l i. knows q h l i }
 
 -- the set has the liberties of the string
 its : (s : ℕ) (cells : List Cell) (q : ℕ) (found : sets.FinSet nat_cmp) → found ≡ liberty_points s cells q → (l : ℕ)
@@ -103,9 +93,7 @@ unfolding string_at
 KnowsLast-join s cells q seen joined found last new on part is knows adds x h l i =
     elim (or_cases _ _ (sym (ap (λ t. sets.contains t x) is ∙ sets.contains-union nat_cmp_total seen found x) ∙ h)) [
       | inl before ↦ adds.kept l (knows x before l i)
-      | inr now ↦
-          let link = (and_parts _ _ (sym (contains-set_below (s * s) (is_in_string s cells q) x) ∙ part x now)).1 in
-          adds.all l (same_only s cells q x l on link ∙ i)
+      | inr now ↦ grind (arith, and_parts, contains-set_below, same_only)
     ]
 
 -- nothing is known at first
@@ -127,13 +115,7 @@ Lasts-none s cells p last e = record {
 pub Lasts-jump : (s : ℕ) (cells : List Cell) (p n m : ℕ) (last : sets.FinSet nat_cmp) → Lasts s cells p n last
     → ((q : ℕ) → n ≤ q → q < m → is_beside_string s cells p q ≡ true
     → is_enemy (cell_at cells p) (cell_at cells q) ≡ true → ⊥) → Lasts s cells p m last
-Lasts-jump s cells p n m last b none = record {
-  only = b.only;
-  all = λ q below beside enemy l h. elim (cases_lt q n) [
-    | inl before ↦ b.all q before beside enemy l h
-    | inr above ↦ absurd (none q above below beside enemy)
-  ];
-}
+Lasts-jump s cells p n m last b none = grind (arith, cases_lt)
 
 -- the next point is an enemy next to the string, and its one liberty came
 pub Lasts-add : (s : ℕ) (cells : List Cell) (p n : ℕ) (last new : sets.FinSet nat_cmp) → Lasts s cells p n last
@@ -146,19 +128,11 @@ Lasts-add s cells p n last new b on beside enemy add = record {
     | inl old ↦ b.only l old
     | inr now ↦ any_below_from (s * s) _ n on (and_from _ _ (and_from _ _ enemy beside) now)
   ];
-  all = λ q below beside' enemy' l h. elim (cases_eq q n) [
-    | inl e ↦ add.all l (subst (λ x. is_only_liberty s cells x l ≡ true) e h)
-    | inr ne ↦ add.kept l (b.all q (omega arith) beside' enemy' l h)
-  ];
+  all = grind (arith, cases_eq);
 }
 
 -- where every point was passed, the set has exactly the last liberties of the enemy strings
 pub Lasts-all : (s : ℕ) (cells : List Cell) (p n : ℕ) (last : sets.FinSet nat_cmp) → Lasts s cells p n last → s * s ≤ n
     → (l : ℕ) → sets.contains last l ≡ is_last_liberty_of_enemy s cells p l
 unfolding is_last_liberty_of_enemy
-Lasts-all s cells p n last b whole l = same_tests _ _ (b.only l)
-    (λ h.
-    let it = any_below_gives (s * s) _ h in
-    let parts = and_parts _ _ it.2 in
-    let first = and_parts _ _ parts.0 in
-    b.all it.0 (omega (arith, it.1, whole)) first.1 first.0 l parts.1)
+Lasts-all s cells p n last b whole l = grind (arith, same_tests, any_below_gives, and_parts)

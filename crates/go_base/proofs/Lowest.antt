@@ -1,5 +1,5 @@
 -- The least member of a set of points, by the words that keep it.
-use Rattle.std.proofs.Common.{◌≡◌, ℕ, ◌+◌, ◌-◌, ◌*◌, ◌/◌, ◌%◌, ◌^◌, ◌<◌, ◌≤◌, ◌&&◌, true, false, cond, eqb, ltb, List}
+use Rattle.std.proofs.Common.{◌≡◌, ℕ, ◌+◌, ◌-◌, ◌*◌, ◌/◌, ◌%◌, ◌^◌, ◌<◌, ◌≤◌, true, false, cond, eqb, ltb, List}
 use Rattle.std.proofs.Common.{Option, Some, None, IfSome, IfNone, get_or, refl, sym, ap, arith, inl, inr, ◌∙◌}
 use Rattle.std.proofs.Math.Nat.{div-div-eq-div-mul, div-le_self}
 use Rattle.std.proofs.lemmas.Nat.{pow-add, div-mul-add, mod-mul-add}
@@ -14,8 +14,7 @@ use Rattle.go_base.proofs.Marks.{contains-marked, contains-above}
 
 -- a bit of what is left after a shift
 bit_at-shift : (word from j : ℕ) → bit_at (word / 2 ^ from) j ≡ bit_at word (from + j)
-bit_at-shift word from j =
-    ap (λ n. n % 2) (div-div-eq-div-mul word (2 ^ from) (2 ^ j) ∙ ap (λ n. word / n) (sym (pow-add 2 from j)))
+bit_at-shift word from j = grind (arith, div-div-eq-div-mul, pow-add)
 
 -- no bit from the place on is set if nothing is left
 pub nothing_left : (word from : ℕ) → word / 2 ^ from ≡ 0 → (k : ℕ) → from ≤ k → bit_at word k ≡ 0
@@ -40,11 +39,7 @@ lowest_from word from fits some =
     let t : ℕ = trailing_zeros w64 rest in
     let is_hit : bit_at word (from + t) ≡ 1 = sym (bit_at-shift word from t) ∙ low.1 in
     record {
-      bound = elim (cases_lt (from + t) 64) [
-        | inl l ↦ l
-        | inr g ↦ let z = bit_at_above word 64 (from + t) fits g in
-            absurd (let two : 0 ≡ 1 = sym z ∙ is_hit in omega (arith, two))
-      ];
+      bound = grind (arith, cases_lt (from + t) 64, bit_at_above word 64 (from + t) fits);
       hit = is_hit;
       misses = λ k l m.
           let e : from + (k - from) ≡ k = omega arith in
@@ -99,28 +94,19 @@ module _ (words : List ℕ) (p q end : ℕ) (low : p ≤ q)
 
 -- a point that is not marked is not in the set
 pub not_member : (words : List ℕ) (r : ℕ) → is_marked words r ≡ false → sets.contains (marked words) r ≡ false
-not_member words r h =
-    contains-marked words r ∙ ap (λ b. ltb r largest_points && b) h ∙ and-false (ltb r largest_points)
+not_member words r h = grind (arith, contains-marked, and-false)
 
 -- the first point that is marked is the first member of the set
 pub first_member : (words : List ℕ) (p : ℕ) (o : Option ℕ) → IsFirstMarked words p largest_points o
     → IfSome o (λ x. (p ≤ x) × (x < largest_points) × (sets.contains (marked words) x ≡ true)
     × ((r : ℕ) → p ≤ r → r < x → sets.contains (marked words) r ≡ false))
 first_member words p None h = tt
-first_member words p (Some x) h = (
-  h.0,
-  h.1,
-  contains-marked words x ∙ rw (lt-ltb x largest_points h.1, h.2) refl,
-  λ r l m. not_member words r (h.3 r l m),
-)
+first_member words p (Some x) h = grind (arith, contains-marked, lt-ltb, not_member)
 
 -- and where no point of the board is marked from p on, the set has no member there
 pub no_member : (words : List ℕ) (p : ℕ) (o : Option ℕ) → NoneMarked words p largest_points o
     → IfNone o ((r : ℕ) → p ≤ r → sets.contains (marked words) r ≡ false)
-no_member words p None h = λ r l. elim (cases_lt r largest_points) [
-  | inl m ↦ not_member words r (h r l m)
-  | inr g ↦ contains-above words r g
-]
+no_member words p None h = grind (arith, cases_lt, not_member, contains-above)
 no_member words p (Some x) h = tt
 
 -- nor has it one if no point at all is marked from p on

@@ -1,7 +1,7 @@
 -- Words that are made word by word of two others.
-use Rattle.std.proofs.Common.{◌≡◌, ℕ, ◌+◌, ◌-◌, ◌^◌, ◌/◌, ◌%◌, ◌<◌, ◌≤◌}
+use Rattle.std.proofs.Common.{◌≡◌, ℕ, ◌+◌, ◌-◌, ◌^◌, ◌/◌, ◌<◌, ◌≤◌}
 use Rattle.std.proofs.Common.{◌&&◌, Bool, false, not, eqb, List, length, get_or, bit_and}
-use Rattle.std.proofs.Common.{min, zero, suc, refl, sym, ap, arith, inl, inr, ◌∙◌, get_or-set_same, get_or-set_other}
+use Rattle.std.proofs.Common.{min, zero, suc, refl, sym, arith, inl, inr, get_or-set_same, get_or-set_other}
 use Rattle.std.proofs.Math.ListN.{set, get_or-eq_default, length-set}
 use Rattle.std.proofs.lemmas.Bool.{cases_eq, cases_lt}
 use Rattle.std.proofs.lemmas.Nat.Bits.{bit_at_and, bit_at-lt, bit_at-zero, bit_at_not}
@@ -20,8 +20,7 @@ both_bits (suc zero) (suc (suc b)) h k = absurd (omega arith)
 
 -- a bit that two words have in common is set in both
 pub common_bit : (a b k : ℕ) → eqb (bit_at (bit_and a b) k) 1 ≡ (eqb (bit_at a k) 1 && eqb (bit_at b k) 1)
-common_bit a b k =
-    ap (λ n. eqb n 1) (bit_at_and a b k) ∙ both_bits (bit_at a k) (bit_at b k) (bit_at-lt a k) (bit_at-lt b k)
+common_bit a b k = grind (arith, bit_at_and, both_bits, bit_at-lt)
 
 -- a bit that is turned round is set exactly if it was not
 turned_bit : (b : ℕ) → b < 2 → eqb (1 - b) 1 ≡ not (eqb b 1)
@@ -33,9 +32,8 @@ turned_bit (suc (suc b)) h = absurd (omega arith)
 pub bit_apart : (a b k : ℕ) → b < 2 ^ 64 → k < 64
     → eqb (bit_at (bit_and a (bit_not w64 b)) k) 1 ≡ (eqb (bit_at a k) 1 && not (eqb (bit_at b k) 1))
 bit_apart a b k small low =
-    common_bit a (bit_not w64 b) k
-    ∙ ap (λ n. eqb (bit_at a k) 1 && eqb n 1) (bit_at_not w64 b k small low)
-    ∙ ap (λ t. eqb (bit_at a k) 1 && t) (turned_bit (bit_at b k) (bit_at-lt b k))
+    grind (arith, common_bit a (bit_not w64 b) k, bit_at_not w64 b k small low,
+        turned_bit (bit_at b k) (bit_at-lt b k), bit_at-lt b k)
 
 -- below word n each bit is what the test says of the two old ones, and from there on the words are the first ones
 pub record IsMadeBelow (test : Bool → Bool → Bool) (old more : List ℕ) (n : ℕ) (new : List ℕ) : Type 0 where
@@ -45,6 +43,4 @@ pub record IsMadeBelow (test : Bool → Bool → Bool) (old more : List ℕ) (n 
 
 -- no point past the last word is marked
 none_past : (words : List ℕ) (q : ℕ) → length words ≡ set_words → set_words ≤ q / 64 → is_marked words q ≡ false
-none_past words q ten g =
-    ap (λ w. eqb (bit_at w (q % 64)) 1) (get_or-eq_default words 0 (omega (arith, ten, g)))
-    ∙ ap (λ n. eqb n 1) (bit_at-zero (q % 64))
+none_past words q ten g = grind (arith, get_or-eq_default, bit_at-zero)

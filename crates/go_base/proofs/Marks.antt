@@ -1,13 +1,13 @@
 -- The bits of a set of points.
 use Rattle.std.proofs.Common.{◌≡◌, ◌≢◌, ℕ, zero, suc, ◌+◌, ◌*◌, ◌/◌, ◌%◌, ◌^◌, ◌<◌, ◌≤◌, ◌||◌, ◌&&◌, Bool, true, false}
-use Rattle.std.proofs.Common.{not, cond, eqb, ltb, List, length, get_or, bit_and, bit_or, refl, sym, ap, arith, inl}
-use Rattle.std.proofs.Common.{inr, ◌∙◌, get_or-set_same, get_or-set_other}
+use Rattle.std.proofs.Common.{not, cond, eqb, ltb, List, length, get_or, bit_and, bit_or, refl, sym, ap, arith}
+use Rattle.std.proofs.Common.{◌∙◌, get_or-set_same, get_or-set_other}
 use Rattle.std.proofs.Math.ListN.{set}
 use Rattle.std.specs.Prelude.{replicate}
 use Rattle.std.proofs.lemmas.Bool.{cases_eq, lt-ltb, le-ltb, eq-eqb, ne_eqb}
 use Rattle.std.proofs.lemmas.Nat.Bits.{bit_at-zero, bit_at_set_same, bit_at_set_other, bit_at_clear_same}
 use Rattle.std.proofs.lemmas.Nat.Bits.{bit_at_clear_other, shr_and_one}
-use Rattle.std.specs.Int.{bit_at, bit_not, w64}
+use Rattle.std.specs.Int.{bit_not, w64}
 use Rattle.std.specs.Ordering.{nat_cmp}
 use Rattle.std.specs.Cmp.{nat_cmp_total}
 use Rattle.std.specs.FinSet as sets
@@ -37,8 +37,7 @@ zeros_at (suc n) (suc j) = zeros_at n j
 
 -- no point is marked in words that are zero
 pub is_marked-none : (q : ℕ) → is_marked (replicate set_words 0) q ≡ false
-is_marked-none q = ap (λ n. eqb (bit_at n (q % 64)) 1) (zeros_at set_words (q / 64))
-    ∙ ap (λ n. eqb n 1) (bit_at-zero (q % 64))
+is_marked-none q = grind (arith, zeros_at, bit_at-zero)
 
 -- words that are zero keep the empty set
 pub marked-none : marked (replicate set_words 0) ≡ sets.empty
@@ -51,37 +50,20 @@ with_bit words p = set words (p / 64) (bit_or (get_or words (p / 64) 0) (1 * 2 ^
 
 -- with one more bit its point is marked
 pub is_marked-with_bit_same : (words : List ℕ) (p : ℕ) → p / 64 < length words → is_marked (with_bit words p) p ≡ true
-is_marked-with_bit_same words p h =
-    let r : p % 64 < 64 = omega arith in
-    ap (λ n. eqb (bit_at n (p % 64)) 1) (get_or-set_same words (p / 64) _ 0 h)
-    ∙ ap (λ n. eqb n 1) (bit_at_set_same w64 (get_or words (p / 64) 0) (p % 64) r)
+is_marked-with_bit_same words p h = grind (arith, get_or-set_same words, bit_at_set_same w64)
 
 -- and each other point is marked as before
 pub is_marked-with_bit_other : (words : List ℕ) (p q : ℕ) → p / 64 < length words → q ≢ p
     → is_marked (with_bit words p) q ≡ is_marked words q
 is_marked-with_bit_other words p q h ne =
-    let r : p % 64 < 64 = omega arith in
-    elim (cases_eq (q / 64) (p / 64)) [
-      | inl e ↦
-          let other : q % 64 ≢ p % 64 = λ f. ne (omega arith) in
-          rw e (ap (λ n. eqb (bit_at n (q % 64)) 1) (get_or-set_same words (p / 64) _ 0 h)
-          ∙ ap (λ n. eqb n 1) (bit_at_set_other w64 (get_or words (p / 64) 0) (p % 64) r (q % 64) other))
-      | inr f ↦ ap (λ n. eqb (bit_at n (q % 64)) 1) (get_or-set_other words (p / 64) (q / 64) _ 0 f)
-    ]
+    grind (arith, get_or-set_same words, bit_at_set_other w64, get_or-set_other words, cases_eq)
 
 -- with one more bit the set has one more member
 pub marked-with_bit : (words : List ℕ) (p : ℕ) → length words ≡ set_words → p < largest_points
     → marked (with_bit words p) ≡ sets.insert (marked words) p
 marked-with_bit words p six h =
-    let in_words : p / 64 < length words = omega arith in
-    same_nat_set _ _ (λ q.
-    contains-marked (with_bit words p) q
-    ∙ elim (cases_eq q p) as (λ _. (ltb q largest_points && is_marked (with_bit words p) q)
-    ≡ (eqb q p || (ltb q largest_points && is_marked words q))) [
-      | inl e ↦ rw (e, eq-eqb p p refl, lt-ltb p largest_points h, is_marked-with_bit_same words p in_words) refl
-      | inr ne ↦ rw (ne_eqb q p ne, is_marked-with_bit_other words p q in_words ne) refl
-    ]
-    ∙ sym (contains-insert_nat (marked words) p q ∙ ap (λ b. eqb q p || b) (contains-marked words q)))
+    grind (arith, same_nat_set, contains-marked, cases_eq, eq-eqb, lt-ltb, is_marked-with_bit_same, ne_eqb,
+        is_marked-with_bit_other, contains-insert_nat)
 
 -- the code's test of a bit is that of the definition
 pub marked_bit : (words : List ℕ) (p : ℕ)
@@ -91,16 +73,11 @@ marked_bit words p = ap (λ n. eqb n 1) (shr_and_one (get_or words (p / 64) 0) (
 -- and so it tells whether the set has the point
 pub has_bit : (words : List ℕ) (p : ℕ) → p < largest_points
     → eqb (bit_and (get_or words (p / 64) 0 / 2 ^ (p % 64)) 1) 1 ≡ sets.contains (marked words) p
-has_bit words p h = marked_bit words p ∙ sym
-    (contains-marked words p ∙ ap (λ b. b && is_marked words p) (lt-ltb p largest_points h))
+has_bit words p h = grind (arith, marked_bit, contains-marked, lt-ltb)
 
 -- a member that is inserted again changes nothing
 pub insert-member : (s : sets.FinSet nat_cmp) (p : ℕ) → sets.contains s p ≡ true → s ≡ sets.insert s p
-insert-member s p h = same_nat_set _ _ (λ q.
-    elim (cases_eq q p) as (λ _. sets.contains s q ≡ sets.contains (sets.insert s p) q) [
-      | inl e ↦ rw (e, contains-insert_nat s p p, eq-eqb p p refl) h
-      | inr ne ↦ rw (contains-insert_nat s p q, ne_eqb q p ne) refl
-    ])
+insert-member s p h = grind (arith, same_nat_set, cases_eq, contains-insert_nat, eq-eqb, ne_eqb)
 
 -- a point of the largest board is in the set exactly if it is marked
 pub contains-small : (words : List ℕ) (p : ℕ) → p < largest_points → sets.contains (marked words) p ≡ is_marked words p
@@ -115,14 +92,8 @@ marked-nothing words none = same_nat_set _ _ (λ q. contains-marked words q
 -- if one more point is marked, the set has one more member
 pub marked-more : (old new : List ℕ) (p : ℕ) → p < largest_points → is_marked new p ≡ true
     → ((q : ℕ) → q ≢ p → is_marked new q ≡ is_marked old q) → marked new ≡ sets.insert (marked old) p
-marked-more old new p h here elsewhere = same_nat_set _ _ (λ q.
-    contains-marked new q
-    ∙ elim (cases_eq q p) as (λ _. (ltb q largest_points && is_marked new q)
-    ≡ (eqb q p || (ltb q largest_points && is_marked old q))) [
-      | inl e ↦ rw (e, eq-eqb p p refl, lt-ltb p largest_points h, here) refl
-      | inr ne ↦ rw (ne_eqb q p ne, elsewhere q ne) refl
-    ]
-    ∙ sym (contains-insert_nat (marked old) p q ∙ ap (λ b. eqb q p || b) (contains-marked old q)))
+marked-more old new p h here elsewhere =
+    grind (arith, same_nat_set, contains-marked, cases_eq, eq-eqb, lt-ltb, ne_eqb, contains-insert_nat)
 
 -- and counts one more, if it is new
 pub len-insert_new : (s : sets.FinSet nat_cmp) (p : ℕ) → sets.contains s p ≡ false
@@ -193,24 +164,13 @@ without_bit words p =
 -- with one bit less its point is not marked
 pub is_marked-without_bit_same : (words : List ℕ) (p : ℕ) → p / 64 < length words
     → is_marked (without_bit words p) p ≡ false
-is_marked-without_bit_same words p h =
-    let r : p % 64 < 64 = omega arith in
-    ap (λ n. eqb (bit_at n (p % 64)) 1) (get_or-set_same words (p / 64) _ 0 h)
-    ∙ ap (λ n. eqb n 1) (bit_at_clear_same w64 (get_or words (p / 64) 0) (p % 64) r)
+is_marked-without_bit_same words p h = grind (arith, get_or-set_same words, bit_at_clear_same w64)
 
 -- and each other point is marked as before
 pub is_marked-without_bit_other : (words : List ℕ) (p q : ℕ) → p / 64 < length words → q ≢ p
     → is_marked (without_bit words p) q ≡ is_marked words q
 is_marked-without_bit_other words p q h ne =
-    let r : p % 64 < 64 = omega arith in
-    let place : q % 64 < 64 = omega arith in
-    elim (cases_eq (q / 64) (p / 64)) [
-      | inl e ↦
-          let other : q % 64 ≢ p % 64 = λ f. ne (omega arith) in
-          rw e (ap (λ n. eqb (bit_at n (q % 64)) 1) (get_or-set_same words (p / 64) _ 0 h)
-          ∙ ap (λ n. eqb n 1) (bit_at_clear_other w64 (get_or words (p / 64) 0) (p % 64) r (q % 64) place other))
-      | inr f ↦ ap (λ n. eqb (bit_at n (q % 64)) 1) (get_or-set_other words (p / 64) (q / 64) _ 0 f)
-    ]
+    grind (arith, get_or-set_same words, bit_at_clear_other w64, get_or-set_other words, cases_eq)
 
 -- a set with one member less
 pub contains-remove_nat : (s : sets.FinSet nat_cmp) (k q : ℕ)
@@ -221,29 +181,15 @@ contains-remove_nat s k q =
 -- where one point is marked no more, the set has that member less
 pub marked-less : (old new : List ℕ) (p : ℕ) → is_marked new p ≡ false
     → ((q : ℕ) → q ≢ p → is_marked new q ≡ is_marked old q) → marked new ≡ sets.remove (marked old) p
-marked-less old new p here elsewhere = same_nat_set _ _ (λ q.
-    contains-marked new q
-    ∙ elim (cases_eq q p) as (λ _. (ltb q largest_points && is_marked new q)
-    ≡ (not (eqb q p) && (ltb q largest_points && is_marked old q))) [
-      | inl e ↦ rw (e, eq-eqb p p refl, here) (and-false (ltb p largest_points))
-      | inr ne ↦ rw (ne_eqb q p ne, elsewhere q ne) refl
-    ]
-    ∙ sym (contains-remove_nat (marked old) p q ∙ ap (λ b. not (eqb q p) && b) (contains-marked old q)))
+marked-less old new p here elsewhere =
+    grind (arith, same_nat_set, contains-marked, cases_eq, eq-eqb, and-false, ne_eqb, contains-remove_nat)
 
 -- and counts one less
 pub len-remove_member : (s : sets.FinSet nat_cmp) (p : ℕ) → sets.contains s p ≡ true
     → sets.len s ≡ sets.len (sets.remove s p) + 1
 len-remove_member s p member =
-    ap sets.len (same_nat_set _ _ (λ q. sym (contains-insert_nat (sets.remove s p) p q
-    ∙ ap (λ b. eqb q p || b) (contains-remove_nat s p q) ∙ again q)))
-    ∙ len-insert_new (sets.remove s p) p (contains-remove_nat s p p
-    ∙ ap (λ b. not b && sets.contains s p) (eq-eqb p p refl))
-  where
-    again : (q : ℕ) → (eqb q p || (not (eqb q p) && sets.contains s q)) ≡ sets.contains s q
-    again q = elim (cases_eq q p) [
-      | inl e ↦ rw (e, eq-eqb p p refl) (sym member)
-      | inr ne ↦ rw (ne_eqb q p ne) refl
-    ]
+    grind (arith, contains-insert_nat (sets.remove s p) p, contains-remove_nat s p, len-insert_new (sets.remove s p) p,
+        contains-remove_nat s p p, eq-eqb p p refl, same_nat_set, cases_eq, ne_eqb)
 
 -- a set without a member is the empty one
 pub no_members : (s : sets.FinSet nat_cmp) → ((q : ℕ) → sets.contains s q ≡ false) → s ≡ sets.empty
@@ -251,8 +197,4 @@ no_members s none = same_nat_set _ _ (λ q. none q ∙ sym (sets.contains-empty 
 
 -- a set without what is no member is the same set
 pub remove-absent : (s : sets.FinSet nat_cmp) (p : ℕ) → sets.contains s p ≡ false → s ≡ sets.remove s p
-remove-absent s p h = same_nat_set _ _ (λ q.
-    elim (cases_eq q p) as (λ _. sets.contains s q ≡ sets.contains (sets.remove s p) q) [
-      | inl e ↦ rw (e, contains-remove_nat s p p, eq-eqb p p refl) h
-      | inr ne ↦ rw (contains-remove_nat s p q, ne_eqb q p ne) refl
-    ])
+remove-absent s p h = grind (arith, same_nat_set, cases_eq, contains-remove_nat, eq-eqb, ne_eqb)

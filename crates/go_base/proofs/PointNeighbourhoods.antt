@@ -1,5 +1,5 @@
 -- What the neighbourhood of a set of points has.
-use Rattle.std.proofs.Common.{◌≡◌, ◌⊎◌, ℕ, ◌*◌, ◌<◌, Bool, true, List, refl, sym, ap, subst, inl, inr, ◌∙◌}
+use Rattle.std.proofs.Common.{◌≡◌, ◌⊎◌, ℕ, ◌*◌, ◌<◌, Bool, true, List, refl, sym, ap, subst, inl, inr, ◌∙◌, arith}
 use Rattle.std.proofs.lemmas.Bool.{and_parts, and_from, or_cases, or_left, or_right, eqb-true, eq-eqb, lt-ltb, ltb-true}
 use Rattle.go_rules.specs.declared.Cell.{Cell}
 use Rattle.go_rules.specs.Board.{are_neighbours}
@@ -58,11 +58,7 @@ close_alone s cells p q on h = close_self s cells (alone p) q (subst (λ x. x < 
 pub whole_cases : (s : ℕ) (cells : List Cell) (S : ℕ → Bool) (q : ℕ) → whole_strings_of s cells S q ≡ true
     → (S q ≡ true) ⊎ ((x : ℕ) × (x < s * s) × (S x ≡ true) × (is_in_string s cells x q ≡ true))
 unfolding whole_strings_of
-whole_cases s cells S q h = elim (or_cases _ _ (and_parts _ _ h).1) [
-  | inl i ↦ inl i
-  | inr i ↦ let found = any_below_gives (s * s) _ i in let both = and_parts _ _ found.2 in
-      inr (found.0, found.1, both.0, both.1)
-]
+whole_cases s cells S q h = grind (arith, or_cases, and_parts, any_below_gives)
 
 -- how a point belongs to the neighbourhood of S
 pub data Closeness (s : ℕ) (cells : List Cell) (S : ℕ → Bool) (q : ℕ) : Type 0 where

@@ -24,32 +24,18 @@ PutOn-none cell points old = record { done = λ k l. absurd (omega arith); rest 
 PutOn-jump : (cell : Cell) (points : sets.FinSet nat_cmp) (old new : List Cell) (n m : ℕ) → n ≤ m
     → PutOn cell points old new n → ((k : ℕ) → n ≤ k → k < m → sets.contains points k ≡ false)
     → PutOn cell points old new m
-PutOn-jump cell points old new n m l h none = record {
-  done = λ k i. elim (cases_lt k n) [
-    | inl below ↦ h.done k below
-    | inr above ↦ h.rest k above ∙ ap (λ b. cond b cell (cell_at old k)) (sym (none k above i))
-  ];
-  rest = λ k i. h.rest k (omega arith);
-}
+PutOn-jump cell points old new n m l h none = grind (arith, cases_lt)
 
 -- the cell was put on a point of the set
 PutOn-hit : (cell : Cell) (points : sets.FinSet nat_cmp) (old new : List Cell) (n : ℕ) → PutOn cell points old new n
     → n < length new → sets.contains points n ≡ true → PutOn cell points old (set new n cell) (n + 1)
-PutOn-hit cell points old new n h i t = record {
-  done = λ k l. elim (cases_eq k n) [
-    | inl e ↦ ap (cell_at (set new n cell)) e ∙ get_or-set_same new n cell Empty i
-        ∙ ap (λ b. cond b cell (cell_at old k)) (sym (ap (sets.contains points) e ∙ t))
-    | inr ne ↦ get_or-set_other new n k cell Empty ne ∙ h.done k (omega arith)
-  ];
-  rest = λ k l. get_or-set_other new n k cell Empty (λ e. omega arith) ∙ h.rest k (omega arith);
-}
+PutOn-hit cell points old new n h i t = grind (arith, cases_eq, get_or-set_same, get_or-set_other)
 
 -- after the put on the next member, the cell stands on each member up to it
 pub PutOn-next : (cell : Cell) (points : sets.FinSet nat_cmp) (old new : List Cell) (n m : ℕ) → n ≤ m
     → PutOn cell points old new n → ((k : ℕ) → n ≤ k → k < m → sets.contains points k ≡ false)
     → m < length new → sets.contains points m ≡ true → PutOn cell points old (set new m cell) (m + 1)
-PutOn-next cell points old new n m l h none i t =
-    PutOn-hit cell points old new m (PutOn-jump cell points old new n m l h none) i t
+PutOn-next cell points old new n m l h none i t = grind (arith, PutOn-hit, PutOn-jump)
 
 -- no member is left
 pub PutOn-all : (cell : Cell) (points : sets.FinSet nat_cmp) (old new : List Cell) (n m : ℕ)

@@ -1,6 +1,6 @@
 -- What one more look adds to the facts.
 use Rattle.std.proofs.Common.{◌≡◌, ◌⊎◌, ℕ, ◌*◌, ◌<◌, ◌&&◌, Bool, true, false, ltb, List, Option, refl, sym, ap, subst}
-use Rattle.std.proofs.Common.{inl, inr, ◌∙◌}
+use Rattle.std.proofs.Common.{inl, inr, ◌∙◌, arith}
 use Rattle.std.proofs.lemmas.Bool.{both_ways, and_parts, and_from, lt-ltb, eqb-true, eq-eqb}
 use Rattle.go_rules.specs.declared.Cell.{Cell}
 use Rattle.go_rules.specs.declared.Colour.{Colour}
@@ -37,9 +37,7 @@ same_cells n m a b p size bits = ap (λ k. tells_cell k b p) size ∙ ap (λ w. 
 -- and the same bans
 same_bans : (n m : ℕ) (u v : Option (ℕ × Colour)) (a b : List ℕ) (p : ℕ) (c : Colour) (forbidden : Bool) → m ≡ n → v ≡ u
     → b ≡ a → tells_ban m v b p c forbidden ≡ tells_ban n u a p c forbidden
-same_bans n m u v a b p c forbidden size ban bits =
-    ap (λ k. tells_ban k v b p c forbidden) size ∙ ap (λ k. tells_ban n k b p c forbidden) ban
-    ∙ ap (λ w. tells_ban n u w p c forbidden) bits
+same_bans n m u v a b p c forbidden size ban bits = grind arith
 
 -- a position that agrees has the size of the facts
 on_facts : (f : Facts) (pos : BoardState) (p : ℕ) → Agrees (told f) pos → p < pos.size * pos.size

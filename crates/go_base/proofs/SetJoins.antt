@@ -18,13 +18,7 @@ joined_none old more r = rw (le-ltb r 0 (omega arith)) (or-false _)
 
 -- a number is n, or below n + 1 exactly if it is below n
 joined_step : (old more : sets.FinSet nat_cmp) (n : ℕ) (r : ℕ) → r ≡ n ⊎ (ltb r (n + 1) ≡ ltb r n)
-joined_step old more n r = elim (cases_eq r n) [
-  | inl e ↦ inl e
-  | inr ne ↦ elim (cases_lt r n) [
-    | inl l ↦ inr (lt-ltb r (n + 1) (omega arith) ∙ sym (lt-ltb r n l))
-    | inr g ↦ inr (le-ltb r (n + 1) (omega arith) ∙ sym (le-ltb r n g))
-  ]
-]
+joined_step old more n r = grind (arith, cases_eq, cases_lt, lt-ltb, le-ltb)
 
 -- a test or one that passes passes
 or-true : (a : Bool) → (a || true) ≡ true
@@ -34,24 +28,13 @@ or-true false = refl
 -- the member n came
 joined_add : (old more new : sets.FinSet nat_cmp) (n : ℕ) → JoinedBelow old more n new → sets.contains more n ≡ true
     → JoinedBelow old more (n + 1) (sets.insert new n)
-joined_add old more new n h hit r = contains-insert_nat new n r ∙ elim (joined_step old more n r) [
-  | inl e ↦ rw (e, eq-eqb n n refl, lt-ltb n (n + 1) (omega arith), hit) (sym (or-true _))
-  | inr same ↦ elim (cases_eq r n) [
-    | inl e ↦ rw (e, eq-eqb n n refl, lt-ltb n (n + 1) (omega arith), hit) (sym (or-true _))
-    | inr ne ↦ rw (ne_eqb r n ne, same) (h r)
-  ]
-]
+joined_add old more new n h hit r =
+    grind (arith, contains-insert_nat, joined_step, eq-eqb, lt-ltb, or-true, cases_eq, ne_eqb)
 
 -- no member stands between the next point and this one
 joined_jump : (old more new : sets.FinSet nat_cmp) (n m : ℕ) → n ≤ m → JoinedBelow old more n new
     → ((k : ℕ) → n ≤ k → k < m → sets.contains more k ≡ false) → JoinedBelow old more m new
-joined_jump old more new n m l h none r = h r ∙ elim (cases_lt r n) [
-  | inl below ↦ rw (lt-ltb r n below, lt-ltb r m (omega arith)) refl
-  | inr above ↦ elim (cases_lt r m) [
-    | inl between ↦ rw (le-ltb r n above, lt-ltb r m between, none r above between) refl
-    | inr past ↦ rw (le-ltb r n above, le-ltb r m past) refl
-  ]
-]
+joined_jump old more new n m l h none r = grind (arith, cases_lt, lt-ltb, le-ltb)
 
 -- the next member came
 pub joined_next : (old more new : sets.FinSet nat_cmp) (n m : ℕ) → n ≤ m → JoinedBelow old more n new

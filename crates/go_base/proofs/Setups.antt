@@ -1,7 +1,6 @@
 -- Boards that are set up, and the strings on them that have no liberty.
 use Rattle.std.proofs.Common.{◌≡◌, ℕ, ◌+◌, ◌*◌, ◌<◌, ◌≤◌, ◌&&◌, true, false, List, length, take, drop}
-use Rattle.std.proofs.Common.{Some, None, refl, sym, ap, subst, ◌∙◌, arith, nat_eq}
-use Rattle.std.proofs.Common.{set, inl, inr, not, eqb, ◌≢◌}
+use Rattle.std.proofs.Common.{Some, None, refl, sym, ap, ◌∙◌, arith, nat_eq, set, inl, inr, not, eqb, ◌≢◌}
 use Rattle.std.proofs.Common.{get_or-take, length-take, length-set}
 use Rattle.std.proofs.lemmas.List.{get_or-set_same, get_or-set_other, drop-set-lt}
 use Rattle.std.proofs.lemmas.List.FromFn.{fill_by_all}
@@ -37,18 +36,13 @@ dead_from s cells p n stone counted none = and_from _ _ stone (eq-eqb (liberties
 
 -- a stone of a string with a liberty is not
 not_dead : (s : ℕ) (cells : List Cell) (p : ℕ) → 0 < liberties s cells p → is_dead_at s cells p ≡ false
-not_dead s cells p some =
-    ap (λ b. is_stone (cell_at cells p) && b) (ne_eqb (liberties s cells p) 0 (λ e. omega (arith, some, e)))
-    ∙ and-false (is_stone (cell_at cells p))
+not_dead s cells p some = grind (arith, ne_eqb, and-false)
 
 -- nor is any stone of its string
 alive_with : (s : ℕ) (cells : List Cell) (p q : ℕ) → p < s * s → 0 < liberties s cells p → IsInString s cells p q
     → is_dead_at s cells q ≡ false
 alive_with s cells p q on some its =
-    let lib = liberties_some s cells p some in
-    let there : q < s * s = path_on_board s cells p on its.path in
-    not_dead s cells q (liberties_from s cells q lib.0 there
-    (liberty_moves s cells q p lib.0 there (string_back_in_words s cells p q on its) lib.1))
+    grind (arith, liberties_some, path_on_board, not_dead, liberties_from, liberty_moves, string_back_in_words)
 
 -- what the set of a string's stones has is in the string
 in_string_at : (s : ℕ) (cells : List Cell) (p q : ℕ) → sets.contains (string_at s cells p) q ≡ true
@@ -138,10 +132,7 @@ IsSetTo-all {s} {black} {white} {cells} h small =
 -- a stone that is not dead has a liberty
 pub alive_from : (s : ℕ) (cells : List Cell) (p : ℕ) → is_dead_at s cells p ≡ false
     → is_stone (cell_at cells p) ≡ true → 0 < liberties s cells p
-alive_from s cells p h stone = elim (and_cases (is_stone (cell_at cells p)) (nat_eq (liberties s cells p) 0) h) [
-  | inl none ↦ absurd (both_ways (is_stone (cell_at cells p)) none stone)
-  | inr some ↦ let ne = eqb-false (liberties s cells p) 0 some in omega (arith, ne)
-]
+alive_from s cells p h stone = grind (arith, and_cases, nat_eq, both_ways, eqb-false)
 
 -- a board without a dead string is a position
 pub held_setup : (board : Flat) → smallest_size ≤ board.size → board.size ≤ largest_size
@@ -187,28 +178,18 @@ pub dead_before : (s : ℕ) (black white : sets.FinSet nat_cmp) (board : Flat) �
     → take (s * s) board.cells ≡ cells_with s black white
     → has_dead_string s (cells_with s black white)
     ≡ has_dead_string board.size (take (board.size * board.size) board.cells)
-dead_before s black white board e cells =
-    ap (has_dead_string s) (sym cells) ∙ ap (λ n. has_dead_string n (take (n * n) board.cells)) (sym e)
+dead_before s black white board e cells = grind arith
 
 -- a board that holds the stones, and after it was looked at holds them still, is the position
 pub cells_kept : (s : ℕ) (black white : sets.FinSet nat_cmp) (old new : Flat) → old.size ≡ s
     → take (s * s) old.cells ≡ cells_with s black white → KeepsRest old new
     → take (new.size * new.size) new.cells ≡ take (old.size * old.size) old.cells
     → position_on new None ≡ board_of s (cells_with s black white)
-cells_kept s black white old new e cells keeps same =
-    ap (λ t. board_of new.size t) (same ∙ ap (λ n. take (n * n) old.cells) e ∙ cells)
-    ∙ ap (λ n. board_of n (cells_with s black white)) (keeps.size ∙ e)
+cells_kept s black white old new e cells keeps same = grind arith
 
 -- a board without a dead string that was looked at is a position still
 pub held_after : (s : ℕ) (old new : Flat) → smallest_size ≤ s → s ≤ largest_size → old.size ≡ s
     → length old.cells ≡ largest_points → drop (s * s) old.cells ≡ padding s → KeepsRest old new
     → take (new.size * new.size) new.cells ≡ take (old.size * old.size) old.cells
     → has_dead_string old.size (take (old.size * old.size) old.cells) ≡ false → HoldsWith new None
-held_after s old new low high e whole padded keeps same alive =
-    let at : new.size ≡ s = keeps.size ∙ e in
-    held_setup new (subst (λ n. smallest_size ≤ n) (sym at) low) (subst (λ n. n ≤ largest_size) (sym at) high)
-    (keeps.length ∙ whole)
-    (subst (λ n. drop (n * n) new.cells ≡ padding n) (sym keeps.size)
-    (keeps.rest ∙ subst (λ n. drop (n * n) old.cells ≡ padding n) (sym e) padded))
-    (ap (has_dead_string new.size) same
-    ∙ ap (λ n. has_dead_string n (take (old.size * old.size) old.cells)) keeps.size ∙ alive)
+held_after s old new low high e whole padded keeps same alive = grind (arith, held_setup new)

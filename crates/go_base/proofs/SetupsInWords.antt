@@ -1,6 +1,6 @@
 -- What is set up, in words.
 use Rattle.std.proofs.Common.{◌≡◌, ◌≢◌, ℕ, ◌*◌, ◌<◌, ◌&&◌, ◌↔◌, true, false, List, Some, None, refl, sym, ap, subst}
-use Rattle.std.proofs.Common.{◌∙◌, arith, inl, inr, eqb, length}
+use Rattle.std.proofs.Common.{◌∙◌, arith, inl, inr, length}
 use Rattle.std.proofs.lemmas.Bool.{cases_Bool, cases_eq, both_ways, eqb-true, and_parts, and_from}
 use Rattle.std.proofs.lemmas.List.FromFn.{get_or-map-range_with_len, length-map-range_with_len}
 use Rattle.std.specs.Ordering.{nat_cmp}
@@ -8,7 +8,7 @@ use Rattle.std.specs.FinSet as sets
 use Rattle.go_rules.specs.declared.Cell.{Cell}
 use Rattle.go_rules.specs.declared.Cell.TheVariants.{Empty, Black, White}
 use Rattle.go_rules.specs.Board.{IsSize}
-use Rattle.go_rules.specs.Strings.{cell_at, is_stone, liberties, IsLiberty}
+use Rattle.go_rules.specs.Strings.{cell_at, is_stone, IsLiberty}
 use Rattle.go_rules.specs.Position.{BoardState, IsPosition, board_of}
 use Rattle.go_rules.proofs.Counts.{any_below_gives, any_below_from, any_below_none}
 use Rattle.go_rules.proofs.Links.{liberties_some, liberties_from}
@@ -25,17 +25,7 @@ record IsSetUp (s : ℕ) (black white : sets.FinSet nat_cmp) (pos : BoardState) 
 -- a position that is set up is that of the stones
 set_up : (s : ℕ) (black white : sets.FinSet nat_cmp) (pos : BoardState) → setup_of s black white ≡ Some pos
     → IsSetUp s black white pos
-set_up s black white pos h = elim (cases_Bool (have_common_point s black white)) [
-  | inl t ↦ absurd (let none = setup_common s black white t ∙ h in cc)
-  | inr apart ↦ elim (cases_Bool (has_dead_string s (cells_with s black white))) [
-    | inl t ↦ absurd (let none = setup_dead s black white apart t ∙ h in cc)
-    | inr alive ↦ record {
-      apart = apart;
-      alive = alive;
-      is = let same = setup_done s black white apart alive ∙ h in cc;
-    }
-  ]
-]
+set_up s black white pos h = grind (arith, cases_Bool, setup_common, setup_dead, setup_done)
 
 -- each point holds what the sets say
 pub cell_with : (s : ℕ) (black white : sets.FinSet nat_cmp) (p : ℕ) → p < s * s
@@ -46,8 +36,7 @@ cell_with s black white p on = get_or-map-range_with_len _ 0 (s * s) p p Empty o
 -- each point of the position holds what the sets say
 holds : (s : ℕ) (black white : sets.FinSet nat_cmp) (pos : BoardState) (p : ℕ) → p < s * s
     → setup_of s black white ≡ Some pos → cell_at pos.cells p ≡ cell_among black white p
-holds s black white pos p on h =
-    ap (λ (x : BoardState). cell_at x.cells p) (sym (set_up s black white pos h).is) ∙ cell_with s black white p on
+holds s black white pos p on h = grind (arith, set_up, cell_with)
 
 -- a black stone stands where the black ones do
 pub black_stands : (s : ℕ) (black white : sets.FinSet nat_cmp) (pos : BoardState) (p : ℕ) → p < s * s
@@ -110,11 +99,7 @@ stone_there White ne = refl
 
 -- a string that is dead has no liberty
 no_liberty : (s : ℕ) (cells : List Cell) (p l : ℕ) → p < s * s → is_dead_at s cells p ≡ true → IsLiberty s cells p l → ⊥
-no_liberty s cells p l on is lib =
-    let parts = and_parts (is_stone (cell_at cells p)) (eqb (liberties s cells p) 0) is in
-    let none : liberties s cells p ≡ 0 = eqb-true (liberties s cells p) 0 parts.1 in
-    let some = liberties_from s cells p l on lib in
-    omega (arith, none, some)
+no_liberty s cells p l on is lib = grind (arith, and_parts, eqb-true, liberties_from)
 
 -- if none is set up, the stones cannot be
 refused_by : (s : ℕ) (black white : sets.FinSet nat_cmp) → setup_of s black white ≡ None → CannotBeSetUp s black white
@@ -140,17 +125,9 @@ refused_from : (s : ℕ) (black white : sets.FinSet nat_cmp) → CannotBeSetUp s
 unfolding have_common_point
 refused_from s black white (both p on b w) = sym (setup_common s black white
     (any_below_from (s * s) (λ q. sets.contains black q && sets.contains white q) p on (and_from _ _ b w)))
-refused_from s black white (dead p on stone none) = elim (cases_Bool (have_common_point s black white)) [
-  | inl t ↦ sym (setup_common s black white t)
-  | inr apart ↦
-      let cells = cells_with s black white in
-      sym (setup_dead s black white apart (one_dead s cells p on
-      (dead_from s cells p (liberties s cells p) (ap is_stone (cell_with s black white p on) ∙ stone_there _ stone) refl
-      (elim (cases_eq (liberties s cells p) 0) [
-        | inl e ↦ e
-        | inr ne ↦ absurd (let some = liberties_some s cells p (omega (arith, ne)) in none some.0 some.1)
-      ]))))
-]
+refused_from s black white (dead p on stone none) =
+    grind (arith, cases_Bool (have_common_point s black white), setup_common s black white, setup_dead s black white,
+        one_dead s, dead_from s, cell_with s black white p on, liberties_some s, stone_there, cases_eq)
 
 -- the two are the same
 pub refused_exactly : (s : ℕ) (black white : sets.FinSet nat_cmp)

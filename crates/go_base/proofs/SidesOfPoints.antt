@@ -1,5 +1,5 @@
 -- The four sides of a point have its neighbours.
-use Rattle.std.proofs.Common.{◌≡◌, ℕ, zero, suc, ◌+◌, ◌-◌, ◌*◌, ◌/◌, ◌%◌, ◌<◌, ◌≤◌, Bool, true, false, cond, eqb, ltb}
+use Rattle.std.proofs.Common.{◌≡◌, ℕ, zero, suc, ◌+◌, ◌-◌, ◌*◌, ◌/◌, ◌%◌, ◌<◌, ◌≤◌, Bool, true, false, cond, eqb}
 use Rattle.std.proofs.Common.{Some, None, refl, sym, arith, inl, inr, ◌⊎◌, ◌∙◌, lit<}
 use Rattle.std.proofs.lemmas.Bool.{cases_eq, lt-ltb, le-ltb, eq-eqb, eqb-true, ne_eqb, and_parts, and_from}
 use Rattle.std.proofs.lemmas.Bool.{or_cases, or_left, or_right, ltb-true, ltb-false, eqb-false}
@@ -35,17 +35,11 @@ next_cases : (s p q : ℕ) → are_neighbours s p q ≡ true
     → ((p / s ≡ q / s) × ((p % s ≡ q % s + 1) ⊎ (q % s ≡ p % s + 1)))
     ⊎ ((p % s ≡ q % s) × ((p / s ≡ q / s + 1) ⊎ (q / s ≡ p / s + 1)))
 unfolding are_neighbours
-next_cases s p q h = elim (or_cases _ _ h) [
-  | inl a ↦ let x = and_parts _ _ a in inl (eqb-true _ _ x.0, are_one_apart-true _ _ x.1)
-  | inr a ↦ let x = and_parts _ _ a in inr (eqb-true _ _ x.0, are_one_apart-true _ _ x.1)
-]
+next_cases s p q h = grind (arith, or_cases, and_parts, eqb-true, are_one_apart-true)
 
 -- a board that has a point has a row
 has_rows : (s p : ℕ) → p < s * s → 0 < s
-has_rows s p on = elim (cases_eq s 0) [
-  | inl e ↦ absurd (let none : p < 0 * 0 = rw e at on in omega arith)
-  | inr ne ↦ omega arith
-]
+has_rows s p on = grind (arith, cases_eq)
 
 -- one row down is the next row, and the same column
 row_down : (s p : ℕ) → 0 < s → ((p + s) / s ≡ p / s + 1) × ((p + s) % s ≡ p % s)
@@ -54,23 +48,17 @@ row_down s p pos =
 
 -- q = p - s, one row above
 above : (s p : ℕ) → p < s * s → s ≤ p → (p - s < s * s) × (are_neighbours s p (p - s) ≡ true)
-above s p on l =
-    let back : p - s + s ≡ p = omega arith in
-    let down = rw back at (row_down s (p - s) (has_rows s p on)) in
-    (omega arith, next_in_column s p (p - s) down.1 (are_one_apart-from _ _ (inl down.0)))
+above s p on l = grind (arith, row_down, has_rows, next_in_column, are_one_apart-from)
 
 -- q = p + s, one row below
 below : (s p : ℕ) → p < s * s → are_neighbours s p (p + s) ≡ true
-below s p on = let down = row_down s p (has_rows s p on) in
-    next_in_column s p (p + s) (sym down.1) (are_one_apart-from _ _ (inr down.0))
+below s p on = grind (arith, row_down, has_rows, next_in_column, are_one_apart-from)
 
 -- the point before one that is not first in its row is its neighbour
 left : (s p : ℕ) → p < s * s → (p % s ≡ 0 → ⊥) → (p - 1 < s * s) × (are_neighbours s p (p - 1) ≡ true)
 left s p on l =
-    let low = mod_below p s (has_rows s p on) in
-    let its = row_column s (p - 1) (p / s) (p % s - 1) (omega (arith, low)) (omega (arith, div-add-mod' p s, l)) in
-    let apart = are_one_apart-from (p % s) ((p - 1) % s) (inl (omega (arith, its.1, l))) in
-    (omega arith, next_in_row s p (p - 1) (sym its.0) apart)
+    grind (arith, mod_below p s (has_rows s p on), has_rows s p on, row_column s (p - 1) (p / s) (p % s - 1),
+        div-add-mod' p s, are_one_apart-from (p % s) ((p - 1) % s), next_in_row s p (p - 1))
 
 -- the point after one that is not last in its row is its neighbour
 right : (s p : ℕ) → p < s * s → (p % s + 1 ≡ s → ⊥) → (p + 1 < s * s) × (are_neighbours s p (p + 1) ≡ true)
@@ -95,19 +83,14 @@ given_unless false v q e = (refl, cc)
 -- every other side is the one to the right
 last_side : (s p side : ℕ)
     → neighbour_at s p (suc (suc (suc side))) ≡ cond (eqb (p % s + 1) s) None (Some (p + 1))
-last_side s p side =
-    let n = suc (suc (suc side)) in
-    rw (ne_eqb n 0 (λ z. omega arith), ne_eqb n 1 (λ z. omega arith), ne_eqb n 2 (λ z. omega arith)) refl
+last_side s p side = grind (arith, ne_eqb)
 
 -- What a side gives is a neighbour on the board.
 pub neighbour_at-near : (s p side q : ℕ) → p < s * s → neighbour_at s p side ≡ Some q
     → (q < s * s) × (are_neighbours s p q ≡ true)
-neighbour_at-near s p zero q h e =
-    let at = given_unless (ltb p s) (p - s) q e in rw (← at.1) (above s p h (ltb-false _ _ at.0))
-neighbour_at-near s p (suc zero) q h e =
-    let at = given_if (ltb (p + s) (s * s)) (p + s) q e in rw (← at.1) (ltb-true _ _ at.0, below s p h)
-neighbour_at-near s p (suc (suc zero)) q h e =
-    let at = given_unless (eqb (p % s) 0) (p - 1) q e in rw (← at.1) (left s p h (eqb-false _ _ at.0))
+neighbour_at-near s p zero q h e = grind (arith, given_unless, above, ltb-false)
+neighbour_at-near s p (suc zero) q h e = grind (arith, given_if, ltb-true, below)
+neighbour_at-near s p (suc (suc zero)) q h e = grind (arith, given_unless, left, eqb-false)
 neighbour_at-near s p (suc (suc (suc side))) q h e =
     let at = given_unless (eqb (p % s + 1) s) (p + 1) q (sym (last_side s p side) ∙ e) in
     rw (← at.1) (right s p h (eqb-false _ _ at.0))
@@ -140,10 +123,7 @@ side_in_column s p q on column (inr e) =
 -- Each neighbour is at some side.
 pub neighbour_at-all : (s p q : ℕ) → p < s * s → q < s * s → are_neighbours s p q ≡ true
     → (side : ℕ) × (side < 4) × (neighbour_at s p side ≡ Some q)
-neighbour_at-all s p q h k n = elim (next_cases s p q n) [
-  | inl row ↦ side_in_row s p q k row.0 row.1
-  | inr column ↦ side_in_column s p q k column.0 column.1
-]
+neighbour_at-all s p q h k n = grind (arith, next_cases s p q n, side_in_row s p q k, side_in_column s p q k)
 
 -- a board has no more points than the largest one
 pub square_small : (s : ℕ) → s ≤ largest_size → s * s ≤ largest_points

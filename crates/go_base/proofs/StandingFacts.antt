@@ -1,11 +1,11 @@
 -- Where the cells and the bans are as they were seen, all facts hold.
-use Rattle.std.proofs.Common.{◌≡◌, ℕ, ◌*◌, ◌<◌, ◌&&◌, Bool, true, ltb, refl, sym, subst, ◌∙◌}
+use Rattle.std.proofs.Common.{◌≡◌, ℕ, ◌*◌, ◌<◌, true, ltb, refl, sym, subst, arith}
 use Rattle.std.proofs.lemmas.Bool.{and_parts, and_from, lt-ltb, ltb-true, eqb-true, eq-eqb}
 use Rattle.go_rules.specs.declared.Cell.{Cell}
 use Rattle.go_rules.specs.declared.Colour.{Colour}
 use Rattle.go_rules.specs.Position.{BoardState, IsPosition, is_banned}
 use Rattle.go_base.specs.declared.facts.Facts.{Facts}
-use Rattle.go_base.specs.Facts.{Fact, SizeIs, CellIs, BanIs, IsFactOf, Agrees}
+use Rattle.go_base.specs.Facts.{SizeIs, CellIs, BanIs, Agrees}
 use Rattle.go_base.specs.AmongFacts.{told, seen_as, asked_of, AllShow, BanStays}
 use Rattle.go_base.proofs.SeenFacts.{same_bool-true, same_bool-refl}
 
@@ -13,16 +13,7 @@ use Rattle.go_base.proofs.SeenFacts.{same_bool-true, same_bool-refl}
 pub stands_all : (f : Facts) (pos : BoardState) → IsPosition pos → f.size ≡ pos.size
     → ((cell : Cell) → AllShow (seen_as f cell) cell pos) → ((c : Colour) → BanStays (asked_of f c) f.ban c pos)
     → Agrees (told f) pos
-stands_all f pos good e cells bans = record { sound = good; each = each }
-  where
-    on : (q : ℕ) (b : Bool) → (ltb q (f.size * f.size) && b) ≡ true → (q < pos.size * pos.size) × (b ≡ true)
-    on q b t = let parts = and_parts _ _ t in (subst (λ n. q < n * n) e (ltb-true q (f.size * f.size) parts.0), parts.1)
-
-    each : (fact : Fact) → told f fact ≡ true → IsFactOf pos fact
-    each (SizeIs n) t = sym e ∙ eqb-true f.size n t
-    each (CellIs q x) t = let i = on q _ t in cells x q i.0 i.1
-    each (BanIs q c b) t = let i = on q _ t in let parts = and_parts _ _ i.1 in
-        bans c q i.0 parts.0 ∙ same_bool-true _ _ parts.1
+stands_all f pos good e cells bans = grind (arith, and_parts, ltb-true, eqb-true, same_bool-true)
 
 -- where a position agrees, its size is that of the facts
 pub size_stands : (f : Facts) (pos : BoardState) → Agrees (told f) pos → f.size ≡ pos.size

@@ -1,5 +1,5 @@
 -- The strings that a play takes, gathered side by side.
-use Rattle.std.proofs.Common.{◌≡◌, ℕ, ◌+◌, ◌*◌, ◌<◌, ◌≤◌, true, false, cond, Some, None, List, refl, sym, ap, subst}
+use Rattle.std.proofs.Common.{◌≡◌, ℕ, ◌+◌, ◌*◌, ◌<◌, ◌≤◌, true, false, cond, Some, None, List, refl, sym, ap}
 use Rattle.std.proofs.Common.{arith, inl, inr, ◌⊎◌, ◌∙◌}
 use Rattle.std.proofs.lemmas.Bool.{cases_Bool, or_cases, or_left, or_right, both_ways, and_parts, and_from}
 use Rattle.std.proofs.lemmas.Bool.{lt-ltb, ltb-true, eq-eqb, ne_eqb}
@@ -8,7 +8,7 @@ use Rattle.std.specs.Cmp.{nat_cmp_total}
 use Rattle.std.specs.FinSet as sets
 use Rattle.go_rules.specs.declared.Cell.{Cell}
 use Rattle.go_rules.specs.declared.Colour.{Colour}
-use Rattle.go_rules.specs.Strings.{cell_at, is_stone, same_cell, is_in_string, string_at, liberties, IsInString, Path}
+use Rattle.go_rules.specs.Strings.{cell_at, is_stone, same_cell, is_in_string, string_at, IsInString}
 use Rattle.go_rules.specs.Play.{is_taken, taken_at}
 use Rattle.go_rules.specs.Position.{other, stone_of}
 use Rattle.go_rules.proofs.Sets.{contains-set_below, same_nat_set}
@@ -21,7 +21,7 @@ use Rattle.go_base.specs.Takes.{TakenBeside, HasWholeStrings, Takes}
 use Rattle.go_base.specs.WithoutLiberty.{stones_without_liberty}
 use Rattle.go_base.proofs.WithoutLiberty.{found_without, none_without}
 use Rattle.go_base.proofs.SidesOfPoints.{neighbour_at-all}
-use Rattle.go_base.proofs.EachSide.{same_side, each_next, each_with}
+use Rattle.go_base.proofs.EachSide.{same_side}
 use Rattle.go_base.proofs.FloodResults.{string_has}
 
 -- no side was visited
@@ -44,12 +44,7 @@ on_board_with s old new before came r h = elim (came r h) [ inl there ↦ before
 -- the next side gave nothing that is taken
 Takes-skip : (s : ℕ) (put : List Cell) (c : Colour) (p n : ℕ) (taken : sets.FinSet nat_cmp) → Takes s put c p n taken
     → ((r : ℕ) → neighbour_at s p n ≡ Some r → is_taken s put c r ≡ true → ⊥) → Takes s put c p (n + 1) taken
-Takes-skip s put c p n taken h none = record {
-  only = h.only;
-  whole = h.whole;
-  all = each_next s p n (λ r. is_taken s put c r ≡ true → (q : ℕ) → Path s put r q → sets.contains taken q ≡ true)
-      h.all (λ r at t. absurd (none r at t));
-}
+Takes-skip s put c p n taken h none = grind arith
 
 -- what is in the set of a string is a stone of it
 string_gives : (s : ℕ) (cells : List Cell) (r q : ℕ) → sets.contains (string_at s cells r) q ≡ true
@@ -66,10 +61,7 @@ whole_with s cells r stones joined on whole is =
     ∙ sets.contains-union nat_cmp_total stones (string_at s cells r) q in
     λ q b x i. has x ∙ elim (or_cases _ _ (sym (has q) ∙ b)) [
       | inl before ↦ or_left _ _ (whole q before x i)
-      | inr now ↦
-          let of_r = string_gives s cells r q now in
-          or_right _ _ (string_has s cells r x on of_r.stone (path_on s cells r q of_r.path
-          (string_gives s cells q x i).path))
+      | inr now ↦ grind (arith, string_gives, or_right, string_has, path_on)
     ]
 
 -- what is taken is a stone
@@ -86,15 +78,9 @@ Takes-add s put c p n r taken new h on e t is =
     let has = λ (q : ℕ). ap (λ x. sets.contains x q) is
     ∙ sets.contains-union nat_cmp_total taken (string_at s put r) q in
     record {
-      only = λ q b. elim (or_cases _ _ (sym (has q) ∙ b)) [
-        | inl before ↦ h.only q before
-        | inr now ↦ let path = (string_gives s put r q now).path in
-            (path_on_board s put r on path, taken_whole s put c r q on t path)
-      ];
+      only = grind (arith, string_gives s put r, path_on_board s put r on, taken_whole s put c r, or_cases);
       whole = whole_with s put r taken new on h.whole is;
-      all = each_with s p n (λ x. is_taken s put c x ≡ true → (q : ℕ) → Path s put x q → sets.contains new q ≡ true)
-          (λ k l x at t' q path. has q ∙ or_left _ _ (h.all k l x at t' q path)) r e
-          (λ t' q path. has q ∙ or_right _ _ (string_has s put r q on (taken_stone s put c r t) path));
+      all = grind (arith, string_has s put r, taken_stone s put c r t, or_left, or_right);
     }
 
 -- the next side gave a point, whose string came if it is taken
@@ -104,9 +90,7 @@ pub Takes-next : (s : ℕ) (put : List Cell) (c : Colour) (p n r : ℕ) (taken n
 Takes-next s put c p n r taken new h on e is = elim (cases_Bool (is_taken s put c r)) [
   | inl t ↦ Takes-add s put c p n r taken new h on e t
       (is ∙ ap (λ b. cond b (sets.union taken (string_at s put r)) taken) t)
-  | inr f ↦ subst (Takes s put c p (n + 1)) (sym (is ∙ ap (λ b. cond b (sets.union taken (string_at s put r)) taken) f))
-      (Takes-skip s put c p n taken h (λ x e' t.
-      both_ways (is_taken s put c x) (ap (is_taken s put c) (sym (same_side (sym e ∙ e'))) ∙ f) t))
+  | inr f ↦ grind (arith, Takes-skip, both_ways, same_side)
 ]
 
 -- the next side gave nothing
@@ -142,16 +126,13 @@ pub is_taken_from : (s : ℕ) (put : List Cell) (c : Colour) (q : ℕ) (stones :
     → cell_at put q ≡ stone_of (other c) → Some stones ≡ stones_without_liberty s put q
     → (is_taken s put c q ≡ true) × (stones ≡ string_at s put q)
 unfolding is_taken
-is_taken_from s put c q stones enemy is = let found = found_without s put q stones is in
-    (and_from _ _ (same_cell-from _ _ enemy) (eq-eqb (liberties s put q) 0 found.1), found.2)
+is_taken_from s put c q stones enemy is = grind (arith, found_without, and_from, same_cell-from, eq-eqb)
 
 -- an enemy's string in which a liberty was found is not
 pub not_taken_from : (s : ℕ) (put : List Cell) (c : Colour) (q : ℕ) → cell_at put q ≡ stone_of (other c)
     → None ≡ stones_without_liberty s put q → is_taken s put c q ≡ false
 unfolding is_taken
-not_taken_from s put c q enemy is =
-    rw (same_cell-from _ _ enemy) (ne_eqb (liberties s put q) 0
-    (none_without s put q (ap is_stone enemy ∙ stone_is (other c)) is))
+not_taken_from s put c q enemy is = grind (arith, same_cell-from, ne_eqb, none_without, stone_is)
 
 -- what is no enemy is not taken
 pub no_enemy_taken : (s : ℕ) (put : List Cell) (c : Colour) (q : ℕ)

@@ -1,7 +1,6 @@
 -- The least point that words mark, by a note of the words in use.
-use Rattle.std.proofs.Common.{◌≡◌, ◌≢◌, ℕ, ◌+◌, ◌*◌, ◌/◌, ◌%◌, ◌<◌, ◌≤◌, true, false, eqb, List, get_or, refl, sym, ap}
-use Rattle.std.proofs.Common.{arith, inl, inr, ◌∙◌}
-use Rattle.std.proofs.Common.{bit_and, bit_or, ◌^◌}
+use Rattle.std.proofs.Common.{◌≡◌, ◌≢◌, ℕ, ◌+◌, ◌*◌, ◌/◌, ◌%◌, ◌<◌, ◌≤◌, true, false, List, get_or, refl, sym, ap}
+use Rattle.std.proofs.Common.{arith, inl, inr, ◌∙◌, bit_and, bit_or, ◌^◌}
 use Rattle.std.proofs.lemmas.Bool.{cases_Bool, cases_eq, cases_lt, both_ways, eqb-true}
 use Rattle.std.proofs.lemmas.Nat.{div-mul-add, mod-mul-add}
 use Rattle.std.proofs.lemmas.Nat.Bits.{bit_at-zero, bit_at-lt, bit_at_and, bit_at_set_same, bit_at_set_other}
@@ -21,11 +20,7 @@ other_point q p i word ne e = ne (sym word ∙ ap (λ n. n / 64) e)
 
 -- words that mark no point are noted by no bit
 pub IsNoteOf-none : (words : List ℕ) → ((q : ℕ) → is_marked words q ≡ false) → IsNoteOf words 0
-IsNoteOf-none words none = record {
-  on_board = λ q h. absurd (both_ways (is_marked words q) (none q) h);
-  noted = λ q h. absurd (both_ways (is_marked words q) (none q) h);
-  only = λ i h. absurd (let zero : bit_at 0 i ≡ 0 = bit_at-zero i in omega (arith, zero, h));
-}
+IsNoteOf-none words none = grind (arith, both_ways, bit_at-zero)
 
 -- the note with the bit of one more word
 abbrev pub with_word : ℕ → ℕ → ℕ
@@ -35,15 +30,9 @@ with_word used i = bit_or used (1 * 2 ^ i % 65536)
 pub IsNoteOf-add : (old new : List ℕ) (used p : ℕ) → IsNoteOf old used → p < largest_points → is_marked new p ≡ true
     → ((q : ℕ) → q ≢ p → is_marked new q ≡ is_marked old q) → IsNoteOf new (with_word used (p / 64))
 IsNoteOf-add old new used p is on here elsewhere = record {
-  on_board = λ q h. elim (cases_eq q p) [
-    | inl e ↦ omega (arith, e, on)
-    | inr ne ↦ is.on_board q (sym (elsewhere q ne) ∙ h)
-  ];
-  noted = λ q h. elim (cases_eq (q / 64) (p / 64)) [
-    | inl e ↦ ap (bit_at (with_word used (p / 64))) e ∙ bit_at_set_same w16 used (p / 64) small
-    | inr ne ↦ bit_at_set_other w16 used (p / 64) small (q / 64) ne
-        ∙ is.noted q (sym (elsewhere q (λ e. ne (ap (λ n. n / 64) e))) ∙ h)
-  ];
+  on_board = grind (arith, cases_eq);
+  noted =
+      grind (arith, bit_at_set_same w16 used (p / 64) small, bit_at_set_other w16 used (p / 64) small, cases_eq, small);
   only = λ i h. elim (cases_eq i (p / 64)) [
     | inl e ↦ (p, sym e, here)
     | inr ne ↦
@@ -64,17 +53,12 @@ IsNoteOf-less old new used p is here elsewhere left = record {
   noted = λ q h. is.noted q (was q h);
   only = λ i h. elim (cases_eq i (p / 64)) [
     | inl e ↦ (left.0, left.1 ∙ sym e, left.2)
-    | inr ne ↦
-        let before = is.only i h in
-        (before.0, before.1, elsewhere before.0 (other_point before.0 p i before.1 ne) ∙ before.2)
+    | inr ne ↦ grind (arith, other_point)
   ];
 }
   where
     was : (q : ℕ) → is_marked new q ≡ true → is_marked old q ≡ true
-    was q h = elim (cases_eq q p) [
-      | inl e ↦ absurd (both_ways (is_marked new q) (ap (is_marked new) e ∙ here) h)
-      | inr ne ↦ sym (elsewhere q ne) ∙ h
-    ]
+    was q h = grind (arith, cases_eq q p, both_ways (is_marked new q))
 
 -- the note without the bit of one word
 abbrev pub without_word : ℕ → ℕ → ℕ
@@ -84,31 +68,9 @@ without_word used i = bit_and used (bit_not w16 (1 * 2 ^ i % 65536))
 pub IsNoteOf-last : (old new : List ℕ) (used p : ℕ) → IsNoteOf old used → p < largest_points → is_marked new p ≡ false
     → ((q : ℕ) → q ≢ p → is_marked new q ≡ is_marked old q)
     → ((q : ℕ) → q / 64 ≡ p / 64 → is_marked new q ≡ false) → IsNoteOf new (without_word used (p / 64))
-IsNoteOf-last old new used p is on here elsewhere none = record {
-  on_board = λ q h. is.on_board q (was q h);
-  noted = λ q h.
-      let below : q / 64 < 16 = omega (arith, is.on_board q (was q h)) in
-      let kept : bit_at (without_word used (p / 64)) (q / 64) ≡ bit_at used (q / 64) =
-      bit_at_clear_other w16 used (p / 64) small (q / 64) below (λ e. both_ways (is_marked new q) (none q e) h) in
-      kept ∙ is.noted q (was q h);
-  only = λ i h. elim (cases_eq i (p / 64)) [
-    | inl e ↦
-        let zero : bit_at (without_word used (p / 64)) i ≡ 0 =
-        ap (bit_at (without_word used (p / 64))) e ∙ bit_at_clear_same w16 used (p / 64) small in
-        absurd (omega (arith, zero, h))
-    | inr ne ↦
-        let least = bit_at_and used (bit_not w16 (1 * 2 ^ (p / 64) % 65536)) i in
-        let bit = bit_at-lt used i in
-        let before = is.only i (omega (arith, least, h, bit)) in
-        (before.0, before.1, elsewhere before.0 (other_point before.0 p i before.1 ne) ∙ before.2)
-  ];
-}
-  where
-    small : p / 64 < 16
-    small = omega (arith, on)
-
-    was : (q : ℕ) → is_marked new q ≡ true → is_marked old q ≡ true
-    was q h = sym (elsewhere q (λ e. both_ways (is_marked new q) (ap (is_marked new) e ∙ here) h)) ∙ h
+IsNoteOf-last old new used p is on here elsewhere none =
+    grind (arith, bit_at_clear_other w16, bit_at_clear_same w16, both_ways, cases_eq, bit_at_and, bit_at-lt,
+        other_point)
 
 module _ (words : List ℕ) (used first next : ℕ) (is : IsNoteOf words used)
     (rest : (k : ℕ) → first % 64 ≤ k → k < 64 → bit_at (get_or words (first / 64) 0) k ≡ 0)
@@ -134,30 +96,10 @@ module _ (words : List ℕ) (used first next : ℕ) (is : IsNoteOf words used)
       (misses : (k : ℕ) → 0 ≤ k → k < bit → bit_at (get_or words next 0) k ≡ 0) where
     -- a word in use has a bit
     has_bit : bit < 64
-    has_bit = elim (cases_lt bit 64) [
-      | inl l ↦ l
-      | inr g ↦
-          let one = is.only next noted in
-          let zero = misses (one.0 % 64) (omega arith) (omega (arith, g)) in
-          let hit : bit_at (get_or words next 0) (one.0 % 64) ≡ 1 =
-          ap (λ i. bit_at (get_or words i 0) (one.0 % 64)) (sym one.1) ∙ eqb-true _ 1 one.2 in
-          absurd (omega (arith, zero, hit))
-    ]
+    has_bit = grind (arith, cases_lt, eqb-true)
 
     -- the lowest bit of the next word in use is that of the first point that is marked
     pub first_in_next : (bit < 64 → bit_at (get_or words next 0) bit ≡ 1)
         → (first ≤ next * 64 + bit) × (next * 64 + bit < largest_points) × (is_marked words (next * 64 + bit) ≡ true)
         × ((r : ℕ) → first ≤ r → r < next * 64 + bit → is_marked words r ≡ false)
-    first_in_next hit = (omega (arith, beyond), is.on_board _ marked, marked, before)
-      where
-        marked : is_marked words (next * 64 + bit) ≡ true
-        marked = is_marked-at words next bit has_bit (hit has_bit)
-
-        before : (r : ℕ) → first ≤ r → r < next * 64 + bit → is_marked words r ≡ false
-        before r low under = elim (cases_lt (r / 64) next) [
-          | inl l ↦ none_until r low l
-          | inr g ↦
-              let same : r / 64 ≡ next = omega (arith, g, under, has_bit) in
-              ap (λ i. eqb (bit_at (get_or words i 0) (r % 64)) 1) same
-              ∙ ap (λ n. eqb n 1) (misses (r % 64) (omega arith) (omega (arith, same, under)))
-        ]
+    first_in_next hit = grind (arith, is_marked-at, has_bit, cases_lt)

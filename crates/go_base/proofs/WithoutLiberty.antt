@@ -1,6 +1,5 @@
 -- A search for a liberty sees one beside the stone, or searches the string.
-use Rattle.std.proofs.Common.{◌≡◌, ◌≢◌, ℕ, ◌+◌, ◌*◌, ◌<◌, ◌≤◌, ◌&&◌, Bool, true, false, cond, eqb, Some, None, List}
-use Rattle.std.proofs.Common.{refl, sym, ap, arith, inl, inr, ◌∙◌}
+use Rattle.std.proofs.Common.{◌≡◌, ◌≢◌, ℕ, ◌+◌, ◌*◌, ◌<◌, ◌≤◌, true, false, eqb, Some, None, List, arith}
 use Rattle.std.proofs.lemmas.Bool.{cases_Bool, eq-eqb, eqb-true, ne_eqb, both_ways, and_parts, and_from}
 use Rattle.std.specs.Option.{is_some}
 use Rattle.std.specs.Ordering.{nat_cmp}
@@ -16,7 +15,7 @@ use Rattle.go_base.specs.Floods.{Searches}
 use Rattle.go_base.specs.declared.flood.Searched.{Searched}
 use Rattle.go_base.specs.WithoutLiberty.{has_empty_neighbour, stones_without_liberty}
 use Rattle.go_base.proofs.SidesOfPoints.{neighbour_at-all, neighbour_at-near}
-use Rattle.go_base.proofs.EachSide.{each_with, each_off}
+use Rattle.go_base.proofs.EachSide.{each_with}
 use Rattle.go_base.proofs.BoundedSearches.{none_seen}
 
 -- the first n sides of q were looked at, and none of them is empty
@@ -29,11 +28,6 @@ pub NoneEmpty-full : (s : ℕ) (cells : List Cell) (q n r : ℕ) → NoneEmpty s
     → same_cell (cell_at cells r) Empty ≡ false → NoneEmpty s cells q (n + 1)
 NoneEmpty-full s cells q n r h is full = each_with s q n (λ x. same_cell (cell_at cells x) Empty ≡ false) h r is full
 
--- the next side is off the board
-pub NoneEmpty-off : (s : ℕ) (cells : List Cell) (q n : ℕ) → NoneEmpty s cells q n
-    → ((r : ℕ) → neighbour_at s q n ≡ Some r → ⊥) → NoneEmpty s cells q (n + 1)
-NoneEmpty-off s cells q n h off = each_off s q n (λ x. same_cell (cell_at cells x) Empty ≡ false) h off
-
 -- the side gives an empty neighbour
 pub empty_found : (s : ℕ) (cells : List Cell) (q side r : ℕ) → q < s * s → neighbour_at s q side ≡ Some r
     → same_cell (cell_at cells r) Empty ≡ true → has_empty_neighbour s cells q ≡ true
@@ -43,15 +37,7 @@ empty_found s cells q side r on e t = let near = neighbour_at-near s q side r on
 -- no side gave an empty point
 pub NoneEmpty-all : (s : ℕ) (cells : List Cell) (q n : ℕ) → q < s * s → 4 ≤ n → NoneEmpty s cells q n
     → has_empty_neighbour s cells q ≡ false
-NoneEmpty-all s cells q n on four h = elim (cases_Bool (has_empty_neighbour s cells q)) [
-  | inl t ↦
-      let found = any_below_gives (s * s) _ t in
-      let parts = and_parts _ _ found.2 in
-      let side = neighbour_at-all s q found.0 on found.1 parts.0 in
-      absurd (both_ways (same_cell (cell_at cells found.0) Empty)
-      (h side.0 (omega (arith, side.1, four)) found.0 side.2) parts.1)
-  | inr f ↦ f
-]
+NoneEmpty-all s cells q n on four h = grind (arith, cases_Bool, any_below_gives, and_parts, neighbour_at-all, both_ways)
 
 -- a stone with an empty neighbour has a liberty
 liberty_beside : (s : ℕ) (cells : List Cell) (p : ℕ) → p < s * s → is_stone (cell_at cells p) ≡ true
@@ -70,49 +56,36 @@ liberty_beside s cells p on stone t z =
 pub liberty_there : (s : ℕ) (cells : List Cell) (p : ℕ) → p < s * s → is_stone (cell_at cells p) ≡ true
     → has_empty_neighbour s cells p ≡ true → None ≡ stones_without_liberty s cells p
 unfolding stones_without_liberty
-liberty_there s cells p on stone t = rw
-    (stone, ne_eqb (liberties s cells p) 0 (liberty_beside s cells p on stone t)) refl
+liberty_there s cells p on stone t = grind (arith, ne_eqb, liberty_beside)
 
 -- nor where the search saw a liberty
 pub liberty_seen : (s : ℕ) (cells : List Cell) (p n : ℕ) (found : Searched) → is_stone (cell_at cells p) ≡ true
     → Searches s cells p 0 found → n ≡ sets.len found.liberties → n ≢ 0 → None ≡ stones_without_liberty s cells p
 unfolding stones_without_liberty
-liberty_seen s cells p n found stone h count some =
-    rw (stone, sym (none_seen s cells p n found h count) ∙ ne_eqb n 0 some) refl
+liberty_seen s cells p n found stone h count some = grind (arith, none_seen, ne_eqb)
 
 -- where it saw none, what it found is the string
 pub none_there : (s : ℕ) (cells : List Cell) (p n : ℕ) (found : Searched) → is_stone (cell_at cells p) ≡ true
     → Searches s cells p 0 found → n ≡ sets.len found.liberties → n ≡ 0
     → Some found.stones ≡ stones_without_liberty s cells p
 unfolding stones_without_liberty
-none_there s cells p n found stone h count none =
-    rw (stone, sym (none_seen s cells p n found h count) ∙ eq-eqb n 0 none)
-    (ap (λ (t : sets.FinSet nat_cmp). Some t) (h.stones (omega (arith, count, none))))
+none_there s cells p n found stone h count none = grind (arith, none_seen s cells p n found h count, eq-eqb n 0 none)
 
 -- the stones that are told are the string of a stone, and it has no liberty
 pub found_without : (s : ℕ) (cells : List Cell) (p : ℕ) (found : sets.FinSet nat_cmp)
     → Some found ≡ stones_without_liberty s cells p
     → (is_stone (cell_at cells p) ≡ true) × (liberties s cells p ≡ 0) × (found ≡ string_at s cells p)
 unfolding stones_without_liberty
-found_without s cells p found is = elim (cases_Bool (is_stone (cell_at cells p) && eqb (liberties s cells p) 0)) [
-  | inl t ↦ let parts = and_parts _ _ t in let e : Some found ≡ Some (string_at s cells p) = rw t at is in
-      (parts.0, eqb-true _ _ parts.1, (let k = e in cc))
-  | inr f ↦ let e : Some found ≡ None = rw f at is in absurd (let k = e in cc)
-]
+found_without s cells p found is = grind (arith, cases_Bool, and_parts, eqb-true)
 
 -- if none are told, a stone's string has a liberty
 pub none_without : (s : ℕ) (cells : List Cell) (p : ℕ) → is_stone (cell_at cells p) ≡ true
     → None ≡ stones_without_liberty s cells p → liberties s cells p ≢ 0
 unfolding stones_without_liberty
-none_without s cells p stone is z =
-    let e : None ≡ Some (string_at s cells p) = rw (stone, z) at is in absurd (let k = e in cc)
+none_without s cells p stone is z = grind arith
 
 -- a stone's string is told exactly if it has no liberty
 pub told_where_none : (s : ℕ) (cells : List Cell) (p : ℕ) → is_stone (cell_at cells p) ≡ true
     → is_some (stones_without_liberty s cells p) ≡ eqb (liberties s cells p) 0
 unfolding stones_without_liberty
-told_where_none s cells p stone = rw stone (by_test (eqb (liberties s cells p) 0))
-  where
-    by_test : (b : Bool) → is_some (cond b (Some (string_at s cells p)) None) ≡ b
-    by_test true = refl
-    by_test false = refl
+told_where_none s cells p stone = grind arith

@@ -1,5 +1,5 @@
 -- The bits of a word: without the lowest, the first of them, and those of points.
-use Rattle.std.proofs.Common.{◌≡◌, ℕ, ◌+◌, ◌-◌, ◌*◌, ◌/◌, ◌%◌, ◌^◌, ◌<◌, ◌≤◌, List, bit_and, get_or}
+use Rattle.std.proofs.Common.{◌≡◌, ℕ, ◌+◌, ◌-◌, ◌*◌, ◌/◌, ◌%◌, ◌^◌, ◌<◌, List, bit_and, get_or}
 use Rattle.std.proofs.Common.{eqb, min, refl, sym, ap, arith, inl, inr, ◌∙◌}
 use Rattle.std.proofs.Math.Nat.{min-le_left, min-le_right, div-add-mod, mod-lt, mod-eq_of_lt, mul_comm}
 use Rattle.std.proofs.lemmas.Bool.{cases_eq, cases_lt}
@@ -16,16 +16,11 @@ without_lowest word = bit_and word (word - 1)
 
 -- a word without its lowest bit is less
 pub without_lowest-lt : (word : ℕ) → 0 < word → without_lowest word < word
-without_lowest-lt word some = let most : without_lowest word ≤ word - 1 = and_le_r word (word - 1) in
-    omega (arith, most, some)
+without_lowest-lt word some = grind (arith, and_le_r)
 
 -- a bit that is set in it is set in the word
 pub without_lowest-only : (word i : ℕ) → bit_at (without_lowest word) i ≡ 1 → bit_at word i ≡ 1
-without_lowest-only word i hit =
-    let both = bit_at_and word (word - 1) i in
-    let most = min-le_left (bit_at word i) (bit_at (word - 1) i) in
-    let bound = bit_at-lt word i in
-    omega (arith, both, most, bound, hit)
+without_lowest-only word i hit = grind (arith, bit_at_and, min-le_left, bit_at-lt)
 
 -- the number before a word has the same bits above each bit that is set in the word
 before_above : (word k i : ℕ) → k < i → bit_at word k ≡ 1 → bit_at (word - 1) i ≡ bit_at word i
@@ -36,11 +31,7 @@ before_above word k i above hit =
     sym (div-add-mod word (2 ^ i)) ∙ ap (λ n. n + low) (mul_comm (2 ^ i) high) in
     let small : low < 2 ^ i = mod-lt word (pow_pos i) in
     elim (cases_eq low 0) [
-      | inl none ↦
-          let two : 1 ≡ 0 =
-          sym hit ∙ ap (λ n. bit_at n k) parts ∙ bit_at_cat_low high i low k above ∙ ap (λ n. bit_at n k) none
-          ∙ bit_at-zero k in
-          absurd (omega (arith, two))
+      | inl none ↦ grind (arith, bit_at_cat_low high i low k above, bit_at-zero k)
       | inr some ↦
           let before : word - 1 ≡ high * 2 ^ i + (low - 1) = omega (arith, parts, some) in
           ap (λ n. bit_at n i) before ∙ bit_at_cat_high high i (low - 1) i (omega (arith, small)) (omega arith)
@@ -54,16 +45,8 @@ min-ones a b one other = rw (one, other) refl
 -- if no bit below a set one is set, each bit of the word that is not left is that one
 pub without_lowest-one : (word k i : ℕ) → bit_at word k ≡ 1 → ((j : ℕ) → j < k → bit_at word j ≡ 0)
     → bit_at word i ≡ 1 → bit_at (without_lowest word) i ≡ 0 → i ≡ k
-without_lowest-one word k i lowest misses hit clear = elim (cases_lt i k) [
-  | inl below ↦ let two : 0 ≡ 1 = sym (misses i below) ∙ hit in absurd (omega (arith, two))
-  | inr from ↦ elim (cases_eq i k) [
-    | inl e ↦ e
-    | inr ne ↦
-        let same : bit_at (word - 1) i ≡ 1 = before_above word k i (omega (arith, from, ne)) lowest ∙ hit in
-        let two : 0 ≡ 1 = sym clear ∙ bit_at_and word (word - 1) i ∙ min-ones _ _ hit same in
-        absurd (omega (arith, two))
-  ]
-]
+without_lowest-one word k i lowest misses hit clear =
+    grind (arith, cases_lt, cases_eq, before_above, bit_at_and, min-ones)
 
 -- the first n bits of a word
 abbrev pub first_bits : ℕ → ℕ → ℕ
@@ -71,38 +54,18 @@ first_bits word n = bit_and word (1 * 2 ^ n % 18446744073709551616 - 1)
 
 -- their mask is n ones
 first_ones : (n : ℕ) → n < 64 → 1 * 2 ^ n % 18446744073709551616 - 1 ≡ 2 ^ n - 1
-first_ones n small =
-    let less : 2 ^ n < 2 ^ 64 = pow-lt small in
-    ap (λ m. m - 1) (mod-eq_of_lt (let one : 1 * 2 ^ n ≡ 2 ^ n = omega arith in omega (arith, less, one)) ∙ omega arith)
+first_ones n small = grind (arith, pow-lt, mod-eq_of_lt)
 
 -- each of them is one of the word's, and stands below n
 pub first_bits-only : (word n k : ℕ) → n < 64 → bit_at (first_bits word n) k ≡ 1 → (k < n) × (bit_at word k ≡ 1)
 first_bits-only word n k small hit =
-    let ones : ℕ = 2 ^ n - 1 in
-    let both : 1 ≡ min (bit_at word k) (bit_at ones k) =
-    sym hit ∙ ap (λ m. bit_at (bit_and word m) k) (first_ones n small) ∙ bit_at_and word ones k in
-    let most = min-le_left (bit_at word k) (bit_at ones k) in
-    let least = min-le_right (bit_at word k) (bit_at ones k) in
-    let bound = bit_at-lt word k in (
-      elim (cases_lt k n) [
-        | inl below ↦ below
-        | inr from ↦ let none = bit_at_ones_above n k from in absurd (omega (arith, both, least, none))
-      ],
-      omega (arith, both, most, bound),
-    )
+    grind (arith, bit_and, first_ones, bit_at_and, min-le_left, min-le_right, bit_at-lt, cases_lt, bit_at_ones_above)
 
 -- and each of the word's that stands below n is one of them
 pub first_bits-kept : (word n k : ℕ) → n < 64 → k < n → bit_at word k ≡ 1 → bit_at (first_bits word n) k ≡ 1
-first_bits-kept word n k small below hit =
-    let ones : ℕ = 2 ^ n - 1 in
-    ap (λ m. bit_at (bit_and word m) k) (first_ones n small) ∙ bit_at_and word ones k
-    ∙ min-ones _ _ hit (bit_at_ones n k below)
+first_bits-kept word n k small below hit = grind (arith, bit_and, first_ones, bit_at_and, min-ones, bit_at_ones)
 
 -- a point is marked where its bit is set in the word that begins at or before it
 pub is_marked-in_word : (words : List ℕ) (base k : ℕ) → base % 64 ≡ 0 → k < 64
     → is_marked words (base + k) ≡ eqb (bit_at (get_or words (base / 64) 0) k) 1
-is_marked-in_word words base k aligned small =
-    let word : (base + k) / 64 ≡ base / 64 = omega (arith, aligned, small) in
-    let place : (base + k) % 64 ≡ k = omega (arith, aligned, small) in
-    ap (λ j. eqb (bit_at (get_or words j 0) ((base + k) % 64)) 1) word
-    ∙ ap (λ j. eqb (bit_at (get_or words (base / 64) 0) j) 1) place
+is_marked-in_word words base k aligned small = grind arith

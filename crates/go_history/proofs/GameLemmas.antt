@@ -1,14 +1,12 @@
 -- What holds of games that go on by one move.
 use Rattle.std.proofs.Common.{◌≡◌, ℕ, zero, suc, ◌+◌, ◌*◌, ◌≤◌, List, [], ◌∷◌, ◌++◌, length, take, Option}
-use Rattle.std.proofs.Common.{Some, None, refl, sym, ap, subst, arith, ◌∙◌, add_assoc, inl, inr}
-use Rattle.std.proofs.Math.ListN.{set}
+use Rattle.std.proofs.Common.{Some, None, refl, arith, add_assoc}
 use Rattle.std.proofs.lemmas.Bool.{cases_Bool}
 use Rattle.std.proofs.lemmas.Nat.{mul-le}
 use Rattle.go_rules.specs.declared.Colour.{Colour}
 use Rattle.go_rules.specs.declared.Move.{Move}
 use Rattle.go_rules.specs.Board.{largest_size, largest_points}
-use Rattle.go_rules.specs.Position.{BoardState, same_colour, stone_of}
-use Rattle.go_rules.specs.Play.{is_taken}
+use Rattle.go_rules.specs.Position.{BoardState}
 use Rattle.go_rules.specs.Replay.{moved, led_to, replay_from, captures_from, taken_by, IsLegalGame}
 use Rattle.go_rules.proofs.Counts.{count_below_at_most}
 use Rattle.go_history.specs.Taken.{stones_taken}
@@ -20,8 +18,7 @@ pub captures_from-push : (pos : BoardState) (c : Colour) (ms : List Move) (m : M
 unfolding replay_from captures_from
 captures_from-push pos c [] m = omega arith
 captures_from-push pos c (first ∷ ms) m =
-    ap (λ n. stones_taken pos c first + n) (captures_from-push (led_to pos (moved pos first)) c ms m)
-    ∙ sym (add_assoc (stones_taken pos c first) (captures_from (led_to pos (moved pos first)) c ms) _)
+    grind (arith, add_assoc, captures_from-push (led_to pos (moved pos first)) c ms m)
 
 -- no stones are taken before the first move
 pub captures_from-nil : (pos : BoardState) (c : Colour) → captures_from pos c [] ≡ 0
@@ -38,19 +35,12 @@ IsLegalGame-take pos (suc n) (m ∷ ms) legal = (legal.0, IsLegalGame-take (led_
 pub taken_by-bound : (pos : BoardState) (c : Colour) (at : Option ℕ) → pos.size ≤ largest_size
     → taken_by pos c at ≤ largest_points
 taken_by-bound pos c None small = omega arith
-taken_by-bound pos c (Some p) small =
-    let board : pos.size * pos.size ≤ largest_points = mul-le pos.size pos.size largest_size largest_size small small in
-    let few = count_below_at_most (pos.size * pos.size) (is_taken pos.size (set pos.cells p (stone_of c)) c) in
-    omega (arith, board, few)
+taken_by-bound pos c (Some p) small = grind (arith, mul-le, count_below_at_most)
 
 -- a move takes at most the stones of a whole board for a colour
 pub stones_taken-bound : (pos : BoardState) (c : Colour) (m : Move) → pos.size ≤ largest_size
     → stones_taken pos c m ≤ largest_points
-stones_taken-bound pos c m small =
-    elim (cases_Bool (same_colour m.colour c)) [
-      | inl same ↦ rw same (taken_by-bound pos m.colour m.at small)
-      | inr apart ↦ rw apart (omega arith)
-    ]
+stones_taken-bound pos c m small = grind (arith, cases_Bool, taken_by-bound)
 
 -- the moves of a game take at most a whole board each
 pub captures_from-bound : (pos : BoardState) (c : Colour) (ms : List Move) → pos.size ≤ largest_size
@@ -58,7 +48,4 @@ pub captures_from-bound : (pos : BoardState) (c : Colour) (ms : List Move) → p
 unfolding captures_from
 captures_from-bound pos c [] small = omega arith
 captures_from-bound pos c (m ∷ ms) small =
-    let first = stones_taken-bound pos c m small in
-    let rest = captures_from-bound (led_to pos (moved pos m)) c ms (subst (λ n. n ≤ largest_size)
-    (sym (moved_size pos m.colour m.at)) small) in
-    omega (arith, first, rest)
+    grind (arith, stones_taken-bound, moved_size, captures_from-bound (led_to pos (moved pos m)) c ms)

@@ -1,5 +1,5 @@
 -- What is told of a move that is refused.
-use Rattle.std.proofs.Common.{◌≡◌, ◌↔◌, ℕ, Result, Err, sym, ap, ◌∙◌}
+use Rattle.std.proofs.Common.{◌≡◌, ◌↔◌, ℕ, Result, Err, arith}
 use Rattle.go_rules.specs.declared.Illegal.{Illegal}
 use Rattle.go_rules.specs.Position.{BoardState}
 use Rattle.go_strings.specs.declared.board.PlayError.{PlayError}
@@ -14,32 +14,15 @@ MoveOutcome = Result (Unit {0}) HistoryError
 -- a refusal is told exactly if the move is refused for it
 pub illegal_is : (r : Result BoardState Illegal) (x : Illegal) → r ≡ Err x → (e : Illegal)
     → (◌≡◌ {A = MoveOutcome} (Err (illegal x)) (Err (illegal e))) ↔ (r ≡ Err e)
-illegal_is r x is e = (λ same. is ∙ ap Err (inside x e same), λ other. same_error x e (sym is ∙ other))
-  where
-    inside : (x e : Illegal) → ◌≡◌ {A = MoveOutcome} (Err (illegal x)) (Err (illegal e)) → x ≡ e
-    inside x e same = cc
-
-    same_error : (x e : Illegal) → ◌≡◌ {A = Result BoardState Illegal} (Err x) (Err e)
-        → ◌≡◌ {A = MoveOutcome} (Err (illegal x)) (Err (illegal e))
-    same_error x e same = cc
+illegal_is r x is e = grind arith
 
 -- a move whose failure tells the refusal has an outcome that tells it
 pub told_is : (r : Result BoardState Illegal) (t : HistoryError) (e : Illegal) → ((t ≡ illegal e) ↔ (r ≡ Err e))
     → (◌≡◌ {A = MoveOutcome} (Err t) (Err (illegal e))) ↔ (r ≡ Err e)
-told_is r t e both = (λ same. both.0 (inside t (illegal e) same), λ other. ap Err (both.1 other))
-  where
-    inside : (t u : HistoryError) → ◌≡◌ {A = MoveOutcome} (Err t) (Err u) → t ≡ u
-    inside t u same = cc
+told_is r t e both = grind arith
 
 -- where a board has no memory for a move, the move is legal
 pub no_memory_is : (r : Result BoardState Illegal) (e : Illegal) (t : PlayError) → t ≡ play_no_memory
     → ((◌≡◌ {A = Result ℕ PlayError} (Err t) (Err (play_illegal e))) ↔ (r ≡ Err e))
     → (◌≡◌ {A = MoveOutcome} (Err no_memory) (Err (illegal e))) ↔ (r ≡ Err e)
-no_memory_is r e t is both = (λ bad. absurd (first e bad), λ other. absurd (second t e is (both.1 other)))
-  where
-    first : (e : Illegal) → ◌≡◌ {A = MoveOutcome} (Err no_memory) (Err (illegal e)) → ⊥
-    first e bad = cc
-
-    second : (t : PlayError) (e : Illegal) → t ≡ play_no_memory
-        → ◌≡◌ {A = Result ℕ PlayError} (Err t) (Err (play_illegal e)) → ⊥
-    second t e is bad = cc
+no_memory_is r e t is both = grind arith

@@ -190,9 +190,7 @@ module _ (old : Command) (m : ArgMatches) (p : IsParsedFrom old m) (is : app_of 
       where
         go : (o : Option MatchedArg) → matched_of (found_of m) option.name ≡ o
             → IsWhole option.least option.greatest text
-        go None e =
-            let bad : None ≡ Some text = rw e at one in
-            absurd (none-some text bad)
+        go None e = grind (arith, none-some)
         go (Some x) e =
             let number = number_found x e in
             let same : number.0 ≡ text = same_Some number.0 text (sym number.1 ∙ one) in

@@ -1,7 +1,6 @@
 -- The argument of a command that alone has a name, and what it says where it is that of an option with a number.
 use Rattle.std.proofs.Common.{◌≡◌, ◌∙◌, ◌<◌, ◌&&◌, ap, subst, ℕ, Bool, true, false, not, zero, suc, List, [], ◌∷◌}
-use Rattle.std.proofs.Common.{cond, length, map, Option, Some, None, is_some, refl, sym, inl, inr, arith, codes}
-use Rattle.std.proofs.Common.{true≢false}
+use Rattle.std.proofs.Common.{cond, length, map, Option, Some, None, is_some, refl, sym, arith, codes, true≢false}
 use Rattle.std.specs.List.{slice_index_or}
 use Rattle.std.specs.Str.{bytes_eq}
 use Rattle.std.proofs.lemmas.Option.{none-some, same_Some}
@@ -9,7 +8,7 @@ use Rattle.clap.specs.Facts.{args_of}
 use Rattle.clap.specs.Built.{IsAuto}
 use Rattle.clap.specs.Simple.{App, app_of}
 use Rattle.clap.specs.Texts.{items_of}
-use Rattle.clap.specs.Walk.{Rule, Text, is_empty, is_simple_arg, rule_of, texts}
+use Rattle.clap.specs.Walk.{Rule, Text, is_simple_arg, rule_of, texts}
 use Rattle.clap.specs.declared.builder.action.ArgAction.TheVariants.{Set}
 use Rattle.clap.specs.declared.builder.arg.Arg.{Arg}
 use Rattle.clap.specs.declared.builder.command.Command.{Command}
@@ -35,10 +34,7 @@ rule_named name (r ∷ rs) =
 absent : (xs : List Arg) (name : Text) → has_none name (map rule_of xs) ≡ true → (j : ℕ) (e : Arg) → j < length xs
     → bytes_eq (slice_index_or xs j e).id.now name ≡ true → ⊥
 absent [] name none j e lt same = absurd (omega arith)
-absent (x ∷ xs) name none zero e lt same =
-    let split = both (not (bytes_eq x.id.now name)) (has_none name (map rule_of xs)) none in
-    let other : bytes_eq x.id.now name ≡ false = is_false (bytes_eq x.id.now name) split.0 in
-    true≢false (sym same ∙ other)
+absent (x ∷ xs) name none zero e lt same = grind (arith, both, is_false, true≢false)
 absent (x ∷ xs) name none (suc j) e lt same =
     absent xs name (both (not (bytes_eq x.id.now name)) (has_none name (map rule_of xs)) none).1 j e (omega arith) same
 
@@ -100,12 +96,7 @@ no_value (Some x) e = absurd (true≢false (sym e))
 
 -- a simple argument has no delimiter and no default under a condition
 simple_arg : (a : Arg) → is_simple_arg a ≡ true → (a.val_delim ≡ None) × (a.default_vals_ifs.items ≡ [])
-simple_arg a e =
-    let p = both (is_empty a.overrides.items) _ e in
-    let q = both (is_empty a.default_vals_ifs.items) _ p.1 in
-    let r = both (is_empty a.groups.items) _ q.1 in
-    let s = both (not (is_some a.val_delim)) _ r.1 in
-    (no_value a.val_delim s.0, is_nil a.default_vals_ifs.items q.0)
+simple_arg a e = grind (arith, both, no_value, is_nil)
 
 -- ---- the argument of a number
 
@@ -152,8 +143,5 @@ number_named old option is has =
       default_ifs = facts.1;
       default_vals = ap (λ (x : Rule). x.defaults) one.rule;
       named = not_named option [] has refl;
-      own = λ auto. elim auto [
-        | inl h ↦ not_named option (codes "help") has refl (sym id ∙ h)
-        | inr h ↦ not_named option (codes "version") has refl (sym id ∙ h)
-      ];
+      own = grind (arith, not_named, codes);
     }

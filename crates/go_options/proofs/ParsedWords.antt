@@ -1,5 +1,5 @@
 -- What a parse of the command line says of its words.
-use Rattle.std.proofs.Common.{◌≡◌, ◌∙◌, ap, true, false, List, [], ◌∷◌, length, refl, sym, inl, inr, arith}
+use Rattle.std.proofs.Common.{◌≡◌, ◌∙◌, ap, true, false, List, [], ◌∷◌, length, refl, inl, inr, arith}
 use Rattle.std.proofs.lemmas.Bool.{ne_eqb}
 use Rattle.clap.specs.Faults.{fault_of, is_simple_and_free}
 use Rattle.clap.specs.Kinds.{HasKind, Kinds}
@@ -30,9 +30,7 @@ rows_found a words m is has = (has (ap is_simple is ∙ is_simple_line)).0 ∙ a
 -- words without a fault are taken
 pub is_taken_by : (a : App) (words : List Text) → a ≡ command_line
     → (is_simple_and_free a ≡ true → fault_of a words ≡ []) → is_taken words ≡ true
-is_taken_by a words is none =
-    ap (λ (b : App). is_empty (fault_of b words)) (sym is)
-    ∙ ap (λ (faults : Kinds). is_empty faults) (none (ap is_simple_and_free is ∙ is_free_line))
+is_taken_by a words is none = grind (arith, is_free_line)
 
 -- where a parse failed by a kind that is not want of memory, there is a fault
 some_fault : (faults : Kinds) (e : Error) → HasKind faults e → (kind_of e ≡ OutOfMemory → ⊥) → is_empty faults ≡ false
@@ -44,6 +42,4 @@ some_fault (k ∷ ks) e has other = ne_eqb (length (k ∷ ks)) 0 (λ none. omega
 pub is_not_taken_by : (a : App) (words : List Text) (e : Error) → a ≡ command_line
     → (is_simple_and_free a ≡ true → HasKind (fault_of a words) e)
     → (kind_of e ≡ OutOfMemory → ⊥) → is_taken words ≡ false
-is_not_taken_by a words e is has other =
-    ap (λ (b : App). is_empty (fault_of b words)) (sym is)
-    ∙ some_fault (fault_of a words) e (has (ap is_simple_and_free is ∙ is_free_line)) other
+is_not_taken_by a words e is has other = grind (arith, some_fault, is_free_line)

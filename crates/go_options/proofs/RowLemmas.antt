@@ -1,5 +1,5 @@
 -- What the getters read, by the rows of a parse.
-use Rattle.std.proofs.Common.{◌≡◌, ◌∙◌, ap, ℕ, false, List, Option, Some, None, Result, Ok, Err, refl, sym, subst}
+use Rattle.std.proofs.Common.{◌≡◌, ◌∙◌, ap, ℕ, false, List, Option, Some, None, Result, Ok, Err, refl, sym}
 use Rattle.std.proofs.Common.{arith, codes, option_map, []}
 use Rattle.std.specs.Prelude.{MatchOption, unwrap_or}
 use Rattle.std.specs.Option.{option_map_or}
@@ -37,9 +37,7 @@ number_read {E} G f id r only whole none value = go (one_text f id) refl
 -- a number that an option has lies in its range
 pub number_from : (f : Found) (option : NumberOption) (n : ℕ) → IsGiven f option
     → number_in option.name (rows_of f) ≡ Some n → IsIn option n
-number_from f option n has is =
-    let same : number_of has.0 ≡ n = same_Some _ _ (sym (number_of_text f option.name has.0 has.1) ∙ is) in
-    (omega (arith, has.2.1.0), omega (arith, has.2.1.1))
+number_from f option n has is = grind (arith, same_Some, number_of_text)
 
 -- whether a flag is set, by the text that `get_str` gives
 pub flag_read : (f : Found) (id : Text) (o : Option Text) → o ≡ first_value f id
@@ -59,11 +57,4 @@ IsInOrNone option number = MatchOption number (Unit {0}) (IsIn option)
 -- a number that an option may have lies in its range if it is there
 pub only_from : (f : Found) (option : NumberOption) (o : Option ℕ) → MayBeGiven f option
     → o ≡ number_in option.name (rows_of f) → IsInOrNone option o
-only_from f option o only is = subst (IsInOrNone option) (sym is) (go (one_text f option.name) refl)
-  where
-    go : (t : Option Text) → one_text f option.name ≡ t → IsInOrNone option (number_in option.name (rows_of f))
-    go None e =
-        let none : number_in option.name (rows_of f) ≡ None =
-        ap (option_map number_of) (sym (one_text-rows f option.name) ∙ e) in
-        subst (IsInOrNone option) (sym none) tt
-    go (Some t) e = subst (IsInOrNone option) (sym (number_of_text f option.name t e)) (only t e).1
+only_from f option o only is = grind (arith, option_map, one_text-rows, number_of_text)

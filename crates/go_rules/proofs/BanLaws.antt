@@ -36,34 +36,18 @@ record IsOnly (n : ℕ) (test : ℕ → Bool) (k : ℕ) : Type 0 where
 
 -- the last number passes and none before it
 only_last : (n : ℕ) (test : ℕ → Bool) → test n ≡ true → count_below n test ≡ 0 → IsOnly (suc n) test n
-only_last n test t none = record {
-  below = omega arith;
-  passes = t;
-  others = λ j l h. elim (cases_eq j n) [
-    | inl same ↦ same
-    | inr ne ↦ absurd (both_ways (test j) (none_pass n test none j (omega arith)) h)
-  ];
-}
+only_last n test t none = grind (arith, none_pass n test none, cases_eq, both_ways)
 
 -- the last number does not pass, and one before it is the only one
 only_before : (n : ℕ) (test : ℕ → Bool) (k : ℕ) → test n ≡ false → IsOnly n test k → IsOnly (suc n) test k
-only_before n test k f rest = record {
-  below = omega (arith, rest.below);
-  passes = rest.passes;
-  others = λ j l h. elim (cases_eq j n) [
-    | inl same ↦ absurd (both_ways (test j) (ap test same ∙ f) h)
-    | inr ne ↦ rest.others j (omega arith) h
-  ];
-}
+only_before n test k f rest = grind (arith, cases_eq, both_ways)
 
 -- where one number passes, it is the only one
 only_one : (n : ℕ) (test : ℕ → Bool) → count_below n test ≡ 1 → (k : ℕ) × IsOnly n test k
 only_one zero test e = absurd (omega arith)
 only_one (suc n) test e = elim (cases_Bool (test n)) [
   | inl t ↦ (n, only_last n test t (let g : 1 + count_below n test ≡ 1 = rw t at e in omega arith))
-  | inr f ↦
-      let rest = only_one n test (let g : 0 + count_below n test ≡ 1 = rw f at e in omega arith) in
-      (rest.0, only_before n test rest.0 f rest.1)
+  | inr f ↦ grind (arith, only_one n test, only_before n test)
 ]
 
 -- the count of a test that no number passes
@@ -75,10 +59,7 @@ count_none (suc n) test h = rw (h n (omega arith), count_none n test (λ j l. h 
 count_one : (n : ℕ) (test : ℕ → Bool) (k : ℕ) → IsOnly n test k → count_below n test ≡ 1
 count_one zero test k h = absurd (let l = h.below in omega arith)
 count_one (suc n) test k h = elim (cases_eq k n) [
-  | inl e ↦
-      let none : count_below n test ≡ 0 = count_none n test (λ j l. false_from_ne_true (test j)
-      (λ t. let same = h.others j (omega arith) t in omega arith)) in
-      rw (ap test (sym e) ∙ h.passes, none) refl
+  | inl e ↦ grind (arith, count_none, false_from_ne_true)
   | inr ne ↦
       let below : k < n = (let l = h.below in omega arith) in
       let miss = false_from_ne_true (test n) (λ t. let same = h.others n (omega arith) t in omega arith) in

@@ -1,5 +1,5 @@
 -- The new ban, by the set of what was taken.
-use Rattle.std.proofs.Common.{◌≡◌, ℕ, ◌*◌, ◌<◌, ◌≤◌, ◌&&◌, Bool, true, false, eqb, Some, None, List, refl, sym, ap}
+use Rattle.std.proofs.Common.{◌≡◌, ℕ, ◌*◌, ◌<◌, ◌≤◌, ◌&&◌, Bool, true, false, eqb, Some, None, List, refl, sym}
 use Rattle.std.proofs.Common.{arith, ◌∙◌}
 use Rattle.std.proofs.lemmas.Bool.{and_parts, ltb-true, lt-ltb}
 use Rattle.std.specs.Ordering.{nat_cmp}
@@ -25,8 +25,7 @@ ko_test_is : (s : ℕ) (put after : List Cell) (c : Colour) (p : ℕ) (taken : s
     ≡ (eqb (count_below (s * s) (is_taken s put c)) 1 && eqb (count_below (s * s) (is_in_string s after p)) 1
     && eqb (liberties s after p) 1)
 unfolding taken_at string_at
-ko_test_is s put after c p taken e =
-    rw (ap sets.len e ∙ len-set_below (s * s) (is_taken s put c), len-set_below (s * s) (is_in_string s after p)) refl
+ko_test_is s put after c p taken e = grind (arith, len-set_below)
 
 -- where the test fails there is no ban
 pub ban_none : (s : ℕ) (put after : List Cell) (c : Colour) (p : ℕ) (taken : sets.FinSet nat_cmp) (b : Bool)
@@ -42,13 +41,8 @@ pub ban_some : (s : ℕ) (put after : List Cell) (c : Colour) (p q : ℕ) (taken
     → Some (q, other c) ≡ ban_after s put after c p
 unfolding ban_after taken_at
 ban_some s put after c p q taken b e is t has least =
-    let at = λ (r : ℕ). ap (λ x. sets.contains x r) e ∙ contains-set_below (s * s) (is_taken s put c) r in
-    let parts = and_parts _ _ (sym (at q) ∙ has) in
-    let q_on = ltb-true q (s * s) parts.0 in
-    let first = first_below_is (s * s) (is_taken s put c) q q_on parts.1
-    (λ r l. sym (at r ∙ ap (λ x. x && is_taken s put c r) (lt-ltb r (s * s) (omega arith)))
-    ∙ least r (omega arith) l) in
-    rw (sym (is ∙ ko_test_is s put after c p taken e) ∙ t, first) refl
+    grind (arith, contains-set_below (s * s) (is_taken s put c), ltb-true q (s * s),
+        first_below_is (s * s) (is_taken s put c) q, ko_test_is s put after c p taken e, and_parts, lt-ltb)
 
 -- if nothing was taken there is no ban
 pub ban_empty : (s : ℕ) (put after : List Cell) (c : Colour) (p : ℕ) (taken : sets.FinSet nat_cmp) (b : Bool)
@@ -56,7 +50,5 @@ pub ban_empty : (s : ℕ) (put after : List Cell) (c : Colour) (p : ℕ) (taken 
     → ((r : ℕ) → 0 ≤ r → sets.contains taken r ≡ false) → None ≡ ban_after s put after c p
 unfolding ban_after taken_at
 ban_empty s put after c p taken b e is t none =
-    let at = λ (r : ℕ). ap (λ x. sets.contains x r) e ∙ contains-set_below (s * s) (is_taken s put c) r in
-    let first = first_below_none (s * s) (is_taken s put c)
-    (λ r l. sym (at r ∙ ap (λ x. x && is_taken s put c r) (lt-ltb r (s * s) l)) ∙ none r (omega arith)) in
-    rw (sym (is ∙ ko_test_is s put after c p taken e) ∙ t, first) refl
+    grind (arith, contains-set_below (s * s) (is_taken s put c), first_below_none (s * s) (is_taken s put c),
+        ko_test_is s put after c p taken e, lt-ltb)

@@ -80,11 +80,7 @@ taken_is_gone pos c p new good on e q q_on = elim (cases_eq q p) [
 taken_by_move : (pos : BoardState) (c : Colour) (at : Option ℕ) (next : BoardState) → IsPosition pos
     → IfSome at (λ p. p < pos.size * pos.size) → moved_to pos c at ≡ Ok next
     → taken_by pos c at ≡ stones_gone pos.size pos.cells next.cells
-taken_by_move pos c None next good on e =
-    let same : pos.cells ≡ next.cells = (let w = ap (λ r. (led_to pos r).cells) e in w) in
-    sym (count_below_none (pos.size * pos.size) _
-    (λ q l. ap (λ cells. is_stone (cell_at pos.cells q) && not (is_stone (cell_at cells q))) (sym same)
-    ∙ none_gone (is_stone (cell_at pos.cells q))))
+taken_by_move pos c None next good on e = grind (arith, count_below_none, none_gone)
 taken_by_move pos c (Some p) next good on e =
     count_below_same (pos.size * pos.size) _ _ (taken_is_gone pos c p next good on (play_done pos c p next e))
 
@@ -93,9 +89,7 @@ captures_snoc : (pos : BoardState) (c : Colour) (ms : List Move) (m : Move) → 
     ≡ captures_from pos c ms + cond (same_colour m.colour c) (taken_by (replay_from pos ms) m.colour m.at) 0
 unfolding captures_from replay_from
 captures_snoc pos c [] m = omega arith
-captures_snoc pos c (k ∷ ms) m =
-    let rest = captures_snoc (led_to pos (moved pos k)) c ms m in
-    omega (arith, rest)
+captures_snoc pos c (k ∷ ms) m = grind (arith, captures_snoc (led_to pos (moved pos k)) c ms m)
 
 -- a colour is not the same as the other
 same_colour-other : (c : Colour) → same_colour c (other c) ≡ false
@@ -125,28 +119,14 @@ pub own_captures : (s : ℕ) (moves : List Move) (m : Move) (next : BoardState) 
     → captures s m.colour (moves ++ m ∷ []) ≡ captures s m.colour moves + stones_gone s
     (replay s moves).cells next.cells
 own_captures s moves m next size legal allowed e =
-    let here = replay s moves in
-    let good = game_keeps (empty_board s) moves (empty_is_position s size) legal in
-    captures_snoc (empty_board s) m.colour moves m
-    ∙ ap (λ n. captures s m.colour moves + n)
-    (ap (λ b. cond b (taken_by here m.colour m.at) 0) (same_colour-itself m.colour)
-    ∙ taken_by_move here m.colour m.at next good allowed.on_board e
-    ∙ ap (λ n. stones_gone n here.cells next.cells) (replay_size (empty_board s) moves))
+    grind (arith, game_keeps, empty_is_position, captures_snoc, same_colour-itself, taken_by_move, replay_size)
 
 -- a move of one colour took nothing for the other
 pub others_captures : (s : ℕ) (moves : List Move) (m : Move)
     → captures s (other m.colour) (moves ++ m ∷ []) ≡ captures s (other m.colour) moves
-others_captures s moves m =
-    let none : cond (same_colour m.colour (other m.colour)) (taken_by (replay s moves) m.colour m.at) 0 ≡ 0 =
-    ap (λ b. cond b (taken_by (replay s moves) m.colour m.at) 0) (same_colour-other m.colour) in
-    omega (arith, captures_snoc (empty_board s) (other m.colour) moves m, none)
+others_captures s moves m = grind (arith, same_colour-other, captures_snoc)
 
 -- a pass took nothing
 pub pass_captures : (s : ℕ) (c k : Colour) (moves : List Move)
     → captures s c (moves ++ (record { colour = k; at = None }) ∷ []) ≡ captures s c moves
-pass_captures s c k moves =
-    omega (arith, captures_snoc (empty_board s) c moves (record { colour = k; at = None }), either (same_colour k c) 0)
-  where
-    either : (b : Bool) (n : ℕ) → cond b n n ≡ n
-    either true n = refl
-    either false n = refl
+pass_captures s c k moves = grind (arith, captures_snoc)

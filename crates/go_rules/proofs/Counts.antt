@@ -1,45 +1,27 @@
 -- Tests over the numbers below n.
-use Rattle.std.proofs.Common.{◌≡◌, ℕ, zero, suc, ◌<◌, ◌≤◌, Bool, true, false, Some, None, refl, sym, ap, arith, inl}
-use Rattle.std.proofs.Common.{inr, ◌∙◌}
+use Rattle.std.proofs.Common.{◌≡◌, ℕ, zero, suc, ◌<◌, ◌≤◌, Bool, true, false, Some, None, refl, arith, inl, inr}
 use Rattle.std.proofs.lemmas.Bool.{or_left, or_right, or_cases, or_parts, cases_Bool, cases_eq, both_ways}
 use Rattle.go_rules.specs.Below.{any_below, count_below, first_below}
 
 -- if some number passes
 pub any_below_gives : (n : ℕ) (test : ℕ → Bool) → any_below n test ≡ true → (k : ℕ) × (k < n) × (test k ≡ true)
 any_below_gives zero test h = absurd (both_ways false refl h)
-any_below_gives (suc n) test h =
-    elim (or_cases (test n) (any_below n test) h) [
-      | inl here ↦ (n, omega arith, here)
-      | inr below ↦ let found = any_below_gives n test below in (found.0, omega (arith, found.1), found.2)
-    ]
+any_below_gives (suc n) test h = grind (arith, or_cases, any_below_gives n test)
 
 -- where a number passes, some number passes
 pub any_below_from : (n : ℕ) (test : ℕ → Bool) (k : ℕ) → k < n → test k ≡ true → any_below n test ≡ true
 any_below_from zero test k h t = absurd (omega arith)
-any_below_from (suc n) test k h t =
-    elim (cases_eq k n) [
-      | inl e ↦ or_left (test n) (any_below n test) (ap test (sym e) ∙ t)
-      | inr ne ↦ or_right (test n) (any_below n test) (any_below_from n test k (omega arith) t)
-    ]
+any_below_from (suc n) test k h t = grind (arith, cases_eq, or_left, or_right, any_below_from n test k)
 
 -- if none passes, this one does not
 pub any_below_none : (n : ℕ) (test : ℕ → Bool) (k : ℕ) → any_below n test ≡ false → k < n → test k ≡ false
 any_below_none zero test k h l = absurd (omega arith)
-any_below_none (suc n) test k h l =
-    let parts = or_parts (test n) (any_below n test) h in
-    elim (cases_eq k n) [
-      | inl e ↦ ap test e ∙ parts.0
-      | inr ne ↦ any_below_none n test k parts.1 (omega arith)
-    ]
+any_below_none (suc n) test k h l = grind (arith, or_parts, cases_eq, any_below_none n test k)
 
 -- no more pass than there are
 pub count_below_at_most : (n : ℕ) (test : ℕ → Bool) → count_below n test ≤ n
 count_below_at_most zero test = omega arith
-count_below_at_most (suc n) test =
-    elim (cases_Bool (test n)) [
-      | inl t ↦ rw t (omega (arith, count_below_at_most n test))
-      | inr f ↦ rw f (omega (arith, count_below_at_most n test))
-    ]
+count_below_at_most (suc n) test = grind (arith, cases_Bool, count_below_at_most n test)
 
 -- each number that passes the one test passes the other
 pub count_below_mono : (n : ℕ) (a b : ℕ → Bool) → ((k : ℕ) → k < n → a k ≡ true → b k ≡ true)
@@ -58,9 +40,7 @@ pub count_below_less : (n : ℕ) (a b : ℕ → Bool) → ((k : ℕ) → k < n �
 count_below_less zero a b h q l miss hit = absurd (omega arith)
 count_below_less (suc n) a b h q l miss hit =
     elim (cases_eq q n) [
-      | inl e ↦
-          let rest : count_below n a ≤ count_below n b = count_below_mono n a b (λ k l. h k (omega arith)) in
-          rw (ap a (sym e) ∙ miss, ap b (sym e) ∙ hit) (omega arith)
+      | inl e ↦ grind (arith, count_below_mono)
       | inr ne ↦
           let rest : count_below n a < count_below n b =
           count_below_less n a b (λ k l. h k (omega arith)) q (omega arith) miss hit in
@@ -86,10 +66,7 @@ first_below_gives zero test q h = absurd (cc)
 first_below_gives (suc n) test q h =
     elim (cases_Bool (any_below n test)) [
       | inl t ↦ let rest = first_below_gives n test q (rw t at h) in (omega (arith, rest.0), rest.1)
-      | inr f ↦ elim (cases_Bool (test n)) [
-        | inl t ↦ let e : n ≡ q = (let g = rw (f, t) at h in cc) in (omega arith, ap test (sym e) ∙ t)
-        | inr g ↦ let w = rw (f, g) at h in absurd (cc)
-      ]
+      | inr f ↦ grind (arith, cases_Bool)
     ]
 
 -- if each fails, none passes
@@ -102,10 +79,7 @@ pub first_below_is : (n : ℕ) (test : ℕ → Bool) (q : ℕ) → q < n → tes
     → first_below n test ≡ Some q
 first_below_is zero test q l t none = absurd (omega arith)
 first_below_is (suc n) test q l t none =
-    elim (cases_eq q n) [
-      | inl e ↦ rw (any_below_false n test (λ k i. none k (omega arith)), ap test (sym e) ∙ t) (ap Some (sym e))
-      | inr ne ↦ rw (any_below_from n test q (omega arith) t) (first_below_is n test q (omega arith) t none)
-    ]
+    grind (arith, cases_eq q n, any_below_false n test, any_below_from n test q, first_below_is n test q)
 
 -- if each fails, there is no least
 pub first_below_none : (n : ℕ) (test : ℕ → Bool) → ((k : ℕ) → k < n → test k ≡ false) → first_below n test ≡ None

@@ -1,5 +1,5 @@
 -- What the tests of strings and neighbourhoods say in words.
-use Rattle.std.proofs.Common.{◌≡◌, ◌↔◌, ℕ, ◌*◌, ◌<◌, Bool, true, List, ap, inl, inr, ◌∙◌}
+use Rattle.std.proofs.Common.{◌≡◌, ◌↔◌, ℕ, ◌*◌, ◌<◌, Bool, true, List, inl, inr, arith}
 use Rattle.std.proofs.lemmas.Bool.{lt-ltb, ltb-true, or_cases, or_left, or_right, and_parts, and_from}
 use Rattle.go_rules.specs.declared.Cell.{Cell}
 use Rattle.go_rules.specs.Strings.{cell_at, is_stone, IsInString, start}
@@ -16,8 +16,7 @@ string_itself s cells p stone = record { stone = stone; path = start }
 -- if q is of the string of p, p is of the string of q
 pub string_back_in_words : (s : ℕ) (cells : List Cell) (p q : ℕ) → p < s * s → IsInString s cells p q
     → IsInString s cells q p
-string_back_in_words s cells p q on h =
-    record { stone = ap is_stone (path_same s cells p h.path) ∙ h.stone; path = path_back s cells p on h.path }
+string_back_in_words s cells p q on h = grind (arith, path_same, path_back)
 
 -- what is of the string of a stone of the string of p is of the string of p
 pub string_onward : (s : ℕ) (cells : List Cell) (p q r : ℕ) → IsInString s cells p q → IsInString s cells q r

@@ -1,5 +1,5 @@
 -- Paths lead back and on, and a string has its liberties wherever it is looked at.
-use Rattle.std.proofs.Common.{◌≡◌, ℕ, zero, suc, ◌+◌, ◌*◌, ◌/◌, ◌%◌, ◌<◌, ◌&&◌, Bool, true, false, eqb, List, refl, sym}
+use Rattle.std.proofs.Common.{◌≡◌, ℕ, zero, suc, ◌+◌, ◌*◌, ◌<◌, Bool, true, false, eqb, List, refl, sym}
 use Rattle.std.proofs.Common.{arith, inl, inr, ◌∙◌}
 use Rattle.std.proofs.lemmas.Bool.{cases_Bool, both_ways, or_cases, and_parts, eqb-true}
 use Rattle.go_rules.specs.declared.Cell.{Cell}
@@ -17,29 +17,16 @@ one_apart_comm a b = or_comm (eqb a (b + 1)) (eqb b (a + 1))
 -- neighbours are neighbours in both directions
 pub are_neighbours_comm : (s p q : ℕ) → are_neighbours s p q ≡ are_neighbours s q p
 unfolding are_neighbours
-are_neighbours_comm s p q =
-    rw (
-      eqb_comm (p / s) (q / s),
-      one_apart_comm (p % s) (q % s),
-      eqb_comm (p % s) (q % s),
-      one_apart_comm (p / s) (q / s),
-    ) refl
+are_neighbours_comm s p q = grind (arith, eqb_comm, one_apart_comm)
 
 -- no number follows itself
 not_apart : (a : ℕ) → are_one_apart a a ≡ true → ⊥
-not_apart a h = elim (or_cases _ _ h) [
-  | inl next ↦ omega (arith, eqb-true a (a + 1) next)
-  | inr next ↦ omega (arith, eqb-true a (a + 1) next)
-]
+not_apart a h = grind (arith, or_cases, eqb-true)
 
 -- no point is its own neighbour
 pub not_its_own : (s p : ℕ) → are_neighbours s p p ≡ true → ⊥
 unfolding are_neighbours
-not_its_own s p h = elim (or_cases (eqb (p / s) (p / s) && are_one_apart (p % s) (p % s))
-    (eqb (p % s) (p % s) && are_one_apart (p / s) (p / s)) h) [
-      | inl row ↦ not_apart (p % s) (and_parts (eqb (p / s) (p / s)) (are_one_apart (p % s) (p % s)) row).1
-      | inr column ↦ not_apart (p / s) (and_parts (eqb (p % s) (p % s)) (are_one_apart (p / s) (p / s)) column).1
-    ]
+not_its_own s p h = grind (arith, or_cases, not_apart, and_parts)
 
 -- a path leads over points that hold the same
 pub path_same : (s : ℕ) (cells : List Cell) (p : ℕ) {q : ℕ} → Path s cells p q → cell_at cells q ≡ cell_at cells p
@@ -71,15 +58,7 @@ path_keeps s a b q same (step {q = x} {r} path on near e) =
 -- two points of one string have the same liberties
 pub liberty_moves : (s : ℕ) (cells : List Cell) (p q l : ℕ) → p < s * s → IsInString s cells p q → IsLiberty s cells q l
     → IsLiberty s cells p l
-liberty_moves s cells p q l h link lib = record {
-  on_board = lib.on_board;
-  is_empty = lib.is_empty;
-  beside = (
-    lib.beside.0,
-    record { stone = link.stone; path = path_on s cells p q link.path lib.beside.1.path },
-    lib.beside.2,
-  );
-}
+liberty_moves s cells p q l h link lib = grind (arith, path_on)
 
 -- if some are counted, some number passes
 count_below_some : (n : ℕ) (test : ℕ → Bool) → 0 < count_below n test → any_below n test ≡ true

@@ -87,11 +87,7 @@ reached_start s cells p (suc n) = reached_more s cells p n p (reached_start s ce
 reached_later : (s : ℕ) (cells : List Cell) (p q k n : ℕ) → k ≤ n → reached s cells p k q ≡ true
     → reached s cells p n q ≡ true
 reached_later s cells p q k zero le h = let e : k ≡ 0 = omega arith in subst (λ x. reached s cells p x q ≡ true) e h
-reached_later s cells p q k (suc n) le h =
-    elim (cases_eq k (suc n)) [
-      | inl e ↦ subst (λ x. reached s cells p x q ≡ true) e h
-      | inr ne ↦ reached_more s cells p n q (reached_later s cells p q k n (omega arith) h)
-    ]
+reached_later s cells p q k (suc n) le h = grind (arith, cases_eq, reached_more, reached_later s cells p q k n)
 
 -- one more step reaches nothing new
 abbrev IsStable : ℕ → List Cell → ℕ → ℕ → Type 0
@@ -123,10 +119,8 @@ stable_at s cells p n none q l now = elim (cases_Bool (reached s cells p n q)) [
 more_at : (s : ℕ) (cells : List Cell) (p n : ℕ) → any_below (s * s) (new_at s cells p n) ≡ true
     → count_below (s * s) (reached s cells p n) < count_below (s * s) (reached s cells p (suc n))
 more_at s cells p n some =
-    let found = any_below_gives (s * s) _ some in
-    let both = and_parts _ _ found.2 in
-    count_below_less (s * s) (reached s cells p n) (reached s cells p (suc n))
-    (λ k l e. reached_more s cells p n k e) found.0 found.1 (not-true _ both.1) both.0
+    grind (arith, any_below_gives (s * s), count_below_less (s * s) (reached s cells p n) (reached s cells p (suc n)),
+        reached_more s cells p n, and_parts, not-true)
 
 -- after n steps either nothing new came at some step, or more than n points are reached
 stable_or_many : (s : ℕ) (cells : List Cell) (p : ℕ) → p < s * s → (n : ℕ)
@@ -149,19 +143,14 @@ stable_or_many s cells p h (suc n) = elim (stable_or_many s cells p h n) [
 pub reached_all : (s : ℕ) (cells : List Cell) (p : ℕ) → p < s * s → {q : ℕ} → Path s cells p q
     → reached s cells p (s * s) q ≡ true
 reached_all s cells p h {q} path =
-    elim (stable_or_many s cells p h (s * s)) [
-      | inl found ↦ reached_later s cells p q found.0 (s * s) found.1
-          (reached_from_path s cells p found.0 h found.2 path)
-      | inr many ↦ absurd (omega (arith, many, count_below_at_most (s * s) (reached s cells p (s * s))))
-    ]
+    grind (arith, stable_or_many s cells p h (s * s), reached_later s cells p q, reached_from_path s cells p,
+        count_below_at_most (s * s) (reached s cells p (s * s)))
 
 -- The test is the fact.
 pub IsInString-from_test : (s : ℕ) (cells : List Cell) (p q : ℕ) → is_in_string s cells p q ≡ true
     → IsInString s cells p q
 unfolding is_in_string
-IsInString-from_test s cells p q h =
-    let parts = and_parts _ _ h in
-    record { stone = parts.0; path = path_from_reached s cells p (s * s) q parts.1 }
+IsInString-from_test s cells p q h = grind (arith, and_parts, path_from_reached)
 
 -- the fact of a string gives the test
 pub is_is_in_string-from_fact : (s : ℕ) (cells : List Cell) (p q : ℕ) → p < s * s → IsInString s cells p q
@@ -173,15 +162,7 @@ is_is_in_string-from_fact s cells p q h fact = and_from _ _ fact.stone (reached_
 pub IsLiberty-from_test : (s : ℕ) (cells : List Cell) (p l : ℕ) → is_liberty s cells p l ≡ true → IsLiberty s cells p l
 unfolding is_liberty
 IsLiberty-from_test s cells p l h =
-    let parts = and_parts _ _ h in
-    let first = and_parts _ _ parts.0 in
-    let found = any_below_gives (s * s) _ parts.1 in
-    let both = and_parts _ _ found.2 in
-    record {
-      on_board = ltb-true _ _ first.0;
-      is_empty = same_cell-true _ _ first.1;
-      beside = (found.0, IsInString-from_test s cells p found.0 both.0, both.1);
-    }
+    grind (arith, any_below_gives (s * s), IsInString-from_test s cells p, and_parts, ltb-true, same_cell-true)
 
 -- the fact of a liberty gives the test
 pub is_liberty-from_fact : (s : ℕ) (cells : List Cell) (p l : ℕ) → p < s * s → IsLiberty s cells p l

@@ -14,7 +14,7 @@ use Rattle.go_rules.specs.declared.Cell.TheVariants.{Empty, Black, White}
 use Rattle.go_rules.specs.declared.Colour.{Colour}
 use Rattle.go_rules.specs.declared.Colour.TheVariants.{Black as black, White as white}
 use Rattle.go_rules.specs.Board.{are_neighbours}
-use Rattle.go_rules.specs.Strings.{cell_at, is_stone, same_cell, Path, step, IsInString, IsLiberty, liberties}
+use Rattle.go_rules.specs.Strings.{cell_at, is_stone, same_cell, Path, step, IsLiberty, liberties}
 use Rattle.go_rules.specs.Position.{BoardState, IsPosition, other, stone_of}
 use Rattle.go_rules.specs.Play.{is_taken, taken_at, cells_after}
 use Rattle.go_rules.proofs.Paths.{path_on_board, same_cell-true, same_cell-from}
@@ -79,40 +79,24 @@ taken_from s put c q e z = and_from _ _ (same_cell-from _ _ e) (eq-eqb _ _ z)
 -- a stone of the player is not taken
 pub own_not_taken : (s : ℕ) (put : List Cell) (c : Colour) (q : ℕ) → cell_at put q ≡ stone_of c
     → is_taken s put c q ≡ false
-own_not_taken s put c q e =
-    false_from_ne_true (is_taken s put c q) (λ t. enemy_differs c (sym (taken_parts s put c q t).0 ∙ e))
+own_not_taken s put c q e = grind (arith, false_from_ne_true, enemy_differs, taken_parts)
 
 -- an empty point is not taken
 pub empty_not_taken : (s : ℕ) (put : List Cell) (c : Colour) (q : ℕ) → cell_at put q ≡ Empty
     → is_taken s put c q ≡ false
-empty_not_taken s put c q e = false_from_ne_true (is_taken s put c q) (λ t. both_ways (is_stone Empty) refl
-    (ap is_stone (sym e ∙ (taken_parts s put c q t).0) ∙ stone_is (other c)))
+empty_not_taken s put c q e = grind (arith, false_from_ne_true, both_ways, taken_parts, stone_is)
 
 -- a stone whose string has a liberty is not taken
 pub alive_not_taken : (s : ℕ) (put : List Cell) (c : Colour) (q : ℕ) → 0 < liberties s put q
     → is_taken s put c q ≡ false
-alive_not_taken s put c q h =
-    elim (cases_Bool (is_taken s put c q)) [
-      | inl t ↦ (let z = (taken_parts s put c q t).1 in absurd (omega arith))
-      | inr f ↦ f
-    ]
+alive_not_taken s put c q h = grind (arith, cases_Bool, taken_parts)
 
 -- A string without liberties is taken whole.
 pub taken_whole : (s : ℕ) (put : List Cell) (c : Colour) (q x : ℕ) → q < s * s → is_taken s put c q ≡ true
     → Path s put q x → is_taken s put c x ≡ true
 taken_whole s put c q x on t path =
-    let parts = taken_parts s put c q t in
-    let x_on = path_on_board s put q on path in
-    let its : cell_at put x ≡ stone_of (other c) = path_same s put q path ∙ parts.0 in
-    taken_from s put c x its
-    (elim (cases_eq (liberties s put x) 0) [
-      | inl z ↦ z
-      | inr nz ↦
-          let l = liberties_some s put x (omega arith) in
-          let link : IsInString s put q x = record { stone = ap is_stone parts.0 ∙ stone_is (other c); path = path } in
-          let alive = liberties_from s put q l.0 on (liberty_moves s put q x l.0 on link l.1) in
-          absurd (omega (arith, alive, parts.1))
-    ])
+    grind (arith, taken_parts, path_on_board, path_same, taken_from, cases_eq, liberties_some, stone_is,
+        liberties_from, liberty_moves)
 
 -- the removal of a set's stones, if the set is what is taken
 pub after_from : (s : ℕ) (put : List Cell) (c : Colour) (taken : sets.FinSet nat_cmp) → taken ≡ taken_at s put c
@@ -192,11 +176,7 @@ module _ (pos : BoardState) (good : IsPosition pos) (c : Colour) (p : ℕ) (p_on
 
     -- a point where a stone is left was not taken
     was_left : (x : ℕ) → x < pos.size * pos.size → is_stone (cell_at after x) ≡ true → is_taken pos.size put c x ≡ false
-    was_left x on stone = elim (cases_Bool (is_taken pos.size put c x)) [
-      | inl t ↦ absurd (both_ways (is_stone Empty) refl (ap is_stone (sym (ap (λ t. cell_at t x) is
-          ∙ at_after pos.size put c x on ∙ ap (λ b. cond b Empty (cell_at put x)) t)) ∙ stone))
-      | inr f ↦ f
-    ]
+    was_left x on stone = grind (arith, cases_Bool, both_ways, at_after)
 
     -- an empty point stays empty
     clear : (x : ℕ) → x < pos.size * pos.size → cell_at put x ≡ Empty → cell_at after x ≡ Empty
@@ -204,26 +184,17 @@ module _ (pos : BoardState) (good : IsPosition pos) (c : Colour) (p : ℕ) (p_on
 
     -- the played stone stands
     played : cell_at after p ≡ stone_of c
-    played =
-        let there : cell_at put p ≡ stone_of c = at_put_same pos.cells p (stone_of c) p_in in
-        stays p p_on (own_not_taken pos.size put c p there) ∙ there
+    played = grind (arith, at_put_same, stays, own_not_taken)
 
     -- a string that a path joins to a string with a liberty has one
     joined_alive : (q r : ℕ) → q < pos.size * pos.size → is_stone (cell_at after q) ≡ true → Path pos.size after q r
         → 0 < liberties pos.size after r → 0 < liberties pos.size after q
-    joined_alive q r q_on stone there alive =
-        let l = liberties_some pos.size after r alive in
-        liberties_from pos.size after q l.0 q_on
-        (liberty_moves pos.size after q r l.0 q_on (record { stone = stone; path = there }) l.1)
+    joined_alive q r q_on stone there alive = grind (arith, liberties_some, liberties_from, liberty_moves)
 
     -- the stones of an older string of the player are left as they were
     own_kept : (q : ℕ) → q < pos.size * pos.size → cell_at pos.cells q ≡ stone_of c
         → (y : ℕ) → Path pos.size pos.cells q y → cell_at after y ≡ cell_at pos.cells y
-    own_kept q q_on own y w =
-        let y_cells : cell_at pos.cells y ≡ stone_of c = path_same pos.size pos.cells q w ∙ own in
-        let y_not : y ≢ p = not_p y (ap is_stone y_cells ∙ stone_is c) in
-        let y_put : cell_at put y ≡ cell_at pos.cells y = at_put_other pos.cells p y (stone_of c) y_not in
-        stays y (path_on_board pos.size pos.cells q q_on w) (own_not_taken pos.size put c y (y_put ∙ y_cells)) ∙ y_put
+    own_kept q q_on own y w = grind (arith, path_same, stone_is, at_put_other, stays, path_on_board, own_not_taken)
 
     -- an older string of the player has a liberty, or is joined to the played stone
     own_alive : 0 < liberties pos.size after p → (q : ℕ) → q < pos.size * pos.size → q ≢ p
@@ -240,23 +211,16 @@ module _ (pos : BoardState) (good : IsPosition pos) (c : Colour) (p : ℕ) (p_on
               let q_after : cell_at after q ≡ stone_of c = stays q q_on (was_left q q_on stone) ∙ own in
               joined_alive q p q_on stone (step there p_on near (played ∙ sym q_after)) p_alive
           | inr l_not ↦
-              liberties_from pos.size after q l.0 q_on (record {
-                on_board = l.1.on_board;
-                is_empty = clear l.0 l.1.on_board (at_put_other pos.cells p l.0 (stone_of c) l_not ∙ l.1.is_empty);
-                beside = (l.1.beside.0, record { stone = stone; path = there }, l.1.beside.2);
-              })
+              grind (arith, liberties_from pos.size after q l.0 q_on,
+                  clear l.0 l.1.on_board (at_put_other pos.cells p l.0 (stone_of c) l_not ∙ l.1.is_empty),
+                  at_put_other pos.cells p l.0 (stone_of c) l_not)
         ]
 
     -- the stones of a string of which one is left are all left
     enemy_kept : (q : ℕ) → q < pos.size * pos.size → is_stone (cell_at after q) ≡ true
         → (y : ℕ) → Path pos.size put q y → cell_at after y ≡ cell_at put y
     enemy_kept q q_on stone y w =
-        let y_on = path_on_board pos.size put q q_on w in
-        elim (cases_Bool (is_taken pos.size put c y)) [
-          | inl t ↦ absurd (both_ways (is_taken pos.size put c q) (was_left q q_on stone)
-              (taken_whole pos.size put c y q y_on t (path_back pos.size put q q_on w)))
-          | inr f ↦ stays y y_on f
-        ]
+        grind (arith, path_on_board, cases_Bool, both_ways, was_left, taken_whole, path_back, stays)
 
     -- an enemy's string that was not taken has a liberty
     enemy_alive : (q : ℕ) → q < pos.size * pos.size → cell_at put q ≡ stone_of (other c)
@@ -278,12 +242,4 @@ module _ (pos : BoardState) (good : IsPosition pos) (c : Colour) (p : ℕ) (p_on
     -- if the played stone's string has a liberty, every string has one
     pub after_alive : 0 < liberties pos.size after p
         → (q : ℕ) → q < pos.size * pos.size → is_stone (cell_at after q) ≡ true → 0 < liberties pos.size after q
-    after_alive p_alive q q_on stone =
-        let q_after : cell_at after q ≡ cell_at put q = stays q q_on (was_left q q_on stone) in
-        elim (stone_cases c (cell_at put q) (ap is_stone (sym q_after) ∙ stone)) [
-          | inl own ↦ elim (cases_eq q p) [
-            | inl e ↦ subst (λ x. 0 < liberties pos.size after x) (sym e) p_alive
-            | inr ne ↦ own_alive p_alive q q_on ne own stone
-          ]
-          | inr enemy ↦ enemy_alive q q_on enemy stone
-        ]
+    after_alive p_alive q q_on stone = grind (arith, stays, was_left, stone_cases, cases_eq, own_alive, enemy_alive)

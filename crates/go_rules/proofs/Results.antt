@@ -1,6 +1,6 @@
 -- What a play gives in each case, and that it gives a position.
-use Rattle.std.proofs.Common.{◌≡◌, ◌≢◌, ℕ, ◌*◌, ◌<◌, Bool, true, false, cond, Option, Some, None, List, Ok, Err, IfSome}
-use Rattle.std.proofs.Common.{refl, ap, arith, ◌∙◌}
+use Rattle.std.proofs.Common.{◌≡◌, ◌≢◌, ℕ, ◌*◌, ◌<◌, true, false, Option, Some, None, List, Ok, Err, IfSome}
+use Rattle.std.proofs.Common.{refl, arith}
 use Rattle.std.proofs.Math.ListN.{set}
 use Rattle.std.proofs.lemmas.Bool.{ne_eqb}
 use Rattle.std.specs.Option.{option_map}
@@ -73,30 +73,16 @@ ban_of_first : (s : ℕ) (put after : List Cell) (c : Colour) (o : Option ℕ) �
     → IfSome (option_map {T = ℕ} {U = ℕ × Colour} (λ q. (q, other c)) o) (λ b. (b.0 < s * s)
     × (cell_at after b.0 ≡ Empty))
 ban_of_first s put after c None is e = tt
-ban_of_first s put after c (Some q) is e =
-    let found = first_below_gives (s * s) (is_taken s put c) q e in
-    (found.0, ap (λ t. cell_at t q) is ∙ at_after s put c q found.0 ∙ ap (λ b. cond b Empty (cell_at put q)) found.1)
+ban_of_first s put after c (Some q) is e = grind (arith, first_below_gives, at_after)
 
 -- the ban's point is on the board and empty
 pub ban_good : (s : ℕ) (put after : List Cell) (c : Colour) (p : ℕ) → after ≡ cells_after s put c
     → IfSome (ban_after s put after c p) (λ b. (b.0 < s * s) × (cell_at after b.0 ≡ Empty))
 unfolding ban_after
-ban_good s put after c p is = chosen _ _ (ban_of_first s put after c (first_below (s * s) (is_taken s put c)) is refl)
-  where
-    chosen : (b : Bool) (o : Option (ℕ × Colour)) → IfSome o (λ b. (b.0 < s * s) × (cell_at after b.0 ≡ Empty))
-        → IfSome (cond b o None) (λ b. (b.0 < s * s) × (cell_at after b.0 ≡ Empty))
-    chosen true o h = h
-    chosen false o h = tt
+ban_good s put after c p is = grind (arith, ban_of_first)
 
 -- the position after a play that is done is a position
 pub result_good : (pos : BoardState) (c : Colour) (p : ℕ) → IsPosition pos → p < pos.size * pos.size
     → is_stone (cell_at pos.cells p) ≡ false → liberties pos.size (after_on pos c p) p ≢ 0
     → IsPosition (result_of pos c p)
-result_good pos c p good on f nz = record {
-  size_at_least = good.size_at_least;
-  size_at_most = good.size_at_most;
-  cells = length_after pos.size (put_on pos c p) c;
-  alive = λ q q_on stone. after_alive pos good c p on (empty_from (cell_at pos.cells p) f) (after_on pos c p) refl
-      (omega arith) q q_on stone;
-  ban = ban_good pos.size (put_on pos c p) (after_on pos c p) c p refl;
-}
+result_good pos c p good on f nz = grind (arith, length_after, after_alive, empty_from, ban_good)

@@ -1,5 +1,5 @@
 -- What the set of the numbers below n that pass has.
-use Rattle.std.proofs.Common.{◌≡◌, ℕ, zero, suc, ◌+◌, ◌||◌, ◌&&◌, Bool, true, eqb, ltb, refl, sym, ap, arith}
+use Rattle.std.proofs.Common.{◌≡◌, ℕ, zero, suc, ◌+◌, ◌||◌, ◌&&◌, Bool, true, eqb, ltb, refl, ap, arith}
 use Rattle.std.proofs.Common.{◌≢◌, inl, inr, ◌∙◌, add-one}
 use Rattle.std.proofs.lemmas.Bool.{cases_Bool, cases_eq, cases_lt, lt-ltb, le-ltb, eq-eqb, ne_eqb}
 use Rattle.std.specs.Ordering.{nat_cmp, eq_by_cmp}
@@ -23,27 +23,15 @@ same_nat_set s t h = set.same_set nat_cmp_total set.nat_cmp-IsAntisymmetric s t 
 
 -- another number than n is below n + 1 exactly if it is below n
 ltb-other : (q n : ℕ) → q ≢ n → ltb q (suc n) ≡ ltb q n
-ltb-other q n ne = elim (cases_lt q n) [
-  | inl l ↦ rw (lt-ltb q n l, lt-ltb q (suc n) (omega arith)) refl
-  | inr g ↦ rw (le-ltb q n g, le-ltb q (suc n) (omega arith)) refl
-]
+ltb-other q n ne = grind (arith, cases_lt, lt-ltb, le-ltb)
 
 -- the members of the set are the numbers below n that pass
 pub contains-set_below : (n : ℕ) (test : ℕ → Bool) (q : ℕ) → set.contains (set_below n test) q ≡ (ltb q n && test q)
 unfolding set_below
 contains-set_below zero test q = rw (le-ltb q 0 (omega arith)) (set.contains-empty nat_cmp q)
-contains-set_below (suc n) test q = elim (cases_Bool (test n)) [
-  | inl t ↦ rw (t, contains-insert_nat (set_below n test) n q, contains-set_below n test q)
-      (elim (cases_eq q n) [
-        | inl e ↦ rw (e, eq-eqb n n refl, lt-ltb n (suc n) (omega arith), t) refl
-        | inr ne ↦ rw (ne_eqb q n ne, ltb-other q n ne) refl
-      ])
-  | inr f ↦ rw (f, contains-set_below n test q)
-      (elim (cases_eq q n) [
-        | inl e ↦ rw (e, le-ltb n n (omega arith), lt-ltb n (suc n) (omega arith), f) refl
-        | inr ne ↦ rw (ltb-other q n ne) refl
-      ])
-]
+contains-set_below (suc n) test q =
+    grind (arith, cases_Bool, contains-insert_nat, cases_eq, eq-eqb, lt-ltb, ne_eqb, ltb-other, le-ltb,
+        contains-set_below n test q)
 
 -- the set has as many members as numbers pass
 pub len-set_below : (n : ℕ) (test : ℕ → Bool) → set.len (set_below n test) ≡ count_below n test
@@ -70,5 +58,4 @@ set_below-none test = refl
 -- a number that passes comes
 pub set_below-hit : (n : ℕ) (test : ℕ → Bool) → test n ≡ true → set.insert (set_below n test) n ≡ set_below (n + 1) test
 unfolding set_below
-set_below-hit n test t = let k : set_below (suc n) test ≡ set.insert (set_below n test) n = rw t refl in
-    sym (ap (λ m. set_below m test) (add-one n) ∙ k)
+set_below-hit n test t = grind (arith, add-one)

@@ -1,5 +1,5 @@
 -- What holds of tests and comparisons of any kind.
-use Rattle.std.proofs.Common.{◌≡◌, ℕ, ◌||◌, ◌&&◌, Bool, true, false, eqb, refl, sym, inl, inr, ◌∙◌}
+use Rattle.std.proofs.Common.{◌≡◌, ℕ, ◌||◌, ◌&&◌, Bool, true, false, eqb, refl, sym, arith}
 use Rattle.std.proofs.lemmas.Bool.{cases_eq, eq-eqb, ne_eqb}
 
 -- two tests of which each passes where the other does are the same
@@ -11,10 +11,7 @@ same_tests false true f g = g refl
 
 -- which number is compared with which does not matter
 pub eqb_comm : (a b : ℕ) → eqb a b ≡ eqb b a
-eqb_comm a b = elim (cases_eq a b) [
-  | inl e ↦ eq-eqb a b e ∙ sym (eq-eqb b a (sym e))
-  | inr ne ↦ ne_eqb a b ne ∙ sym (ne_eqb b a (λ e. ne (sym e)))
-]
+eqb_comm a b = grind (arith, cases_eq, eq-eqb, ne_eqb)
 
 -- which of two tests comes first does not matter
 pub or_comm : (a b : Bool) → (a || b) ≡ (b || a)

@@ -74,15 +74,7 @@ KeepsNear t = (d : Offset) → IsNear d → IsNear (transformed t d)
 
 -- the parts of an offset, and their negatives, stay within the largest board
 near : (x y : ℤ) → IsNear (x, y) → IsNear (x, neg_ℤ y) × IsNear (neg_ℤ x, y) × IsNear (y, x)
-near x y h =
-    let low = h.row_low in
-    let high = h.row_high in
-    let low' = h.column_low in
-    let high' = h.column_high in (
-      record { row_low = low; row_high = high; column_low = omega (arith, ints); column_high = omega (arith, ints) },
-      record { row_low = omega (arith, ints); row_high = omega (arith, ints); column_low = low'; column_high = high' },
-      record { row_low = low'; row_high = high'; column_low = low; column_high = high },
-    )
+near x y h = grind arith
 
 -- a transformation keeps an offset within the largest board
 pub keeps_near : (t : ℕ) → t < transformations → KeepsNear t

@@ -1,6 +1,6 @@
 -- What is noted leads back.
-use Rattle.std.proofs.Common.{◌≡◌, ℕ, ◌+◌, ◌-◌, ◌*◌, ◌<◌, ◌≤◌, ◌⊎◌, List, [], ◌∷◌, ◌++◌, length, take, drop}
-use Rattle.std.proofs.Common.{get_or, Result, Ok, Err, refl, sym, ap, subst, arith, ◌∙◌}
+use Rattle.std.proofs.Common.{◌≡◌, ℕ, ◌+◌, ◌-◌, ◌*◌, ◌<◌, ◌≤◌, ◌⊎◌, List, [], ◌∷◌, ◌++◌, length, take}
+use Rattle.std.proofs.Common.{get_or, Result, Ok, Err, refl, sym, ap, subst, arith}
 use Rattle.std.proofs.Math.ListN.{set, length-set}
 use Rattle.std.proofs.lemmas.List.{append-nil, append_assoc, set-set, set-get_or, take_all, take_more}
 use Rattle.std.proofs.lemmas.List.{take-append-drop, drop-set-lt}
@@ -17,11 +17,7 @@ use Rattle.go_strings.specs.Notes.{cells_before, names_before, IsNoted}
 -- a list that is not empty ends with its last
 pub last_split : {A : Type 0} (xs : List A) (n : ℕ) (v : A) → n ≡ length xs → (n ≡ 0 → ⊥) → v ≡ get_or xs (n - 1) v
     → xs ≡ take (n - 1) xs ++ v ∷ []
-last_split xs n v long some is =
-    let within : n - 1 < length xs = omega (arith, long, some) in
-    let next : n - 1 + 1 ≡ length xs = omega (arith, long, some) in
-    sym (take_all (length xs) xs (omega arith)) ∙ ap (λ k. take k xs) (sym next) ∙ take_more xs (n - 1) v within
-    ∙ ap (λ w. take (n - 1) xs ++ w ∷ []) (sym is)
+last_split xs n v long some is = grind (arith, take_all, take_more)
 
 -- notes and more notes are taken back one after the other
 cells_before-append : (ns more : List Note) (cells : List Cell)
@@ -38,31 +34,17 @@ names_before-append (n ∷ ns) more names = ap (λ t. set t n.at n.name) (names_
 -- if nothing changed, no note is needed
 pub noted_none : {cells : List Cell} {names : List ℕ} {notes longer : List Note} → longer ≡ notes
     → IsNoted cells cells names names notes longer
-noted_none {notes = notes} e = record {
-  more = [];
-  notes_are = e
-      ∙ sym (append-nil notes);
-  cells_are = refl;
-  names_are = refl;
-}
+noted_none {notes = notes} e = grind (arith, append-nil)
 
 -- what is noted twice is noted
 pub noted_more : {a b c : List Cell} {l m n : List ℕ} {x y z : List Note} → IsNoted a b l m x y → IsNoted b c m n y z
     → IsNoted a c l n x z
-noted_more {c = c} {n = n} {x = x} g h = record {
-  more = g.more ++ h.more;
-  notes_are = h.notes_are ∙ ap (λ t. t ++ h.more) g.notes_are ∙ append_assoc x g.more h.more;
-  cells_are = cells_before-append g.more h.more c ∙ ap (cells_before g.more) h.cells_are ∙ g.cells_are;
-  names_are = names_before-append g.more h.more n ∙ ap (names_before g.more) h.names_are ∙ g.names_are;
-}
+noted_more {c = c} {n = n} {x = x} g h = grind (arith, append_assoc, cells_before-append, names_before-append)
 
 -- a board that was looked at alone has the same cells
 pub cells_again : (old new : Flat) → KeepsRest old new → cells_of new ≡ cells_of old → new.cells ≡ old.cells
 cells_again old new keeps same =
-    sym (take-append-drop (new.size * new.size) new.cells)
-    ∙ ap (λ t. t ++ drop (new.size * new.size) new.cells) same
-    ∙ ap (λ n. take (old.size * old.size) old.cells ++ drop (n * n) new.cells) keeps.size
-    ∙ ap (λ t. take (old.size * old.size) old.cells ++ t) keeps.rest ∙ take-append-drop (old.size * old.size) old.cells
+    grind (arith, take-append-drop (new.size * new.size) new.cells, take-append-drop (old.size * old.size) old.cells)
 
 -- what was noted up to then is what is noted
 pub noted_again : (old new : Flat) → KeepsRest old new → cells_of new ≡ cells_of old
@@ -75,23 +57,13 @@ noted_again old new keeps same {a = a} {l = l} {m = m} {x = x} {y = y} g =
 pub noted_cell : (cells : List Cell) (names : List ℕ) (notes longer : List Note) (p : ℕ) (k : Cell)
     → longer ≡ notes ++ (record { at = p; cell = get_or cells p Empty; name = get_or names p 0 }) ∷ []
     → IsNoted cells (set cells p k) names names notes longer
-noted_cell cells names notes longer p k e = record {
-  more = (record { at = p; cell = get_or cells p Empty; name = get_or names p 0 }) ∷ [];
-  notes_are = e;
-  cells_are = set-set cells p k (get_or cells p Empty) ∙ set-get_or cells p Empty;
-  names_are = set-get_or names p 0;
-}
+noted_cell cells names notes longer p k e = grind (arith, set-set, set-get_or)
 
 -- a name that was noted and changed
 pub noted_name : (cells : List Cell) (names : List ℕ) (notes longer : List Note) (p n : ℕ)
     → longer ≡ notes ++ (record { at = p; cell = get_or cells p Empty; name = get_or names p 0 }) ∷ []
     → IsNoted cells cells names (set names p n) notes longer
-noted_name cells names notes longer p n e = record {
-  more = (record { at = p; cell = get_or cells p Empty; name = get_or names p 0 }) ∷ [];
-  notes_are = e;
-  cells_are = set-get_or cells p Empty;
-  names_are = set-set names p n (get_or names p 0) ∙ set-get_or names p 0;
-}
+noted_name cells names notes longer p n e = grind (arith, set-get_or, set-set)
 
 -- the notes that were taken back so far, and what they led to
 pub record Unwound (cells : List Cell) (names : List ℕ) (notes : List Note) (mark : ℕ) (left : List Cell)

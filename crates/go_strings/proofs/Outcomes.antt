@@ -1,5 +1,5 @@
 -- What is told of an empty point.
-use Rattle.std.proofs.Common.{◌≡◌, true, List, ap}
+use Rattle.std.proofs.Common.{◌≡◌, true, List, ap, arith}
 use Rattle.std.proofs.lemmas.Bool.{both_ways}
 use Rattle.std.specs.Ordering.{nat_cmp}
 use Rattle.std.specs.FinSet as sets
@@ -20,6 +20,4 @@ string-none s cells p free = same_sets _ _ (λ q t. absurd (in_none q t))
 -- and no liberties
 pub liberties-none : (s : _) (cells : List Cell) (p : _) → cell_at cells p ≡ Empty
     → sets.empty ≡ liberty_points s cells p
-liberties-none s cells p free = same_sets _ _ (λ q t. absurd (in_none q t))
-    (λ l t. absurd (both_ways (is_stone (cell_at cells p)) (ap is_stone free)
-    (liberty_gives s cells p l t).beside.1.stone))
+liberties-none s cells p free = grind (arith, same_sets, in_none, both_ways, liberty_gives)

@@ -1,20 +1,17 @@
 -- The spans that a line names lie in it.
-use Rattle.std.proofs.Common.{◌≡◌, ℕ, ◌+◌, ◌≤◌, List, [], ◌∷◌, Option, Some, None, IfSome, length, take, drop, eqb}
-use Rattle.std.proofs.Common.{sym, subst, arith, length-take}
-use Rattle.std.specs.List.{before_first, position_or_len}
+use Rattle.std.proofs.Common.{◌≡◌, ℕ, ◌≤◌, List, [], ◌∷◌, Option, Some, None, IfSome, length, take, drop, eqb}
+use Rattle.std.proofs.Common.{arith, length-take}
+use Rattle.std.specs.List.{before_first}
 use Rattle.std.specs.Option.{option_map}
 use Rattle.gtp_cmd.specs.Words.{hash}
-use Rattle.gtp_cmd.specs.Commands.{command_of, named, asked}
-use Rattle.gtp_cmd.specs.Commands.{called, said, claim_of}
+use Rattle.gtp_cmd.specs.Commands.{command_of, named, asked, called, said}
 use Rattle.gtp_cmd.specs.declared.commands.CommandName.{CommandName}
 use Rattle.gtp_cmd.specs.declared.commands.CommandName.TheVariants as name
 use Rattle.gtp_cmd.specs.declared.commands.Command.{Command}
-use Rattle.gtp_cmd.specs.declared.commands.Command.TheVariants as command
 use Rattle.gtp_cmd.specs.declared.spans.Span.{Span}
 use Rattle.gtp_cmd.specs.Spans.{IsSpanOf, spans_at, first_span, whole_span}
 use Rattle.gtp_cmd.specs.Within.{IsWithinLine, SaysWithinLine}
-use Rattle.gtp_cmd.proofs.SpanLemmas.{InOrder, InOrder-ends, InOrder-rest, InOrder-three, InOrder-last}
-use Rattle.gtp_cmd.proofs.SpanLemmas.{spans_from-in_order}
+use Rattle.gtp_cmd.proofs.SpanLemmas.{InOrder, InOrder-ends, InOrder-rest, InOrder-last, spans_from-in_order}
 use Rattle.gtp_cmd.proofs.WithinLemmas.{if_some-map, if_some-any}
 
 -- the first of spans that are in order in a line lies in it
@@ -37,29 +34,21 @@ whole_span-within line (span ∷ spans) within =
 of_first_span : (line : List ℕ) (spans : List Span) (make : Span → Command) → InOrder 0 (length line) spans
     → ((span : Span) → IsSpanOf line span → IsWithinLine line (make span))
     → IfSome (option_map make (first_span spans)) (IsWithinLine line)
-of_first_span line spans make lie keeps =
-    if_some-map make (IsSpanOf line) (IsWithinLine line) (first_span spans) keeps (first_span-within line spans lie)
+of_first_span line spans make lie keeps = grind (arith, if_some-map, first_span-within)
 
 -- a check of a proof is within the line where its words are
 of_tokens : (line : List ℕ) (s : ℕ) (words : List (List ℕ)) (spans : List Span) → InOrder 0 (length line) spans
     → IfSome (command_of name.CheckProof s words spans) (IsWithinLine line)
-of_tokens line s words spans lie =
-    if_some-any (λ q. command.CheckProof q.attack q.target q.code (whole_span (drop 3 spans))) (IsWithinLine line)
-    (claim_of s words)
-    (λ x. whole_span-within line (drop 3 spans) (InOrder-three 0 (length line) spans lie))
+of_tokens line s words spans lie = grind (arith, if_some-any, whole_span-within)
 
 -- the arguments of a command lie in the line in which the words behind its name lie: those that name spans by these,
 -- and all others since they name none
 command_of-within_line : (line : List ℕ) (n : CommandName) (s : ℕ) (words : List (List ℕ)) (spans : List Span)
     → InOrder 0 (length line) spans → IfSome (command_of n s words spans) (IsWithinLine line)
-command_of-within_line line name.LoadSgf s words spans lie =
-    of_first_span line spans command.LoadSgf lie (λ span lies. lies)
-command_of-within_line line name.HelperOff s words spans lie =
-    of_first_span line spans command.HelperOff lie (λ span lies. lies)
-command_of-within_line line name.HelperCalls s words spans lie =
-    of_first_span line spans command.HelperCalls lie (λ span lies. lies)
-command_of-within_line line name.HelperDrop s words spans lie =
-    of_first_span line spans command.HelperDrop lie (λ span lies. lies)
+command_of-within_line line name.LoadSgf s words spans lie = grind (arith, of_first_span)
+command_of-within_line line name.HelperOff s words spans lie = grind (arith, of_first_span)
+command_of-within_line line name.HelperCalls s words spans lie = grind (arith, of_first_span)
+command_of-within_line line name.HelperDrop s words spans lie = grind (arith, of_first_span)
 command_of-within_line line name.CheckProof s words spans lie = of_tokens line s words spans lie
 command_of-within_line line _ s words spans lie = search if_some-any
 
@@ -97,8 +86,4 @@ take-shorter n line = simp length-take (omega arith)
 -- the words before a comment stand in the line
 pub spans_before_comment : (line text : List ℕ) → text ≡ before_first (λ b. eqb b hash) line
     → InOrder 0 (length line) (spans_at text 0)
-spans_before_comment line text same =
-    let shorter : length text ≤ length line = subst (λ (t : List ℕ). length t ≤ length line) (sym same)
-    (take-shorter (position_or_len (λ b. eqb b hash) line) line) in
-    InOrder-later 0 (0 + length text) (length line) (spans_at text 0) (omega (arith, shorter))
-    (spans_from-in_order 0 text)
+spans_before_comment line text same = grind (arith, InOrder-later 0, spans_from-in_order 0, take-shorter)

@@ -1,6 +1,6 @@
 -- A search of the rows of commands.
-use Rattle.std.proofs.Common.{◌≡◌, ℕ, Bool, true, false, cond, List, [], ◌∷◌, map, Option, Some, None, refl, sym}
-use Rattle.std.proofs.Common.{ap, subst, ◌∙◌, All}
+use Rattle.std.proofs.Common.{◌≡◌, ℕ, Bool, true, List, [], ◌∷◌, map, Option, Some, None, refl, sym}
+use Rattle.std.proofs.Common.{ap, ◌∙◌, All, arith}
 use Rattle.std.proofs.lemmas.List.Elements.{All-nil, All-cons}
 use Rattle.std.specs.Option.{option_map}
 use Rattle.std.specs.List.{find, list_all}
@@ -18,25 +18,13 @@ pub find-seen : {X : Type 0} (seen : X → Row) (is : List ℕ → Bool) (xs : L
     → option_map (λ x. (seen x).command) (find (λ x. is (seen x).word) xs)
     ≡ option_map (λ r. r.command) (find (λ r. is r.word) (map seen xs))
 find-seen seen is [] = refl
-find-seen seen is (x ∷ xs) =
-    elim (is (seen x).word)
-    as (λ b. option_map (λ y. (seen y).command) (cond b (Some x) (find (λ y. is (seen y).word) xs))
-    ≡ option_map (λ r. r.command) (cond b (Some (seen x)) (find (λ r. is r.word) (map seen xs)))) [
-      | true ↦ refl
-      | false ↦ find-seen seen is xs
-    ]
+find-seen seen is (x ∷ xs) = grind (arith, find-seen seen is xs)
 
 -- what holds of each item holds of the one that is found
 found-all : {X : Type 0} (p q : X → Bool) (xs : List X) (x : X) → list_all q xs ≡ true → find p xs ≡ Some x
     → (p x ≡ true) × (q x ≡ true)
 found-all p q [] x all found = cc
-found-all p q (y ∷ ys) x all found =
-    let parts = and_parts (q y) (list_all q ys) all in
-    (elim (p y) as (λ b. p y ≡ b → cond b (Some y) (find p ys) ≡ Some x → (p x ≡ true) × (q x ≡ true)) [
-      | true ↦ λ here first. let same : y ≡ x = cc in
-          (subst (λ z. p z ≡ true) same here, subst (λ z. q z ≡ true) same parts.0)
-      | false ↦ λ here first. found-all p q ys x parts.1 first
-    ]) refl found
+found-all p q (y ∷ ys) x all found = grind (arith, and_parts, found-all p q ys)
 
 -- the command of the first of the rows that has this word, in whatever form
 abbrev command_of_word : List CodeRow → List ℕ → Option CommandName

@@ -1,6 +1,6 @@
 -- Where the words of a text stand, byte by byte.
 use Rattle.std.proofs.Common.{◌≡◌, ℕ, ◌+◌, ◌<◌, ◌≤◌, Bool, true, false, cond, not, List, [], ◌∷◌, length, drop, get_or}
-use Rattle.std.proofs.Common.{refl, subst, sym, ap, ◌∙◌, arith}
+use Rattle.std.proofs.Common.{refl, subst, ap, arith}
 use Rattle.std.proofs.lemmas.List.{drop_more, drop_all}
 use Rattle.gtp_cmd.specs.Words.{is_kept}
 use Rattle.vertices.specs.RawWords.{is_parting, is_skipped}
@@ -10,31 +10,23 @@ use Rattle.gtp_cmd.specs.declared.spans.Span.{Span}
 -- a byte that is skipped stands in no word
 from-skipped : (place b : ℕ) (bs : List ℕ) → is_skipped b ≡ true
     → spans_from place (b ∷ bs) ≡ spans_from (place + 1) bs
-from-skipped place b bs skipped =
-    ap (λ t. cond t (spans_from (place + 1) bs)
-    (spans_with place (place + 1) (goes_on bs) (spans_from (place + 1) bs))) skipped
+from-skipped place b bs skipped = grind arith
 
 -- another byte begins a word
 from-word : (place b : ℕ) (bs : List ℕ) → is_skipped b ≡ false
     → spans_from place (b ∷ bs) ≡ spans_with place (place + 1) (goes_on bs) (spans_from (place + 1) bs)
-from-word place b bs word =
-    ap (λ t. cond t (spans_from (place + 1) bs)
-    (spans_with place (place + 1) (goes_on bs) (spans_from (place + 1) bs))) word
+from-word place b bs word = grind arith
 
 -- from a byte that is skipped on stand the words that stand behind it
 pub at-skipped : (text : List ℕ) (place : ℕ) → place < length text → is_skipped (get_or text place 0) ≡ true
     → spans_at text place ≡ spans_at text (place + 1)
-at-skipped text place inside skipped =
-    ap (spans_from place) (drop_more text place 0 inside)
-    ∙ from-skipped place (get_or text place 0) (drop (place + 1) text) skipped
+at-skipped text place inside skipped = grind (arith, drop_more, from-skipped)
 
 -- from another byte on stands a word that begins with it
 pub at-word : (text : List ℕ) (place : ℕ) → place < length text → is_skipped (get_or text place 0) ≡ false
     → spans_at text place
     ≡ spans_with place (place + 1) (goes_on (drop (place + 1) text)) (spans_at text (place + 1))
-at-word text place inside word =
-    ap (spans_from place) (drop_more text place 0 inside)
-    ∙ from-word place (get_or text place 0) (drop (place + 1) text) word
+at-word text place inside word = grind (arith, drop_more, from-word)
 
 -- the word that began at a place and has its last byte so far before an end, read up to another place: what is known
 -- of where words stand
@@ -47,8 +39,7 @@ pub record ReadsWord (text : List ℕ) (start end place : ℕ) : Type 0 where
 -- a word begins with its first byte
 pub ReadsWord-first : (text : List ℕ) (start : ℕ) → start < length text → is_skipped (get_or text start 0) ≡ false
     → ReadsWord text start (start + 1) (start + 1)
-ReadsWord-first text start inside word =
-    record { spans = at-word text start inside word; behind = refl; order = omega arith; reach = omega arith }
+ReadsWord-first text start inside word = grind (arith, at-word)
 
 -- whether a word goes on at a byte that parts words
 goes_on-parting : (b : ℕ) (bs : List ℕ) → is_parting b ≡ true → goes_on (b ∷ bs) ≡ false
@@ -56,13 +47,11 @@ goes_on-parting b bs parts = ap (λ t. cond t false (cond (is_kept b) true (goes
 
 -- at another byte that is kept it goes on
 goes_on-kept : (b : ℕ) (bs : List ℕ) → is_parting b ≡ false → is_kept b ≡ true → goes_on (b ∷ bs) ≡ true
-goes_on-kept b bs other keeps =
-    ap (λ t. cond t false (cond (is_kept b) true (goes_on bs))) other ∙ ap (λ t. cond t true (goes_on bs)) keeps
+goes_on-kept b bs other keeps = grind arith
 
 -- a byte that is dropped changes nothing
 goes_on-dropped : (b : ℕ) (bs : List ℕ) → is_parting b ≡ false → is_kept b ≡ false → goes_on (b ∷ bs) ≡ goes_on bs
-goes_on-dropped b bs other drops =
-    ap (λ t. cond t false (cond (is_kept b) true (goes_on bs))) other ∙ ap (λ t. cond t true (goes_on bs)) drops
+goes_on-dropped b bs other drops = grind arith
 
 -- a word that goes on with a byte ends where that byte's word ends
 spans_with-twice : (start end place next : ℕ) (on : Bool) (spans : List Span)
@@ -89,59 +78,32 @@ pub ReadsWord-kept : (text : List ℕ) (start end place : ℕ) → place < lengt
     → is_parting (get_or text place 0) ≡ false → is_kept (get_or text place 0) ≡ true
     → ReadsWord text start end place → ReadsWord text start (place + 1) (place + 1)
 ReadsWord-kept text start end place inside other keeps so_far =
-    let on = goes_on-at text place inside ∙ goes_on-kept (get_or text place 0) (drop (place + 1) text) other keeps in
-    record {
-      spans = so_far.spans ∙ ap (λ t. spans_with start end t (spans_at text place)) on
-          ∙ ap (spans_with start end true)
-          (at-word text place inside (not-skipped (get_or text place 0) other keeps))
-          ∙ spans_with-twice start end place (place + 1) (goes_on (drop (place + 1) text)) (spans_at text (place + 1));
-      behind = refl;
-      order = (let order = so_far.order in let reach = so_far.reach in omega (arith, order, reach));
-      reach = omega arith;
-    }
+    grind (arith, goes_on-at, goes_on-kept, at-word, not-skipped, spans_with-twice)
 
 -- a byte that is dropped is passed over
 pub ReadsWord-dropped : (text : List ℕ) (start end place : ℕ) → place < length text
     → is_parting (get_or text place 0) ≡ false → is_kept (get_or text place 0) ≡ false
     → ReadsWord text start end place → ReadsWord text start end (place + 1)
 ReadsWord-dropped text start end place inside other drops so_far =
-    let on = goes_on-at text place inside ∙ goes_on-dropped (get_or text place 0) (drop (place + 1) text) other drops in
-    let same = at-skipped text place inside (dropped-skipped (get_or text place 0) drops) in
-    record {
-      spans = so_far.spans ∙ ap (λ t. spans_with start end t (spans_at text place)) on
-          ∙ ap (spans_with start end (goes_on (drop (place + 1) text))) same;
-      behind = so_far.behind ∙ same;
-      order = so_far.order;
-      reach = (let reach = so_far.reach in omega (arith, reach));
-    }
+    grind (arith, goes_on-at, goes_on-dropped, at-skipped, dropped-skipped)
 
 -- a byte that parts no words is read
 pub ReadsWord-step : (text : List ℕ) (start end place : ℕ) → place < length text
     → is_parting (get_or text place 0) ≡ false → ReadsWord text start end place
     → ReadsWord text start (end_with (is_kept (get_or text place 0)) place end) (place + 1)
 ReadsWord-step text start end place inside other so_far =
-    (elim (is_kept (get_or text place 0))
-    as (λ keeps. is_kept (get_or text place 0) ≡ keeps → ReadsWord text start (end_with keeps place end) (place + 1)) [
-      | true ↦ λ keeps. ReadsWord-kept text start end place inside other keeps so_far
-      | false ↦ λ drops. ReadsWord-dropped text start end place inside other drops so_far
-    ]) refl
+    grind (arith, ReadsWord-kept text start end place inside other, ReadsWord-dropped text start end place inside other)
 
 -- the word ends before a byte that parts words
 pub ReadsWord-parting : (text : List ℕ) (start end place : ℕ) → place < length text
     → is_parting (get_or text place 0) ≡ true → ReadsWord text start end place
     → spans_at text start ≡ span_between start end ∷ spans_at text end
-ReadsWord-parting text start end place inside parts so_far =
-    let on = goes_on-at text place inside ∙ goes_on-parting (get_or text place 0) (drop (place + 1) text) parts in
-    so_far.spans ∙ ap (λ t. spans_with start end t (spans_at text place)) on
-    ∙ ap (λ spans. span_between start end ∷ spans) (sym so_far.behind)
+ReadsWord-parting text start end place inside parts so_far = grind (arith, goes_on-at, goes_on-parting)
 
 -- the word ends with the text
 pub ReadsWord-end : (text : List ℕ) (start end place : ℕ) → length text ≤ place → ReadsWord text start end place
     → spans_at text start ≡ span_between start end ∷ spans_at text end
-ReadsWord-end text start end place past so_far =
-    let none = drop_all place text past in
-    so_far.spans ∙ ap (λ l. spans_with start end (goes_on l) (spans_at text place)) none
-    ∙ ap (λ spans. span_between start end ∷ spans) (sym so_far.behind)
+ReadsWord-end text start end place past so_far = grind (arith, drop_all)
 
 -- behind a text stand no words
 pub at-end : (text : List ℕ) (place : ℕ) → length text ≤ place → spans_at text place ≡ []
@@ -156,36 +118,24 @@ InOrder place end (span ∷ spans) = (place ≤ span.from) × (span.from ≤ spa
 pub InOrder-earlier : (place later end : ℕ) (spans : List Span) → place ≤ later → InOrder later end spans
     → InOrder place end spans
 InOrder-earlier place later end [] order within = omega (arith, order, within)
-InOrder-earlier place later end (span ∷ spans) order within =
-    let from = within.0 in
-    (omega (arith, order, from), within.1, within.2)
+InOrder-earlier place later end (span ∷ spans) order within = grind arith
 
 -- the first place is not behind the last
 pub InOrder-ends : (place end : ℕ) (spans : List Span) → InOrder place end spans → place ≤ end
 InOrder-ends place end [] within = within
-InOrder-ends place end (span ∷ spans) within =
-    let from = within.0 in
-    let order = within.1 in
-    let rest = InOrder-ends span.to end spans within.2 in
-    omega (arith, from, order, rest)
+InOrder-ends place end (span ∷ spans) within = grind (arith, InOrder-ends span.to end spans within.2)
 
 -- the spans behind the first are in order too
 pub InOrder-rest : (place end : ℕ) (spans : List Span) → InOrder place end spans → InOrder place end (drop 1 spans)
 InOrder-rest place end [] within = within
-InOrder-rest place end (span ∷ spans) within =
-    let from = within.0 in
-    let order = within.1 in
-    InOrder-earlier place span.to end spans (omega (arith, from, order)) within.2
+InOrder-rest place end (span ∷ spans) within = grind (arith, InOrder-earlier)
 
 -- one more byte in front of them leaves spans in order
 InOrder-with : (place end : ℕ) (on : Bool) (spans : List Span) → InOrder (place + 1) end spans
     → InOrder place end (spans_with place (place + 1) on spans)
 InOrder-with place end false spans within = (omega arith, omega arith, within)
 InOrder-with place end true [] within = (omega arith, omega arith, within)
-InOrder-with place end true (span ∷ spans) within =
-    let from = within.0 in
-    let order = within.1 in
-    (omega arith, omega (arith, from, order), within.2)
+InOrder-with place end true (span ∷ spans) within = grind arith
 
 -- the words of a text stand in it one behind another
 pub spans_from-in_order : (place : ℕ) (text : List ℕ) → InOrder place (place + length text) (spans_from place text)
@@ -225,68 +175,32 @@ pub record ReadsWords (text : List ℕ) (start end place : ℕ) : Type 0 where
 -- words begin with the first byte of the first
 pub ReadsWords-first : (text : List ℕ) (start : ℕ) → start < length text → is_skipped (get_or text start 0) ≡ false
     → ReadsWords text start (start + 1) (start + 1)
-ReadsWords-first text start inside word = record {
-  span = ap whole_span (at-word text start inside word)
-      ∙ whole_span-with start (start + 1) (goes_on (drop (start + 1) text)) (spans_at text (start + 1));
-  order = omega arith;
-  reach = omega arith;
-}
+ReadsWords-first text start inside word = grind (arith, at-word, whole_span-with)
 
 -- a byte of no word is read
 ReadsWords-skipped : (text : List ℕ) (start end place : ℕ) → place < length text
     → is_skipped (get_or text place 0) ≡ true → ReadsWords text start end place
     → ReadsWords text start end (place + 1)
-ReadsWords-skipped text start end place inside skipped so_far = record {
-  span = so_far.span ∙ ap (λ spans. span_between start (last_end end spans)) (at-skipped text place inside skipped);
-  order = so_far.order;
-  reach = omega (arith, so_far.reach);
-}
+ReadsWords-skipped text start end place inside skipped so_far = grind (arith, at-skipped)
 
 -- a byte of a word is read, and is their last
 ReadsWords-more : (text : List ℕ) (start end place : ℕ) → place < length text
     → is_skipped (get_or text place 0) ≡ false → ReadsWords text start end place
     → ReadsWords text start (place + 1) (place + 1)
-ReadsWords-more text start end place inside word so_far = record {
-  span = so_far.span ∙ ap (λ spans. span_between start (last_end end spans)) (at-word text place inside word)
-      ∙ ap (span_between start)
-      (last_end-with end place (place + 1) (goes_on (drop (place + 1) text)) (spans_at text (place + 1)));
-  order = omega (arith, so_far.order, so_far.reach);
-  reach = omega arith;
-}
+ReadsWords-more text start end place inside word so_far = grind (arith, at-word, last_end-with)
 
 -- one more byte is read, and is the last of a word or none of one
 pub ReadsWords-step : (text : List ℕ) (start end place : ℕ) → place < length text → ReadsWords text start end place
     → ReadsWords text start (end_with (not (is_skipped (get_or text place 0))) place end) (place + 1)
-ReadsWords-step text start end place inside so_far =
-    (elim (is_skipped (get_or text place 0))
-    as (λ t. is_skipped (get_or text place 0) ≡ t → ReadsWords text start (end_with (not t) place end) (place + 1)) [
-      | true ↦ λ skipped. ReadsWords-skipped text start end place inside skipped so_far
-      | false ↦ λ word. ReadsWords-more text start end place inside word so_far
-    ]) refl
+ReadsWords-step text start end place inside so_far = grind (arith, ReadsWords-skipped, ReadsWords-more)
 
 -- behind the text no word ends
 pub ReadsWords-end : (text : List ℕ) (start end place : ℕ) → length text ≤ place → ReadsWords text start end place
     → whole_span (spans_at text start) ≡ span_between start end
-ReadsWords-end text start end place past so_far =
-    so_far.span ∙ ap (λ spans. span_between start (last_end end spans)) (at-end text place past)
+ReadsWords-end text start end place past so_far = grind (arith, at-end)
 
 -- the last of words in order ends before the end
 pub InOrder-last : (place end : ℕ) (spans : List Span) → InOrder place end spans
     → (place ≤ last_end place spans) × (last_end place spans ≤ end)
 InOrder-last place end [] within = (omega arith, within)
-InOrder-last place end (span ∷ spans) within =
-    let from = within.0 in
-    let order = within.1 in
-    let rest = InOrder-last span.to end spans within.2 in
-    let later = rest.0 in
-    (omega (arith, from, order, later), rest.1)
-
--- three spans less are in order too
-pub InOrder-three : (place end : ℕ) (spans : List Span) → InOrder place end spans → InOrder place end (drop 3 spans)
-InOrder-three place end [] within = within
-InOrder-three place end (a ∷ []) within = InOrder-rest place end (a ∷ []) within
-InOrder-three place end (a ∷ b ∷ []) within =
-    InOrder-rest place end (b ∷ []) (InOrder-rest place end (a ∷ b ∷ []) within)
-InOrder-three place end (a ∷ b ∷ c ∷ spans) within =
-    InOrder-rest place end (c ∷ spans)
-    (InOrder-rest place end (b ∷ c ∷ spans) (InOrder-rest place end (a ∷ b ∷ c ∷ spans) within))
+InOrder-last place end (span ∷ spans) within = grind (arith, InOrder-last span.to end spans within.2)

@@ -1,6 +1,6 @@
 -- The points that a line names lie on the board of the machine that reads it, and its depths in their ranges.
 use Rattle.std.proofs.Common.{◌≡◌, ℕ, ◌-◌, ◌*◌, ◌<◌, ◌≤◌, Bool, true, false, cond, ltb, leb, ◌&&◌, List}
-use Rattle.std.proofs.Common.{[], ◌∷◌, Option, Some, None, IfSome, refl, arith, drop, eqb, length}
+use Rattle.std.proofs.Common.{[], ◌∷◌, Option, Some, None, IfSome, arith, drop}
 use Rattle.std.specs.Option.{option_map, option_and_then}
 use Rattle.std.specs.Str.{bytes_eq, str_to_ascii_lowercase}
 use Rattle.std.specs.Prelude.{codes}
@@ -9,11 +9,8 @@ use Rattle.std.proofs.lemmas.Bool.Decides.{nat_tests}
 use Rattle.go_rules.specs.declared.Colour.{Colour}
 use Rattle.go_rules.specs.Board.{point_at}
 use Rattle.read_rules.specs.Ranges.{least_plies, most_plies, most_wide, AreDepths}
-use Rattle.gtp_cmd.specs.Words.{number_of}
 use Rattle.gtp_cmd.specs.Vertices.{vertex_of, point_of, column_named, row_number_of, target_of}
-use Rattle.gtp_cmd.specs.Colours.{colour_of}
 use Rattle.gtp_cmd.specs.declared.arguments.Claim.{Claim}
-use Rattle.gtp_cmd.specs.Spans.{whole_span}
 use Rattle.gtp_cmd.specs.declared.spans.Span.{Span}
 use Rattle.gtp_cmd.specs.Commands.{first_argument, move_of, number_between}
 use Rattle.gtp_cmd.specs.Commands.{depths_of, command_of, named, asked, called, said, is_attack_of, code_of, claim_of}
@@ -44,15 +41,13 @@ point_below s number column some within on_board = mul-add-lt (s - number) s col
 point_of-tested : (s column number : ℕ) (b : Bool) → (ltb column s && (leb 1 number && leb number s)) ≡ b
     → IsPointOf s (cond b (Some (point_at s (s - number, column))) None)
 point_of-tested s column number false test = tt
-point_of-tested s column number true test =
-    point_below s number column (grind (arith, nat_tests)) (grind (arith, nat_tests)) (grind (arith, nat_tests))
+point_of-tested s column number true test = grind (arith, point_below s number column)
 
 -- the point of a column and a row number is on the board
 point_of-within : (s : ℕ) (column number : Option ℕ) → IsPointOf s (point_of s column number)
 point_of-within s None number = tt
 point_of-within s (Some column) None = tt
-point_of-within s (Some column) (Some number) =
-    point_of-tested s column number (ltb column s && (leb 1 number && leb number s)) refl
+point_of-within s (Some column) (Some number) = grind (arith, point_of-tested)
 
 -- a vertex is on the board
 vertex_of-within : (s : ℕ) (word : List ℕ) → IsPointOf s (vertex_of s word)
@@ -82,14 +77,7 @@ with_colour c at = (c, at)
 move_of-within : (s : ℕ) (words : List (List ℕ)) → IfSome (move_of s words) (λ m. IsPointOf s m.1)
 move_of-within s [] = tt
 move_of-within s (colour ∷ []) = tt
-move_of-within s (colour ∷ target ∷ more) =
-    elim (colour_of colour)
-    as (λ o. IfSome {T = Colour × Option ℕ} (option_and_then (λ c. option_map (with_colour c) (target_of s target)) o)
-    (λ m. IsPointOf s m.1)) [
-      | None ↦ tt
-      | Some c ↦ if_some-map (with_colour c) (IsPointOf s) (λ m. IsPointOf s m.1) (target_of s target)
-          (λ at below. below) (target_of-within s target)
-    ]
+move_of-within s (colour ∷ target ∷ more) = grind (arith, target_of-within s target, if_some-map)
 
 -- a number that passes the test for two bounds lies between them
 between-tested : (low high n : ℕ) (b : Bool) → (leb low n && leb n high) ≡ b
@@ -99,13 +87,7 @@ between-tested low high n true test = (grind (arith, nat_tests), grind (arith, n
 
 -- a number that a word writes between two lies between them
 between-within : (low high : ℕ) (word : List ℕ) → IfSome (number_between low high word) (λ k. (low ≤ k) × (k ≤ high))
-between-within low high word =
-    elim (number_of word)
-    as (λ o. IfSome (option_and_then (λ n. cond (leb low n && leb n high) (Some n) None) o)
-    (λ k. (low ≤ k) × (k ≤ high))) [
-      | None ↦ tt
-      | Some n ↦ between-tested low high n (leb low n && leb n high) refl
-    ]
+between-within low high word = grind (arith, between-tested)
 
 -- two numbers in their ranges are depths
 both-within : (plies wide : Option ℕ) → IfSome plies (λ n. (least_plies ≤ n) × (n ≤ most_plies))
@@ -129,17 +111,7 @@ ClaimWithin s claim = (claim.target < s * s) × (claim.code ≤ greatest_code)
 
 -- a code is at most the greatest
 code_of-within : (word : List ℕ) → IfSome (code_of word) (λ code. code ≤ greatest_code)
-code_of-within word =
-    elim (eqb (length word) 1)
-    as (λ t. IfSome (cond t (number_between 0 greatest_code word) None) (λ code. code ≤ greatest_code)) [
-      | true ↦ if_some-weaken (number_between 0 greatest_code word) (between-within 0 greatest_code word)
-      | false ↦ tt
-    ]
-  where
-    if_some-weaken : (o : Option ℕ) → IfSome o (λ k. (0 ≤ k) × (k ≤ greatest_code))
-        → IfSome o (λ code. code ≤ greatest_code)
-    if_some-weaken None h = tt
-    if_some-weaken (Some k) h = h.1
+code_of-within word = grind (arith, between-within)
 
 -- what words claim is within, if the point and the code are
 claim-within : (s : ℕ) (attack : Option Bool) (target code : Option ℕ) → IsPointOf s target
@@ -181,32 +153,24 @@ points_of-within s (first ∷ second ∷ more) =
 -- a command of one point is within where its point is on the board
 of_point : (s : ℕ) (words : List (List ℕ)) (make : ℕ → Command) → ((p : ℕ) → p < s * s → IsWithin s (make p))
     → IfSome (option_map make (first_argument (vertex_of s) words)) (IsWithin s)
-of_point s words make keeps =
-    if_some-map make (λ p. p < s * s) (IsWithin s) (first_argument (vertex_of s) words)
-    keeps (first_vertex-within s words)
+of_point s words make keeps = grind (arith, if_some-map make, first_vertex-within s words)
 
 -- a command of a move is within if the move's point is on the board
 of_move : (s : ℕ) (words : List (List ℕ)) (make : Colour × Option ℕ → Command)
     → ((m : Colour × Option ℕ) → IsPointOf s m.1 → IsWithin s (make m))
     → IfSome (option_map make (move_of s words)) (IsWithin s)
-of_move s words make keeps =
-    if_some-map make (λ m. IsPointOf s m.1) (IsWithin s) (move_of s words) keeps
-    (move_of-within s words)
+of_move s words make keeps = grind (arith, if_some-map make, move_of-within s words)
 
 -- a command of two points is within if both are on the board
 of_points : (s : ℕ) (words : List (List ℕ)) (make : ℕ × ℕ → Command)
     → ((m : ℕ × ℕ) → (m.0 < s * s) × (m.1 < s * s) → IsWithin s (make m))
     → IfSome (option_map make (points_of s words)) (IsWithin s)
-of_points s words make keeps =
-    if_some-map make (λ m. (m.0 < s * s) × (m.1 < s * s)) (IsWithin s) (points_of s words)
-    keeps (points_of-within s words)
+of_points s words make keeps = grind (arith, if_some-map make, points_of-within s words)
 
 -- a command of depths is within if both are in their ranges
 of_depths : (s : ℕ) (words : List (List ℕ)) (make : ℕ × ℕ → Command)
     → ((d : ℕ × ℕ) → AreDepths d.0 d.1 → IsWithin s (make d)) → IfSome (option_map make (depths_of words)) (IsWithin s)
-of_depths s words make keeps =
-    if_some-map make (λ d. AreDepths d.0 d.1) (IsWithin s) (depths_of words)
-    keeps (depths_of-within words)
+of_depths s words make keeps = grind (arith, if_some-map make, depths_of-within words)
 
 -- a command of a claim is within where its point is on the board and its code in its range
 of_claim : (s : ℕ) (words : List (List ℕ)) (make : Claim → Command)
@@ -219,8 +183,7 @@ of_claim s words make keeps =
 command_of-within : (n : CommandName) (s : ℕ) (words : List (List ℕ)) (spans : List Span)
     → IfSome (command_of n s words spans) (IsWithin s)
 command_of-within name.Depths s words spans = of_depths s words (λ d. command.Depths d.0 d.1) (λ d within. within)
-command_of-within name.CheckProof s words spans =
-    of_claim s words (λ q. command.CheckProof q.attack q.target q.code (whole_span (drop 3 spans))) (λ q within. within)
+command_of-within name.CheckProof s words spans = grind (arith, of_claim)
 command_of-within _ s words spans = search (if_some-any, of_point, of_move, of_points)
 
 -- a line whose command is within says nothing off the board

@@ -1,7 +1,7 @@
 -- What becomes of a list of helpers whose counts of calls rise: the meaning of each name stays, and one more call is
 -- one more.
 use Rattle.std.proofs.Common.{◌≡◌, ℕ, zero, suc, ◌+◌, add-suc, add-zero, Bool, true, false, cond, ◌&&◌, ◌||◌, List, []}
-use Rattle.std.proofs.Common.{◌∷◌, Option, Some, refl, sym, ap, subst, ◌∙◌}
+use Rattle.std.proofs.Common.{◌∷◌, Option, Some, refl, sym, ap, subst, ◌∙◌, arith}
 use Rattle.std.specs.List.{list_any}
 use Rattle.std.specs.Str.{bytes_eq}
 use Rattle.std.proofs.lemmas.Bool.{or_parts, or_from}
@@ -31,21 +31,7 @@ pub raised_from-cong : (f g : List ℕ → ℕ) (before slots : List SlotState)
     → ((n : List ℕ) → list_any (has_name n) before ≡ false → f n ≡ g n)
     → raised_from before f slots ≡ raised_from before g slots
 raised_from-cong f g before [] alike = refl
-raised_from-cong f g before (s ∷ slots) alike =
-    ap (λ l. head f ∷ l) (raised_from-cong f g (s ∷ before) slots
-    (λ n e. alike n (or_parts (has_name n s) (list_any (has_name n) before) e).1))
-    ∙ ap (λ h. h ∷ raised_from (s ∷ before) g slots) (by_seen (list_any (has_name s.helper.name) before) refl)
-  where
-    head : (List ℕ → ℕ) → SlotState
-    head times = cond (list_any (has_name s.helper.name) before) s (slot_asked_often (times s.helper.name) s)
-
-    by_seen : (b : Bool) → list_any (has_name s.helper.name) before ≡ b
-        → cond (list_any (has_name s.helper.name) before) s (slot_asked_often (f s.helper.name) s)
-        ≡ cond (list_any (has_name s.helper.name) before) s (slot_asked_often (g s.helper.name) s)
-    by_seen true e = ap (λ b. cond b s (slot_asked_often (f s.helper.name) s)) e
-        ∙ sym (ap (λ b. cond b s (slot_asked_often (g s.helper.name) s)) e)
-    by_seen false e = ap (λ k. cond (list_any (has_name s.helper.name) before) s (slot_asked_often k s))
-        (alike s.helper.name e)
+raised_from-cong f g before (s ∷ slots) alike = grind (arith, or_parts, raised_from-cong f g (s ∷ before) slots)
 
 -- helpers that are asked equally often are after it the same
 pub raised-cong : (f g : List ℕ → ℕ) (slots : List SlotState) → ((n : List ℕ) → f n ≡ g n)
@@ -55,13 +41,7 @@ raised-cong f g slots alike = raised_from-cong f g [] slots (λ n e. alike n)
 -- if nothing was asked, the list is as it was
 raised_from-zero : (before slots : List SlotState) → raised_from before (λ n. 0) slots ≡ slots
 raised_from-zero before [] = refl
-raised_from-zero before (s ∷ slots) =
-    ap (λ l. cond (list_any (has_name s.helper.name) before) s s ∷ l) (raised_from-zero (s ∷ before) slots)
-    ∙ ap (λ h. h ∷ slots) (either (list_any (has_name s.helper.name) before))
-  where
-    either : (b : Bool) → cond b s s ≡ s
-    either true = refl
-    either false = refl
+raised_from-zero before (s ∷ slots) = grind (arith, raised_from-zero (s ∷ before) slots)
 
 -- a list of which nothing was asked is as it was
 pub raised-zero : (slots : List SlotState) → raised (λ n. 0) slots ≡ slots
@@ -213,11 +193,7 @@ added : (g : List ℕ → ℕ) (k : ℕ) (before later : List SlotState) (s : Sl
     (slot_asked_often (g (cond b s (slot_asked_often k s)).helper.name) (cond b s (slot_asked_often k s)))
     ≡ cond b s (slot_asked_often (k + g s.helper.name) s)
 added g k before later s true e alike = ap (λ b. cond b s (slot_asked_often (g s.helper.name) s)) (alike ∙ e)
-added g k before later s false e alike =
-    ap (λ n. cond (list_any (has_name n) later) (slot_asked_often k s) (slot_asked_often (g n) (slot_asked_often k s)))
-    (name_kept k s.helper)
-    ∙ ap (λ b. cond b (slot_asked_often k s) (slot_asked_often (g s.helper.name) (slot_asked_often k s))) (alike ∙ e)
-    ∙ ap (λ h. record s { helper = h }) (asked_often-add (g s.helper.name) k s.helper)
+added g k before later s false e alike = grind (arith, name_kept, asked_often-add)
 
 -- calls that follow others add to them
 raised_from-add : (f g : List ℕ → ℕ) (before later slots : List SlotState)

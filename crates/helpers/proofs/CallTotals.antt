@@ -1,8 +1,6 @@
 -- What asking about several plays in turn comes to: the meaning of no name changes between them, and their calls add
 -- up.
-use Rattle.std.proofs.Common.{◌≡◌, ℕ, ◌+◌, Bool, cond, ◌&&◌, List, [], ◌∷◌}
-use Rattle.std.proofs.Common.{◌++◌, refl, sym, ap, ◌∙◌, zero-add}
-use Rattle.std.specs.Str.{bytes_eq}
+use Rattle.std.proofs.Common.{◌≡◌, ℕ, ◌+◌, Bool, ◌&&◌, List, [], ◌∷◌, ◌++◌, refl, sym, ap, ◌∙◌, zero-add, arith}
 use Rattle.std.proofs.lemmas.List.Sums.{sum_by-append}
 use Rattle.go_rules.specs.declared.Colour.{Colour}
 use Rattle.go_rules.specs.Position.{BoardState}
@@ -16,10 +14,7 @@ times-cong : (on off says told : List ℕ → Bool) → ((n : List ℕ) → on n
     → (names : List (List ℕ)) (name : List ℕ) → times_asked on says names name ≡ times_asked off told names name
 times-cong on off says told on_alike says_alike [] name = refl
 times-cong on off says told on_alike says_alike (m ∷ ms) name =
-    ap (λ b. cond (bytes_eq m name) (cond b 1 0) (cond (says m) (times_asked on says ms name) 0)) (on_alike m)
-    ∙ ap (λ b. cond (bytes_eq m name) (cond (off m) 1 0) (cond b (times_asked on says ms name) 0)) (says_alike m)
-    ∙ ap (λ t. cond (bytes_eq m name) (cond (off m) 1 0) (cond (told m) t 0))
-    (times-cong on off says told on_alike says_alike ms name)
+    grind (arith, times-cong on off says told on_alike says_alike ms name)
 
 module _ (times : List ℕ → ℕ) (slots : List SlotState) (board : BoardState) (at : ℕ) (friend : Colour) where
   -- a list whose counts rose says the same

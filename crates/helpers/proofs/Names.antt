@@ -1,6 +1,6 @@
 -- The names of helpers among the fields of a pattern, and whether one of them is this.
 use Rattle.std.proofs.Common.{◌≡◌, ℕ, ◌+◌, ◌<◌, Bool, true, false, cond, ◌&&◌, ◌||◌, List, [], ◌∷◌, ◌++◌, length, drop}
-use Rattle.std.proofs.Common.{get_or, refl, ap, ◌∙◌}
+use Rattle.std.proofs.Common.{get_or, refl, ap, ◌∙◌, arith}
 use Rattle.std.specs.List.{list_any}
 use Rattle.std.specs.Str.{bytes_eq}
 use Rattle.std.proofs.lemmas.List.{drop_more}
@@ -10,13 +10,7 @@ use Rattle.helpers.specs.Fields.{names_helper, helper_names}
 -- the names of some fields and of others behind them
 pub helper_names-append : (xs ys : List Item) → helper_names (xs ++ ys) ≡ helper_names xs ++ helper_names ys
 helper_names-append [] ys = refl
-helper_names-append (x ∷ xs) ys = ap (λ l. cond (names_helper x) (x.name ∷ l) l) (helper_names-append xs ys)
-    ∙ each (names_helper x)
-  where
-    each : (b : Bool) → cond b (x.name ∷ (helper_names xs ++ helper_names ys)) (helper_names xs ++ helper_names ys)
-        ≡ cond b (x.name ∷ helper_names xs) (helper_names xs) ++ helper_names ys
-    each true = refl
-    each false = refl
+helper_names-append (x ∷ xs) ys = grind (arith, helper_names-append xs ys)
 
 -- a field at the end that names a helper
 pub helper_names-named : (xs : List Item) (x : Item) → names_helper x ≡ true

@@ -1,5 +1,6 @@
 -- How often a helper is asked for a list of names, when a name is put at the end of the list.
 use Rattle.std.proofs.Common.{◌≡◌, ℕ, inl, inr, Bool, true, false, cond, List, [], ◌∷◌, ◌++◌, refl, sym, ap, subst, ◌∙◌}
+use Rattle.std.proofs.Common.{arith}
 use Rattle.std.specs.List.{list_all, list_any}
 use Rattle.std.specs.Str.{bytes_eq}
 use Rattle.std.proofs.lemmas.Bool.{and_parts, and_cases, or_cases, or_parts, true≢false, false_from_ne_true}
@@ -16,9 +17,7 @@ itself a = (bytes_eq-Decides a a).1 refl
 
 -- which of two names is compared with the other does not matter
 pub bytes_eq-false : (a b : List ℕ) → bytes_eq a b ≡ false → bytes_eq b a ≡ false
-bytes_eq-false a b apart =
-    false_from_ne_true (bytes_eq b a)
-    (λ same. true≢false (sym (subst (λ k. bytes_eq k b ≡ true) (same_name b a same) (itself b)) ∙ apart))
+bytes_eq-false a b apart = grind (arith, false_from_ne_true (bytes_eq b a), same_name b a, itself b, true≢false)
 
 -- both ways ask for nothing
 both_none : (b : Bool) → ◌≡◌ {A = ℕ} (cond b 0 0) 0

@@ -1,6 +1,6 @@
 -- What is told of a cell that fails the test of a fit.
-use Rattle.std.proofs.Common.{◌≡◌, ℕ, Bool, true, false, cond, List, [], ◌∷◌, Option, Some, None, refl, sym, ap, ◌∙◌}
-use Rattle.std.proofs.Common.{ℤ, subst, option_map}
+use Rattle.std.proofs.Common.{◌≡◌, ℕ, Bool, true, false, List, [], ◌∷◌, Option, Some, None, refl, sym}
+use Rattle.std.proofs.Common.{ℤ, subst, option_map, arith}
 use Rattle.std.specs.List.{find}
 use Rattle.std.proofs.lemmas.Bool.{false≢true, not-true}
 use Rattle.std.proofs.lemmas.Option.{none-some, same_Some}
@@ -19,12 +19,7 @@ use Rattle.match_misfit.specs.Misfits.{IsMisfit, letter_off_board, not_admitted,
 -- what is found passes the test
 found_passes : {Z : Type 0} (test : Z → Bool) (zs : List Z) (z : Z) → find test zs ≡ Some z → test z ≡ true
 found_passes test [] z e = absurd (none-some z e)
-found_passes test (y ∷ zs) z e = by (test y) refl (λ rest. found_passes test zs z rest)
-  where
-    by : (b : Bool) → test y ≡ b → (find test zs ≡ Some z → test z ≡ true) → test z ≡ true
-    by true passes rest =
-        ap test (sym (same_Some y z (sym (ap (λ b. cond b (Some y) (find test zs)) passes) ∙ e))) ∙ passes
-    by false fails rest = rest (sym (ap (λ b. cond b (Some y) (find test zs)) fails) ∙ e)
+found_passes test (y ∷ zs) z e = grind (arith, same_Some, found_passes test zs z)
 
 -- what is drawn over what it does not fit fails in one of three ways
 fails_in_words : (board : BoardState) (friend : Colour) (d : Drawn) (place : Option ℕ)

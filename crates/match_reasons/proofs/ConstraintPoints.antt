@@ -1,6 +1,6 @@
 -- The arguments of a constraint that have a point have one on the board.
-use Rattle.std.proofs.Common.{◌≡◌, ℕ, ◌+◌, ◌*◌, ◌<◌, true, Bool, false, cond, ltb, Option, Some, None, refl}
-use Rattle.std.proofs.Common.{subst, ℤ, pos, negsuc, ◌+ℤ◌, ◌-ℤ◌, ◌/◌, ◌%◌}
+use Rattle.std.proofs.Common.{◌≡◌, ℕ, ◌+◌, ◌*◌, ◌<◌, true, Option, Some, None, refl}
+use Rattle.std.proofs.Common.{ℤ, pos, negsuc, ◌+ℤ◌, ◌-ℤ◌, ◌/◌, ◌%◌, arith}
 use Rattle.std.proofs.lemmas.Nat.{mul-add-lt}
 use Rattle.std.proofs.lemmas.Bool.{lt-ltb, ltb-true}
 use Rattle.std.proofs.lemmas.Option.{none-some, same_Some}
@@ -20,11 +20,7 @@ use Rattle.match_rules.specs.Conditions.{label_with, place_of_label, place_of_ar
 
 -- a row or column that is there is one of the board's
 strip_below : (s n : ℕ) (z : ℤ) → strip_of s z ≡ Some n → n < s
-strip_below s n (pos k) e = by (ltb k s) refl e
-  where
-    by : (b : Bool) → ltb k s ≡ b → cond b (Some k) None ≡ Some n → n < s
-    by true low is = subst (λ j. j < s) (same_Some k n is) (ltb-true k s low)
-    by false low is = absurd (none-some n is)
+strip_below s n (pos k) e = grind (arith, same_Some, ltb-true, none-some)
 strip_below s n (negsuc k) e = absurd (none-some n e)
 
 -- a row and a column of the board meet on it

@@ -1,5 +1,5 @@
 -- What the first reason says: the parts before it hold, and this one fails.
-use Rattle.std.proofs.Common.{◌≡◌, ℕ, zero, suc, ◌+◌, ◌<◌, Bool, true, false, not, ◌&&◌, cond, eqb, ◌⊎◌, inl, inr, List}
+use Rattle.std.proofs.Common.{◌≡◌, ℕ, zero, suc, ◌+◌, ◌<◌, Bool, true, false, not, ◌&&◌, cond, ◌⊎◌, inl, inr, List}
 use Rattle.std.proofs.Common.{[], ◌∷◌, Option, Some, None, option_map, slice_get, Result, Ok, Err, IsTrue, pos, refl}
 use Rattle.std.proofs.Common.{sym, ap, ◌∙◌, subst, arith}
 use Rattle.std.specs.List.{position_from}
@@ -52,16 +52,7 @@ made_of f (Some x) y e = (x, refl, same_Some (f x) y e)
 -- an attack that is told captures the stone
 capture_told : (d : Depths) (board : BoardState) (m : ℕ) (a : Answer) → capture_of d board m ≡ Some a
     → (a ≡ fresh_answer d Attack board m) × (code_at (fresh_codes d) Attack board m ≡ 0 → ⊥)
-capture_told d board m a told = by (eqb (code_at (fresh_codes d) Attack board m) 0) refl told
-  where
-    by : (b : Bool) → eqb (code_at (fresh_codes d) Attack board m) 0 ≡ b
-        → cond b None (Some (fresh_answer d Attack board m)) ≡ Some a
-        → (a ≡ fresh_answer d Attack board m) × (code_at (fresh_codes d) Attack board m ≡ 0 → ⊥)
-    by true is e = absurd (none-some a e)
-    by false is e = (
-      sym (same_Some (fresh_answer d Attack board m) a e),
-      λ zero_code. absurd (false≢true (sym is ∙ eq-eqb (code_at (fresh_codes d) Attack board m) 0 zero_code)),
-    )
+capture_told d board m a told = grind (arith, none-some, same_Some, false≢true, eq-eqb)
 
 -- the field that is found refuses, and none before it does
 record IsFound (test : Item → Bool) (items : List Item) (from n : ℕ) : Type 0 where

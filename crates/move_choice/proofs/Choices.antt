@@ -5,8 +5,7 @@ use Rattle.std.proofs.Common.{add-one}
 use Rattle.std.specs.List.{find, list_all}
 use Rattle.std.proofs.lemmas.Bool.{cases_Bool, and_parts, not-true, not_from_false, both_ways}
 use Rattle.std.proofs.lemmas.List.{append_assoc, append-nil, take_more, take_all}
-use Rattle.std.proofs.lemmas.List.Elements.{Contains-append_left, Contains-append_right}
-use Rattle.std.proofs.lemmas.List.Elements.{Contains-append_cases}
+use Rattle.std.proofs.lemmas.List.Elements.{Contains-append_left, Contains-append_right, Contains-append_cases}
 use Rattle.std.proofs.lemmas.Option.{none-some, same_Some}
 use Rattle.pat_types.specs.declared.pattern.Pattern.{Pattern}
 use Rattle.match_rules.specs.declared.found.Match.{Match}
@@ -58,12 +57,7 @@ module _ (p : Match → Bool) where
 each_passes : (test : Match → Bool) (zs : List Match) → list_all test zs ≡ true → (z : Match) → Contains zs z
     → test z ≡ true
 each_passes test [] all z there = absurd (Contains-nil z there)
-each_passes test (y ∷ ys) all z there =
-    let parts = and_parts (test y) (list_all test ys) all in
-    elim (Contains-cons_cases y ys z there) [
-      | inl same ↦ subst (λ x. test x ≡ true) same parts.0
-      | inr rest ↦ each_passes test ys parts.1 z rest
-    ]
+each_passes test (y ∷ ys) all z there = grind (arith, and_parts, each_passes test ys)
 
 -- z stands in the list, and no match of the list is preferred to it
 pub record IsFirst (w : Match → ℕ) (zs : List Match) (z : Match) : Type 0 where

@@ -10,36 +10,11 @@ use Rattle.move_choice.specs.Choice.{comes_before, is_preferred}
 
 -- one of two holds, or a third with a fourth, as tests and as facts
 either_or_both : (a b c : Bool) → (a || (b && c)) ≡ true → (a ≡ true) ⊎ ((b ≡ true) × (c ≡ true))
-either_or_both a b c h = elim (or_cases a (b && c) h) [
-  | inl first ↦ inl first
-  | inr rest ↦ let parts = and_parts b c rest in inr (parts.0, parts.1)
-]
+either_or_both a b c h = grind (arith, or_cases, and_parts)
 
 -- the test of the order is the fact
 pub comes_before-is : (y z : Match) → (comes_before y z ≡ true) ↔ ComesBefore y z
-comes_before-is y z = (
-  λ h. elim (either_or_both (nat_lt y.pattern z.pattern) (y.pattern == z.pattern)
-      (nat_lt y.transform z.transform || ((y.transform == z.transform) && nat_lt y.at z.at)) h) [
-        | inl less ↦ inl (ltb-true y.pattern z.pattern less)
-        | inr (same, rest) ↦ inr (
-          eqb-true y.pattern z.pattern same,
-          elim (either_or_both (nat_lt y.transform z.transform) (y.transform == z.transform) (nat_lt y.at z.at) rest) [
-            | inl less ↦ inl (ltb-true y.transform z.transform less)
-            | inr (equal, at) ↦ inr (eqb-true y.transform z.transform equal, ltb-true y.at z.at at)
-          ],
-        )
-      ],
-  from,
-)
-  where
-    from : ComesBefore y z → comes_before y z ≡ true
-    from (inl less) = or_left _ _ (lt-ltb y.pattern z.pattern less)
-    from (inr (same, inl less)) =
-        or_right _ _ (and_from _ _ (eq-eqb y.pattern z.pattern same)
-        (or_left _ _ (lt-ltb y.transform z.transform less)))
-    from (inr (same, inr (equal, at))) =
-        or_right _ _ (and_from _ _ (eq-eqb y.pattern z.pattern same)
-        (or_right _ _ (and_from _ _ (eq-eqb y.transform z.transform equal) (lt-ltb y.at z.at at))))
+comes_before-is y z = grind (arith, either_or_both, ltb-true, eqb-true, or_left, lt-ltb, or_right, and_from, eq-eqb)
 
 module _ (w : Match → ℕ) where
   -- y is worth more than z, or as much and comes before it

@@ -1,9 +1,8 @@
 -- The first number that an item says, by the definition and in words.
-use Rattle.std.proofs.Common.{◌≡◌, ◌↔◌, ℕ, inl, inr, true, ◌&&◌, cond, List, [], ◌∷◌, ◌++◌, length, Option, Some, None}
-use Rattle.std.proofs.Common.{All, unwrap_or, slice_get, refl, sym, ap, ◌∙◌, subst}
-use Rattle.std.specs.Prelude.{codes, nat_lt, nat_le}
-use Rattle.std.specs.List.{filter_map, cons_option, list_all}
-use Rattle.std.specs.Char.{is_ascii_digit}
+use Rattle.std.proofs.Common.{◌≡◌, ◌↔◌, ℕ, inl, inr, ◌&&◌, cond, List, [], ◌∷◌, Option, Some, None}
+use Rattle.std.proofs.Common.{All, unwrap_or, slice_get, refl, sym, ap, ◌∙◌, subst, arith}
+use Rattle.std.specs.Prelude.{codes}
+use Rattle.std.specs.List.{filter_map}
 use Rattle.std.specs.Str.{bytes_eq}
 use Rattle.std.specs.Str.Parse.{digits_value}
 use Rattle.std.proofs.lemmas.Bool.{cases_Bool, and_parts, and_from, lt-ltb, le-leb}
@@ -12,23 +11,13 @@ use Rattle.std.proofs.lemmas.List.Sums.{list_all-from_AllPass}
 use Rattle.std.proofs.lemmas.Option.{none-some, same_Some}
 use Rattle.std.proofs.lemmas.Slice.Eq.{bytes_eq-Decides}
 use Rattle.pat_types.specs.declared.pattern.Item.{Item}
-use Rattle.move_choice.specs.Worth.{most_digits, is_short_number, number_said, worth_said, SaysWorth, SaysNothing}
+use Rattle.move_choice.specs.Worth.{is_short_number, number_said, worth_said, SaysWorth, SaysNothing}
 use Rattle.move_choice.specs.Worth.{IsWorth, said, unsaid}
 use Rattle.move_choice.proofs.ShortNumbers.{short-parts}
 
 -- what an item says in words it says
 said-from : (item : Item) (n : ℕ) → SaysWorth item n → worth_said item ≡ Some n
-said-from item n is =
-    let number : is_short_number is.text ≡ true =
-    and_from (nat_lt 0 (length is.text)) (nat_le (length is.text) most_digits && list_all is_ascii_digit is.text)
-    (lt-ltb 0 (length is.text) is.not_empty)
-    (and_from (nat_le (length is.text) most_digits) (list_all is_ascii_digit is.text)
-    (le-leb (length is.text) most_digits is.few) (list_all-from_AllPass is_ascii_digit is.text is.digits)) in
-    ap (number_said item.name) is.in_parentheses
-    ∙ ap (λ b. cond b (Some (digits_value 10 is.text)) None)
-    (and_from (bytes_eq item.name (codes "value")) (is_short_number is.text)
-    ((bytes_eq-Decides item.name (codes "value")).1 is.name) number)
-    ∙ ap Some (sym is.number)
+said-from item n is = grind (arith, and_from, lt-ltb, le-leb, list_all-from_AllPass, bytes_eq-Decides)
 
 module _ (item : Item) (n : ℕ) where
   -- what a text in parentheses says it says in words
@@ -68,9 +57,8 @@ nothing-from item none = by_number (worth_said item) refl
 filter_map-nothing : (items : List Item) → All SaysNothing items → filter_map worth_said items ≡ []
 filter_map-nothing [] none = refl
 filter_map-nothing (item ∷ items) none =
-    ap (λ number. cons_option number (filter_map worth_said items))
-    (nothing-from item (All-head SaysNothing item items none))
-    ∙ filter_map-nothing items (All-tail SaysNothing item items none)
+    grind (arith, nothing-from item (All-head SaysNothing item items none),
+        filter_map-nothing items (All-tail SaysNothing item items none))
 
 -- the first number of these items, and 0 if there is none
 abbrev first : List Item → ℕ
@@ -79,12 +67,9 @@ first items = unwrap_or (slice_get (filter_map worth_said items) 0) 0
 -- the first number in words is the first number
 first-from : (items : List Item) (n : ℕ) → IsWorth items n → first items ≡ n
 first-from items n (said before item after place none is) =
-    ap (λ l. unwrap_or (slice_get (filter_map worth_said l) 0) 0) place
-    ∙ ap (λ l. unwrap_or (slice_get l 0) 0) (filter_map-append worth_said before (item ∷ after)
-    ∙ ap (λ l. l ++ filter_map worth_said (item ∷ after)) (filter_map-nothing before none)
-    ∙ ap (λ number. cons_option number (filter_map worth_said after)) (said-from item n is))
-first-from items n (unsaid none zero) =
-    ap (λ l. unwrap_or (slice_get l 0) 0) (filter_map-nothing items none) ∙ sym zero
+    grind (arith, filter_map-append worth_said before (item ∷ after), filter_map-nothing before none,
+        said-from item n is, unwrap_or, slice_get)
+first-from items n (unsaid none zero) = grind (arith, unwrap_or, slice_get, filter_map-nothing)
 
 -- an item more in front that says nothing
 later : (item : Item) (items : List Item) (n : ℕ) → SaysNothing item → IsWorth items n → IsWorth (item ∷ items) n

@@ -1,6 +1,6 @@
 -- What attains a code, by the answer to the question and by the plays that succeed.
 use Rattle.std.proofs.Common.{◌≡◌, ◌≢◌, ◌∙◌, ◌↔◌, ℕ, ◌-◌, ◌&&◌, Bool, true, false, cond, Option, Some, None}
-use Rattle.std.proofs.Common.{refl, sym, ap, subst, arith, inl, inr, ◌*◌, ◌<◌}
+use Rattle.std.proofs.Common.{refl, sym, ap, subst, arith, ◌*◌, ◌<◌}
 use Rattle.std.proofs.lemmas.Bool.{ne_eqb, lt-ltb, ltb-true, and_parts}
 use Rattle.std.specs.Ordering.{nat_cmp}
 use Rattle.std.specs.FinSet as sets
@@ -12,7 +12,7 @@ use Rattle.read_rules.specs.declared.question.ReadingQuestion.{ReadingQuestion}
 use Rattle.read_rules.specs.declared.question.Answer.{Answer}
 use Rattle.read_rules.specs.declared.question.Spot.{Spot}
 use Rattle.read_rules.specs.declared.question.Spot.TheVariants.{At, Pass}
-use Rattle.read_rules.specs.GameTree.{child_of, succeeds, pass_saves, first_success, at_point}
+use Rattle.read_rules.specs.GameTree.{child_of, succeeds, at_point}
 use Rattle.read_rules.specs.Answer.{first_node, answer_of, code_of, move_of, first_move_of}
 use Rattle.read_rules.specs.Rules.{Succeeds, IsFirstMove}
 use Rattle.read_rules.specs.Candidates.{is_candidate}
@@ -46,35 +46,23 @@ by_pass false false found is = refl
 pub pass_told : (q : ReadingQuestion) (pos : BoardState) (answer : Answer) (told : Bool) → answer ≡ answer_of q pos
     → answer.code ≢ 0 → (told ≡ true) ↔ (answer.at ≡ Some Pass) → told ≡ attains_by_pass q pos answer.code
 pass_told q pos answer told is some tells =
-    let node = first_node q answer.code in
-    let first : answer.at ≡ first_move_of q pos answer.code =
-    ap (λ (a : Answer). a.at) is ∙ at-answer_of q pos
-    ∙ ap (move_of q pos) (sym (ap (λ (a : Answer). a.code) is ∙ code-answer_of q pos))
-    ∙ first_told q pos answer.code some in
-    by_pass told (pass_saves (q.plies - 1) node pos) (first_success (q.plies - 1) node pos) (rw first at tells)
-    ∙ sym (ap (λ b. b && pass_saves (q.plies - 1) node pos) (lt-ltb 0 answer.code (omega (arith, some))))
+    grind (arith, by_pass told, lt-ltb 0 answer.code, at-answer_of, code-answer_of, first_told)
 
 -- no play attains code 0
 pub none_attains : (among : Among) (q : ReadingQuestion) (pos : BoardState) (p : ℕ)
     → false ≡ (is_among among q pos p && attains_at q pos 0 p)
-none_attains among q pos p = by (is_among among q pos p)
-  where
-    by : (b : Bool) → false ≡ (b && false)
-    by true = refl
-    by false = refl
+none_attains among q pos p = grind arith
 
 -- a play attains a code above 0 exactly if it gives its mover his way
 pub play_attains : (q : ReadingQuestion) (pos : BoardState) (code p : ℕ) → code ≢ 0
     → succeeds (q.plies - 1) (first_node q code) pos p ≡ attains_at q pos code p
-play_attains q pos code p some =
-    sym (ap (λ b. b && succeeds (q.plies - 1) (first_node q code) pos p) (lt-ltb 0 code (omega (arith, some))))
+play_attains q pos code p some = grind (arith, lt-ltb)
 
 -- a candidate is among the points that are looked at, whichever these are
 candidate_among : (among : Among) (q : ReadingQuestion) (pos : BoardState) (code p : ℕ)
     → is_candidate (first_turn q) pos p ≡ true → is_among among q pos p ≡ true
 candidate_among Candidates q pos code p candidate = candidate
-candidate_among EveryPoint q pos code p candidate =
-    lt-ltb p (pos.size * pos.size) (candidate_on (first_turn q) pos p candidate)
+candidate_among EveryPoint q pos code p candidate = grind (arith, lt-ltb, candidate_on)
 
 -- a play that succeeds by the rules succeeds by the test
 succeeds_by_rules : (n : ℕ) (node : Node) (pos : BoardState) (p : ℕ) → Succeeds n node pos p
@@ -93,18 +81,10 @@ first_among : (among : Among) (q : ReadingQuestion) (pos : BoardState) (code : �
     (points : sets.FinSet nat_cmp) (spot : Spot) → code ≢ 0 → IsFirstMove (q.plies - 1) (first_node q code) pos spot
     → pass ≡ attains_by_pass q pos code
     → ((p : ℕ) → sets.contains points p ≡ (is_among among q pos p && attains_at q pos code p)) → HasMove pass points
-first_among among q pos code pass points Pass some first passes plays =
-    inl (passes ∙ rw (lt-ltb 0 code (omega (arith, some)), first) refl)
+first_among among q pos code pass points Pass some first passes plays = grind (arith, lt-ltb)
 first_among among q pos code pass points (At p) some first passes plays =
-    let w = first.succeeds in
-    inr (
-      p,
-      plays p ∙ rw (
-        candidate_among among q pos code p w.candidate,
-        ← play_attains q pos code p some,
-        succeeds_by_rules (q.plies - 1) (first_node q code) pos p w,
-      ) refl,
-    )
+    grind (arith, candidate_among among q pos code p, play_attains q pos code p some,
+        succeeds_by_rules (q.plies - 1) (first_node q code) pos p)
 
 -- a code above 0 has a move that attains it
 pub some_move : {among : Among} {q : ReadingQuestion} {pos : BoardState} {code : ℕ} {pass : Bool}
@@ -126,6 +106,4 @@ among_inside EveryPoint q pos code p among = ltb-true p (pos.size * pos.size) am
 pub moves_inside : {among : Among} {q : ReadingQuestion} {pos : BoardState} {code : ℕ} {pass : Bool}
     {points : sets.FinSet nat_cmp} → AreMovesAmong among q pos code pass points
     → (p : ℕ) → sets.contains points p ≡ true → p < pos.size * pos.size
-moves_inside {among} {q} {pos} {code} moves p there =
-    among_inside among q pos code p (and_parts (is_among among q pos p) (attains_at q pos code p)
-    (sym (moves.plays p) ∙ there)).0
+moves_inside {among} {q} {pos} {code} moves p there = grind (arith, among_inside, and_parts)

@@ -1,6 +1,5 @@
 -- The points whose plays succeed, found one after another among those that are tried.
 use Rattle.std.proofs.Common.{◌≡◌, ◌≢◌, ◌∙◌, ℕ, ◌+◌, ◌<◌, ◌≤◌, ◌&&◌, Bool, true, false, ltb, refl, sym, ap, arith}
-use Rattle.std.proofs.Common.{inl, inr}
 use Rattle.std.specs.Ordering.{nat_cmp}
 use Rattle.std.specs.FinSet as sets
 use Rattle.std.proofs.lemmas.Bool.{cases_eq, cases_lt, lt-ltb, le-ltb, eq-eqb, ne_eqb}
@@ -30,36 +29,24 @@ none_below tried wins found e q =
 -- between two tried points, and above both, nothing changes
 apart : (tried wins : ℕ → Bool) (n p q : ℕ) → n ≤ p → ((r : ℕ) → n ≤ r → r < p → tried r ≡ false) → q ≢ p
     → (ltb q n && (tried q && wins q)) ≡ (ltb q (p + 1) && (tried q && wins q))
-apart tried wins n p q later between ne = elim (cases_lt q n) [
-  | inl low ↦ rw (lt-ltb q n low, lt-ltb q (p + 1) (omega (arith, low, later))) refl
-  | inr high ↦ elim (cases_lt q p) [
-    | inl below ↦ rw (between q high below) (fails (ltb q n) ∙ sym (fails (ltb q (p + 1))))
-    | inr above ↦ rw (le-ltb q n high, le-ltb q (p + 1) (omega (arith, above, ne))) refl
-  ]
-]
+apart tried wins n p q later between ne = grind (arith, cases_lt, lt-ltb, fails, le-ltb)
 
 -- the play at the next tried point succeeds
 pub one_more : (tried wins : ℕ → Bool) (n p : ℕ) (found next : sets.FinSet nat_cmp) → HasBelow tried wins n found
     → n ≤ p → ((r : ℕ) → n ≤ r → r < p → tried r ≡ false) → tried p ≡ true → wins p ≡ true
     → next ≡ sets.insert found p → HasBelow tried wins (p + 1) next
 one_more tried wins n p found next has later between t w e q =
-    ap (λ f. sets.contains f q) e ∙ contains-insert_nat found p q ∙ elim (cases_eq q p) [
-      | inl same ↦ rw (same, eq-eqb p p refl, lt-ltb p (p + 1) (omega arith), t, w) refl
-      | inr ne ↦ rw (ne_eqb q p ne) (has q ∙ apart tried wins n p q later between ne)
-    ]
+    grind (arith, contains-insert_nat found p q, cases_eq q p, eq-eqb p p refl, lt-ltb p (p + 1), ne_eqb q p,
+        apart tried wins n p q later between)
 
 -- it does not
 pub no_more : (tried wins : ℕ → Bool) (n p : ℕ) (found : sets.FinSet nat_cmp) → HasBelow tried wins n found
     → n ≤ p → ((r : ℕ) → n ≤ r → r < p → tried r ≡ false) → wins p ≡ false → HasBelow tried wins (p + 1) found
-no_more tried wins n p found has later between w q = elim (cases_eq q p) [
-  | inl same ↦ rw same (has p ∙ rw (le-ltb p n later, w) (sym (fails_of_three (ltb p (p + 1)) (tried p))))
-  | inr ne ↦ has q ∙ apart tried wins n p q later between ne
-]
+no_more tried wins n p found has later between w q =
+    grind (arith, cases_eq q p, le-ltb p n later, fails_of_three (ltb p (p + 1)) (tried p),
+        apart tried wins n p q later between)
 
 -- no tried point is left, so all are found
 pub all_found : (tried wins : ℕ → Bool) (n : ℕ) (found : sets.FinSet nat_cmp) → HasBelow tried wins n found
     → ((r : ℕ) → n ≤ r → tried r ≡ false) → (q : ℕ) → sets.contains found q ≡ (tried q && wins q)
-all_found tried wins n found has none q = elim (cases_lt q n) [
-  | inl low ↦ has q ∙ rw (lt-ltb q n low) refl
-  | inr high ↦ has q ∙ rw (le-ltb q n high, none q high) refl
-]
+all_found tried wins n found has none q = grind (arith, cases_lt, lt-ltb, le-ltb)

@@ -20,8 +20,7 @@ no_ply n node here e = rw e refl
 pub some_plies : (n : ℕ) (node : Node) (here : BoardState) (reply : Option Spot) → n ≢ 0
     → reply ≡ first_move (n - 1) node here → reply ≡ first_reply n node here
 some_plies zero node here reply some e = absurd (some refl)
-some_plies (suc n) node here reply some e =
-    let less : suc n - 1 ≡ n = omega arith in e ∙ ap (λ m. first_move m node here) less
+some_plies (suc n) node here reply some e = grind arith
 
 -- A play to a node, at which n plies are left, by the attacker or not.
 module _ (attacker : Bool) (n : ℕ) (node : Node) (here : BoardState) (won : Bool)

@@ -1,6 +1,6 @@
 -- A kept variant that stands, and how it comes to stand first.
-use Rattle.std.proofs.Common.{◌≡◌, ◌∙◌, ap, sym, subst, refl, Bool, Contains, List, ◌∷◌, ◌++◌, ℕ, ◌+◌, ◌-◌, ◌<◌, ◌≤◌}
-use Rattle.std.proofs.Common.{length, take, drop, Option, Some, None}
+use Rattle.std.proofs.Common.{◌≡◌, ◌∙◌, ap, sym, subst, refl, Bool, Contains, List, ◌∷◌, ◌++◌, ℕ, ◌+◌, ◌-◌}
+use Rattle.std.proofs.Common.{take, drop, Option, Some, None}
 use Rattle.std.specs.Option.{option_map, option_map_or}
 use Rattle.std.specs.Map.{lookup, lookup_entry, remove_entry}
 use Rattle.std.proofs.lemmas.List.Elements.{Contains-append_right}
@@ -11,7 +11,7 @@ use Rattle.lru.proofs.Splits.{Contains-head}
 use Rattle.go_rules.specs.Position.{BoardState}
 use Rattle.read_cache.specs.Kept.{Kept, AreVariants, IsSound, IsFound, variants_of, put_first}
 use Rattle.read_cache.specs.Places.{HasAt, StandsAt, front_of}
-use Rattle.read_cache.specs.Variants.{IsFirstStanding, most_variants}
+use Rattle.read_cache.specs.Variants.{IsFirstStanding}
 use Rattle.read_cache.specs.declared.variants.Variant.{Variant}
 use Rattle.read_cache.proofs.CacheSoundness.{AreVariants-brought}
 
@@ -53,14 +53,6 @@ module _ {Q A : Type 0} (eq : Q → Q → Bool) (q : Q) (old : Kept Q A) (place 
     -- the variants that are looked up are those of the place
     same_variants : at.variants ≡ items
     same_variants = let same = sym at.is_kept ∙ kept in cc
-
-    -- so there are at most four of them, and one at the place
-    pub place_within : (slice : List (Variant A)) (meaning : BoardState → A) → slice ≡ items
-        → AreVariants meaning items → (place < length slice) × (length slice ≤ most_variants)
-    place_within slice meaning is are = (
-      subst (λ vs. place < length vs) (same_variants ∙ sym is) at.within,
-      subst (λ vs. length vs ≤ most_variants) (sym is) are.few,
-    )
 
     -- the front of these variants is this one, where some variant is at the place
     abbrev IsFront : List (Variant A) → List (Variant A) → Type 0

@@ -1,7 +1,7 @@
 -- The answer at the first node.
 use Rattle.std.proofs.Common.{◌≡◌, ◌≢◌, ◌∙◌, ◌↔◌, ℕ, ◌-◌, ◌*◌, ◌<◌}
 use Rattle.std.proofs.Common.{◌&&◌, Bool, true, false, not, cond, Option, Some, None}
-use Rattle.std.proofs.Common.{is_some, IfSome, refl, sym, ap, subst}
+use Rattle.std.proofs.Common.{is_some, IfSome, refl, sym, ap, subst, arith}
 use Rattle.std.specs.Prelude.{IsNone}
 use Rattle.std.proofs.lemmas.Bool.{both_ways, and_from, and_parts, eq-eqb, eqb-true}
 use Rattle.go_rules.specs.declared.Cell.{Cell}
@@ -23,7 +23,7 @@ use Rattle.connect_rules.specs.declared.question.LinkKind.TheVariants.{Connect, 
 use Rattle.connect_rules.specs.declared.question.LinkQuestion.{LinkQuestion}
 use Rattle.connect_rules.specs.Connection.{is_one_string, first_success, pass_parts}
 use Rattle.connect_rules.specs.ConnectionArea.{first, InConnectionArea}
-use Rattle.connect_rules.specs.Linkages.{is_connect, link_of, is_about, first_move_of, linkage_of, asked_on}
+use Rattle.connect_rules.specs.Linkages.{is_connect, link_of, is_about, linkage_of, asked_on}
 use Rattle.connect_rules.proofs.LinkageLemmas.{linkage_one, linkage_apart}
 use Rattle.read_connect.specs.Readings.{first_move, one_string}
 use Rattle.read_connect.proofs.StandingNodes.{IsStandingNode, a_in, b_in}
@@ -38,15 +38,13 @@ own_first n link false here e = absurd (both_ways false refl e)
 pub pass_first : (n : ℕ) (link : Link) (own : Bool) (here : BoardState) → own ≡ false
     → pass_parts n link here ≡ true → Some Pass ≡ first_move n link own here
 pass_first n link true here e parts = absurd (both_ways true e refl)
-pass_first n link false here e parts =
-    sym (ap (λ b. cond b (Some Pass) (at_point (first_success n link false here))) parts)
+pass_first n link false here e parts = grind arith
 
 -- at the other turn it is the first point if the pass does not part the strings
 pub other_first : (n : ℕ) (link : Link) (own : Bool) (here : BoardState) → own ≡ false
     → pass_parts n link here ≡ false → at_point (first_success n link own here) ≡ first_move n link own here
 other_first n link true here e holds = absurd (both_ways true e refl)
-other_first n link false here e holds =
-    sym (ap (λ b. cond b (Some Pass) (at_point (first_success n link false here))) holds)
+other_first n link false here e holds = grind arith
 
 -- a point of the board is a move on it
 pub at_on : (s : ℕ) (found : Option ℕ) → IfSome found (λ p. p < s * s) → IfSome (at_point found) (IsOnBoard s)
@@ -69,14 +67,7 @@ pub apart_told : (q : LinkQuestion) (pos : BoardState) (own : Bool) (at : Option
     → own ≡ is_connect q.kind → q.plies ≢ 0 → is_about q pos ≡ true → is_one_string (link_of q) pos ≡ false
     → at ≡ first_move (q.plies - 1) (link_of q) own pos → told ≡ is_some at → record { yes = told; at = at }
     ≡ linkage_of q pos
-apart_told q pos own at told e some about apart move told_is =
-    let n = q.plies - 1 in
-    let point = at_point (first_success n (link_of q) (is_connect q.kind) pos) in
-    let first : at ≡ first_move_of q pos = move ∙ ap (λ o. first_move n (link_of q) o pos) e
-    ∙ ap (λ b. cond b (Some Pass) point)
-    (by_kind q.kind (is_one_string (link_of q) pos) (pass_parts n (link_of q) pos) apart) in
-    ap (λ (t : Bool). record { yes = t; at = at }) told_is
-    ∙ ap (λ (m : Option Spot). record { yes = is_some m; at = m }) first ∙ sym (linkage_apart q pos some about apart)
+apart_told q pos own at told e some about apart move told_is = grind (arith, by_kind, linkage_apart)
 
 -- an answer has no move exactly if it is no
 pub told_none : (at : Option Spot) (told : Bool) → told ≡ is_some at → IsNone at ↔ (told ≡ false)
@@ -95,8 +86,7 @@ one_on s false = tt
 -- a question is about each position of its size on which both points hold stones of its colour
 pub about_stones : (q : LinkQuestion) (pos : BoardState) → q.size ≡ pos.size
     → cell_at pos.cells q.a ≡ stone_of q.colour → cell_at pos.cells q.b ≡ stone_of q.colour → is_about q pos ≡ true
-about_stones q pos size at_a at_b = and_from _ _ (eq-eqb q.size pos.size size)
-    (and_from _ _ (same_cell-from _ _ at_a) (same_cell-from _ _ at_b))
+about_stones q pos size at_a at_b = grind (arith, and_from, eq-eqb, same_cell-from)
 
 module _ (q : LinkQuestion) (pos : BoardState) (a_on : q.a < pos.size * pos.size) (b_on : q.b < pos.size * pos.size)
     (about : is_about q pos ≡ true) where
@@ -134,20 +124,10 @@ module _ (q : LinkQuestion) (pos : BoardState) (a_on : q.a < pos.size * pos.size
 pub stands_too : {seen : Fact → Bool} {shown pos : BoardState} (p : ℕ) (cell : Cell) {stone : Cell}
     → seen (CellIs p cell) ≡ true → Agrees seen shown → Agrees seen pos → cell_at shown.cells p ≡ stone
     → cell_at pos.cells p ≡ stone
-stands_too p cell told here there stands =
-    there.each (CellIs p cell) told ∙ sym (here.each (CellIs p cell) told) ∙ stands
+stands_too p cell told here there stands = grind arith
 
 -- the question that the call makes is the one that is asked
 pub question_is : (shown : BoardState) (size a b plies : ℕ) (kind : LinkKind) (cell : Cell)
     (colour : Colour) → size ≡ shown.size → colour ≡ colour_of cell → cell ≡ cell_at shown.cells a
     → record { size = size; kind = kind; a = a; b = b; colour = colour; plies = plies } ≡ asked_on shown kind a b plies
-question_is shown size a b plies kind cell colour size_is colour_is cell_is =
-    ap (λ (n : ℕ). record { size = n; kind = kind; a = a; b = b; colour = colour; plies = plies }) size_is
-    ∙ ap (λ (c : Colour). record {
-      size = shown.size;
-      kind = kind;
-      a = a;
-      b = b;
-      colour = c;
-      plies = plies;
-    }) (colour_is ∙ ap colour_of cell_is)
+question_is shown size a b plies kind cell colour size_is colour_is cell_is = grind arith

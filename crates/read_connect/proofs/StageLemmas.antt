@@ -1,15 +1,14 @@
 -- The stages of the connecting moves are the connecting moves.
 use Rattle.std.proofs.Common.{◌≡◌, ℕ, ◌*◌, ◌<◌, ◌&&◌, ◌||◌, ◌⊎◌, ◌==◌, Bool, true, false, not, List, refl, sym, ap}
 use Rattle.std.proofs.Common.{inl, inr, ◌∙◌}
-use Rattle.std.proofs.lemmas.Bool.{cases_Bool, and_parts, and_from, or_cases, or_left, or_right}
-use Rattle.std.proofs.lemmas.Bool.{lt-ltb}
+use Rattle.std.proofs.lemmas.Bool.{cases_Bool, and_parts, and_from, or_cases, or_left, or_right, lt-ltb}
 use Rattle.std.specs.Ordering.{nat_cmp}
 use Rattle.std.specs.Cmp.{nat_cmp_total}
 use Rattle.std.specs.FinSet as set
 use Rattle.go_rules.specs.declared.Cell.{Cell}
 use Rattle.go_rules.specs.Below.{any_below}
 use Rattle.go_rules.specs.Board.{are_neighbours}
-use Rattle.go_rules.specs.Strings.{is_liberty, liberties, liberty_points, string_at, is_in_string}
+use Rattle.go_rules.specs.Strings.{is_liberty, liberties, liberty_points, string_at}
 use Rattle.go_rules.specs.Position.{BoardState}
 use Rattle.go_rules.proofs.Counts.{any_below_same}
 use Rattle.go_rules.proofs.Sets.{contains-set_below}
@@ -20,7 +19,7 @@ use Rattle.go_base.proofs.Liberties.{len-liberty_points}
 use Rattle.connect_rules.specs.declared.link.Link.{Link}
 use Rattle.connect_rules.specs.Connection.{is_one_string}
 use Rattle.connect_rules.specs.ConnectingMoves.{is_facing, is_between, is_capture, is_connecting_move}
-use Rattle.std.proofs.Common.{None}
+use Rattle.std.proofs.Common.{None, arith}
 use Rattle.connect_rules.proofs.MoveLemmas.{move_on}
 use Rattle.go_base.specs.Facts.{Fact, Agrees}
 use Rattle.trial_board.specs.Trials.{Trying, after}
@@ -74,16 +73,13 @@ stages_are false false false false f g = refl
 -- what is no member of the first set does not reach across
 pub none_reaches : (s : ℕ) (points others : set.FinSet nat_cmp) (p : ℕ) → set.contains points p ≡ false
     → reaches_among s points others p ≡ false
-none_reaches s points others p none =
-    ap (λ b. b && (not (set.contains others p) && ((set.len points == 1) || is_beside_member s others p))) none
+none_reaches s points others p none = grind arith
 
 -- a member of the first set is tested for what reaches across
 pub reach_test : (s : ℕ) (points others : set.FinSet nat_cmp) (p n : ℕ) (told : Bool)
     → told ≡ (not (set.contains others p) && ((n == 1) || is_beside_member s others p)) → n ≡ set.len points
     → set.contains points p ≡ true → reaches_among s points others p ≡ told
-reach_test s points others p n told told_is n_is has =
-    ap (λ b. b && (not (set.contains others p) && ((set.len points == 1) || is_beside_member s others p))) has
-    ∙ ap (λ k. not (set.contains others p) && ((k == 1) || is_beside_member s others p)) (sym n_is) ∙ sym told_is
+reach_test s points others p n told told_is n_is has = grind arith
 
 -- the points of the liberties of a and b pass the tests for sets as the liberties do
 module _ (s : ℕ) (cells : List Cell) (a b : ℕ) (of_a of_b : set.FinSet nat_cmp)
@@ -176,10 +172,7 @@ pub one_by : (link : Link) (s : ℕ) (here : BoardState) (stones : set.FinSet na
     → link.b < s * s → stones ≡ string_at s here.cells link.a
     → set.contains stones link.b ≡ is_one_string link here
 unfolding string_at
-one_by link s here stones size on is =
-    ap (λ k. set.contains k link.b) is ∙ contains-set_below (s * s) (is_in_string s here.cells link.a) link.b
-    ∙ ap (λ b. b && is_in_string s here.cells link.a link.b) (lt-ltb link.b (s * s) on)
-    ∙ ap (λ n. is_in_string n here.cells link.a link.b) (sym size)
+one_by link s here stones size on is = grind (arith, contains-set_below, lt-ltb)
 
 -- a liberty is a point of the board
 pub liberty_inside : (s : ℕ) (cells : List Cell) (t p : ℕ) (known : set.FinSet nat_cmp)
@@ -255,14 +248,8 @@ pub stages_found : {L : Type 0} {seen : L → Fact → Bool} {board : Trying L} 
     → ((p : ℕ) → set.contains across p ≡ (reaches_among n of_a of_b p || reaches_among n of_b of_a p))
     → ((p : ℕ) → set.contains captures p ≡ is_capture pos.size (after pos board.moves).cells link.a link.b p)
     → AreStages link pos.size (after pos board.moves) of_a of_b shared across captures
-stages_found {board = board} {of_a = of_a} {of_b = of_b} its pos a e shared_is across_is captures_is = record {
-  size = size-after pos board.moves;
-  a_is = its.a_liberties pos a;
-  b_is = its.b_liberties pos a;
-  shared_is = shared_is;
-  across_is = λ p. across_is p ∙ ap (λ m. reaches_among m of_a of_b p || reaches_among m of_b of_a p) e;
-  captures_is = captures_is;
-}
+stages_found {board = board} {of_a = of_a} {of_b = of_b} its pos a e shared_is across_is captures_is =
+    grind (arith, size-after pos board.moves)
 
 -- The three stages of the connecting moves.
 module _ {link : Link} {s : ℕ} {here : BoardState} {of_a of_b shared across captures : set.FinSet nat_cmp}
@@ -284,8 +271,7 @@ module _ {link : Link} {s : ℕ} {here : BoardState} {of_a of_b shared across ca
   module _ (tried rest : set.FinSet nat_cmp) (rest_is : rest ≡ set.difference captures tried) where
     -- one of these is a capture
     rest_is_capture : (p : ℕ) → set.contains rest p ≡ true → is_capture s here.cells link.a link.b p ≡ true
-    rest_is_capture p i =
-        sym (h.captures_is p) ∙ (and_parts _ _ (sym (in_first_alone captures tried rest rest_is p) ∙ i)).0
+    rest_is_capture p i = grind (arith, in_first_alone captures tried rest rest_is p, and_parts)
 
     -- a point of the rest is on the board
     pub rest_inside : (p : ℕ) → set.contains rest p ≡ true → p < s * s
@@ -293,8 +279,7 @@ module _ {link : Link} {s : ℕ} {here : BoardState} {of_a of_b shared across ca
 
     -- a point of the rest is a connecting move
     pub rest_is_move : (p : ℕ) → set.contains rest p ≡ true → is_connecting_move link here p ≡ true
-    rest_is_move p i = capture_is_move link s here of_a of_b h.size h.a_is h.b_is p
-        (rest_is_capture p i)
+    rest_is_move p i = grind (arith, rest_is_capture)
 
     -- a connecting move is of the first two stages, or one of these
     covered : tried ≡ set.union shared across → (p : ℕ) → is_connecting_move link here p ≡ true
@@ -316,9 +301,7 @@ module _ {link : Link} {s : ℕ} {here : BoardState} {of_a of_b shared across ca
         → TellsSome (set.contains shared) test one → one ≡ false
         → TellsSome (set.contains across) test two → two ≡ false
         → TellsSome (set.contains rest) test told → TellsSome (is_connecting_move link here) test told
-    last_stage tried_is test one two told a a_none b b_none c =
-        tells_last (set.contains shared) (set.contains across) (set.contains rest) (is_connecting_move link here) test
-        one two told a a_none b b_none c rest_is_move (covered tried_is)
+    last_stage tried_is test one two told a a_none b b_none c = grind (arith, tells_last, rest_is_move, covered)
 
 -- the last liberties beside the one string and beside the other are the captures
 pub captures_are : (s : ℕ) (cells : List Cell) (link : Link) (of_a of_b both : set.FinSet nat_cmp) (p : ℕ)

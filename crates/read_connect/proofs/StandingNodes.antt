@@ -1,10 +1,10 @@
 -- The looks at a node of a question's tree if both strings stand: they lie in the question's active area.
-use Rattle.std.proofs.Common.{◌≡◌, ◌⊎◌, ℕ, suc, ◌*◌, ◌<◌, Bool, true, false, not, Ok, ap, sym, subst, inl, inr}
+use Rattle.std.proofs.Common.{◌≡◌, ◌⊎◌, ℕ, suc, ◌*◌, ◌<◌, Bool, true, false, not, Ok, ap, sym, subst, inl, inr, arith}
 use Rattle.std.proofs.lemmas.Bool.{or_cases, eqb-true}
 use Rattle.go_rules.specs.Neighbourhood.{neighbourhood_of}
 use Rattle.go_rules.specs.Play.{play, pass}
 use Rattle.go_rules.specs.Position.{BoardState}
-use Rattle.go_base.specs.Facts.{Fact, SizeIs, Agrees, AddsIn, same_size}
+use Rattle.go_base.specs.Facts.{Fact, SizeIs, Agrees, AddsIn}
 use Rattle.go_base.specs.Views.{alone}
 use Rattle.trial_board.specs.Overlays.{neighbourhood_twice}
 use Rattle.trial_board.specs.Trials.{Trying, after}
@@ -41,15 +41,7 @@ pub standing_node : {L : Type 0} {shows : L → BoardState} {seen : Fact → Boo
     → seen (SizeIs (shows board.look).size) ≡ true → Agrees seen pos
     → both_stand link (after pos board.moves) ≡ true → IsNodeFor link q root n own (after pos board.moves)
     → IsStandingNode link q root (after pos board.moves) n own pos.size
-standing_node {shows} {board} {link} {pos} on told agrees stand node =
-    let same = same_size told agrees in
-    record {
-      node = node;
-      size = size-after pos board.moves;
-      a_on = point_on pos.size (shows board.look).size link.a same on.a;
-      b_on = point_on pos.size (shows board.look).size link.b same on.b;
-      stand = stand;
-    }
+standing_node {shows} {board} {link} {pos} on told agrees stand node = grind (arith, size-after, point_on)
 
 -- the node at which a function of the walk may go on stands, on a position that agrees with what was seen
 pub ready_node : {L : Type 0} {shows : L → BoardState} {seen : L → Fact → Bool} {board : Trying L} {link : Link}
@@ -63,11 +55,7 @@ ready_node {pos} ready told agrees node =
 -- a look at the two points of a child lies in the area
 pub near_ends : {link : Link} {q : LinkQuestion} {root here : BoardState} {n : ℕ} {own : Bool} {x y : Fact → Bool}
     → IsChildFor link q root n own here → AddsIn x y (is_end link) → AddsNear x y (InConnectionArea q root)
-near_ends {link} {q} {root} child looks = AddsNear-in (InConnectionArea q root) looks
-    (λ p h. elim (or_cases (alone link.a p) (alone link.b p) h) [
-      | inl is ↦ subst (InConnectionArea q root) (sym (eqb-true p link.a is)) child.a
-      | inr is ↦ subst (InConnectionArea q root) (sym (eqb-true p link.b is)) child.b
-    ])
+near_ends {link} {q} {root} child looks = grind (arith, or_cases, eqb-true)
 
 -- What is looked at where both stand.
 module _ {link : Link} {q : LinkQuestion} {root here : BoardState} {n s : ℕ} {own : Bool}

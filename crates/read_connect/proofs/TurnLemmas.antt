@@ -1,10 +1,9 @@
 -- What the moves of the side to play say of an undecided node.
 use Rattle.std.proofs.Common.{◌≡◌, ℕ, suc, ◌*◌, ◌<◌, ◌&&◌, Bool, true, false, not, refl, sym, ap, inl, inr, ◌∙◌}
-use Rattle.std.proofs.Common.{Some, None}
+use Rattle.std.proofs.Common.{Some, None, arith}
 use Rattle.std.proofs.lemmas.Bool.{cases_Bool, both_ways, and_from}
 use Rattle.go_rules.specs.Below.{any_below}
 use Rattle.go_rules.specs.Position.{BoardState}
-use Rattle.go_rules.specs.Play.{pass}
 use Rattle.go_rules.proofs.Counts.{any_below_from, any_below_false, first_below_is, first_below_none}
 use Rattle.connect_rules.specs.declared.link.Link.{Link}
 use Rattle.connect_rules.specs.ConnectingMoves.{is_connecting_move}
@@ -19,23 +18,15 @@ use Rattle.read_connect.specs.Stages.{attains, TellsSome}
 pub told_is : (n : ℕ) (link : Link) (own : Bool) (here : BoardState) (told : Bool)
     → TellsSome (is_connecting_move link here) (attains n link own here) told
     → told ≡ any_below (here.size * here.size) (succeeds n link own here)
-told_is n link own here told tells = elim (cases_Bool told) [
-  | inl t ↦
-      let w = tells.given t in
-      t ∙ sym (any_below_from (here.size * here.size) (succeeds n link own here) w.0 (move_on link here w.0 w.1)
-      (and_from _ _ w.1 w.2))
-  | inr f ↦ f ∙ sym (any_below_false (here.size * here.size) (succeeds n link own here)
-      (λ p l. elim (cases_Bool (is_connecting_move link here p)) [
-        | inl m ↦ and_false_right (is_connecting_move link here p) (attains n link own here p) (tells.none f p m)
-        | inr no_move ↦ ap (λ b. b && attains n link own here p) no_move
-      ]))
-]
+told_is n link own here told tells =
+    grind (arith, cases_Bool told, any_below_from (here.size * here.size) (succeeds n link own here),
+        move_on link here, any_below_false (here.size * here.size) (succeeds n link own here), and_from,
+        and_false_right)
 
 -- at their own turn the strings can be joined if some move serves
 pub own_by : (n : ℕ) (link : Link) (own : Bool) (here : BoardState) (told : Bool) → own ≡ true → IsUndecided link here
     → TellsSome (is_connecting_move link here) (attains n link own here) told → told ≡ can_connect (suc n) link own here
-own_by n link true here told e und tells =
-    told_is n link true here told tells ∙ sym (connects-own n link here und.stand und.apart)
+own_by n link true here told e und tells = grind (arith, told_is, connects-own)
 own_by n link false here told e und tells = absurd (both_ways false refl e)
 
 -- not a test that is negated
@@ -52,9 +43,7 @@ not_true false h = absurd (both_ways true h refl)
 pub parted_by : (n : ℕ) (link : Link) (own : Bool) (here : BoardState) → own ≡ false → IsUndecided link here
     → pass_parts n link here ≡ true → false ≡ can_connect (suc n) link own here
 parted_by n link true here e und parts = absurd (both_ways true e refl)
-parted_by n link false here e und parts = sym (connects-other n link here und.stand und.apart
-    ∙ ap (λ b. b && not (any_below (here.size * here.size) (succeeds n link false here)))
-    (not_false (can_connect n link true (pass here)) parts))
+parted_by n link false here e und parts = grind (arith, connects-other, not_false)
 
 -- strings that the other colour's pass does not part can be joined if no move of its serves it
 pub other_by : (n : ℕ) (link : Link) (own : Bool) (here : BoardState) (told : Bool) → own ≡ false
@@ -62,11 +51,7 @@ pub other_by : (n : ℕ) (link : Link) (own : Bool) (here : BoardState) (told : 
     → TellsSome (is_connecting_move link here) (attains n link own here) told
     → not told ≡ can_connect (suc n) link own here
 other_by n link true here told e und holds tells = absurd (both_ways true e refl)
-other_by n link false here told e und holds tells =
-    ap not (told_is n link false here told tells)
-    ∙ sym (connects-other n link here und.stand und.apart
-    ∙ ap (λ b. b && not (any_below (here.size * here.size) (succeeds n link false here)))
-    (not_true (can_connect n link true (pass here)) holds))
+other_by n link false here told e und holds tells = grind (arith, told_is, connects-other, not_true)
 
 -- the first move in reading order is the first point of the set of all moves that attains it
 module _ (n : ℕ) (link : Link) (own : Bool) (here : BoardState) (moves : ℕ → Bool)

@@ -21,18 +21,12 @@ but_from test a x t ne = and_from _ _ t (ap not (ne_eqb x a ne))
 -- and back
 but_parts : (test : ℕ → Bool) (a x : ℕ) → but test a x ≡ true → (test x ≡ true) × (x ≢ a)
 unfolding but
-but_parts test a x h =
-    let parts = and_parts (test x) (not (eqb x a)) h in
-    (parts.0, λ e. both_ways (not (eqb x a)) (ap not (eq-eqb x a e)) parts.1)
+but_parts test a x h = grind (arith, and_parts, both_ways, eq-eqb)
 
 -- some number passes where at least one is counted
 some_passes : (n : ℕ) (test : ℕ → Bool) → 0 < count_below n test → (x : ℕ) × (x < n) × (test x ≡ true)
-some_passes n test some = elim (cases_Bool (any_below n test)) [
-  | inl t ↦ any_below_gives n test t
-  | inr f ↦
-      let none = count_below_none n test (λ k below. any_below_none n test k f below) in
-      absurd (omega (arith, some, none))
-]
+some_passes n test some =
+    grind (arith, cases_Bool (any_below n test), any_below_gives n test, count_below_none n test, any_below_none n test)
 
 -- all numbers that pass but a are at most one fewer
 but_one : (n : ℕ) (test : ℕ → Bool) (a : ℕ) → count_below n test ≤ count_below n (but test a) + 1

@@ -1,6 +1,6 @@
 -- What a stone that is played reaches: its empty sides, and the other liberties of the strings that it joins. These are
 -- liberties of it, and all of them where it takes nothing.
-use Rattle.std.proofs.Common.{◌≡◌, ◌≢◌, ◌⊎◌, ℕ, ◌+◌, ◌*◌, ◌<◌, ◌&&◌, ◌||◌, Bool, true, false, cond, eqb, List, length}
+use Rattle.std.proofs.Common.{◌≡◌, ◌≢◌, ◌⊎◌, ℕ, ◌+◌, ◌*◌, ◌<◌, ◌||◌, Bool, true, false, cond, eqb, List, length}
 use Rattle.std.proofs.Common.{Result, Ok, Err, refl, sym, ap, subst, arith, inl, inr, ◌∙◌, set}
 use Rattle.std.proofs.lemmas.Bool.{cases_Bool, cases_eq, eq-eqb, eqb-true, both_ways, and_parts, and_from}
 use Rattle.std.specs.Ordering.{nat_cmp}
@@ -11,7 +11,7 @@ use Rattle.go_rules.specs.declared.Cell.TheVariants.{Empty}
 use Rattle.go_rules.specs.declared.Colour.{Colour}
 use Rattle.go_rules.specs.declared.Illegal.{Illegal}
 use Rattle.go_rules.specs.Board.{are_neighbours}
-use Rattle.go_rules.specs.Strings.{cell_at, is_stone, same_cell, Path, start, step, IsLiberty, is_liberty, liberties}
+use Rattle.go_rules.specs.Strings.{cell_at, is_stone, Path, start, step, IsLiberty, is_liberty, liberties}
 use Rattle.go_rules.specs.Strings.{liberty_points}
 use Rattle.go_rules.specs.Position.{BoardState, IsPosition, other, stone_of}
 use Rattle.go_rules.specs.Play.{play_free, cells_after, is_taken}
@@ -186,31 +186,16 @@ module _ (s : ℕ) (cells : List Cell) (c : Colour) (l : ℕ) (whole : length ce
     -- a liberty beside a string that the stone joins was one of that string
     liberty_before : (x : ℕ) (lib : IsLiberty s gone l x) → cell_at cells x ≡ Empty → (j : IsJoinedTo lib.beside.0)
         → IsLiberty s cells j.q x
-    liberty_before x lib was j = record {
-      on_board = lib.on_board;
-      is_empty = was;
-      beside = (lib.beside.0, record { stone = ap is_stone j.stone ∙ stone_is c; path = j.path }, lib.beside.2);
-    }
+    liberty_before x lib was j = grind (arith, stone_is)
 
     -- a liberty of the stone's string is beside the stone, or one of a string that it joins
     reached_by : (x : ℕ) (lib : IsLiberty s gone l x) → cell_at cells x ≡ Empty → x ≢ l
         → (lib.beside.0 ≡ l) ⊎ IsJoinedTo lib.beside.0 → IsReached s cells c l x
-    reached_by x lib was off (inl e) = by_side (record {
-      on_board = lib.on_board;
-      is_empty = was;
-      beside = subst (λ z. are_neighbours s z x ≡ true) e lib.beside.2;
-    })
-    reached_by x lib was off (inr j) = by_string (record {
-      q = j.q;
-      beside = j.near;
-      its = record { on_board = j.q_on; stone = j.stone; liberty = liberty_before x lib was j };
-    }) off
+    reached_by x lib was off v4 = grind (arith, liberty_before)
 
     -- so the stone has no liberty but what it reaches
     pub only_gained : (x : ℕ) → IsLiberty s gone l x → IsReached s cells c l x
-    only_gained x lib =
-        let off : x ≢ l = λ e. stone_not_empty c (sym stone_here ∙ ap (cell_at gone) (sym e) ∙ lib.is_empty) in
-        reached_by x lib (sym (stays x lib.on_board off) ∙ lib.is_empty) off (from_here lib.beside.1.path)
+    only_gained x lib = grind (arith, stone_not_empty c, from_here lib.beside.1.path, reached_by, stays)
 
 -- what is reached is empty
 pub reached_empty : (s : ℕ) (cells : List Cell) (c : Colour) (l x : ℕ) → IsReached s cells c l x
@@ -239,27 +224,21 @@ none_by_reached : (pos : BoardState) (c : Colour) (l p : ℕ) → l < pos.size *
     → (r : Result BoardState Illegal) → play_free pos c l ≡ r → leaves_only l p r ≡ true → ⊥
 none_by_reached pos c l p on whole other (Err why) is h = cc
 none_by_reached pos c l p on whole other (Ok new) is h =
-    let size = size_played pos c l new is in
-    let lib = reached_then pos c l new other.point on whole is other.inside in
-    let only = only_parts new.size new.cells l p h in
-    other.other (same_liberty new.size new.cells l p other.point only.0 only.1
-    (ap (λ n. is_liberty n new.cells l other.point) size
-    ∙ is_liberty-from_fact pos.size new.cells l other.point on lib))
+    grind (arith, size_played pos c l new is, reached_then pos c l new other.point on whole is other.inside,
+        only_parts new.size new.cells l p h, same_liberty new.size new.cells l p other.point,
+        is_liberty-from_fact pos.size new.cells l other.point on)
 
 -- so it leaves nothing
 pub reached_leave_none : (pos : BoardState) (c : Colour) (l p : ℕ) → l < pos.size * pos.size
     → length pos.cells ≡ pos.size * pos.size → HasOther (IsReached pos.size pos.cells c l) p
     → leaves_only l p (play_free pos c l) ≡ false
-reached_leave_none pos c l p on whole other = elim (cases_Bool (leaves_only l p (play_free pos c l))) [
-  | inl t ↦ absurd (none_by_reached pos c l p on whole other (play_free pos c l) refl t)
-  | inr f ↦ f
-]
+reached_leave_none pos c l p on whole other =
+    grind (arith, cases_Bool (leaves_only l p (play_free pos c l)),
+        none_by_reached pos c l p on whole other (play_free pos c l) refl)
 
 -- the play that leaves a liberty is legal, and so its point is empty
 pub left_vacant : (here : BoardState) (c : Colour) (l p : ℕ) → is_left here c l p ≡ true → cell_at here.cells l ≡ Empty
-left_vacant here c l p left =
-    let made = only_gives l p (play_free here c l) (and_parts _ _ left).1 in
-    (done_state here c l made.0 made.1).0
+left_vacant here c l p left = grind (arith, only_gives, and_parts, done_state)
 
 -- a play that leaves a liberty which was empty before takes nothing, since what it takes leaves it another one
 pub left_lives : (here : BoardState) (c : Colour) (l p : ℕ) → l < here.size * here.size
@@ -352,10 +331,7 @@ module _ (here : BoardState) (c : Colour) (l : ℕ) (on : l < here.size * here.s
 pub unless_one : (here : BoardState) (c : Colour) (l p : ℕ) (r : Reach) → l < here.size * here.size → IsPosition here
     → cell_at here.cells l ≡ Empty → (r ≡ Nothing) ⊎ (r ≡ More) → Reaches here.size here.cells c l r
     → is_left here c l p ≡ false
-unless_one here c l p r on sound vacant (inr two) reaches =
-    let other = subst (Reaches here.size here.cells c l) two reaches in
-    ap (λ b. same_cell (cell_at here.cells p) Empty && b) (reached_leave_none here c l p on sound.cells (other p))
-    ∙ and-false (same_cell (cell_at here.cells p) Empty)
+unless_one here c l p r on sound vacant (inr two) reaches = grind (arith, reached_leave_none, and-false)
 unless_one here c l p r on sound vacant (inl none) reaches = elim (cases_Bool (is_left here c l p)) [
   | inr f ↦ f
   | inl t ↦ quiet_none here c l on

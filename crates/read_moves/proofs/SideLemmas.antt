@@ -1,12 +1,10 @@
 -- The empty sides of a point.
-use Rattle.std.proofs.Common.{◌≡◌, ℕ, ◌*◌, ◌<◌, ◌||◌, ◌&&◌, Bool, true, false, ltb, List, refl, sym}
-use Rattle.std.proofs.Common.{ap, subst, ◌∙◌}
+use Rattle.std.proofs.Common.{◌≡◌, ℕ, ◌*◌, ◌<◌, ◌||◌, ◌&&◌, Bool, true, ltb, List, sym, ap, subst, ◌∙◌, arith}
 use Rattle.std.proofs.lemmas.Bool.{eqb-true, and_parts, and_from, ltb-true}
 use Rattle.std.specs.Ordering.{nat_cmp}
 use Rattle.std.specs.FinSet as sets
 use Rattle.go_rules.specs.declared.Cell.{Cell}
 use Rattle.go_rules.specs.declared.Cell.TheVariants.{Empty}
-use Rattle.go_rules.specs.Board.{are_neighbours}
 use Rattle.go_rules.proofs.Counts.{any_below_gives, any_below_from}
 use Rattle.go_rules.proofs.Sets.{same_nat_set, contains-set_below, len-set_below}
 use Rattle.go_rules.proofs.Tests.{same_tests}
@@ -25,17 +23,7 @@ use Rattle.read_rules.specs.Candidates.{is_empty_beside, IsEmptyNeighbour}
 pub empty_beside_are : (s : ℕ) (cells : List Cell) (S : ℕ → Bool) (p : ℕ)
     → any_below (s * s) (λ l. S l && holds_next s cells Empty l p) ≡ is_empty_beside s cells S p
 unfolding holds_next is_empty_beside
-empty_beside_are s cells S p = same_tests _ _
-    (λ h.
-    let l = any_below_gives (s * s) _ h in
-    let both = and_parts _ _ l.2 in
-    let next = and_parts _ _ both.1 in
-    and_from _ _ next.0 (any_below_from (s * s) _ l.0 l.1 (and_from _ _ both.0 next.1)))
-    (λ h.
-    let place = and_parts _ _ h in
-    let l = any_below_gives (s * s) _ place.1 in
-    let both = and_parts _ _ l.2 in
-    any_below_from (s * s) _ l.0 l.1 (and_from _ _ both.0 (and_from _ _ place.0 both.1)))
+empty_beside_are s cells S p = grind (arith, same_tests, any_below_gives, and_parts, and_from, any_below_from)
 
 -- and so are the neighbours of one point
 pub empty_sides_are : (s : ℕ) (cells : List Cell) (l p : ℕ) → l < s * s
@@ -52,26 +40,13 @@ empty_sides_are s cells l p on = same_tests _ _
 pub side_gives : (s : ℕ) (cells : List Cell) (l x : ℕ) → is_empty_beside s cells (alone l) x ≡ true
     → IsEmptyNeighbour s cells l x
 unfolding is_empty_beside
-side_gives s cells l x h =
-    let parts = and_parts _ _ h in
-    let first = and_parts _ _ parts.0 in
-    let k = any_below_gives (s * s) _ parts.1 in
-    let both = and_parts _ _ k.2 in
-    record {
-      on_board = ltb-true x (s * s) first.0;
-      is_empty = same_cell-true _ _ first.1;
-      beside = subst (λ y. are_neighbours s y x ≡ true) (eqb-true k.0 l both.0) both.1;
-    }
+side_gives s cells l x h = grind (arith, and_parts, any_below_gives, ltb-true, same_cell-true, eqb-true)
 
 -- an empty neighbour of l is on the board
 beside_within : (s : ℕ) (cells : List Cell) (l x : ℕ) → is_empty_beside s cells (alone l) x ≡ (ltb x
     (s * s) && is_empty_beside s cells (alone l) x)
 unfolding is_empty_beside
-beside_within s cells l x = twice (ltb x (s * s)) _ _
-  where
-    twice : (a b c : Bool) → ((a && b) && c) ≡ (a && ((a && b) && c))
-    twice true b c = refl
-    twice false b c = refl
+beside_within s cells l x = grind arith
 
 -- the empty neighbours of l that were added to none, counted
 pub sides_counted : (s : ℕ) (cells : List Cell) (l : ℕ) (old found : sets.FinSet nat_cmp) → old ≡ sets.empty

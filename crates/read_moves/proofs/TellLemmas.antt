@@ -148,19 +148,12 @@ module _ (s : ℕ) (cells : List Cell) (l : ℕ) (on : l < s * s) where
     -- the liberties of the string at a side are told
     pub string_told : (side q : ℕ) (one : Reach) → neighbour_at s l side ≡ Some q
         → Tells (IsOtherLibertyOf s cells c l q) one → Tells (IsLibertyAtSide s cells c l side) one
-    string_told side q one at =
-        Tells-same (IsOtherLibertyOf s cells c l q) (IsLibertyAtSide s cells c l side) one
-        (λ x i. record { q = q; at = at; its = i })
-        (λ x i. subst (λ r. IsOtherLibertyOf s cells c l r x)
-        (let k : Some i.q ≡ Some q = sym i.at ∙ at in cc) i.its)
+    string_told side q one at = grind (arith, Tells-same)
 
     -- what was told so far is reached
     pub so_far_reached : (n x : ℕ) → IsSoFar (IsEmptyNeighbour s cells l) (IsLibertyAtSide s cells c l) n x
         → IsReached s cells c l x
-    so_far_reached n x (before i) = by_side i
-    so_far_reached n x (at_side side below i) =
-        let near = neighbour_at-near s l side i.q on i.at in
-        by_string (record { q = i.q; beside = near.1; its = i.its.its }) i.its.other
+    so_far_reached n x v2 = grind (arith, neighbour_at-near)
 
     -- after the four sides what is reached is told
     pub strings_told : (n : ℕ) (r : Reach) → 4 ≤ n

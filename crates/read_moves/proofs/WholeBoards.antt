@@ -10,7 +10,7 @@ use Rattle.go_rules.proofs.Results.{put_on}
 use Rattle.trial_board.specs.declared.moves.TrialMove.{TrialMove}
 use Rattle.trial_board.specs.declared.moves.TrialMove.TheVariants.{Pass, Play}
 use Rattle.trial_board.specs.Trials.{given, after}
-use Rattle.std.proofs.Common.{List}
+use Rattle.std.proofs.Common.{List, arith}
 
 -- the cells after trial moves are those of the whole board
 abbrev pub IsWhole : BoardState → Type 0
@@ -30,8 +30,7 @@ whole_free pos c p new e = subst IsWhole (sym (done_state pos c p new e).1) (len
 whole_play : (pos : BoardState) (c : Colour) (p : ℕ) (dropped : Bool) → IsWhole pos
     → IsWhole (given pos (cond dropped (play_free pos c p) (play pos c p)))
 whole_play pos c p true w = whole_given pos (play_free pos c p) (whole_free pos c p) w
-whole_play pos c p false w =
-    whole_given pos (play pos c p) (λ new e. whole_free pos c p new (play_done pos c p new e)) w
+whole_play pos c p false w = grind (arith, whole_given, whole_free, play_done)
 
 -- the board is whole after trial moves on a whole one
 pub whole_after : (pos : BoardState) (ms : List TrialMove) → IsWhole pos → IsWhole (after pos ms)

@@ -21,9 +21,7 @@ use Rattle.wider_rules.proofs.StringLemmas.{joined, from_none}
 -- no string has more liberties than the board has points
 pub all_few : (s : ℕ) (cells : List Cell) (q p : ℕ) → is_few_liberty 0 (s * s) s cells q p ≡ is_liberty s cells q p
 unfolding is_few_liberty liberties
-all_few s cells q p =
-    ap (λ b. b && is_liberty s cells q p) (from_none (s * s) s cells q
-    ∙ le-leb (liberties s cells q) (s * s) (count_below_at_most (s * s) (is_liberty s cells q)))
+all_few s cells q p = grind (arith, from_none, le-leb, count_below_at_most)
 
 -- the liberties of strings with at most as many as the board has points are all of theirs
 pub liberties_of_all : (s : ℕ) (cells : List Cell) (points : sets.FinSet nat_cmp) (p : ℕ)
@@ -140,10 +138,4 @@ found_below m n q test all = same_tests _ _
 pub beside_cramped : (n : ℕ) (cramped : sets.FinSet nat_cmp) (test near held : ℕ → Bool)
     → ((l : ℕ) → sets.contains cramped l ≡ (ltb l n && (near l && test l)))
     → any_below n (λ l. sets.contains cramped l && held l) ≡ any_below n (λ l. near l && (test l && held l))
-beside_cramped n cramped test near held is = any_below_same n _ _ (λ l on.
-    ap (λ b. b && held l) (is l ∙ ap (λ b. b && (near l && test l)) (lt-ltb l n on))
-    ∙ grouped (near l) (test l) (held l))
-  where
-    grouped : (a b c : Bool) → ((a && b) && c) ≡ (a && (b && c))
-    grouped true b c = refl
-    grouped false b c = refl
+beside_cramped n cramped test near held is = grind (arith, any_below_same, lt-ltb)

@@ -1,9 +1,8 @@
 -- The first proof of a claim that is so proves it.
 use Rattle.std.proofs.Common.{◌≡◌, ◌∙◌, ℕ, zero, suc, ◌+◌, ◌-◌, ◌*◌, ◌/◌, ◌<◌, Bool, true, false, not, ◌&&◌}
 use Rattle.std.proofs.Common.{◌||◌, cond, ltb, eqb, List, [], ◌∷◌, ◌++◌, Option, Some, None, is_some, is_none}
-use Rattle.std.proofs.Common.{refl, sym}
-use Rattle.std.proofs.Common.{ap, subst, inl, inr, arith, add-one, append_assoc, codes}
-use Rattle.std.specs.List.{filter_map, cons_option, filter, range_with_len, AllByRecursion}
+use Rattle.std.proofs.Common.{refl, sym, ap, subst, inl, inr, arith, add-one, append_assoc, codes}
+use Rattle.std.specs.List.{filter_map, filter, range_with_len, AllByRecursion}
 use Rattle.std.specs.Option.{option_and_then}
 use Rattle.std.proofs.lemmas.Bool.{cases_Bool, and_parts, and_from, or_parts, or_left, or_right, both_ways, not-true}
 use Rattle.std.proofs.lemmas.Bool.{not_from_false, eq-eqb, ne_eqb}
@@ -16,8 +15,7 @@ use Rattle.read_rules.specs.Candidates.{is_candidate}
 use Rattle.read_rules.specs.declared.node.Node.{Node}
 use Rattle.read_rules.specs.declared.question.Spot.{Spot}
 use Rattle.read_rules.specs.declared.question.Spot.TheVariants.{At, Pass}
-use Rattle.read_rules.specs.GameTree.{is_captured, has_many_liberties, attacker_wins, child_of}
-use Rattle.read_rules.specs.GameTree.{first_move, taking_back}
+use Rattle.read_rules.specs.GameTree.{is_captured, has_many_liberties, attacker_wins, child_of, first_move, taking_back}
 use Rattle.read_rules.specs.GoodMoves.{is_barred, good_move, IsOnBoard}
 use Rattle.read_rules.specs.Rules.{IsFirstMove}
 use Rattle.read_rules.proofs.RuleLemmas.{attacker_from, defender_gives, child_gives, child_from, first_move_gives}
@@ -28,7 +26,7 @@ use Rattle.read_rules.proofs.LibertyLemmas.{child_free, play_size}
 use Rattle.read_proof.specs.declared.token.Token.TheVariants.{Each}
 use Rattle.read_proof.specs.Tokens.{Word}
 use Rattle.read_proof.specs.Proves.{has_too_many, is_settled, is_wanted, move_may_prove, each_may_prove, passed}
-use Rattle.read_proof.specs.Proves.{can_take_back, child_after, back_after, child_behind}
+use Rattle.read_proof.specs.Proves.{can_take_back, child_after, child_behind}
 use Rattle.read_proof.specs.Proves.{pass_children, play_children, children_of, at_child, at_each, proves}
 use Rattle.read_proof.specs.FirstProof.{move_word, write_child, write_each, write_move, write_back, first_words}
 use Rattle.read_proof.specs.FirstProof.{BeginsWithFirstMove}
@@ -42,18 +40,7 @@ chosen_from : (f : ℕ → Option (Node × BoardState)) (g : ℕ → Bool) (P : 
     → ((p : ℕ) (child : Node × BoardState) → g p ≡ true → f p ≡ Some child → P child)
     → (n a : ℕ) → AllByRecursion P (filter_map f (filter g (range_with_len a n)))
 chosen_from f g P h zero a = tt
-chosen_from f g P h (suc n) a = by (g a) refl (chosen_from f g P h n (a + 1))
-  where
-    first : (o : Option (Node × BoardState)) → f a ≡ o → g a ≡ true → (more : List (Node × BoardState))
-        → AllByRecursion P more → AllByRecursion P (cons_option o more)
-    first None e is more rest = rest
-    first (Some child) e is more rest = (h a child is e, rest)
-
-    by : (b : Bool) → g a ≡ b → AllByRecursion P (filter_map f (filter g (range_with_len (a + 1) n)))
-        → AllByRecursion P (filter_map f (cond b (a ∷ filter g (range_with_len (a + 1) n))
-        (filter g (range_with_len (a + 1) n))))
-    by true is rest = first (f a) refl is (filter_map f (filter g (range_with_len (a + 1) n))) rest
-    by false is rest = rest
+chosen_from f g P h (suc n) a = grind (arith, chosen_from f g P h n (a + 1))
 
 -- what is so of each word of two rows is so of each word of both
 pub both_lists : (xs ys : List Word) → AllByRecursion (λ w. is_word w ≡ true) xs
@@ -69,12 +56,8 @@ each_child_is : (P : Node × BoardState → Type 0) (node : Node) (pos : BoardSt
     → AllByRecursion P (children_of node pos)
 unfolding children_of
 each_child_is P node pos by_pass by_play =
-    both_rows P (pass_children node pos) (play_children node pos) (by node.turn.attacker_to_play by_pass)
-    (chosen_from (child_of node pos) (is_candidate node.turn pos) P by_play (pos.size * pos.size) 0)
-  where
-    by : (turn : Bool) → (turn ≡ false → P (passed node pos)) → AllByRecursion P (cond turn [] (passed node pos ∷ []))
-    by true h = tt
-    by false h = (h refl, tt)
+    grind (arith, both_rows P (pass_children node pos) (play_children node pos),
+        chosen_from (child_of node pos) (is_candidate node.turn pos) P by_play (pos.size * pos.size) 0)
 
 -- The board has s rows.
 module _ (s : ℕ) where
@@ -108,14 +91,7 @@ module _ (s : ℕ) where
 settled_at_end : (won : Bool) (node : Node) (pos : BoardState) → attacker_wins zero node pos ≡ won
     → is_settled zero won node pos ≡ true
 unfolding attacker_wins is_settled
-settled_at_end true node pos so = so
-settled_at_end false node pos so = by (is_captured pos node.turn.target) (taking_back node pos) so
-  where
-    by : (taken : Bool) (o : Option (Node × BoardState)) → (taken && is_none o) ≡ false
-        → cond taken (true && is_some o) (true || has_too_many zero node pos) ≡ true
-    by true None e = absurd (let w = e in cc)
-    by true (Some child) e = refl
-    by false o e = refl
+settled_at_end v0 node pos so = grind arith
 
 -- the side to play wants a claim where it is the attacker and he wins, or the defender and he does not
 wanted_turn : (won turn : Bool) → cond turn won (not won) ≡ true → turn ≡ won
@@ -368,9 +344,7 @@ back_may won node pos taken = or_left _ _ taken
 behind_target : (node : Node) (pos : BoardState) → is_captured pos node.turn.target ≡ true
     → child_behind node pos (At node.turn.target) ≡ taking_back node pos
 unfolding child_behind
-behind_target node pos taken =
-    ap (λ b. cond b (back_after node pos (At node.turn.target)) (child_after node pos (At node.turn.target))) taken
-    ∙ ap (λ b. cond b (taking_back node pos) None) (eq-eqb node.turn.target node.turn.target refl)
+behind_target node pos taken = grind (arith, eq-eqb)
 
 -- all moves may prove what it does not want where the target stands
 each_may : (won : Bool) (node : Node) (pos : BoardState) → is_wanted won node ≡ false

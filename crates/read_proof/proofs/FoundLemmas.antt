@@ -1,6 +1,6 @@
 -- What is found by going over the points of the board: points that pass a test with one of them.
-use Rattle.std.proofs.Common.{◌≡◌, ◌∙◌, ℕ, ◌+◌, ◌*◌, ◌<◌, ◌≤◌, ◌&&◌, ◌||◌, Bool, true, false, eqb, ltb, List}
-use Rattle.std.proofs.Common.{Option, Some, None, refl, sym, ap, arith, add-one, inl, inr}
+use Rattle.std.proofs.Common.{◌≡◌, ◌∙◌, ℕ, ◌*◌, ◌<◌, ◌≤◌, ◌&&◌, ◌||◌, Bool, true, false, eqb, ltb, List}
+use Rattle.std.proofs.Common.{Option, Some, None, refl, sym, ap, arith}
 use Rattle.std.specs.Prelude.{IfSome, IfNone, MatchOption}
 use Rattle.std.specs.Ordering.{nat_cmp}
 use Rattle.std.specs.FinSet as sets
@@ -9,11 +9,10 @@ use Rattle.go_rules.specs.declared.Cell.{Cell}
 use Rattle.go_rules.specs.declared.Cell.TheVariants.{Empty}
 use Rattle.go_rules.specs.Below.{any_below}
 use Rattle.go_rules.specs.Board.{largest_points, are_neighbours}
-use Rattle.go_rules.specs.Strings.{cell_at, same_cell, is_liberty, liberties, liberty_points, string_at, is_in_string}
-use Rattle.go_rules.specs.BesideStrings.{is_beside_string}
-use Rattle.go_rules.proofs.Counts.{any_below_gives, any_below_from, any_below_false, any_below_same}
+use Rattle.go_rules.specs.Strings.{cell_at, same_cell, is_liberty, liberties, liberty_points}
+use Rattle.go_rules.proofs.Counts.{any_below_gives, any_below_from, any_below_false}
 use Rattle.go_rules.proofs.Links.{are_neighbours_comm}
-use Rattle.go_rules.proofs.Sets.{contains-insert_nat, contains-set_below}
+use Rattle.go_rules.proofs.Sets.{contains-insert_nat}
 use Rattle.go_rules.proofs.Tests.{same_tests, and-false, or-false, or_comm}
 use Rattle.go_base.specs.Sides.{neighbour_at}
 use Rattle.go_base.specs.Surroundings.{is_only_liberty}
@@ -29,21 +28,6 @@ and_true : (a : Bool) → a ≡ (a && true)
 and_true true = refl
 and_true false = refl
 
--- a test of one number more
-pub any_below_next : (test : ℕ → Bool) (n : ℕ) → any_below (n + 1) test ≡ (any_below n test || test n)
-any_below_next test n = ap (λ m. any_below m test) (add-one n) ∙ or_comm (test n) (any_below n test)
-
--- what the numbers below n gave and what n gives is what the numbers below the next one give
-pub found_next : (old before next : Bool) (test : ℕ → Bool) (n : ℕ) → before ≡ (old || any_below n test)
-    → next ≡ (before || test n) → next ≡ (old || any_below (n + 1) test)
-found_next old before next test n b e =
-    e ∙ ap (λ x. x || test n) b ∙ or_assoc old (any_below n test) (test n) ∙ ap (λ x. old || x)
-    (sym (any_below_next test n))
-  where
-    or_assoc : (a b c : Bool) → ((a || b) || c) ≡ (a || (b || c))
-    or_assoc true b c = refl
-    or_assoc false b c = refl
-
 -- a neighbour at some side is in the set
 pub beside_yes : (s q side l : ℕ) (points : sets.FinSet nat_cmp) → q < s * s → neighbour_at s q side ≡ Some l
     → sets.contains points l ≡ true
@@ -56,20 +40,14 @@ beside_yes s q side l points on at has =
 pub beside_no : (s q n : ℕ) (points : sets.FinSet nat_cmp) → q < s * s → 4 ≤ n
     → ((k r : ℕ) → k < n → neighbour_at s q k ≡ Some r → sets.contains points r ≡ false)
     → any_below (s * s) (λ k. sets.contains points k && are_neighbours s k q) ≡ false
-beside_no s q n points on four none = any_below_false (s * s) _ (λ k k_on. elim (cases_Bool (are_neighbours s k q)) [
-  | inl near ↦
-      let side = neighbour_at-all s q k on k_on (are_neighbours_comm s q k ∙ near) in
-      ap (λ b. b && are_neighbours s k q) (none side.0 k (omega (arith, side.1, four)) side.2)
-  | inr far ↦ ap (λ b. sets.contains points k && b) far ∙ and-false (sets.contains points k)
-])
+beside_no s q n points on four none =
+    grind (arith, any_below_false, cases_Bool, neighbour_at-all, are_neighbours_comm, and-false)
 
 -- more liberties than one, or none, are not only one
 pub only_none : (s : ℕ) (cells : List Cell) (q p n : ℕ) (libs : sets.FinSet nat_cmp) → libs ≡ liberty_points s cells q
     → n ≡ sets.len libs → eqb n 1 ≡ false → is_only_liberty s cells q p ≡ false
 unfolding is_only_liberty
-only_none s cells q p n libs its counted many =
-    let count = counted ∙ ap sets.len its ∙ len-liberty_points s cells q in
-    ap (λ b. b && is_liberty s cells q p) (ap (λ m. eqb m 1) (sym count) ∙ many)
+only_none s cells q p n libs its counted many = grind (arith, len-liberty_points)
 
 -- the first of one liberty is the only one
 pub only_one : (s : ℕ) (cells : List Cell) (q l n : ℕ) (libs : sets.FinSet nat_cmp) → libs ≡ liberty_points s cells q
@@ -77,21 +55,13 @@ pub only_one : (s : ℕ) (cells : List Cell) (q l n : ℕ) (libs : sets.FinSet n
     → (l < s * s) × ((p : ℕ) → is_only_liberty s cells q p ≡ eqb p l)
 unfolding is_only_liberty is_liberty
 only_one s cells q l n libs its counted one has =
-    let single = sym counted ∙ eqb-true n 1 one in
-    let test = λ (p : ℕ). ap (λ t. sets.contains t p) its ∙ contains-liberty_points s cells q p in
-    let count = ap (λ m. eqb m 1) (sym (len-liberty_points s cells q) ∙ ap sets.len (sym its) ∙ single) in (
-      ltb-true l (s * s) (and_parts _ _ (and_parts _ _ (sym (test l) ∙ has)).0).0,
-      λ p. ap (λ b. b && is_liberty s cells q p) count ∙ same_tests _ _
-          (λ lib. eq-eqb p l (one_member libs l p single has (test p ∙ lib)))
-          (λ same. ap (is_liberty s cells q) (eqb-true p l same) ∙ sym (test l) ∙ has),
-    )
+    grind (arith, eqb-true n 1 one, contains-liberty_points s cells q, len-liberty_points s cells q,
+        ltb-true l (s * s), one_member libs l, and_parts, same_tests, eq-eqb)
 
 -- a set that a point was added to has the points that it had and that one
 pub found_add : (new old : sets.FinSet nat_cmp) (p r : ℕ) (b : Bool) → new ≡ sets.insert old p → b ≡ true
     → sets.contains new r ≡ (sets.contains old r || (eqb r p && b))
-found_add new old p r b e t =
-    ap (λ set. sets.contains set r) e ∙ contains-insert_nat old p r ∙ or_comm (eqb r p) (sets.contains old r)
-    ∙ ap (λ x. sets.contains old r || x) (and_true (eqb r p) ∙ ap (λ x. eqb r p && x) (sym t))
+found_add new old p r b e t = grind (arith, contains-insert_nat, or_comm, and_true)
 
 -- nothing is found where a test fails
 pub found_none : (old b : Bool) → b ≡ false → old ≡ (old || b)
@@ -137,28 +107,6 @@ module _ (s : ℕ) (cells : List Cell) (cell : Cell) (S : ℕ → Bool) where
       let on = ltb-true r (s * s) (and_parts _ _ (and_parts _ _ h).0).0 in
       any_below_from n _ r (omega (arith, on, all)) (and_from _ _ (eq-eqb r r refl) h))
 
--- beside the set of a string's stones are the points beside the string
-pub beside_string : (s : ℕ) (cells : List Cell) (t q : ℕ) (string : sets.FinSet nat_cmp) → string ≡ string_at s cells t
-    → any_below (s * s) (λ l. sets.contains string l && are_neighbours s l q) ≡ is_beside_string s cells t q
-unfolding is_beside_string string_at
-beside_string s cells t q string e = any_below_same (s * s) _ _ (λ k on.
-    ap (λ b. b && are_neighbours s k q)
-    (ap (λ set. sets.contains set k) e ∙ contains-set_below (s * s) (is_in_string s cells t) k
-    ∙ ap (λ b. b && is_in_string s cells t k) (lt-ltb k (s * s) on)))
-
--- the last liberty of a string that is an enemy beside the target came
-pub last_added : (new old : sets.FinSet nat_cmp) (l p : ℕ) (enemy beside only : Bool) → new ≡ sets.insert old l
-    → enemy ≡ true → beside ≡ true → only ≡ eqb p l
-    → sets.contains new p ≡ (sets.contains old p || ((enemy && beside) && only))
-last_added new old l p enemy beside only e en be on =
-    ap (λ t. sets.contains t p) e ∙ contains-insert_nat old l p ∙ or_comm (eqb p l) (sets.contains old p)
-    ∙ ap (λ x. sets.contains old p || x) (sym on ∙ both enemy beside only en be)
-  where
-    both : (a b c : Bool) → a ≡ true → b ≡ true → c ≡ ((a && b) && c)
-    both true true c x y = refl
-    both false b c x y = absurd (let w = x in cc)
-    both true false c x y = absurd (let w = y in cc)
-
 -- the first of the liberties is the only one, where there is one
 pub only_first : (s : ℕ) (cells : List Cell) (q n : ℕ) (libs : sets.FinSet nat_cmp) (first : Option ℕ)
     → libs ≡ liberty_points s cells q → n ≡ sets.len libs → n ≡ 1
@@ -173,8 +121,7 @@ only_first s cells q n libs None its counted one some none = λ p.
     (sym (contains-liberty_points s cells q p) ∙ ap (λ t. sets.contains t p) (sym its) ∙ none p (omega arith))
     ∙ and-false (eqb (liberties s cells q) 1)
 only_first s cells q n libs (Some l) its counted one some none =
-    let found = only_one s cells q l n libs its counted (eq-eqb n 1 one) some.2 in
-    (found.0, some.1, found.1)
+    grind (arith, only_one s cells q l n libs its counted (eq-eqb n 1 one) some.2, eq-eqb n 1 one)
 
 -- a string that is not beside the target has no last liberty to be found
 pub not_beside : (enemy beside only : Bool) → beside ≡ false → ((enemy && beside) && only) ≡ false

@@ -1,13 +1,12 @@
 -- What the search for further candidates finds here, in the words of the one on a trial board, whose lemmas it cites.
-use Rattle.std.proofs.Common.{◌≡◌, ◌∙◌, ℕ, ◌*◌, ◌&&◌, ◌||◌, Bool, true, false, eqb, leb, ltb, List}
-use Rattle.std.proofs.Common.{refl, sym, ap, arith}
+use Rattle.std.proofs.Common.{◌≡◌, ◌∙◌, ℕ, ◌*◌, ◌&&◌, ◌||◌, Bool, true, false, eqb, ltb, List, refl, sym, ap, arith}
 use Rattle.std.proofs.lemmas.Bool.{and_parts, and_from, eqb-true, eq-eqb, leb-true, le-leb}
 use Rattle.std.specs.Ordering.{nat_cmp}
 use Rattle.std.specs.FinSet as sets
 use Rattle.go_rules.specs.declared.Cell.{Cell}
 use Rattle.go_rules.specs.Below.{any_below}
 use Rattle.go_rules.specs.Board.{are_neighbours}
-use Rattle.go_rules.specs.Strings.{cell_at, same_cell, is_liberty, liberties}
+use Rattle.go_rules.specs.Strings.{cell_at, same_cell}
 use Rattle.go_rules.proofs.Counts.{any_below_false, any_below_same}
 use Rattle.go_rules.proofs.Tests.{same_tests, and-false, or-false, or_comm}
 use Rattle.go_base.specs.Surroundings.{is_only_liberty}
@@ -32,16 +31,7 @@ beside_next s cells cell S p =
 -- a string with at least one liberty and at most one has one
 only_between : (s : ℕ) (cells : List Cell) (r p : ℕ) → is_few_liberty 1 1 s cells r p ≡ is_only_liberty s cells r p
 unfolding is_few_liberty is_only_liberty
-only_between s cells r p = ap (λ b. b && is_liberty s cells r p) (same_tests _ _
-    (λ h.
-    let both = and_parts (leb 1 (liberties s cells r)) (leb (liberties s cells r) 1) h in
-    let some = leb-true 1 (liberties s cells r) both.0 in
-    let few = leb-true (liberties s cells r) 1 both.1 in
-    eq-eqb (liberties s cells r) 1 (omega (arith, few, some)))
-    (λ h.
-    let one = eqb-true (liberties s cells r) 1 h in
-    and_from _ _ (le-leb 1 (liberties s cells r) (omega (arith, one)))
-    (le-leb (liberties s cells r) 1 (omega (arith, one)))))
+only_between s cells r p = grind (arith, same_tests, and_parts, leb-true, eq-eqb, eqb-true, and_from, le-leb)
 
 -- the liberties of strings with just one are their last liberties
 pub lasts : (s : ℕ) (cells : List Cell) (points : sets.FinSet nat_cmp) (p : ℕ)

@@ -1,10 +1,7 @@
 -- What is printed is read: the words of tokens, and a text of words.
-use Rattle.std.proofs.Common.{◌≡◌, ◌∙◌, ℕ, ◌+◌, ◌-◌, ◌/◌, ◌%◌, ◌<◌, Bool, true, false, not, ◌&&◌, cond, eqb}
-use Rattle.std.proofs.Common.{List, [], ◌∷◌, ◌++◌, Some, None, refl, sym, ap, subst, inl, inr, arith, codes, decimal}
-use Rattle.std.proofs.Common.{slice_index}
-use Rattle.std.specs.Char.{to_ascii_lowercase}
+use Rattle.std.proofs.Common.{◌≡◌, ℕ, ◌+◌, ◌-◌, ◌/◌, ◌%◌, ◌<◌, Bool, true, false, not, ◌&&◌, cond, eqb}
+use Rattle.std.proofs.Common.{List, [], ◌∷◌, ◌++◌, Some, refl, sym, ap, subst, arith, codes, decimal, slice_index}
 use Rattle.std.specs.List.{filter, join_with_byte, AllByRecursion, list_all, onto_first}
-use Rattle.std.specs.Option.{option_map}
 use Rattle.std.specs.Str.{bytes_eq, str_to_ascii_lowercase}
 use Rattle.std.proofs.Math.Nat.{div-lt_iff_lt-mul}
 use Rattle.std.proofs.lemmas.Bool.{cases_lt, and_parts, and_from, not-true}
@@ -14,14 +11,14 @@ use Rattle.go_rules.proofs.Counts.{any_below_none}
 use Rattle.go_rules.proofs.Tests.{and-false}
 use Rattle.vertices.specs.Words.{is_kept, has_bytes, blank}
 use Rattle.vertices.specs.RawWords.{is_parting}
-use Rattle.vertices.specs.Vertices.{column_letters, vertex_of, vertex_text, target_of}
+use Rattle.vertices.specs.Vertices.{column_letters, vertex_of, vertex_text}
 use Rattle.vertices.proofs.VertexLemmas.{vertex_read}
 use Rattle.vertices.proofs.WordLemmas.{parts_of, parts_of-parting, parts_of-other}
 use Rattle.read_rules.specs.declared.question.Spot.{Spot}
 use Rattle.read_rules.specs.declared.question.Spot.TheVariants.{At, Pass}
 use Rattle.read_rules.specs.GoodMoves.{IsOnBoard}
 use Rattle.read_proof.specs.declared.token.Token.TheVariants.{Settled, Move, Each}
-use Rattle.read_proof.specs.Tokens.{Word, words_in, move_to, token_of}
+use Rattle.read_proof.specs.Tokens.{Word, words_in, token_of}
 use Rattle.read_proof.specs.FirstProof.{move_word}
 
 -- `.` is read
@@ -49,34 +46,18 @@ one_digit n h = any_below_none 10 (λ k. bytes_eq (str_to_ascii_lowercase ((48 +
 -- nor do two
 two_digits : (n : ℕ) → n < 100
     → bytes_eq (str_to_ascii_lowercase ((48 + n / 10) ∷ (48 + n % 10) ∷ [])) (codes "ass") ≡ false
-two_digits n h =
-    any_below_none 100
-    (λ k. bytes_eq (str_to_ascii_lowercase ((48 + k / 10) ∷ (48 + k % 10) ∷ [])) (codes "ass")) n refl h
+two_digits n h = grind (arith, any_below_none, codes)
 
 -- nor does the number of a row
 no_pass : (n : ℕ) → n < 100 → bytes_eq (str_to_ascii_lowercase (decimal n)) (codes "ass") ≡ false
-no_pass n h = elim (cases_lt n 10) [
-  | inl less ↦ ap (λ ds. bytes_eq (str_to_ascii_lowercase ds) (codes "ass")) (decimal_digit n less) ∙ one_digit n less
-  | inr more ↦
-      let tens : n / 10 < 10 = omega arith in
-      ap (λ ds. bytes_eq (str_to_ascii_lowercase ds) (codes "ass")) (decimal_step n more (omega arith)
-      ∙ ap (λ ds. ds ++ ((48 + n % 10) ∷ [])) (decimal_digit (n / 10) tens)) ∙ two_digits n h
-]
+no_pass n h = grind (arith, cases_lt, codes, decimal_digit, one_digit, decimal_step, two_digits)
 
 -- a word with a letter of a column before the number of a row is read as a vertex
 said_letter : (s letter : ℕ) (digits : List ℕ) (p : ℕ) → eqb letter 46 ≡ false → eqb letter 42 ≡ false
     → bytes_eq (str_to_ascii_lowercase digits) (codes "ass") ≡ false → vertex_of s (letter ∷ digits) ≡ Some p
     → Some (Move (At p)) ≡ token_of s (letter ∷ digits)
 unfolding token_of
-said_letter s letter digits p dot star pass at =
-    let vertex = vertex_of s (letter ∷ digits) in
-    let moves = option_map move_to (target_of s (letter ∷ digits)) in
-    sym (ap (λ b. cond (b && bytes_eq digits []) (Some Settled)
-    (cond (bytes_eq (letter ∷ digits) (codes "*")) (Some Each) moves)) dot
-    ∙ ap (λ b. cond (b && bytes_eq digits []) (Some Each) moves) star
-    ∙ ap (λ b. option_map move_to (cond b (Some None) (option_map Some vertex)))
-    (ap (λ b. eqb (to_ascii_lowercase letter) 112 && b) pass ∙ and-false (eqb (to_ascii_lowercase letter) 112))
-    ∙ ap (λ o. option_map move_to (option_map Some o)) at)
+said_letter s letter digits p dot star pass at = grind (arith, codes, and-false)
 
 -- a move that is printed is read
 pub said_move : (s size : ℕ) → IsSize s → (spot : Spot) → size ≡ s → IsOnBoard s spot
@@ -84,14 +65,7 @@ pub said_move : (s size : ℕ) → IsSize s → (spot : Spot) → size ≡ s →
 unfolding token_of
 said_move s size is_size Pass e on = refl
 said_move s size is_size (At p) e on =
-    let at_least = is_size.at_least in
-    let at_most = is_size.at_most in
-    let some : 0 < s = omega arith in
-    let row : p / s < s = (div-lt_iff_lt-mul {k = s} {x = p} {y = s} some).1 on in
-    let column : p % s < s = omega arith in
-    subst (λ n. Some (Move (At p)) ≡ token_of n (vertex_text n p)) (sym e)
-    (said_letter s (slice_index column_letters (p % s)) (decimal (s - p / s)) p (no_dot (p % s) (omega arith))
-    (no_star (p % s) (omega arith)) (no_pass (s - p / s) (omega arith)) (vertex_read s p is_size on))
+    grind (arith, div-lt_iff_lt-mul, said_letter, slice_index, decimal, no_dot, no_star, no_pass, vertex_read)
 
 -- the byte stands in words as it is: it is kept, and it parts no words
 abbrev is_plain_byte : ℕ → Bool
@@ -103,24 +77,18 @@ is_word word = has_bytes word && list_all is_plain_byte word
 
 -- a plain byte stands at the front of the first part
 parts_of-plain : (b : ℕ) (bs : List ℕ) → is_plain_byte b ≡ true → parts_of (b ∷ bs) ≡ onto_first b (parts_of bs)
-parts_of-plain b bs h =
-    let facts = and_parts (is_kept b) (not (is_parting b)) h in
-    parts_of-other b bs facts.0 (not-true (is_parting b) facts.1)
+parts_of-plain b bs h = grind (arith, and_parts, parts_of-other, not-true)
 
 -- plain bytes are one part
 parts_of-end : (word : Word) → list_all is_plain_byte word ≡ true → parts_of word ≡ word ∷ []
 parts_of-end [] h = refl
-parts_of-end (b ∷ bs) h =
-    let facts = and_parts (is_plain_byte b) (list_all is_plain_byte bs) h in
-    parts_of-plain b bs facts.0 ∙ ap (onto_first b) (parts_of-end bs facts.1)
+parts_of-end (b ∷ bs) h = grind (arith, and_parts, parts_of-plain, parts_of-end bs)
 
 -- plain bytes before a blank are the first part
 parts_of-front : (word : Word) (rest : List ℕ) → list_all is_plain_byte word ≡ true
     → parts_of (word ++ (blank ∷ rest)) ≡ word ∷ parts_of rest
 parts_of-front [] rest h = parts_of-parting blank rest refl
-parts_of-front (b ∷ bs) rest h =
-    let facts = and_parts (is_plain_byte b) (list_all is_plain_byte bs) h in
-    parts_of-plain b (bs ++ (blank ∷ rest)) facts.0 ∙ ap (onto_first b) (parts_of-front bs rest facts.1)
+parts_of-front (b ∷ bs) rest h = grind (arith, and_parts, parts_of-plain, parts_of-front bs rest)
 
 -- a part with bytes is a word
 with_bytes : (word : Word) (parts : List Word) → has_bytes word ≡ true
@@ -132,44 +100,19 @@ pub words_read : (words : List Word) → AllByRecursion (λ w. is_word w ≡ tru
     → words_in (join_with_byte blank words) ≡ words
 words_read [] all = refl
 words_read (word ∷ []) all =
-    let facts = and_parts (has_bytes word) (list_all is_plain_byte word) all.0 in
-    ap (filter has_bytes) (parts_of-end word facts.1) ∙ with_bytes word [] facts.0
+    grind (arith, and_parts (has_bytes word) (list_all is_plain_byte word) all.0, parts_of-end word, with_bytes word)
 words_read (word ∷ (next ∷ more)) all =
-    let facts = and_parts (has_bytes word) (list_all is_plain_byte word) all.0 in
-    ap (filter has_bytes) (parts_of-front word (join_with_byte blank (next ∷ more)) facts.1)
-    ∙ with_bytes word (parts_of (join_with_byte blank (next ∷ more))) facts.0
-    ∙ ap (λ ws. word ∷ ws) (words_read (next ∷ more) all.1)
+    grind (arith, and_parts (has_bytes word) (list_all is_plain_byte word) all.0,
+        parts_of-front word (join_with_byte blank (next ∷ more)),
+        with_bytes word (parts_of (join_with_byte blank (next ∷ more))), words_read (next ∷ more) all.1)
 
 -- each letter of a column is a plain byte
 letter_plain : (c : ℕ) → c < 25 → is_plain_byte (slice_index column_letters c) ≡ true
-letter_plain c h =
-    true_from (is_plain_byte (slice_index column_letters c))
-    (any_below_none 25 (λ k. not (is_plain_byte (slice_index column_letters k))) c refl h)
-  where
-    true_from : (t : Bool) → not t ≡ false → t ≡ true
-    true_from true e = refl
-    true_from false e = sym e
+letter_plain c h = grind (arith, slice_index, any_below_none)
 
 -- each number of a row is of plain bytes
 digits_plain : (n : ℕ) → n < 100 → list_all is_plain_byte (decimal n) ≡ true
-digits_plain n h = elim (cases_lt n 10) [
-  | inl less ↦ ap (list_all is_plain_byte) (decimal_digit n less) ∙ one n less
-  | inr more ↦
-      let tens : n / 10 < 10 = omega arith in
-      ap (list_all is_plain_byte) (decimal_step n more (omega arith)
-      ∙ ap (λ ds. ds ++ ((48 + n % 10) ∷ [])) (decimal_digit (n / 10) tens)) ∙ two n h
-]
-  where
-    true_from : (t : Bool) → not t ≡ false → t ≡ true
-    true_from true e = refl
-    true_from false e = sym e
-
-    one : (n : ℕ) → n < 10 → list_all is_plain_byte ((48 + n) ∷ []) ≡ true
-    one n h = true_from _ (any_below_none 10 (λ k. not (list_all is_plain_byte ((48 + k) ∷ []))) n refl h)
-
-    two : (n : ℕ) → n < 100 → list_all is_plain_byte ((48 + n / 10) ∷ (48 + n % 10) ∷ []) ≡ true
-    two n h = true_from _
-        (any_below_none 100 (λ k. not (list_all is_plain_byte ((48 + k / 10) ∷ (48 + k % 10) ∷ []))) n refl h)
+digits_plain n h = grind (arith, cases_lt, decimal_digit, decimal_step, any_below_none)
 
 -- a move on the board is printed as a word
 pub move_is_word : (s size : ℕ) → IsSize s → (spot : Spot) → size ≡ s → IsOnBoard s spot

@@ -1,5 +1,5 @@
 -- The question of a call, by its parts.
-use Rattle.std.proofs.Common.{◌≡◌, ◌≢◌, ◌∙◌, ℕ, true, ap, refl}
+use Rattle.std.proofs.Common.{◌≡◌, ◌≢◌, ℕ, true, refl, arith}
 use Rattle.go_rules.specs.declared.Cell.{Cell}
 use Rattle.go_rules.specs.declared.Cell.TheVariants.{Empty}
 use Rattle.go_rules.specs.declared.Colour.{Colour}
@@ -33,6 +33,4 @@ stone_asked tree kind t plies wide size colour = record {
 pub question_is : (tree : Tree) (shown : BoardState) (size t plies wide : ℕ) (kind : Kind) (cell : Cell)
     (colour : Colour) → size ≡ shown.size → colour ≡ colour_of cell → cell ≡ cell_at shown.cells t
     → stone_asked tree kind t plies wide size colour ≡ asked_in tree shown kind t plies wide
-question_is tree shown size t plies wide kind cell colour s o e =
-    ap (λ n. stone_asked tree kind t plies wide n colour) s
-    ∙ ap (stone_asked tree kind t plies wide shown.size) (o ∙ ap colour_of e)
+question_is tree shown size t plies wide kind cell colour s o e = grind arith

@@ -1,11 +1,10 @@
 -- What is proved at a node is so: by the word, by the children, and by induction on the plies.
 use Rattle.std.proofs.Common.{◌≡◌, ◌∙◌, ℕ, zero, suc, ◌+◌, ◌*◌, ◌/◌, ◌<◌, ◌≤◌, Bool, true, false, ◌&&◌, ◌||◌, cond, ltb}
-use Rattle.std.proofs.Common.{eqb, List, [], ◌∷◌, ◌++◌, Option, Some, None, is_some, not, refl, sym, ap, subst}
+use Rattle.std.proofs.Common.{List, [], ◌∷◌, ◌++◌, Option, Some, None, is_some, not, refl, sym, ap, subst}
 use Rattle.std.proofs.Common.{inl, inr, arith, add-one}
 use Rattle.std.specs.List.{filter_map, cons_option, filter, range_with_len, AllByRecursion}
 use Rattle.std.proofs.lemmas.Option.{option_and_then_some}
-use Rattle.std.proofs.lemmas.Bool.{cases_Bool, cases_eq, and_parts, or_cases, both_ways, eqb-true, ltb-true}
-use Rattle.std.proofs.lemmas.Bool.{not-true}
+use Rattle.std.proofs.lemmas.Bool.{cases_Bool, cases_eq, and_parts, or_cases, both_ways, eqb-true, ltb-true, not-true}
 use Rattle.go_rules.specs.Position.{BoardState}
 use Rattle.go_rules.specs.Strings.{liberties}
 use Rattle.read_rules.proofs.CandidateLaws.{candidate_on}
@@ -14,7 +13,6 @@ use Rattle.read_rules.specs.Candidates.{is_candidate}
 use Rattle.read_rules.specs.declared.node.Node.{Node}
 use Rattle.read_rules.specs.declared.question.Spot.{Spot}
 use Rattle.read_rules.specs.declared.question.Spot.TheVariants.{At, Pass}
-use Rattle.read_rules.specs.Candidates.{candidates_of}
 use Rattle.read_rules.specs.GameTree.{is_captured, has_many_liberties, attacker_wins, child_of, taking_back}
 use Rattle.read_rules.specs.Rules.{IsChild, EachChildWins}
 use Rattle.read_rules.proofs.RuleLemmas.{attacker_gives, attacker_from, defender_gives, defender_from, child_gives}
@@ -26,7 +24,7 @@ use Rattle.read_proof.specs.declared.token.Token.{Token}
 use Rattle.read_proof.specs.declared.token.Token.TheVariants.{Settled, Move, Each}
 use Rattle.read_proof.specs.Tokens.{Word, token_of}
 use Rattle.read_proof.specs.Proves.{has_too_many, is_settled, is_wanted, move_may_prove, each_may_prove, passed}
-use Rattle.read_proof.specs.Proves.{can_take_back, child_after, back_after, child_behind}
+use Rattle.read_proof.specs.Proves.{child_after, back_after, child_behind}
 use Rattle.read_proof.specs.Proves.{pass_children, play_children, children_of, at_child, at_each, by_token, proves}
 
 -- a target with too many liberties for the plies outlasts them
@@ -57,23 +55,10 @@ none_there (Some child) e = cc
 settled_sound : (n : ℕ) (won : Bool) (node : Node) (pos : BoardState) → node.turn.target < pos.size * pos.size
     → is_settled n won node pos ≡ true → attacker_wins n node pos ≡ won
 unfolding is_settled
-settled_sound n true node pos on h =
-    let parts = and_parts _ _ h in
-    wins-captured n node pos parts.0 (none_there (taking_back node pos) parts.1)
+settled_sound n true node pos on h = grind (arith, and_parts, wins-captured, none_there)
 settled_sound n false node pos on h =
-    let back = eqb n 0 && can_take_back node pos in
-    let over = eqb n 0 || has_too_many n node pos in
-    elim (cases_Bool (is_captured pos node.turn.target)) [
-      | inl taken ↦
-          let parts = and_parts (eqb n 0) (can_take_back node pos) (sym (ap (λ b. cond b back over) taken) ∙ h) in
-          let child = there (taking_back node pos) parts.1 in
-          ap (λ m. attacker_wins m node pos) (eqb-true n 0 parts.0) ∙ wins-none_left node pos child.0 child.1
-      | inr stands ↦ elim (or_cases (eqb n 0) (has_too_many n node pos)
-          (sym (ap (λ b. cond b back over) stands) ∙ h)) [
-            | inl none_left ↦ wins-no_plies n node pos stands (eqb-true n 0 none_left)
-            | inr many ↦ bounded n node pos on (too_many_outlast n node pos many)
-          ]
-    ]
+    grind (arith, cases_Bool, and_parts, there, eqb-true, wins-none_left, or_cases, wins-no_plies, bounded,
+        too_many_outlast)
 
 -- the target of a node is on the board of its position
 abbrev pub IsOn : Node × BoardState → Type 0
@@ -84,10 +69,8 @@ pub played_on_board : (node : Node) (pos : BoardState) (p : ℕ) (child : Node �
     → node.turn.target < pos.size * pos.size
     → child_of node pos p ≡ Some child → IsOn child
 played_on_board node pos p child on e =
-    let w = child_free node pos p child.0 child.1 (child_gives node pos p child.0 child.1 e) in
-    let size = play_size pos (mover_of node.turn) p child.1 w.1 in
-    let target : node.turn.target ≡ child.0.turn.target = sym (ap (λ (m : Node). m.turn.target) w.2) in
-    subst (λ t. t < child.1.size * child.1.size) target (subst (λ s. node.turn.target < s * s) (sym size) on)
+    grind (arith, child_free node pos p child.0 child.1 (child_gives node pos p child.0 child.1 e),
+        child_gives node pos p child.0 child.1 e, play_size pos (mover_of node.turn) p child.1)
 
 -- The claim, with n plies left.
 module _ (n : ℕ) (won : Bool) where
@@ -115,12 +98,7 @@ pub plays_from : (f : ℕ → Option (Node × BoardState)) (P : Node × BoardSta
     → ((p : ℕ) (child : Node × BoardState) → f p ≡ Some child → P child)
     → (ps : List ℕ) → AllByRecursion P (filter_map f ps)
 plays_from f P h [] = tt
-plays_from f P h (p ∷ ps) = by (f p) refl (plays_from f P h ps)
-  where
-    by : (o : Option (Node × BoardState)) → f p ≡ o → AllByRecursion P (filter_map f ps)
-        → AllByRecursion P (cons_option o (filter_map f ps))
-    by None e rest = rest
-    by (Some child) e rest = (h p child e, rest)
+plays_from f P h (p ∷ ps) = grind (arith, plays_from f P h ps)
 
 -- what holds of each child of a row holds of its first
 first_child : (P : Node × BoardState → Type 0) (o : Option (Node × BoardState)) (more : List (Node × BoardState))
@@ -152,11 +130,9 @@ plays_give : (f : ℕ → Option (Node × BoardState)) (g : ℕ → Bool) (P : N
     (child : Node × BoardState) → AllByRecursion P (filter_map f (filter g (range_with_len a n))) → a ≤ p → p < a + n
     → g p ≡ true → f p ≡ Some child → P child
 plays_give f g P zero a p child all low high chosen e = absurd (omega arith)
-plays_give f g P (suc n) a p child all low high chosen e = elim (cases_eq a p) [
-  | inl same ↦ at_first f P a (filter g (range_with_len (a + 1) n)) child (g a) all (ap g same ∙ chosen) (ap f same ∙ e)
-  | inr ne ↦ plays_give f g P n (a + 1) p child
-      (at_others f P a (filter g (range_with_len (a + 1) n)) (g a) all) (omega arith) (omega arith) chosen e
-]
+plays_give f g P (suc n) a p child all low high chosen e =
+    grind (arith, cases_eq, at_first, at_others,
+        plays_give f g P n (a + 1) p child (at_others f P a (filter g (range_with_len (a + 1) n)) (g a) all))
 
 -- each child of the rows is one of a row
 pub both_rows : (P : Node × BoardState → Type 0) (xs ys : List (Node × BoardState)) → AllByRecursion P xs
@@ -175,13 +151,8 @@ children_on_board : (node : Node) (pos : BoardState) → node.turn.target < pos.
     → AllByRecursion IsOn (children_of node pos)
 unfolding children_of
 children_on_board node pos on =
-    both_rows IsOn (pass_children node pos) (play_children node pos) (by node.turn.attacker_to_play)
-    (plays_from (child_of node pos) IsOn (λ p child e. played_on_board node pos p child on e)
-    (candidates_of node.turn pos))
-  where
-    by : (turn : Bool) → AllByRecursion IsOn (cond turn [] (passed node pos ∷ []))
-    by true = tt
-    by false = (on, tt)
+    grind (arith, both_rows IsOn (pass_children node pos) (play_children node pos),
+        plays_from (child_of node pos) IsOn, played_on_board node pos)
 
 module _ (P : Node × BoardState → Type 0) (node : Node) (pos : BoardState)
     (all : AllByRecursion P (children_of node pos)) where
@@ -220,22 +191,15 @@ passed_by false first child e = let same : first ≡ child = cc in (refl, same)
 won_after : (n : ℕ) (node : Node) (pos : BoardState) (spot : Spot) (child : Node × BoardState)
     → child_after node pos spot ≡ Some child → EachChildWins n node pos → attacker_wins n child.0 child.1 ≡ true
 unfolding child_after
-won_after n node pos (At p) child e all =
-    let made = made_by (is_candidate node.turn pos p) (child_of node pos p) child e in
-    all.played p child.0 child.1 made.0 (child_gives node pos p child.0 child.1 made.1)
-won_after n node pos Pass child e all =
-    let same = passed_by node.turn.attacker_to_play (passed node pos) child e in
-    subst (λ (c : Node × BoardState). attacker_wins n c.0 c.1 ≡ true) same.1 all.passed
+won_after n node pos (At p) child e all = grind (arith, made_by, child_gives)
+won_after n node pos Pass child e all = grind (arith, passed_by)
 
 -- the target is on the board at the child after a move
 after_on_board : (node : Node) (pos : BoardState) (spot : Spot) (child : Node × BoardState)
     → node.turn.target < pos.size * pos.size → child_after node pos spot ≡ Some child → IsOn child
 unfolding child_after
-after_on_board node pos (At p) child on e =
-    played_on_board node pos p child on
-    (made_by (is_candidate node.turn pos p) (child_of node pos p) child e).1
-after_on_board node pos Pass child on e =
-    subst IsOn (passed_by node.turn.attacker_to_play (passed node pos) child e).1 on
+after_on_board node pos (At p) child on e = grind (arith, played_on_board, made_by)
+after_on_board node pos Pass child on e = grind (arith, passed_by)
 
 -- behind a move at a node whose target stands is the child to which it leads
 pub behind_standing : (node : Node) (pos : BoardState) (spot : Spot) → is_captured pos node.turn.target ≡ false
@@ -248,21 +212,13 @@ behind_taken : (node : Node) (pos : BoardState) (spot : Spot) (child : Node × B
     → is_captured pos node.turn.target ≡ true → child_behind node pos spot ≡ Some child
     → taking_back node pos ≡ Some child
 unfolding child_behind
-behind_taken node pos spot child taken e =
-    by spot (sym (ap (λ b. cond b (back_after node pos spot) (child_after node pos spot)) taken) ∙ e)
-  where
-    by : (spot : Spot) → back_after node pos spot ≡ Some child → taking_back node pos ≡ Some child
-    by (At p) e = (made_by (eqb p node.turn.target) (taking_back node pos) child e).1
-    by Pass e = absurd (let w = e in cc)
+behind_taken node pos spot child taken e = grind (arith, made_by)
 
 -- the target is on the board at the child behind a move
 behind_on_board : (node : Node) (pos : BoardState) (spot : Spot) (child : Node × BoardState)
     → node.turn.target < pos.size * pos.size → child_behind node pos spot ≡ Some child → IsOn child
-behind_on_board node pos spot child on e = elim (cases_Bool (is_captured pos node.turn.target)) [
-  | inl taken ↦ played_on_board node pos node.turn.target child on
-      (taking_back_gives node pos child (behind_taken node pos spot child taken e)).1
-  | inr stands ↦ after_on_board node pos spot child on (sym (behind_standing node pos spot stands) ∙ e)
-]
+behind_on_board node pos spot child on e =
+    grind (arith, cases_Bool, played_on_board, taking_back_gives, behind_taken, after_on_board, behind_standing)
 
 -- The claim at a node whose target stands, with one ply more than is left at its children.
 module _ (n : ℕ) (node : Node) (pos : BoardState) (stands : is_captured pos node.turn.target ≡ false) where
@@ -372,11 +328,7 @@ may_move_parts : (won : Bool) (node : Node) (pos : BoardState) → move_may_prov
     → is_captured pos node.turn.target ≡ false
     → (is_wanted won node ≡ true) × ((node.turn.attacker_to_play && has_many_liberties node.turn pos) ≡ false)
 unfolding move_may_prove
-may_move_parts won node pos h stands =
-    let barred = node.turn.attacker_to_play && has_many_liberties node.turn pos in
-    let parts = and_parts (is_wanted won node) (not barred)
-    (sym (ap (λ b. b || (is_wanted won node && not barred)) stands) ∙ h) in
-    (parts.0, not-true _ parts.1)
+may_move_parts won node pos h stands = grind (arith, and_parts, not-true)
 
 -- all moves that may prove the claim are of the side that does not want it, and the target stands
 may_each_parts : (won : Bool) (node : Node) (pos : BoardState) → each_may_prove won node pos ≡ true
@@ -399,10 +351,7 @@ move_sound n won node pos spot child may e so = elim (cases_Bool (is_captured po
 pub proved_sound : (n : ℕ) (won : Bool) → IsSound n won
 unfolding proves
 proved_sound n won node pos [] left on e = absurd (let w = e in cc)
-proved_sound zero won node pos (word ∷ rest) left on e =
-    begins (attacker_wins zero node pos ≡ won) (is_settled zero won node pos) (λ spot left. None) (λ left. None)
-    (token_of pos.size word) rest left e (settled_sound zero won node pos on) (λ spot none. absurd (let w = none in cc))
-    (λ none. absurd (let w = none in cc))
+proved_sound zero won node pos (word ∷ rest) left on e = grind (arith, begins, settled_sound)
 proved_sound (suc n) won node pos (word ∷ rest) left on e =
     begins (attacker_wins (suc n) node pos ≡ won) (is_settled (suc n) won node pos)
     (λ spot left. cond (move_may_prove won node pos) (at_child (proves n won) (child_behind node pos spot) left) None)

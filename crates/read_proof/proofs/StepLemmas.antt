@@ -15,7 +15,6 @@ use Rattle.read_proof.specs.Tokens.{Word, token_of}
 use Rattle.read_proof.specs.Proves.{is_settled, move_may_prove, each_may_prove, child_behind, pass_children}
 use Rattle.read_proof.specs.Proves.{play_children, children_of, at_child, at_each, by_token, proves}
 use Rattle.read_proof.specs.ProofOf.{codes_down_to, claim_under, letter_of, proves_under, proves_all}
-use Rattle.read_proof.proofs.ChildLemmas.{at_rows}
 
 -- what a word says, on the board of the position
 pub said_here : (said token : Token) (s size : ℕ) (word : Word) → said ≡ token → Some said ≡ token_of s word → s ≡ size
@@ -82,11 +81,7 @@ module _ (won : Bool) (node : Node) (pos : BoardState) where
         → proves n won node pos words
         ≡ cond may (at_child (proves (n - 1) won) (child_behind node pos spot) rest) None
     move_decides zero spot may e some is = absurd (some refl)
-    move_decides (suc n) spot may e some is =
-        let less : n ≡ suc n - 1 = omega arith in
-        by_word (suc n) (Some (Move spot)) e
-        ∙ ap (λ b. cond b (at_child (proves n won) (child_behind node pos spot) rest) None) is
-        ∙ ap (λ m. cond may (at_child (proves m won) (child_behind node pos spot) rest) None) less
+    move_decides (suc n) spot may e some is = grind (arith, by_word)
 
     -- `*` that may prove the claim proves it where the rest does at each child
     pub each_decides : (n : ℕ) (may : Bool) → Some Each ≡ token_of pos.size word → n ≢ 0
@@ -96,13 +91,7 @@ module _ (won : Bool) (node : Node) (pos : BoardState) where
         (at_each (proves (n - 1) won) (pass_children node pos) rest)) None
     unfolding children_of
     each_decides zero may e some is = absurd (some refl)
-    each_decides (suc n) may e some is =
-        let less : n ≡ suc n - 1 = omega arith in
-        by_word (suc n) (Some Each) e
-        ∙ ap (λ b. cond b (at_each (proves n won) (children_of node pos) rest) None) is
-        ∙ ap (λ o. cond may o None) (at_rows (proves n won) (pass_children node pos) (play_children node pos) rest)
-        ∙ ap (λ m. cond may (option_and_then (at_each (proves m won) (play_children node pos))
-        (at_each (proves m won) (pass_children node pos) rest)) None) less
+    each_decides (suc n) may e some is = grind (arith, by_word)
 
 module _ (q : ReadingQuestion) (pos : BoardState) (won : Bool) (more : ℕ) (words : List Word) where
   -- where there is no word there is no letter of a claim

@@ -1,6 +1,6 @@
 -- What a reading under one code finds, and which answer the codes come to.
 use Rattle.std.proofs.Common.{◌≡◌, ◌≢◌, ◌∙◌, ℕ, zero, suc, ◌-◌, ◌<◌, ◌≤◌, Bool, true, false, not, cond, Option, None}
-use Rattle.std.proofs.Common.{is_some, ap, sym, refl, arith, inl, inr, eq-eqb}
+use Rattle.std.proofs.Common.{is_some, ap, sym, refl, arith, eq-eqb}
 use Rattle.std.proofs.lemmas.Bool.{cases_Bool, cases_eq, ne_eqb, and_parts, and_from}
 use Rattle.go_rules.specs.declared.Cell.{Cell}
 use Rattle.go_rules.specs.declared.Cell.TheVariants.{Empty, Black, White}
@@ -11,10 +11,9 @@ use Rattle.go_rules.specs.Position.{BoardState, stone_of, colour_of}
 use Rattle.go_rules.proofs.Paths.{same_cell-true, same_cell-from}
 use Rattle.read_rules.specs.declared.question.Spot.{Spot}
 use Rattle.read_rules.specs.declared.question.ReadingQuestion.{ReadingQuestion}
-use Rattle.read_rules.specs.GameTree.{is_captured, attacker_wins, first_move}
-use Rattle.read_rules.specs.Answer.{is_attack, first_node, attains_code, is_about, code_of, first_move_of, move_of}
-use Rattle.read_rules.specs.Answer.{answer_of}
-use Rattle.read_rules.specs.GoodMoves.{is_barred, good_move, Reads}
+use Rattle.read_rules.specs.GameTree.{is_captured}
+use Rattle.read_rules.specs.Answer.{first_node, attains_code, is_about, code_of, first_move_of, move_of, answer_of}
+use Rattle.read_rules.specs.GoodMoves.{good_move, Reads}
 use Rattle.read_rules.proofs.WinLemmas.{wins-attacker_move, wins-defender_move}
 
 -- what is not denied holds
@@ -32,17 +31,7 @@ kept false first found e s = e
 pub reads : (q : ReadingQuestion) (pos : BoardState) (code : ℕ) (found : Option Spot) → q.plies ≢ 0
     → is_captured pos q.target ≡ false
     → found ≡ good_move (q.plies - 1) (first_node q code) pos → Reads q pos code found
-reads q pos code found ne h e =
-    let node = first_node q code in
-    let wins = attacker_wins q.plies node pos in
-    record {
-      attained = ap is_some e ∙ elim (cases_Bool (is_attack q.kind)) [
-        | inl t ↦ sym (wins-attacker_move q.plies node pos h ne t) ∙ sym (ap (λ b. cond b wins (not wins)) t)
-        | inr f ↦ sym (not_not (is_some (good_move (q.plies - 1) node pos)))
-            ∙ ap not (sym (wins-defender_move q.plies node pos h ne f)) ∙ sym (ap (λ b. cond b wins (not wins)) f)
-      ];
-      move = kept (is_barred node pos) (first_move (q.plies - 1) node pos) found e;
-    }
+reads q pos code found ne h e = grind (arith, cases_Bool, wins-attacker_move, not_not, wins-defender_move, kept)
 
 -- a cell that holds a stone is not empty
 pub stone_stands : (cell : Cell) (c : Colour) → cell ≡ stone_of c → same_cell cell Empty ≡ false
@@ -89,9 +78,7 @@ chosen-0 about three two one a t s o = rw (a, t, s, o) refl
 answer_with : (q : ReadingQuestion) (pos : BoardState) (code : ℕ) (at : Option Spot) → code_of q pos ≡ code
     → at ≡ move_of q pos code → record { code = code; at = at } ≡ answer_of q pos
 unfolding answer_of
-answer_with q pos code at e f =
-    ap (λ (m : Option Spot). record { code = code; at = m }) f
-    ∙ ap (λ (k : ℕ). record { code = k; at = move_of q pos k }) (sym e)
+answer_with q pos code at e f = grind arith
 
 -- a stone is of its own colour
 pub stone-colour : (cell : Cell) → cell ≢ Empty → cell ≡ stone_of (colour_of cell)
@@ -120,8 +107,7 @@ code_best q pos (suc zero) about bounded hit miss = code_of-chosen q pos ∙ cho
     (miss 3 (omega arith) (omega arith)) (miss 2 (omega arith) (omega arith)) (hit (λ e. cc))
 code_best q pos (suc (suc zero)) about bounded hit miss = code_of-chosen q pos
     ∙ chosen-2 _ _ _ _ about (miss 3 (omega arith) (omega arith)) (hit (λ e. cc))
-code_best q pos (suc (suc (suc zero))) about bounded hit miss =
-    code_of-chosen q pos ∙ chosen-3 _ _ _ _ about (hit (λ e. cc))
+code_best q pos (suc (suc (suc zero))) about bounded hit miss = grind (arith, code_of-chosen, chosen-3)
 code_best q pos (suc (suc (suc (suc more)))) about bounded hit miss = absurd (omega arith)
 
 -- a code that is attained, where no greater one is, and its move are the answer
@@ -130,7 +116,5 @@ pub answer_best : (q : ReadingQuestion) (pos : BoardState) (code : ℕ) (at : Op
     → ((more : ℕ) → code < more → more ≤ 3 → attains_code q pos more ≡ false) → (code ≡ 0 → at ≡ None)
     → (code ≢ 0 → at ≡ first_move_of q pos code) → record { code = code; at = at } ≡ answer_of q pos
 answer_best q pos code at about bounded hit miss no_move move =
-    answer_with q pos code at (code_best q pos code about bounded hit miss) (elim (cases_eq code 0) [
-      | inl e ↦ no_move e ∙ sym (ap (move_of q pos) e)
-      | inr some ↦ move some ∙ sym (ap (λ b. cond b None (first_move_of q pos code)) (ne_eqb code 0 some))
-    ])
+    grind (arith, answer_with q pos code at (code_best q pos code about bounded hit miss),
+        code_best q pos code about bounded hit miss, cases_eq code 0, ne_eqb code 0)

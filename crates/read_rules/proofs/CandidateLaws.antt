@@ -30,19 +30,7 @@ use Rattle.read_rules.proofs.FurtherPoints.{further_on}
 wide_gives : (s : ℕ) (cells : List Cell) (target p : ℕ) → is_empty_beside s cells (is_liberty s cells target) p ≡ true
     → (l : ℕ) × (is_liberty s cells target l ≡ true) × IsEmptyNeighbour s cells l p
 unfolding is_empty_beside
-wide_gives s cells target p h =
-    let parts = and_parts _ _ h in
-    let first = and_parts _ _ parts.0 in
-    let l = any_below_gives (s * s) _ parts.1 in
-    let both = and_parts _ _ l.2 in (
-      l.0,
-      both.0,
-      record {
-        on_board = ltb-true p (s * s) first.0;
-        is_empty = same_cell-true _ _ first.1;
-        beside = both.1;
-      },
-    )
+wide_gives s cells target p h = grind (arith, and_parts, any_below_gives, ltb-true, same_cell-true)
 
 -- an empty neighbour of a liberty passes the test for a point beside a liberty
 wide_from : (s : ℕ) (cells : List Cell) (target p l : ℕ) → l < s * s → is_liberty s cells target l ≡ true
@@ -179,11 +167,7 @@ data ByTest (turn : Turn) (pos : BoardState) (p : ℕ) : Type 0 where
 by_test : (turn : Turn) (pos : BoardState) (p : ℕ)
     → is_candidate turn pos p ≡ true → ByTest turn pos p
 unfolding is_candidate
-by_test turn pos p h = elim (or_cases (by_four pos turn.target turn.wide p)
-    (is_wider turn.tree && is_further (ltb 0 turn.wide) turn.attacker_to_play pos.size pos.cells turn.target p) h) [
-      | inl four ↦ of_four four
-      | inr further ↦ let both = and_parts _ _ further in of_further (wider_gives turn.tree both.0) both.1
-    ]
+by_test turn pos p h = grind (arith, or_cases, and_parts, wider_gives)
 
 -- a wide move by the test is one by the rules
 wide_candidate : (turn : Turn) (pos : BoardState) (p : ℕ)
@@ -235,15 +219,13 @@ pub candidate_from : (turn : Turn) (pos : BoardState) (p : ℕ)
     → turn.target < pos.size * pos.size → IsCandidate turn pos p
     → is_candidate turn pos p ≡ true
 unfolding is_candidate
-candidate_from turn pos p on (fills lib) =
-    or_left _ _ (or_left _ _ (or_left _ _ (or_left _ _ (is_liberty-from_fact pos.size pos.cells turn.target p on lib))))
+candidate_from turn pos p on (fills lib) = grind (arith, or_left, is_liberty-from_fact)
 candidate_from turn pos p on (looks_wide some few l lib near) =
     or_left _ _ (or_left _ _ (or_left _ _ (or_right _ _ (and_from _ _
     (and_from _ _ (lt-ltb 0 turn.wide some) (lt-ltb (liberties pos.size pos.cells turn.target) 3 (omega arith)))
     (wide_from pos.size pos.cells turn.target p l lib.on_board
     (is_liberty-from_fact pos.size pos.cells turn.target l on lib) near)))))
-candidate_from turn pos p on (takes q taken) =
-    or_left _ _ (or_left _ _ (or_right _ _ (takes_from pos.size pos.cells turn.target q p on taken)))
+candidate_from turn pos p on (takes q taken) = grind (arith, or_left, or_right, takes_from)
 candidate_from turn pos p on (backfills some l w) =
     or_left _ _ (or_right _ _ (and_from _ _ (lt-ltb 0 turn.wide some) (backfills_from pos turn.target l p on w)))
 candidate_from turn pos p on (goes_further is further) =

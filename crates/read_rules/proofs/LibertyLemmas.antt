@@ -5,10 +5,9 @@ use Rattle.std.proofs.Common.{cond, List, Ok, refl, sym, ap, subst, ◌∙◌, a
 use Rattle.std.proofs.lemmas.Bool.{cases_Bool, cases_eq, or_cases, lt-ltb, ltb-true, both_ways, eq-eqb, eqb-true}
 use Rattle.std.proofs.lemmas.Bool.{or_left, or_right}
 use Rattle.go_rules.specs.declared.Cell.{Cell}
-use Rattle.go_rules.specs.declared.Cell.TheVariants.{Empty, Black, White}
 use Rattle.go_rules.specs.declared.Colour.{Colour}
 use Rattle.go_rules.specs.Below.{count_below}
-use Rattle.go_rules.specs.Strings.{cell_at, is_stone, same_cell, IsLiberty, is_liberty, liberties}
+use Rattle.go_rules.specs.Strings.{IsLiberty, is_liberty, liberties}
 use Rattle.go_rules.specs.Position.{BoardState}
 use Rattle.go_rules.specs.Play.{play_free, pass}
 use Rattle.go_rules.proofs.Counts.{count_below_mono}
@@ -39,10 +38,7 @@ count_but_one : (n : ℕ) (a b : ℕ → Bool) (p : ℕ) → ((k : ℕ) → k < 
     → count_below n a ≤ count_below n b + 1
 count_but_one zero a b p h = omega arith
 count_but_one (suc n) a b p h = elim (cases_eq n p) [
-  | inl e ↦
-      let rest : count_below n a ≤ count_below n b =
-      count_below_mono n a b (λ k l. h k (omega arith) (λ w. omega arith)) in
-      at_most_one (a n) (b n) (count_below n a) (count_below n b) rest
+  | inl e ↦ grind (arith, count_below_mono, at_most_one)
   | inr ne ↦ step (a n) (b n) (count_below n a) (count_below n b) (h n (omega arith) ne)
       (count_but_one n a b p (λ k l. h k (omega arith)))
 ]
@@ -110,20 +106,11 @@ child_free node pos p next new (inr w) = (allowance_of node - 1, w.free, w.next_
 
 -- a target with a liberty stands
 pub stands_by_liberties : (pos : BoardState) (t : ℕ) → 0 < liberties pos.size pos.cells t → is_captured pos t ≡ false
-stands_by_liberties pos t h =
-    stone_stands (cell_at pos.cells t) (liberties_some pos.size pos.cells t h).1.beside.1.stone
-  where
-    stone_stands : (k : Cell) → is_stone k ≡ true → same_cell k Empty ≡ false
-    stone_stands Empty h = cc
-    stone_stands Black h = refl
-    stone_stands White h = refl
+stands_by_liberties pos t h = grind (arith, liberties_some)
 
 -- where one of two tests of order passes, its first number is below its second
 lt_cases : (a b c d : ℕ) → (ltb a b || ltb c d) ≡ true → (a < b) ⊎ (c < d)
-lt_cases a b c d h = elim (or_cases (ltb a b) (ltb c d) h) [
-  | inl x ↦ inl (ltb-true a b x)
-  | inr y ↦ inr (ltb-true c d y)
-]
+lt_cases a b c d h = grind (arith, or_cases, ltb-true)
 
 -- a number below one is below a greater one
 below_more : (b l m : ℕ) → b < l → l ≤ m → b < m
@@ -242,16 +229,8 @@ bounded_attacker : (n : ℕ) (node : Node) (pos : BoardState) → Hypothesis n �
     → is_captured pos node.turn.target ≡ false → node.turn.attacker_to_play ≡ true
     → outlasts node.turn.tree true (suc n) node.turn.wide (liberties pos.size pos.cells node.turn.target) ≡ true
     → attacker_wins (suc n) node pos ≡ false
-bounded_attacker n node pos ih on stands turn h = elim (cases_Bool (attacker_wins (suc n) node pos)) [
-  | inr f ↦ f
-  | inl t ↦
-      let w = attacker_gives n node pos stands turn (ap (λ m. attacker_wins m node pos) (add-one n) ∙ t) in
-      let few : HasManyLiberties node.turn pos → ⊥ =
-      λ many. both_ways (has_many_liberties node.turn pos) w.0
-      (many_from node.turn pos many) in
-      let child = child_outlasts n node pos w.1.point w.1.next w.1.new on turn few w.1.child h in
-      absurd (both_ways (attacker_wins n w.1.next w.1.new) (ih w.1.next w.1.new child.0 child.1) w.1.wins)
-]
+bounded_attacker n node pos ih on stands turn h =
+    grind (arith, attacker_gives n node, add-one n, many_from node.turn, child_outlasts n node, cases_Bool, both_ways)
 
 -- if too many liberties save a target with n plies left, they do at the defender's turn with one more ply
 bounded_defender : (n : ℕ) (node : Node) (pos : BoardState) → Hypothesis n → node.turn.target < pos.size * pos.size
@@ -371,11 +350,7 @@ many_outlast turn n pos (inr x) =
 pub many_outlasts : (turn : Turn) (n : ℕ) (pos : BoardState)
     → outlasts turn.tree true n turn.wide (liberties pos.size pos.cells turn.target) ≡ false
     → has_many_liberties turn pos ≡ false
-many_outlasts turn n pos h = elim (cases_Bool (has_many_liberties turn pos)) [
-  | inr f ↦ f
-  | inl m ↦ absurd (both_ways (outlasts turn.tree true n turn.wide (liberties pos.size pos.cells turn.target)) h
-      (many_outlast turn n pos (many_gives turn pos m)))
-]
+many_outlasts turn n pos h = grind (arith, cases_Bool, both_ways, many_outlast, many_gives)
 
 -- where the attacker may not play at the target, it has too many liberties in words
 pub many_too_many : (turn : Turn) (n : ℕ) (pos : BoardState) → HasManyLiberties turn pos

@@ -29,40 +29,17 @@ as_next n node pos h = ap (λ m. attacker_wins m node pos) (sym (add-one n)) ∙
 -- one more ply takes no win away
 pub one_more : (n : ℕ) (node : Node) (pos : BoardState) → attacker_wins n node pos ≡ true
     → attacker_wins (suc n) node pos ≡ true
-one_more zero node pos h = elim (cases_Bool (is_captured pos node.turn.target)) [
-  | inl t ↦ elim (some_or_none (taking_back node pos)) [
-    | inl none ↦ wins-captured 1 node pos t none
-    | inr back ↦ absurd (both_ways (attacker_wins 0 node pos) (wins-none_left node pos back.0 back.1) h)
-  ]
-  | inr f ↦ absurd (both_ways (attacker_wins 0 node pos) (wins-no_plies 0 node pos f refl) h)
-]
+one_more zero node pos h =
+    grind (arith, cases_Bool, some_or_none, wins-captured, both_ways, wins-none_left, wins-no_plies)
 one_more (suc n) node pos h = elim (cases_Bool (is_captured pos node.turn.target)) [
   | inl t ↦ elim (some_or_none (taking_back node pos)) [
     | inl none ↦ wins-captured (suc (suc n)) node pos t none
     | inr back ↦ wins-taken_back (suc n) node pos back.0 t back.1
         ∙ one_more n back.0.0 back.0.1 (sym (wins-taken_back n node pos back.0 t back.1) ∙ h)
   ]
-  | inr stands ↦ elim (cases_Bool node.turn.attacker_to_play) [
-    | inl turn ↦
-        let w = attacker_gives n node pos stands turn (as_sum n node pos h) in
-        as_next (suc n) node pos (attacker_from (suc n) node pos stands turn (
-          w.0,
-          record {
-            point = w.1.point;
-            next = w.1.next;
-            new = w.1.new;
-            candidate = w.1.candidate;
-            child = w.1.child;
-            wins = one_more n w.1.next w.1.new w.1.wins;
-          },
-        ))
-    | inr turn ↦
-        let w = defender_gives n node pos stands turn (as_sum n node pos h) in
-        as_next (suc n) node pos (defender_from (suc n) node pos stands turn (record {
-          passed = one_more n (next_node node (allowance_of node)) (pass pos) w.passed;
-          played = λ p next new candidate child. one_more n next new (w.played p next new candidate child);
-        }))
-  ]
+  | inr stands ↦
+      grind (arith, cases_Bool, attacker_gives, as_sum, as_next, attacker_from, defender_gives, defender_from,
+          one_more n, one_more n (next_node node (allowance_of node)) (pass pos))
 ]
 
 -- the child of a legal play, under other allowances
@@ -77,11 +54,6 @@ legal_child : {below : Node → BoardState → Type 0} {node : Node} {pos : Boar
 legal_child free p next new candidate a d (inl w) = (w.legal, w.next_is)
 legal_child free p next new candidate a d (inr w) = absurd (free.none p candidate w.banned)
 
--- whether the defender has lost a lone stone does not hang on the allowances
-lost_under : (node : Node) (pos : BoardState) (a d : ℕ)
-    → has_lost_one_stone (with_allowances node a d) pos ≡ has_lost_one_stone node pos
-lost_under node pos a d = refl
-
 -- where the ban does not forbid to take back, the child is one by a legal play
 back_child : {below : Node → BoardState → Type 0} {node : Node} {pos : BoardState}
     → (has_lost_one_stone node pos ≡ true → IsFreeToTakeBack below node pos) → (a d : ℕ) (child : Node × BoardState)
@@ -89,20 +61,16 @@ back_child : {below : Node → BoardState → Type 0} {node : Node} {pos : Board
     → (has_lost_one_stone node pos ≡ true) × (play pos (mover_of node.turn) node.turn.target ≡ Ok child.1)
     × (child.0 ≡ other_child node a d)
 back_child {node = node} {pos = pos} free a d child e =
-    let w = taking_back_gives (with_allowances node a d) pos child e in
-    elim (child_gives (with_allowances node a d) pos node.turn.target child.0 child.1 w.1) [
-      | inl legal ↦ (w.0, legal.legal, legal.next_is)
-      | inr allowed ↦ absurd ((free w.0).none allowed.banned)
-    ]
+    grind (arith, taking_back_gives (with_allowances node a d) pos child e,
+        child_gives (with_allowances node a d) pos node.turn.target child.0 child.1)
 
 -- and so there is one under other allowances
 back_child_from : (node : Node) (pos : BoardState) (x y : ℕ) (new : BoardState) → has_lost_one_stone node pos ≡ true
     → play pos (mover_of node.turn) node.turn.target ≡ Ok new
     → taking_back (with_allowances node x y) pos ≡ Some (other_child node x y, new)
 back_child_from node pos x y new lost legal =
-    taking_back_from (with_allowances node x y) pos (other_child node x y, new) lost
-    (child_from (with_allowances node x y) pos node.turn.target (other_child node x y) new
-    (inl (record { legal = legal; next_is = refl })))
+    grind (arith, taking_back_from (with_allowances node x y) pos (other_child node x y, new) lost,
+        child_from (with_allowances node x y) pos node.turn.target (other_child node x y) new)
 
 -- If the defender takes back under the one pair of allowances only where he does under the other, and the attacker wins
 -- the child, he wins.
@@ -114,33 +82,22 @@ same_taken : (n : ℕ) (node : Node) (pos : BoardState) → IsBanFree n node pos
     → attacker_wins m (other_child node x y) new ≡ true)
     → attacker_wins n (with_allowances node x y) pos ≡ true
 same_taken zero node pos free a d x y t h below =
-    elim (some_or_none (taking_back (with_allowances node x y) pos)) [
-      | inl none ↦ wins-captured zero (with_allowances node x y) pos t none
-      | inr back ↦
-          let w = back_child free x y back.0 back.1 in
-          absurd (both_ways (attacker_wins 0 (with_allowances node a d) pos)
-          (wins-none_left (with_allowances node a d) pos _ (back_child_from node pos a d back.0.1 w.0 w.1)) h)
-    ]
+    grind (arith, some_or_none (taking_back (with_allowances node x y) pos),
+        wins-captured zero (with_allowances node x y) pos t, back_child free x y,
+        both_ways (attacker_wins 0 (with_allowances node a d) pos), wins-none_left (with_allowances node a d) pos,
+        back_child_from node pos a d)
 same_taken (suc n) node pos free a d x y t h below =
     elim (some_or_none (taking_back (with_allowances node x y) pos)) [
       | inl none ↦ wins-captured (suc n) (with_allowances node x y) pos t none
       | inr back ↦
-          let w = back_child free.1 x y back.0 back.1 in
-          let before = sym (wins-taken_back n (with_allowances node a d) pos _ t
-          (back_child_from node pos a d back.0.1 w.0 w.1)) ∙ h in
-          wins-taken_back n (with_allowances node x y) pos back.0 t back.1
-          ∙ ap (λ (m : Node). attacker_wins n m back.0.1) w.2
-          ∙ below n back.0.1 refl w.1 w.0 before
+          grind (arith, back_child free.1 x y back.0 back.1, wins-taken_back n (with_allowances node a d) pos,
+              back_child_from node pos a d back.0.1, wins-taken_back n (with_allowances node x y) pos back.0 t back.1)
     ]
 
 -- The attacker wins under these allowances exactly where he wins under others.
 pub same_winner : (n : ℕ) (node : Node) (pos : BoardState) → IsBanFree n node pos → (a d x y : ℕ)
     → attacker_wins n (with_allowances node a d) pos ≡ true → attacker_wins n (with_allowances node x y) pos ≡ true
-same_winner zero node pos free a d x y h = elim (cases_Bool (is_captured pos node.turn.target)) [
-  | inl t ↦ same_taken zero node pos free a d x y t h (λ m new e. cc)
-  | inr f ↦ absurd (both_ways (attacker_wins 0 (with_allowances node a d) pos)
-      (wins-no_plies 0 (with_allowances node a d) pos f refl) h)
-]
+same_winner zero node pos free a d x y h = grind (arith, cases_Bool, same_taken, both_ways, wins-no_plies)
 same_winner (suc n) node pos free a d x y h = elim (cases_Bool (is_captured pos node.turn.target)) [
   | inl t ↦ same_taken (suc n) node pos free a d x y t h (λ m new e legal lost won.
       let k : n ≡ m = omega (arith, e) in
@@ -187,6 +144,4 @@ same_winner (suc n) node pos free a d x y h = elim (cases_Bool (is_captured pos 
 -- so the winner is the same
 pub one_winner : (n : ℕ) (node : Node) (pos : BoardState) (a d : ℕ) → IsBanFree n node pos
     → attacker_wins n (with_allowances node a d) pos ≡ attacker_wins n node pos
-one_winner n node pos a d free =
-    same_tests _ _ (same_winner n node pos free a d node.attacker_ko node.defender_ko)
-    (same_winner n node pos free node.attacker_ko node.defender_ko a d)
+one_winner n node pos a d free = grind (arith, same_tests, same_winner)

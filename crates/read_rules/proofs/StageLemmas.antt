@@ -1,27 +1,23 @@
 -- The candidates by stages, and by the sets of points that are gathered for them.
-use Rattle.std.proofs.Common.{◌≡◌, ℕ, ◌*◌, ◌&&◌, ◌||◌, Bool, true, false, ltb, List, refl, sym, ap, ◌∙◌}
+use Rattle.std.proofs.Common.{◌≡◌, ℕ, ◌*◌, ◌&&◌, ◌||◌, Bool, true, false, ltb, List, refl, sym, ap, ◌∙◌, arith}
 use Rattle.std.proofs.lemmas.Bool.{and_parts, and_from}
 use Rattle.std.specs.Ordering.{nat_cmp}
 use Rattle.std.specs.FinSet as sets
 use Rattle.go_rules.specs.declared.Cell.{Cell}
-use Rattle.go_rules.specs.declared.Cell.TheVariants.{Empty}
 use Rattle.go_rules.specs.declared.Colour.{Colour}
-use Rattle.go_rules.specs.Board.{are_neighbours}
 use Rattle.go_rules.specs.Below.{any_below}
-use Rattle.go_rules.specs.Strings.{cell_at, same_cell, is_liberty, liberties, liberty_points}
+use Rattle.go_rules.specs.Strings.{cell_at, is_liberty, liberties, liberty_points}
 use Rattle.go_rules.specs.Position.{BoardState}
-use Rattle.go_rules.specs.Play.{play_free}
 use Rattle.go_rules.proofs.Counts.{any_below_gives, any_below_from, any_below_same}
 use Rattle.go_rules.proofs.Tests.{same_tests}
 use Rattle.go_base.specs.Surroundings.{is_last_liberty_of_enemy}
 use Rattle.go_base.proofs.LastLiberties.{contains-liberty_points}
 use Rattle.go_base.proofs.Liberties.{len-liberty_points}
-use Rattle.wider_rules.specs.Further.{is_further_always, is_further_wide, is_further}
+use Rattle.wider_rules.specs.Further.{is_further_always, is_further}
 use Rattle.read_rules.specs.declared.turn.Turn.{Turn}
 use Rattle.read_rules.specs.declared.tree.Tree.TheVariants.{Stated, Wider}
 use Rattle.read_rules.specs.Trees.{is_wider}
-use Rattle.read_rules.specs.Candidates.{attacker_of, is_empty_beside, leaves_only, is_backfilling, is_candidate}
-use Rattle.read_rules.specs.Candidates.{is_left}
+use Rattle.read_rules.specs.Candidates.{attacker_of, is_empty_beside, is_backfilling, is_candidate, is_left}
 use Rattle.read_rules.specs.Stages.{is_wide_by_liberties, is_later_candidate, has_later_candidates}
 
 -- nothing more is the same
@@ -48,11 +44,7 @@ pub candidate_stages : (turn : Turn) (here : BoardState) (p : ℕ) → is_candid
     ≡ ((is_liberty here.size here.cells turn.target p || is_last_liberty_of_enemy here.size here.cells turn.target p)
     || is_later_candidate turn here p)
 unfolding is_candidate is_later_candidate is_wide_by_liberties
-candidate_stages turn here p = later_last (is_liberty here.size here.cells turn.target p) (ltb 0 turn.wide)
-    (ltb (liberties here.size here.cells turn.target) 3)
-    (is_empty_beside here.size here.cells (is_liberty here.size here.cells turn.target) p)
-    (is_last_liberty_of_enemy here.size here.cells turn.target p) (is_backfilling here turn.target p)
-    (is_wider turn.tree && is_further (ltb 0 turn.wide) turn.attacker_to_play here.size here.cells turn.target p)
+candidate_stages turn here p = grind (arith, later_last)
 
 -- the later candidates are those by the target's liberties with a wide ply, and in the wider tree the further
 -- candidates
@@ -68,44 +60,25 @@ later_further turn here p wide further ew ef =
 -- in the stated tree the later candidates are those by the target's liberties with a wide ply
 pub later_stated : (turn : Turn) (here : BoardState) (p : ℕ) (wide : Bool) → turn.tree ≡ Stated
     → wide ≡ (ltb 0 turn.wide && is_wide_by_liberties here turn.target p) → wide ≡ is_later_candidate turn here p
-later_stated turn here p wide is ew =
-    or_false wide ∙ later_further turn here p wide false ew
-    (sym (ap (λ tree. is_wider tree
-    && is_further (ltb 0 turn.wide) turn.attacker_to_play here.size here.cells turn.target p) is))
+later_stated turn here p wide is ew = grind (arith, or_false wide, later_further turn here p wide false ew)
 
 -- if there may be no later candidates at the turn, no point is one
 pub later_none : (turn : Turn) (here : BoardState) (p : ℕ) → has_later_candidates turn ≡ false
     → is_later_candidate turn here p ≡ false
 unfolding is_later_candidate
-later_none turn here p none =
-    neither (ltb 0 turn.wide) (is_wider turn.tree) (is_wide_by_liberties here turn.target p)
-    (is_further (ltb 0 turn.wide) turn.attacker_to_play here.size here.cells turn.target p) none
-  where
-    neither : (w d b x : Bool) → (w || d) ≡ false → ((w && b) || (d && x)) ≡ false
-    neither true d b x h = cc
-    neither false true b x h = cc
-    neither false false b x h = refl
+later_none turn here p none = grind arith
 
 -- without wide plies the later candidates of the wider tree are the further candidates of every ply
 pub later_narrow : (turn : Turn) (here : BoardState) (p : ℕ) → turn.tree ≡ Wider → turn.wide ≡ 0
     → is_later_candidate turn here p ≡ is_further_always turn.attacker_to_play here.size here.cells turn.target p
 unfolding is_later_candidate is_further
-later_narrow turn here p is none =
-    let attacker = turn.attacker_to_play in
-    let always = is_further_always attacker here.size here.cells turn.target p in
-    let of_wide = is_further_wide attacker here.size here.cells turn.target p in
-    let by_liberties = is_wide_by_liberties here turn.target p in
-    ap (λ tree. (ltb 0 turn.wide && by_liberties) || (is_wider tree && (always || (ltb 0 turn.wide && of_wide)))) is
-    ∙ ap (λ k. (ltb 0 k && by_liberties) || (always || (ltb 0 k && of_wide))) none
-    ∙ sym (or_false always)
+later_narrow turn here p is none = grind (arith, or_false)
 
 -- which empty points are beside points of a set depends on the set's members alone
 empty_beside_same : (s : ℕ) (cells : List Cell) (S T : ℕ → Bool) (q : ℕ) → ((l : ℕ) → S l ≡ T l)
     → is_empty_beside s cells S q ≡ is_empty_beside s cells T q
 unfolding is_empty_beside
-empty_beside_same s cells S T q h =
-    ap (λ b. ltb q (s * s) && same_cell (cell_at cells q) Empty && b)
-    (any_below_same (s * s) _ _ (λ k l. ap (λ b. b && are_neighbours s k q) (h k)))
+empty_beside_same s cells S T q h = grind (arith, any_below_same)
 
 -- the set of the liberties has the liberties, and as many
 pub has_liberty : (s : ℕ) (cells : List Cell) (target l : ℕ) (libs : sets.FinSet nat_cmp)
@@ -124,21 +97,8 @@ left_is_backfilling : (here : BoardState) (c : Colour) (target p : ℕ) (libs : 
     → c ≡ attacker_of (cell_at here.cells target)
     → any_below (here.size * here.size) (λ l. sets.contains libs l && is_left here c l p) ≡ is_backfilling here target p
 unfolding is_backfilling
-left_is_backfilling here c target p libs el ec = same_tests _ _
-    (λ h.
-    let l = any_below_gives (here.size * here.size) _ h in
-    let parts = and_parts _ _ l.2 in
-    let left = and_parts _ _ parts.1 in
-    let its = sym (has_liberty here.size here.cells target l.0 libs el) ∙ parts.0 in
-    and_from _ _ left.0 (any_below_from (here.size * here.size) _ l.0 l.1
-    (and_from _ _ its (ap (λ x. leaves_only l.0 p (play_free here x l.0)) (sym ec) ∙ left.1))))
-    (λ h.
-    let parts = and_parts _ _ h in
-    let l = any_below_gives (here.size * here.size) _ parts.1 in
-    let both = and_parts _ _ l.2 in
-    any_below_from (here.size * here.size) _ l.0 l.1
-    (and_from _ _ (has_liberty here.size here.cells target l.0 libs el ∙ both.0)
-    (and_from _ _ parts.0 (ap (λ x. leaves_only l.0 p (play_free here x l.0)) ec ∙ both.1))))
+left_is_backfilling here c target p libs el ec =
+    grind (arith, same_tests, any_below_gives, and_parts, has_liberty, and_from, any_below_from)
 
 -- What was gathered for a target on the position here: its liberties.
 module _ (here : BoardState) (target p : ℕ) (libs : sets.FinSet nat_cmp)

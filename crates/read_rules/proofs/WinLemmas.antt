@@ -1,5 +1,5 @@
 -- Who wins at a node, by the first move that suits the side to play.
-use Rattle.std.proofs.Common.{◌≡◌, ◌≢◌, ℕ, zero, suc, ◌+◌, ◌-◌, ◌*◌, ◌<◌, ◌≤◌, Bool, true, false, not, ◌&&◌, ◌||◌, cond}
+use Rattle.std.proofs.Common.{◌≡◌, ◌≢◌, ℕ, zero, suc, ◌+◌, ◌-◌, ◌*◌, ◌<◌, ◌≤◌, Bool, true, false, not, ◌&&◌, cond}
 use Rattle.std.proofs.Common.{List, [], ◌∷◌, Option, Some, None, refl, ap, sym, ◌∙◌, arith, is_some, is_none, inl}
 use Rattle.std.proofs.Common.{inr, ◌⊎◌}
 use Rattle.std.specs.List.{range_with_len, filter, find, list_any, list_all}
@@ -12,7 +12,7 @@ use Rattle.read_rules.proofs.CandidateLaws.{candidate_on}
 use Rattle.read_rules.specs.declared.node.Node.{Node}
 use Rattle.read_rules.specs.declared.question.Spot.{Spot}
 use Rattle.read_rules.specs.declared.question.Spot.TheVariants.{Pass}
-use Rattle.read_rules.specs.GameTree.{attacker_wins, child_of, next_node, allowance_of, suits, succeeds, first_success}
+use Rattle.read_rules.specs.GameTree.{attacker_wins, child_of, next_node, allowance_of, succeeds, first_success}
 use Rattle.read_rules.specs.GameTree.{at_point, is_captured, has_many_liberties, some_child, each_child, taking_back}
 use Rattle.read_rules.specs.GoodMoves.{good_move}
 
@@ -26,41 +26,25 @@ passed_over t a rest found false h e = e
 pub first-found : (g t : ℕ → Bool) (n a p : ℕ) → a ≤ p → p < a + n → ((q : ℕ) → a ≤ q → q < p → (g q && t q) ≡ false)
     → (g p && t p) ≡ true → find t (filter g (range_with_len a n)) ≡ Some p
 first-found g t zero a p lo hi before here = absurd (omega arith)
-first-found g t (suc n) a p lo hi before here = elim (cases_eq a p) [
-  | inl e ↦ let both = and_parts (g p) (t p) here in rw (e, both.0) (rw both.1 refl)
-  | inr ne ↦ passed_over t a (filter g (range_with_len (a + 1) n)) (Some p) (g a)
-      (before a (omega arith) (omega arith))
-      (first-found g t n (a + 1) p (omega arith) (omega arith) (λ q l h. before q (omega arith) h) here)
-]
+first-found g t (suc n) a p lo hi before here =
+    grind (arith, cases_eq, and_parts, passed_over, first-found g t n (a + 1) p)
 
 -- where no number passes both tests, none is found
 pub first-none : (g t : ℕ → Bool) (n a : ℕ) → ((q : ℕ) → a ≤ q → q < a + n → (g q && t q) ≡ false)
     → find t (filter g (range_with_len a n)) ≡ None
 first-none g t zero a none = refl
-first-none g t (suc n) a none =
-    passed_over t a (filter g (range_with_len (a + 1) n)) None (g a) (none a (omega arith) (omega arith))
-    (first-none g t n (a + 1) (λ q l h. none q (omega arith) (omega arith)))
+first-none g t (suc n) a none = grind (arith, passed_over, first-none g t n (a + 1))
 
 -- a move was found exactly where one is there
 pub any-first : {X : Type 0} (f : X → Bool) (xs : List X) → is_some (find f xs) ≡ list_any f xs
 any-first f [] = refl
-any-first f (x ∷ xs) = by (f x) (any-first f xs)
-  where
-    by : (b : Bool) → is_some (find f xs) ≡ list_any f xs → is_some (cond b (Some x) (find f xs)) ≡ (b || list_any f xs)
-    by true h = refl
-    by false h = h
+any-first f (x ∷ xs) = grind (arith, any-first f xs)
 
 -- none passes a test exactly where each passes the opposite test
 none-first : {X : Type 0} (f g : X → Bool) (xs : List X) → ((x : X) → f x ≡ not (g x))
     → is_none (find f xs) ≡ list_all g xs
 none-first f g [] h = refl
-none-first f g (x ∷ xs) h =
-    ap (λ b. is_none (cond b (Some x) (find f xs))) (h x) ∙ by (g x) (none-first f g xs h)
-  where
-    by : (b : Bool) → is_none (find f xs) ≡ list_all g xs
-        → is_none (cond (not b) (Some x) (find f xs)) ≡ (b && list_all g xs)
-    by true h = h
-    by false h = refl
+none-first f g (x ∷ xs) h = grind (arith, none-first f g xs)
 
 -- there is a child that the attacker does not win exactly where it is not so that he wins it if it is there
 lost_child : (n : ℕ) (child : Option (Node × BoardState))
@@ -91,12 +75,7 @@ wins-captured (suc n) node pos h none = rw (h, none) refl
 pub wins-none_left : (node : Node) (pos : BoardState) (child : Node × BoardState) → taking_back node pos ≡ Some child
     → attacker_wins zero node pos ≡ false
 unfolding attacker_wins
-wins-none_left node pos child some = by (is_captured pos node.turn.target) (taking_back node pos) some
-  where
-    by : (c : Bool) (o : Option (Node × BoardState)) → o ≡ Some child → (c && is_none o) ≡ false
-    by true (Some x) e = refl
-    by true None e = cc
-    by false o e = refl
+wins-none_left node pos child some = grind arith
 
 -- the target is taken, and the defender takes it back
 pub wins-taken_back : (n : ℕ) (node : Node) (pos : BoardState) (child : Node × BoardState)
@@ -118,10 +97,7 @@ pub wins-attacker : (n : ℕ) (node : Node) (pos : BoardState) → is_captured p
     → attacker_wins (suc n) node pos ≡ (not (has_many_liberties node.turn pos)
     && list_any (λ p. some_child (attacker_wins n) (child_of node pos p)) (candidates_of node.turn pos))
 unfolding attacker_wins
-wins-attacker n node pos h e = choose (is_captured pos node.turn.target) node.turn.attacker_to_play true _ _ _ h e
-  where
-    choose : (c turn b z x y : Bool) → c ≡ false → turn ≡ b → cond c z (cond turn x y) ≡ cond b x y
-    choose c turn b z x y h e = ap (λ v. cond v z (cond turn x y)) h ∙ ap (λ v. cond v x y) e
+wins-attacker n node pos h e = grind arith
 
 -- it stands, and it is the defender's turn
 pub wins-defender : (n : ℕ) (node : Node) (pos : BoardState) → is_captured pos node.turn.target ≡ false
@@ -129,10 +105,7 @@ pub wins-defender : (n : ℕ) (node : Node) (pos : BoardState) → is_captured p
     → attacker_wins (suc n) node pos ≡ (attacker_wins n (next_node node (allowance_of node)) (pass pos)
     && list_all (λ p. each_child (attacker_wins n) (child_of node pos p)) (candidates_of node.turn pos))
 unfolding attacker_wins
-wins-defender n node pos h e = choose (is_captured pos node.turn.target) node.turn.attacker_to_play false _ _ _ h e
-  where
-    choose : (c turn b z x y : Bool) → c ≡ false → turn ≡ b → cond c z (cond turn x y) ≡ cond b x y
-    choose c turn b z x y h e = ap (λ v. cond v z (cond turn x y)) h ∙ ap (λ v. cond v x y) e
+wins-defender n node pos h e = grind arith
 
 -- a move at a point is there exactly where the point is
 some-at_point : (o : Option ℕ) → is_some (at_point o) ≡ is_some o
@@ -168,17 +141,13 @@ defender_none many false first all e = refl
 attacker_first : (n : ℕ) (node : Node) (pos : BoardState) → node.turn.attacker_to_play ≡ true
     → is_some (first_success n node pos)
     ≡ list_any (λ p. some_child (attacker_wins n) (child_of node pos p)) (candidates_of node.turn pos)
-attacker_first n node pos e =
-    ap (λ turn. is_some (find (λ p. suits n turn (child_of node pos p)) (candidates_of node.turn pos))) e
-    ∙ any-first (λ p. some_child (attacker_wins n) (child_of node pos p)) (candidates_of node.turn pos)
+attacker_first n node pos e = grind (arith, any-first)
 
 -- at the defender's turn none succeeds exactly where the attacker wins each child
 defender_first : (n : ℕ) (node : Node) (pos : BoardState) → node.turn.attacker_to_play ≡ false
     → is_none (first_success n node pos)
     ≡ list_all (λ p. each_child (attacker_wins n) (child_of node pos p)) (candidates_of node.turn pos)
-defender_first n node pos e =
-    ap (λ turn. is_none (find (λ p. suits n turn (child_of node pos p)) (candidates_of node.turn pos))) e
-    ∙ all-first n (child_of node pos) (candidates_of node.turn pos)
+defender_first n node pos e = grind (arith, all-first n (child_of node pos) (candidates_of node.turn pos))
 
 -- the attacker wins at his turn exactly where he has a good move
 pub wins-attacker_move : (n : ℕ) (node : Node) (pos : BoardState) → is_captured pos node.turn.target ≡ false → n ≢ 0
@@ -186,13 +155,7 @@ pub wins-attacker_move : (n : ℕ) (node : Node) (pos : BoardState) → is_captu
     → attacker_wins n node pos ≡ is_some (good_move (n - 1) node pos)
 wins-attacker_move zero node pos h ne e = absurd (ne refl)
 wins-attacker_move (suc n) node pos h ne e =
-    let less : n ≡ suc n - 1 = omega arith in
-    let many = has_many_liberties node.turn pos in
-    let saved = not (attacker_wins n (next_node node (allowance_of node)) (pass pos)) in
-    wins-attacker n node pos h e
-    ∙ sym (ap (λ m. is_some (good_move m node pos)) (sym less) ∙ ap is_some (good_move-by_turn n node pos)
-    ∙ ap (λ turn. is_some (by_turn turn many saved (first_success n node pos))) e
-    ∙ attacker_some many saved (first_success n node pos) _ (attacker_first n node pos e))
+    grind (arith, wins-attacker, good_move-by_turn, by_turn, attacker_some, attacker_first)
 
 -- and at the defender's turn exactly where the defender has none
 pub wins-defender_move : (n : ℕ) (node : Node) (pos : BoardState) → is_captured pos node.turn.target ≡ false → n ≢ 0
@@ -200,32 +163,20 @@ pub wins-defender_move : (n : ℕ) (node : Node) (pos : BoardState) → is_captu
     → attacker_wins n node pos ≡ is_none (good_move (n - 1) node pos)
 wins-defender_move zero node pos h ne e = absurd (ne refl)
 wins-defender_move (suc n) node pos h ne e =
-    let less : n ≡ suc n - 1 = omega arith in
-    let many = has_many_liberties node.turn pos in
-    let lost = attacker_wins n (next_node node (allowance_of node)) (pass pos) in
-    wins-defender n node pos h e
-    ∙ sym (ap (λ m. is_none (good_move m node pos)) (sym less) ∙ ap is_none (good_move-by_turn n node pos)
-    ∙ ap (λ turn. is_none (by_turn turn many (not lost) (first_success n node pos))) e
-    ∙ defender_none many lost (first_success n node pos) _ (defender_first n node pos e))
+    grind (arith, wins-defender, good_move-by_turn, by_turn, defender_none, defender_first)
 
 -- no point before p is a candidate that succeeds, where none before the next one is, and between them stands no
 -- candidate
 pub none_before : (cands wins : ℕ → Bool) (next p : ℕ) → ((q : ℕ) → q < next → (cands q && wins q) ≡ false)
     → ((q : ℕ) → next ≤ q → q < p → cands q ≡ false)
     → (q : ℕ) → q < p → (cands q && wins q) ≡ false
-none_before cands wins next p before between q h = elim (cases_lt q next) [
-  | inl l ↦ before q l
-  | inr g ↦ rw (between q g h) refl
-]
+none_before cands wins next p before between q h = grind (arith, cases_lt)
 
 -- nor is p, where it does not succeed
 pub none_up_to : (cands wins : ℕ → Bool) (next p : ℕ) → ((q : ℕ) → q < next → (cands q && wins q) ≡ false)
     → ((q : ℕ) → next ≤ q → q < p → cands q ≡ false) → cands p ≡ true → wins p ≡ false
     → (q : ℕ) → q < p + 1 → (cands q && wins q) ≡ false
-none_up_to cands wins next p before between c fails q h = elim (cases_eq q p) [
-  | inl e ↦ ap (λ k. cands k && wins k) e ∙ ap (λ b. b && wins p) c ∙ fails
-  | inr ne ↦ none_before cands wins next p before between q (omega (arith, h, ne))
-]
+none_up_to cands wins next p before between c fails q h = grind (arith, cases_eq, none_before)
 
 -- the first that succeeds, found by a walk over the candidates
 pub first_success-found : (n : ℕ) (node : Node) (pos : BoardState) (next p : ℕ) (cands : ℕ → Bool)
@@ -233,37 +184,18 @@ pub first_success-found : (n : ℕ) (node : Node) (pos : BoardState) (next p : �
     → ((q : ℕ) → q < next → (cands q && succeeds n node pos q) ≡ false) → ((q : ℕ) → next ≤ q → q < p → cands q ≡ false)
     → cands p ≡ true → true ≡ succeeds n node pos p → Some p ≡ first_success n node pos
 first_success-found n node pos next p cands same before between c t =
-    let on = candidate_on node.turn pos p (sym (same p) ∙ c) in
-    sym (first-found (is_candidate node.turn pos) (succeeds n node pos) (pos.size * pos.size) 0 p
-    (omega arith) (omega (arith, on))
-    (λ q l h. rw (← same q) (none_before cands (succeeds n node pos) next p before between q h))
-    (both (sym (same p) ∙ c) (sym t)))
-  where
-    both : {a b : Bool} → a ≡ true → b ≡ true → (a && b) ≡ true
-    both x y = rw (x, y) refl
+    grind (arith, candidate_on node.turn pos p (sym (same p) ∙ c),
+        first-found (is_candidate node.turn pos) (succeeds n node pos) (pos.size * pos.size) 0 p,
+        none_before cands (succeeds n node pos) next p before between)
 
 -- none succeeds, where no candidate is left
 pub first_success-none : (n : ℕ) (node : Node) (pos : BoardState) (next : ℕ) (cands : ℕ → Bool)
     → ((q : ℕ) → cands q ≡ is_candidate node.turn pos q)
     → ((q : ℕ) → q < next → (cands q && succeeds n node pos q) ≡ false) → ((q : ℕ) → next ≤ q → cands q ≡ false)
     → None ≡ first_success n node pos
-first_success-none n node pos next cands same before left =
-    sym (first-none (is_candidate node.turn pos) (succeeds n node pos) (pos.size * pos.size) 0
-    (λ q l h. rw (← same q) (none_before cands (succeeds n node pos) next (pos.size * pos.size) before
-    (λ k g m. left k g) q (omega arith))))
+first_success-none n node pos next cands same before left = grind (arith, first-none, none_before)
 
 -- who wins at a node that no earlier rule decides, by whether its mover has a good move
 pub wins-by_move : (n : ℕ) (node : Node) (pos : BoardState) (some : Bool) → is_captured pos node.turn.target ≡ false → n ≢ 0
     → some ≡ is_some (good_move (n - 1) node pos) → beq some node.turn.attacker_to_play ≡ attacker_wins n node pos
-wins-by_move n node pos some h ne e = elim (cases_Bool node.turn.attacker_to_play) [
-  | inl t ↦ ap (λ turn. beq some turn) t ∙ same_as_true some ∙ e ∙ sym (wins-attacker_move n node pos h ne t)
-  | inr f ↦ ap (λ turn. beq some turn) f ∙ same_as_false some ∙ ap not e ∙ sym (wins-defender_move n node pos h ne f)
-]
-  where
-    same_as_true : (b : Bool) → beq b true ≡ b
-    same_as_true true = refl
-    same_as_true false = refl
-
-    same_as_false : (b : Bool) → beq b false ≡ not b
-    same_as_false true = refl
-    same_as_false false = refl
+wins-by_move n node pos some h ne e = grind (arith, cases_Bool, beq, wins-attacker_move, wins-defender_move)

@@ -1,10 +1,9 @@
 -- A lone stone that was just taken may be taken back: when it is lone, and when it is surely captured.
-use Rattle.std.proofs.Common.{◌≡◌, ◌≢◌, ◌∙◌, ◌⊎◌, ℕ, zero, suc, ◌-◌, Bool, true, false, not, ◌&&◌, Option, Some, None}
+use Rattle.std.proofs.Common.{◌≡◌, ◌≢◌, ◌∙◌, ◌⊎◌, ℕ, zero, suc, ◌-◌, Bool, true, false, not, Option, Some, None}
 use Rattle.std.proofs.Common.{is_some, refl, sym, ap, arith, inl, inr}
 use Rattle.std.proofs.lemmas.Bool.{and_parts, not-true}
 use Rattle.go_rules.specs.Position.{BoardState, other}
 use Rattle.read_rules.specs.declared.node.Node.{Node}
-use Rattle.read_rules.specs.Trees.{is_wider}
 use Rattle.read_rules.specs.GameTree.{is_walled_in, has_lost_one_stone, child_of, can_play, each_child}
 use Rattle.read_rules.proofs.WinLemmas.{some_or_none}
 use Rattle.read_tree.proofs.TakingLemmas.{back_none, back_is}
@@ -15,15 +14,7 @@ use Rattle.sure_rules.proofs.SureLemmas.{sure-captured, sure-none_left, sure-tak
 
 -- no stone was lost where the target stands
 pub lost_standing : (node : Node) (pos : BoardState) → is_gone node pos ≡ false → has_lost_one_stone node pos ≡ false
-lost_standing node pos e =
-    ap (λ b. ((is_wider node.turn.tree && not node.turn.attacker_to_play) && b)
-    && is_walled_in pos.size pos.cells node.turn.target (other node.turn.defender)) e
-    ∙ by (is_wider node.turn.tree && not node.turn.attacker_to_play)
-    (is_walled_in pos.size pos.cells node.turn.target (other node.turn.defender))
-  where
-    by : (b w : Bool) → ((b && false) && w) ≡ false
-    by true w = refl
-    by false w = refl
+lost_standing node pos e = grind arith
 
 -- a target that is taken is surely captured, if the defender has not just lost a lone stone
 pub sure_for_good : (n : ℕ) (node : Node) (pos : BoardState) → is_gone node pos ≡ true

@@ -14,21 +14,12 @@ use Rattle.sure_rules.proofs.SureCodes.{sure_move_of-code, not_barred, two_gives
 
 -- what gives no other thing is not there if the other is not
 not_above : {a b : Bool} → (a ≡ true → b ≡ true) → b ≡ false → a ≡ false
-not_above {a} {b} gives none = elim (cases_Bool a) [
-  | inl t ↦ absurd (both_ways b none (gives t))
-  | inr f ↦ f
-]
+not_above {a} {b} gives none = grind (arith, cases_Bool, both_ways)
 
 -- above 0 are 1, 2 and 3
 above_0 : (test : ℕ → Bool) (more : ℕ) → 0 < more → more ≤ 3 → test 1 ≡ false → test 2 ≡ false → test 3 ≡ false
     → test more ≡ false
-above_0 test more lo hi one two three = elim (cases_eq more 1) [
-  | inl e ↦ ap test e ∙ one
-  | inr n1 ↦ elim (cases_eq more 2) [
-    | inl e ↦ ap test e ∙ two
-    | inr n2 ↦ let e : more ≡ 3 = omega (arith, lo, hi, n1, n2) in ap test e ∙ three
-  ]
-]
+above_0 test more lo hi one two three = grind (arith, cases_eq)
 
 -- What was found for a question that is about the position, under a code.
 module _ (q : ReadingQuestion) (pos : BoardState) (some : q.plies ≢ 0) (about : is_about q pos ≡ true) where

@@ -13,7 +13,7 @@ use Rattle.read_tree.specs.declared.allowances.Allowances.{Allowances}
 use Rattle.go_rules.specs.Play.{pass}
 use Rattle.read_rules.specs.Candidates.{candidates_of}
 use Rattle.read_rules.specs.declared.question.Spot.TheVariants.{Pass}
-use Rattle.read_rules.specs.GameTree.{is_captured, has_many_liberties, allowance_of, next_node, attacker_wins, suits}
+use Rattle.read_rules.specs.GameTree.{is_captured, allowance_of, next_node, attacker_wins, suits}
 use Rattle.read_rules.specs.GameTree.{child_of, succeeds, pass_saves, first_success, at_point}
 use Rattle.read_tree.specs.Allowances.{all_three}
 use Rattle.read_tree.specs.Allowances.{Ko, defender_may, neither_may, attacker_may, attacker_ko_of, defender_ko_of, has}
@@ -27,27 +27,11 @@ use Rattle.read_rules.proofs.WalkLemmas.{any_from}
 
 -- a set that has some has one
 pub some_of : (set : Allowances) → has_some set ≡ true → (ko : Ko) × (has set ko ≡ true)
-some_of set h = by set.defender set.neither set.attacker refl refl refl h
-  where
-    by : (d n a : Bool) → set.defender ≡ d → set.neither ≡ n → set.attacker ≡ a → (d || n || a) ≡ true
-        → (ko : Ko) × (has set ko ≡ true)
-    by true n a ed en ea w = (defender_may, ed)
-    by false true a ed en ea w = (neither_may, en)
-    by false false true ed en ea w = (attacker_may, ea)
-    by false false false ed en ea w = cc
+some_of set h = grind arith
 
 -- a set that has none has not this one
 pub none_of : (set : Allowances) (ko : Ko) → has_some set ≡ false → has set ko ≡ false
-none_of set ko h = by set.defender set.neither set.attacker ko refl refl refl h
-  where
-    by : (d n a : Bool) (ko : Ko) → set.defender ≡ d → set.neither ≡ n → set.attacker ≡ a → (d || n || a) ≡ false
-        → has set ko ≡ false
-    by true n a ko ed en ea w = cc
-    by false true a ko ed en ea w = cc
-    by false false true ko ed en ea w = cc
-    by false false false defender_may ed en ea w = ed
-    by false false false neither_may ed en ea w = en
-    by false false false attacker_may ed en ea w = ea
+none_of set ko h = grind arith
 
 -- what is left of a set without another has just the allowances of the first that the other has not
 pub has-without : (a b : Allowances) (ko : Ko) → has (without a b) ko ≡ (has a ko && not (has b ko))
@@ -58,9 +42,7 @@ has-without a b attacker_may = refl
 -- what two stages tell: of the asked all but what neither gives
 pub has-two : (asked found rest : Allowances) (ko : Ko) → has (without asked (without (without asked found) rest)) ko
     ≡ (has asked ko && not ((has asked ko && not (has found ko)) && not (has rest ko)))
-has-two asked found rest ko = has-without asked (without (without asked found) rest) ko
-    ∙ ap (λ x. has asked ko && not x) (has-without (without asked found) rest ko
-    ∙ ap (λ x. x && not (has rest ko)) (has-without asked found ko))
+has-two asked found rest ko = grind (arith, has-without)
 
 -- what is in a set, and is not left without another, is in the other
 pub in_other : (a b : Bool) → a ≡ true → (a && not b) ≡ false → b ≡ true
@@ -112,11 +94,7 @@ spent turn false = refl
 pub next_spends : (turn : Turn)
     → next_node (under turn (own_ko turn.attacker_to_play))
     (allowance_of (under turn (own_ko turn.attacker_to_play)) - 1) ≡ under (next_turn turn) neither_may
-next_spends turn =
-    let e : allowance_of (under turn (own_ko turn.attacker_to_play)) - 1 ≡ 0 =
-    (let one = one_left turn.attacker_to_play in omega arith) in
-    ap (next_node (under turn (own_ko turn.attacker_to_play))) e
-    ∙ spent (next_turn turn) turn.attacker_to_play
+next_spends turn = grind (arith, one_left, spent)
 
 -- the mover's way at a child
 pub suits_child : (n : ℕ) (attacker : Bool) (o : Option (Node × BoardState)) (next : Node) (new : BoardState)
@@ -148,17 +126,7 @@ found_as false b y h e = cc
 pub Tells-own : (attacker : Bool) (asked : Allowances) (there : Bool) (test : Ko → Bool)
     → has asked (own_ko attacker) ≡ true → there ≡ test (own_ko attacker)
     → ((ko : Ko) → ko ≢ own_ko attacker → test ko ≡ false) → Tells asked (own_where attacker there) test
-Tells-own attacker asked there test h e none = record { each = by attacker h e none }
-  where
-    by : (attacker : Bool) → has asked (own_ko attacker) ≡ true → there ≡ test (own_ko attacker)
-        → ((ko : Ko) → ko ≢ own_ko attacker → test ko ≡ false)
-        → (ko : Ko) → has (own_where attacker there) ko ≡ (has asked ko && test ko)
-    by true h e none neither_may = found_not asked.neither (test neither_may) (none neither_may (λ w. cc))
-    by true h e none attacker_may = found_as asked.attacker (test attacker_may) there h e
-    by true h e none defender_may = found_not asked.defender (test defender_may) (none defender_may (λ w. cc))
-    by false h e none neither_may = found_not asked.neither (test neither_may) (none neither_may (λ w. cc))
-    by false h e none defender_may = found_as asked.defender (test defender_may) there h e
-    by false h e none attacker_may = found_not asked.attacker (test attacker_may) (none attacker_may (λ w. cc))
+Tells-own attacker asked there test h e none = grind (arith, found_not, found_as)
 
 -- what is found after a play by the own allowance alone is told of the asked
 pub told_allowed : (n : ℕ) (turn : Turn) (here new : BoardState) (p : ℕ) (asked : Allowances) (way : Bool)
@@ -167,21 +135,13 @@ pub told_allowed : (n : ℕ) (turn : Turn) (here new : BoardState) (p : ℕ) (as
     × ((ko : Ko) → ko ≢ own → child_of (under turn ko) here p ≡ None)
     → way ≡ has_way turn.attacker_to_play (attacker_wins n (under (next_turn turn) neither_may) new)
     → Tells asked (own_where turn.attacker_to_play way) (λ ko. succeeds n (under turn ko) here p)
-told_allowed n turn here new p asked way own made is =
-    Tells-own turn.attacker_to_play asked way (λ ko. succeeds n (under turn ko) here p) own
-    (is ∙ suits_child n turn.attacker_to_play (child_of (under turn (own_ko turn.attacker_to_play)) here p)
-    (under (next_turn turn) neither_may) new made.0)
-    (λ ko ne. suits_none n turn.attacker_to_play (child_of (under turn ko) here p) (made.1 ko ne))
+told_allowed n turn here new p asked way own made is = grind (arith, Tells-own, suits_child, suits_none)
 
 -- Each pass of the walk over the candidates.
 pub left_first : (n : ℕ) (turn : Turn) (here : BoardState) (candidate tried : ℕ → Bool) (asked : Allowances)
     → ((q : ℕ) → tried q ≡ false)
     → IsLeft n turn here candidate tried asked asked
-left_first n turn here candidate tried asked none_yet = record {
-  asked_for = λ ko h. h;
-  none = λ ko h q was. absurd (both_ways (tried q) (none_yet q) was);
-  given = λ ko h m. absurd (both_ways (has asked ko) m h);
-}
+left_first n turn here candidate tried asked none_yet = grind (arith, both_ways)
 
 -- the parts of a test and the other's opposite
 pub and_parts_not : (a b : Bool) → (a && not b) ≡ true → (a ≡ true) × (b ≡ false)
@@ -246,13 +206,7 @@ module _ (n : ℕ) (turn : Turn) (here : BoardState) (candidate tried now : ℕ 
 pub neither_nodes : {q : ReadingQuestion} {root here : BoardState} {n : ℕ} {turn : Turn}
     → IsNodeOf q root n (under turn neither_may) here
     → AreNodesOf q root n turn (record { defender = false; neither = true; attacker = false }) here
-neither_nodes {q} {root} {here} {n} {turn} node = record { each = by }
-  where
-    by : (ko : Ko) → has (record { defender = false; neither = true; attacker = false }) ko ≡ true
-        → IsNodeOf q root n (under turn ko) here
-    by defender_may h = cc
-    by neither_may h = node
-    by attacker_may h = cc
+neither_nodes {q} {root} {here} {n} {turn} node = grind arith
 
 -- after a legal play at a candidate of undecided nodes, the node under each allowance is one of the trees
 pub legal_nodes : {q : ReadingQuestion} {root here new : BoardState} {n : ℕ} {turn : Turn} {asked : Allowances} (p : ℕ)
@@ -300,9 +254,7 @@ without_less a b ko h = (and_parts_not _ _ (sym (has-without a b ko) ∙ h)).0
 pub left_nodes : {q : ReadingQuestion} {root here : BoardState} {n : ℕ} {turn : Turn} {asked missing : Allowances}
     (found : Allowances) → AreNodesOf q root n turn asked here → missing ≡ without asked found
     → AreNodesOf q root n turn missing here
-left_nodes {asked} found tree is = record {
-  each = λ ko h. tree.each ko (without_less asked found ko (sym (ap (λ s. has s ko) is) ∙ h));
-}
+left_nodes {asked} found tree is = grind (arith, without_less)
 
 -- where the first test gives the second
 pub and_true : (a b : Bool) → (a ≡ true → b ≡ true) → a ≡ (a && b)
@@ -313,10 +265,8 @@ and_true false b h = refl
 pub success_some : (n : ℕ) (node : Node) (here : BoardState) (p : ℕ) → is_candidate node.turn here p ≡ true
     → succeeds n node here p ≡ true → is_some (first_success n node here) ≡ true
 success_some n node here p c t =
-    let on = candidate_on node.turn here p c in
-    any-first (succeeds n node here) (candidates_of node.turn here)
-    ∙ any_from (is_candidate node.turn here) (succeeds n node here) (here.size * here.size) 0 p
-    (omega arith) (omega (arith, on)) c t
+    grind (arith, candidate_on node.turn here p c, any-first (succeeds n node here) (candidates_of node.turn here),
+        any_from (is_candidate node.turn here) (succeeds n node here) (here.size * here.size) 0 p)
 
 -- the defender's way is by the pass or by a candidate
 good_by : (turn many saved : Bool) (first : Option ℕ) → turn ≡ false
@@ -329,30 +279,18 @@ good_by false many false (Some p) e = refl
 -- a candidate that saves the target is a good move of the defender
 pub good_by_success : (n : ℕ) (turn : Turn) (here : BoardState) (ko : Ko) → turn.attacker_to_play ≡ false
     → is_some (first_success n (under turn ko) here) ≡ true → is_some (good_move n (under turn ko) here) ≡ true
-good_by_success n turn here ko defends some =
-    good_by turn.attacker_to_play (has_many_liberties turn here)
-    (pass_saves n (under turn ko) here)
-    (first_success n (under turn ko) here) defends
-    ∙ or_right (pass_saves n (under turn ko) here) _ some
+good_by_success n turn here ko defends some = grind (arith, good_by, or_right)
 
 -- so is a pass that saves it
 pub good_by_pass : (n : ℕ) (turn : Turn) (here : BoardState) (ko : Ko) → turn.attacker_to_play ≡ false
     → pass_saves n (under turn ko) here ≡ true → is_some (good_move n (under turn ko) here) ≡ true
-good_by_pass n turn here ko defends saved =
-    good_by turn.attacker_to_play (has_many_liberties turn here)
-    (pass_saves n (under turn ko) here)
-    (first_success n (under turn ko) here) defends
-    ∙ or_left _ (is_some (first_success n (under turn ko) here)) saved
+good_by_pass n turn here ko defends saved = grind (arith, good_by, or_left)
 
 -- if neither the pass nor a candidate saves it, he has no good move
 pub good_by_none : (n : ℕ) (turn : Turn) (here : BoardState) (ko : Ko) → turn.attacker_to_play ≡ false
     → pass_saves n (under turn ko) here ≡ false → is_some (first_success n (under turn ko) here) ≡ false
     → is_some (good_move n (under turn ko) here) ≡ false
-good_by_none n turn here ko defends lost none =
-    good_by turn.attacker_to_play (has_many_liberties turn here)
-    (pass_saves n (under turn ko) here)
-    (first_success n (under turn ko) here) defends
-    ∙ ap (λ b. b || is_some (first_success n (under turn ko) here)) lost ∙ none
+good_by_none n turn here ko defends lost none = grind (arith, good_by)
 
 -- the same where the test says it of the attacker
 said_true : (b : Bool) → b ≡ beq b true
@@ -370,9 +308,7 @@ pub Tells-attackers : (attacker : Bool) (asked good : Allowances) (way won : Ko 
     → ((ko : Ko) → beq (way ko) attacker ≡ won ko)
     → Tells asked (cond attacker good (without asked good)) won
 Tells-attackers true asked good way won t same = Tells-same t (λ ko. said_true (way ko) ∙ same ko)
-Tells-attackers false asked good way won t same = Tells-same (record {
-  each = λ ko. has-without asked good ko ∙ not_found (has asked ko) (way ko) (has good ko) (t.each ko);
-}) same
+Tells-attackers false asked good way won t same = grind (arith, Tells-same, has-without, not_found)
 
 -- where all pass, and where none does
 pub Tells-all : (asked : Allowances) (test : Ko → Bool) → ((ko : Ko) → test ko ≡ true) → Tells asked asked test

@@ -26,12 +26,8 @@ use Rattle.read_rules.proofs.CandidateLaws.{candidate_on}
 use Rattle.read_rules.specs.Turns.{next_turn}
 use Rattle.read_rules.specs.Candidates.{is_candidate}
 use Rattle.read_rules.specs.declared.node.Node.{Node}
-use Rattle.read_rules.specs.declared.tree.Tree.{Tree}
-use Rattle.read_rules.specs.declared.tree.Tree.TheVariants.{Stated, Wider}
-use Rattle.read_rules.specs.Trees.{most_narrow}
 use Rattle.read_rules.specs.GameTree.{has_many_liberties, allowance_of, next_node, child_of, suits, attacker_wins}
 use Rattle.read_rules.specs.GameTree.{succeeds, pass_saves}
-use Rattle.read_rules.specs.Rules.{HasManyLiberties}
 use Rattle.read_rules.proofs.RuleLemmas.{child_gives, many_gives}
 use Rattle.read_rules.proofs.AfterPlays.{put_liberty, after_liberty}
 use Rattle.read_rules.proofs.OneMember.{one_member}
@@ -202,18 +198,7 @@ module _ (here : BoardState) (c : Colour) (p : ℕ) (new : BoardState) (t : ℕ)
 -- a target with at most one liberty has not too many
 few_liberties : (turn : Turn) (pos : BoardState) → liberties pos.size pos.cells turn.target ≤ 1
     → has_many_liberties turn pos ≡ false
-few_liberties turn pos few = elim (cases_Bool (has_many_liberties turn pos)) [
-  | inr f ↦ f
-  | inl m ↦ absurd (by (many_gives turn pos m))
-]
-  where
-    above_one : (tree : Tree) → most_narrow tree < liberties pos.size pos.cells turn.target → ⊥
-    above_one Stated x = omega (arith, few, x)
-    above_one Wider x = omega (arith, few, x)
-
-    by : HasManyLiberties turn pos → ⊥
-    by (inl x) = omega arith
-    by (inr x) = above_one turn.tree x.1
+few_liberties turn pos few = grind (arith, cases_Bool, many_gives)
 
 -- a string with one liberty has no other
 only_liberty : (s : ℕ) (cells : List Cell) (t : ℕ) → t < s * s → liberties s cells t ≡ 1

@@ -1,5 +1,5 @@
 -- The best answer, found move by move: a greater code takes the place of a smaller one, and an equal code that of none.
-use Rattle.std.proofs.Common.{◌≡◌, ◌≢◌, ℕ, suc, ◌+◌, ◌-◌, ◌*◌, ◌<◌, ◌≤◌, Bool, true, false, not, ◌&&◌, ◌||◌, cond, Some}
+use Rattle.std.proofs.Common.{◌≡◌, ◌≢◌, ℕ, suc, ◌+◌, ◌-◌, ◌*◌, ◌<◌, ◌≤◌, Bool, true, false, not, ◌&&◌, cond, Some}
 use Rattle.std.proofs.Common.{None, is_some, IfSome, refl, sym, ap, subst, ◌∙◌, arith, inl, inr, ltb}
 use Rattle.std.proofs.lemmas.Bool.{cases_Bool, cases_eq, cases_lt, lt-ltb, le-ltb, ltb-true, both_ways}
 use Rattle.go_rules.specs.Position.{BoardState}
@@ -116,16 +116,7 @@ told_there asked false test e h = cc
 
 -- some codes are below 3
 pub asks_some : (code : ℕ) (attack : Bool) → code < 3 → has_some (codes_above code attack) ≡ true
-asks_some code attack l = by attack (lt-ltb code 3 l)
-  where
-    or_last : (a b : Bool) → (a || b || true) ≡ true
-    or_last true b = refl
-    or_last false true = refl
-    or_last false false = refl
-
-    by : (attack : Bool) → ltb code 3 ≡ true → has_some (codes_above code attack) ≡ true
-    by true h = rw h refl
-    by false h = rw h (or_last (ltb code 1) (ltb code 2))
+asks_some code attack l = grind (arith, lt-ltb)
 
 -- a code is not above 3
 code_at_most : {code : ℕ} → IsCode code → code ≤ 3
@@ -302,16 +293,7 @@ module _ (n : ℕ) (turn : Turn) (here : BoardState) where
 
 -- The best of all moves at the first turn of a question is its answer.
 pub node_is : (q : ReadingQuestion) (code : ℕ) → IsCode code → node_of (first_turn q) code ≡ first_node q code
-node_is q code c = by q.kind code c
-  where
-    by : (kind : Kind) (code : ℕ) → IsCode code
-        → node_of (first_turn (asked_as q kind)) code ≡ first_node (asked_as q kind) code
-    by Attack code one = refl
-    by Attack code two = refl
-    by Attack code three = refl
-    by Defend code one = refl
-    by Defend code two = refl
-    by Defend code three = refl
+node_is q code c = grind arith
 
 -- a first move that is not barred is a good one
 not_barred : (n : ℕ) (node : Node) (pos : BoardState)
@@ -340,12 +322,8 @@ not_attained : (q : ReadingQuestion) (pos : BoardState) (code : ℕ) → IsCode 
     → ((p : ℕ) → (is_candidate (first_turn q) pos p
     && succeeds (q.plies - 1) (node_of (first_turn q) code) pos p) ≡ false) → attains_code q pos code ≡ false
 not_attained q pos code is ne stands few pass points =
-    let e = node_is q code is in
-    attained_by q pos code ne stands ∙ ap is_some (not_barred (q.plies - 1) (first_node q code) pos few)
-    ∙ no_first (q.plies - 1) (first_node q code) pos
-    (subst (λ node. pass_saves (q.plies - 1) node pos ≡ false) e pass)
-    (λ p. subst (λ node. (is_candidate (first_turn q) pos p && succeeds (q.plies - 1) node pos p) ≡ false) e
-    (points p))
+    grind (arith, node_is q code is, attained_by q pos code ne stands,
+        not_barred (q.plies - 1) (first_node q code) pos few, no_first (q.plies - 1) (first_node q code) pos)
 
 -- the best of all moves at the first turn is the answer, unless an attack's target has many liberties
 best_answer : (q : ReadingQuestion) (pos : BoardState) (best : Answer) → q.plies ≢ 0 → is_about q pos ≡ true
@@ -370,15 +348,13 @@ pub attack_answer : (q : ReadingQuestion) (pos : BoardState) (best : Answer) →
     → (IsBest (q.plies - 1) (first_turn q) pos nowhere (record { code = 0; at = None })
     → IsBest (q.plies - 1) (first_turn q) pos (is_candidate (first_turn q) pos) best) → best ≡ answer_of q pos
 attack_answer q pos best ne about attacks und moves =
-    best_answer q pos best ne about (and_false_right (is_attack q.kind) _ (und.few attacks))
-    (moves (best_nothing (q.plies - 1) (first_turn q) pos attacks))
+    grind (arith, best_answer q pos best ne about, and_false_right (is_attack q.kind))
 
 -- the best move of a defence is the answer
 pub defence_answer : (q : ReadingQuestion) (pos : BoardState) (best : Answer) → q.plies ≢ 0 → is_about q pos ≡ true
     → is_attack q.kind ≡ false
     → IsBest (q.plies - 1) (first_turn q) pos (is_candidate (first_turn q) pos) best → best ≡ answer_of q pos
-defence_answer q pos best ne about defends i =
-    best_answer q pos best ne about (ap (λ b. b && has_many_liberties (first_turn q) pos) defends) i
+defence_answer q pos best ne about defends i = grind (arith, best_answer q pos best ne about)
 
 -- the first turn is one of the trees under each allowance
 pub first_nodes : (q : ReadingQuestion) (pos : BoardState) → q.plies ≢ 0
@@ -400,14 +376,7 @@ first_nodes q pos ne = record {
 -- a better move at a point is on the board
 pub better_on : (best : Answer) (attack : Bool) (good : Allowances) (p s : ℕ) → IfSome best.at (IsOnBoard s) → p < s * s
     → IfSome (better best attack good (At p)).at (IsOnBoard s)
-better_on best attack good p s h on = by (has_some good)
-  where
-    by : (some : Bool) → IfSome (cond {A = Answer} some (record {
-      code = best_code good best.code attack;
-      at = Some (At p);
-    }) best).at (IsOnBoard s)
-    by true = on
-    by false = h
+better_on best attack good p s h on = grind arith
 
 -- with too many liberties an attack fails, and no defence is needed
 pub unread_answer : (q : ReadingQuestion) (pos : BoardState) → q.plies ≢ 0 → is_about q pos ≡ true

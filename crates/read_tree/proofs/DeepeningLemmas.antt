@@ -1,7 +1,7 @@
 -- What reading a play with fewer plies first leaves open, and why its looks stay in the active area: the nodes of a
 -- question with fewer plies are among those of the question.
-use Rattle.std.proofs.Common.{◌≡◌, ℕ, suc, ◌-◌, ◌+◌, ◌≤◌, Bool, true, false, not, ◌&&◌, ◌||◌, Option, Some, None, if◌then◌else◌}
-use Rattle.std.proofs.Common.{refl, sym, ap, subst, ◌∙◌, arith, inl, inr}
+use Rattle.std.proofs.Common.{◌≡◌, ℕ, suc, ◌-◌, ◌+◌, ◌≤◌, Bool, true, false, not, Option, Some, None, if◌then◌else◌}
+use Rattle.std.proofs.Common.{refl, sym, ap, subst, arith}
 use Rattle.std.proofs.lemmas.Bool.{both_ways, cases_Bool}
 use Rattle.go_rules.specs.Position.{BoardState}
 use Rattle.go_base.specs.Facts.{Fact}
@@ -9,11 +9,11 @@ use Rattle.read_rules.specs.declared.node.Node.{Node}
 use Rattle.read_rules.specs.declared.turn.Turn.{Turn}
 use Rattle.read_rules.specs.declared.question.ReadingQuestion.{ReadingQuestion}
 use Rattle.read_rules.specs.ActiveArea.{IsNodeOf, first, by_play, by_pass, by_taking_back, InActiveArea, AddsNear}
-use Rattle.read_rules.specs.GameTree.{child_of, suits, succeeds}
+use Rattle.read_rules.specs.GameTree.{suits, succeeds}
 use Rattle.read_rules.proofs.AreaLemmas.{AddsNear-mono}
 use Rattle.read_rules.proofs.PlyLaws.{one_more}
 use Rattle.read_tree.specs.declared.allowances.Allowances.{Allowances}
-use Rattle.read_tree.specs.Allowances.{Ko, defender_may, neither_may, attacker_may, under, has, has_some, without, Tells}
+use Rattle.read_tree.specs.Allowances.{Ko, under, has, has_some, without, Tells}
 use Rattle.read_tree.specs.Deepening.{IsLeftOpen}
 use Rattle.read_tree.specs.Steps.{AreNodesOf}
 use Rattle.read_tree.proofs.AllowanceLemmas.{has-without, none_of}
@@ -81,28 +81,11 @@ left_at_most {q} {root} {n} (by_taking_back before next new back) = omega (arith
 -- the active area of the question with fewer plies lies in that of the question
 area_later : {q : ReadingQuestion} {root : BoardState} (d : ℕ) → d ≤ q.plies → (p : ℕ)
     → InActiveArea (fewer_plies q d) root p → InActiveArea q root p
-area_later d few p area = record {
-  plies = area.plies + d;
-  node = area.node;
-  here = area.here;
-  in_tree = later d few area.in_tree;
-  near = area.near;
-}
+area_later d few p area = grind (arith, later)
 
 -- where there are some allowances, one is among them
 some_ko : (set : Allowances) → has_some set ≡ true → (ko : Ko) × (has set ko ≡ true)
-some_ko set h = elim (cases_Bool set.defender) [
-  | inl d ↦ (defender_may, d)
-  | inr d ↦ elim (cases_Bool set.neither) [
-    | inl n ↦ (neither_may, n)
-    | inr n ↦ (attacker_may, rest set.defender set.neither set.attacker d n h)
-  ]
-]
-  where
-    rest : (d n a : Bool) → d ≡ false → n ≡ false → (d || n || a) ≡ true → a ≡ true
-    rest false false a e f h = h
-    rest true n a e f h = cc
-    rest false true a e f h = cc
+some_ko set h = grind (arith, cases_Bool)
 
 -- looks near the nodes with fewer plies left, of each question, lie in the active area of a question of the nodes with
 -- all of them
@@ -127,10 +110,7 @@ one_near {q} {root} {here} {turn} {asked} {left} fewer plies few tree some less 
 -- at first all that is asked is open
 pub open_first : (n : ℕ) (turn : Turn) (here : BoardState) (p : ℕ) (asked : Allowances)
     → IsLeftOpen n turn here p asked asked
-open_first n turn here p asked = record {
-  asked_for = λ ko h. h;
-  closed = λ ko h l. absurd (both_ways (has asked ko) l h);
-}
+open_first n turn here p asked = grind (arith, both_ways)
 
 -- what the attacker has with fewer plies left he has with more, by his play or against the defender's
 by_side : (b : Bool) (n fewer : ℕ) (child : Option (Node × BoardState)) → fewer ≤ n → suits fewer b child ≡ b
@@ -159,35 +139,8 @@ pub open_next : {n : ℕ} {turn : Turn} {here : BoardState} {p : ℕ} {asked lef
     → Tells left good (λ ko. succeeds fewer (under turn ko) here p)
     → next ≡ without left (if turn.attacker_to_play then good else without left good)
     → IsLeftOpen n turn here p asked next
-open_next {n} {turn} {here} {p} {asked} {left} fewer good next few before tells is = record {
-  asked_for = λ ko h. before.asked_for ko (kept (has left ko) _ (sym (has_next ko) ∙ h));
-  closed = λ ko h l. elim (cases_Bool (has left ko)) [
-    | inl in_left ↦
-        by_side turn.attacker_to_play n fewer (child_of (under turn ko) here p) few
-        (side turn.attacker_to_play (has left ko) (has good ko) (succeeds fewer (under turn ko) here p) in_left
-        (sym (has_next ko) ∙ l) (tells.each ko))
-    | inr out ↦ before.closed ko h out
-  ];
-}
-  where
-    has_next : (ko : Ko) → has next ko
-        ≡ (has left ko && not (if turn.attacker_to_play then has good ko else has left ko && not (has good ko)))
-    has_next ko =
-        ap (λ s. has s ko) is
-        ∙ has-without left (if turn.attacker_to_play then good else without left good) ko
-        ∙ ap (λ b. has left ko && not b) (has_by turn.attacker_to_play good (without left good) ko
-        ∙ ap (λ b. if turn.attacker_to_play then has good ko else b) (has-without left good ko))
-
-    kept : (l x : Bool) → (l && not x) ≡ true → l ≡ true
-    kept true x h = refl
-    kept false x h = cc
-
-    side : (b l g s : Bool) → l ≡ true → (l && not (if b then g else l && not g)) ≡ false → g ≡ (l && s) → s ≡ b
-    side true true true s e h t = sym t
-    side true true false s e h t = cc
-    side false true true s e h t = cc
-    side false true false s e h t = sym t
-    side b false g s e h t = cc
+open_next {n} {turn} {here} {p} {asked} {left} fewer good next few before tells is =
+    grind (arith, cases_Bool, by_side, has-without, has_by)
 
 -- what was found with all plies of the open ones, with what is closed, tells of all that was asked
 pub closed_tells : {n : ℕ} {turn : Turn} {here : BoardState} {p : ℕ} {asked left : Allowances}
@@ -195,29 +148,9 @@ pub closed_tells : {n : ℕ} {turn : Turn} {here : BoardState} {p : ℕ} {asked 
     → Tells left good (λ ko. succeeds n (under turn ko) here p)
     → found ≡ (if turn.attacker_to_play then without asked (without left good) else good)
     → Tells asked found (λ ko. succeeds n (under turn ko) here p)
-closed_tells {n} {turn} {here} {p} {asked} {left} good found before tells is = record {
-  each = λ ko.
-      ap (λ s. has s ko) is
-      ∙ has_by turn.attacker_to_play (without asked (without left good)) good ko
-      ∙ ap (λ b. if turn.attacker_to_play then b else has good ko)
-      (has-without asked (without left good) ko ∙ ap (λ b. has asked ko && not b) (has-without left good ko))
-      ∙ told turn.attacker_to_play (has asked ko) (has left ko) (has good ko)
-      (succeeds n (under turn ko) here p) (before.asked_for ko) (before.closed ko) (tells.each ko);
-}
-  where
-    told : (b a l g s : Bool) → (l ≡ true → a ≡ true) → (a ≡ true → l ≡ false → s ≡ b) → g ≡ (l && s)
-        → (if b then a && not (l && not g) else g) ≡ (a && s)
-    told true true true true s f c t = t
-    told true true true false s f c t = t
-    told true true false g s f c t = sym (c refl refl)
-    told true false l g s f c t = refl
-    told false true true g s f c t = t
-    told false true false g s f c t = t ∙ sym (c refl refl)
-    told false false true g s f c t = absurd (both_ways false refl (f refl))
-    told false false false g s f c t = t
+closed_tells {n} {turn} {here} {p} {asked} {left} good found before tells is =
+    grind (arith, has_by, has-without, both_ways)
 
 -- of no allowance, none is found
 pub none_tells : (left : Allowances) (test : Ko → Bool) → has_some left ≡ false → Tells left left test
-none_tells left test none = record {
-  each = λ ko. let out = none_of left ko none in out ∙ sym (ap (λ b. b && test ko) out);
-}
+none_tells left test none = grind (arith, none_of)

@@ -1,6 +1,6 @@
 -- The defender tries the captures and the liberties of the target, then the pass, and then the later candidates: what
 -- these stages tell together is under which allowances he has a good move.
-use Rattle.std.proofs.Common.{◌≡◌, ℕ, Bool, true, false, not, ◌&&◌, ◌||◌, is_some, refl, sym, ap, ◌∙◌, inl, inr}
+use Rattle.std.proofs.Common.{◌≡◌, ℕ, Bool, true, false, not, ◌&&◌, ◌||◌, is_some, refl, sym, ap, ◌∙◌, inl, inr, arith}
 use Rattle.std.proofs.lemmas.Bool.{cases_Bool, and_parts}
 use Rattle.go_rules.specs.Position.{BoardState}
 use Rattle.read_rules.specs.GameTree.{succeeds, pass_saves}
@@ -20,11 +20,7 @@ use Rattle.read_tree.proofs.StageLemmas.{other_is_candidate}
 has-three : (asked close saved later : Allowances) (ko : Ko)
     → has (without asked (without (without (without asked close) saved) later)) ko
     ≡ (has asked ko && not (((has asked ko && not (has close ko)) && not (has saved ko)) && not (has later ko)))
-has-three asked close saved later ko =
-    has-without asked (without (without (without asked close) saved) later) ko
-    ∙ ap (λ x. has asked ko && not x) (has-without (without (without asked close) saved) later ko
-    ∙ ap (λ x. x && not (has later ko)) (has-without (without asked close) saved ko
-    ∙ ap (λ x. x && not (has saved ko)) (has-without asked close ko)))
+has-three asked close saved later ko = grind (arith, has-without)
 
 -- The captures and the liberties were tried at a turn of the defender.
 module _ (n : ℕ) (turn : Turn) (here : BoardState) (asked close : Allowances) (defends : turn.attacker_to_play ≡ false)

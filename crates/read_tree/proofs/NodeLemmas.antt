@@ -5,12 +5,10 @@ use Rattle.std.specs.Option.{option_map}
 use mathlib.Core.Bool.{beq}
 use Rattle.std.proofs.lemmas.Bool.{ltb-true, lt-ltb, or_right}
 use Rattle.std.specs.Prelude.{List}
-use Rattle.go_rules.specs.declared.Colour.{Colour}
 use Rattle.go_rules.specs.Position.{BoardState}
 use Rattle.go_base.specs.Facts.{Fact}
-use Rattle.read_rules.specs.declared.tree.Tree.{Tree}
 use Rattle.read_tree.specs.declared.table.Entry.{Entry}
-use Rattle.read_tree.specs.Table.{IsTrueTable, IsTrueTableAt}
+use Rattle.read_tree.specs.Table.{IsTrueTableAt}
 use Rattle.read_rules.specs.declared.node.Node.{Node}
 use Rattle.read_rules.specs.Trees.{most_narrow}
 use Rattle.go_rules.specs.Strings.{liberties}
@@ -35,20 +33,12 @@ allowance_by a d = record { defender = nat_lt 0 d; neither = eqb a 0 && eqb d 0;
 -- a set has some exactly where this one of its allowances is there, if the others are not
 alone_defender : (found : Allowances) (b : Bool) → found.defender ≡ b → found.neither ≡ false → found.attacker ≡ false
     → has_some found ≡ b
-alone_defender found b d n a = rw (d, n, a) (by b)
-  where
-    by : (b : Bool) → (b || false || false) ≡ b
-    by true = refl
-    by false = refl
+alone_defender found b d n a = grind arith
 
 -- the same of that of neither
 alone_neither : (found : Allowances) (b : Bool) → found.defender ≡ false → found.neither ≡ b → found.attacker ≡ false
     → has_some found ≡ b
-alone_neither found b d n a = rw (d, n, a) (by b)
-  where
-    by : (b : Bool) → (false || b || false) ≡ b
-    by true = refl
-    by false = refl
+alone_neither found b d n a = grind arith
 
 -- and of the attacker's
 alone_attacker : (found : Allowances) (b : Bool) → found.defender ≡ false → found.neither ≡ false → found.attacker ≡ b
@@ -92,14 +82,7 @@ told_alone n node here asked found one is told =
 -- the only allowance is one
 pub some_allowance : (node : Node) (asked : Allowances) → has_one_at_most node ≡ true → asked ≡ the_allowance node
     → has_some asked ≡ true
-some_allowance node asked one is = ap has_some is ∙ by node.attacker_ko node.defender_ko
-  where
-    by : (a d : ℕ) → has_some (allowance_by a d) ≡ true
-    by zero zero = refl
-    by zero (suc d) =
-        ap (λ b. b || (eqb 0 0 && eqb (suc d) 0) || nat_lt 0 0) (lt-ltb 0 (suc d) (omega arith))
-    by (suc a) d =
-        or_right (nat_lt 0 d || (eqb (suc a) 0 && eqb d 0)) (nat_lt 0 (suc a)) (lt-ltb 0 (suc a) (omega arith))
+some_allowance node asked one is = grind (arith, nat_lt, lt-ltb, or_right)
 
 -- at the defender's turn the attacker is not barred
 pub not_barred : (node : Node) (here : BoardState) → node.turn.attacker_to_play ≡ false → false ≡ is_barred node here
@@ -110,9 +93,7 @@ pub barred_by : (node : Node) (here : BoardState) (n : ℕ) → node.turn.attack
     → n ≡ liberties here.size here.cells node.turn.target
     → (nat_lt 4 n || (eqb node.turn.wide 0 && nat_lt (most_narrow node.turn.tree) n)) ≡ is_barred node here
 unfolding has_many_liberties
-barred_by node here n e is =
-    ap (λ m. nat_lt 4 m || (eqb node.turn.wide 0 && nat_lt (most_narrow node.turn.tree) m)) is
-    ∙ sym (ap (λ b. b && has_many_liberties node.turn here) e)
+barred_by node here n e is = grind (arith, nat_lt)
 
 -- who has his way at a child, by who won there
 pub way_by : (attacker won : Bool) → beq won attacker ≡ has_way attacker won
@@ -170,12 +151,4 @@ module _ (n : ℕ) (node : Node) (here : BoardState) where
 -- a table that is true in the reading of a node is true in that of another about the same string
 pub same_table : {seen : Fact → Bool} {table : List Entry} (node next : Node) → SameReading node next
     → IsTrueTableAt seen node.turn table → IsTrueTableAt seen next.turn table
-same_table {seen} {table} node next same t =
-    by next.turn.tree next.turn.target next.turn.defender same.tree same.target same.defender
-  where
-    by : (tree : Tree) (target : ℕ) (defender : Colour) → tree ≡ node.turn.tree → target ≡ node.turn.target
-        → defender ≡ node.turn.defender → IsTrueTable seen tree target defender table
-    by tree target defender e f g =
-        subst (λ (x : Tree). IsTrueTable seen x target defender table) (sym e)
-        (subst (λ (y : ℕ). IsTrueTable seen node.turn.tree y defender table) (sym f)
-        (subst (λ (z : Colour). IsTrueTable seen node.turn.tree node.turn.target z table) (sym g) t))
+same_table {seen} {table} node next same t = grind arith

@@ -1,6 +1,6 @@
 -- The points of a set are tried one after another, each once.
-use Rattle.std.proofs.Common.{◌≡◌, ℕ, ◌*◌, ◌<◌, ◌⊎◌, ◌&&◌, ◌||◌, Bool, true, false, not, eqb, refl, sym, ap, ◌∙◌, inl}
-use Rattle.std.proofs.Common.{inr}
+use Rattle.std.proofs.Common.{◌≡◌, ℕ, ◌*◌, ◌<◌, ◌⊎◌, ◌&&◌, ◌||◌, Bool, true, false, not, eqb, refl, ap, ◌∙◌, inl}
+use Rattle.std.proofs.Common.{inr, arith}
 use Rattle.std.proofs.lemmas.Bool.{cases_Bool, both_ways, or_cases, or_right, or_left, eqb-true, eq-eqb}
 use Rattle.std.specs.Ordering.{nat_cmp}
 use Rattle.std.specs.FinSet as sets
@@ -17,11 +17,7 @@ none_tried tried none q = ap (λ k. sets.contains k q) none ∙ sets.contains-em
 pub newest_or_before : (old new : sets.FinSet nat_cmp) (p : ℕ) → new ≡ sets.insert old p → (q : ℕ)
     → sets.contains new q ≡ true
     → (q ≡ p) ⊎ (sets.contains old q ≡ true)
-newest_or_before old new p is q h =
-    elim (or_cases _ _ (sym (ap (λ k. sets.contains k q) is ∙ contains-insert_nat old p q) ∙ h)) [
-      | inl newest ↦ inl (eqb-true q p newest)
-      | inr before ↦ inr before
-    ]
+newest_or_before old new p is q h = grind (arith, or_cases, contains-insert_nat, eqb-true)
 
 -- fewer points are left once one more was tried
 pub fewer_left : (n : ℕ) (old new : sets.FinSet nat_cmp) (p : ℕ) → new ≡ sets.insert old p → p < n
@@ -49,8 +45,4 @@ sides_of_known s p known r on h = any_below_from (s * s) (λ k. known k && neigh
 -- where each point was tried, none is left
 pub none_left : (points tried : ℕ → Bool) → ((q : ℕ) → points q ≡ true → tried q ≡ true) → (q : ℕ) → tried q ≡ false
     → points q ≡ false
-none_left points tried each q yet = elim (cases_Bool (points q)) [
-  | inl t ↦ absurd (both_ways (tried q) yet
-      (each q t))
-  | inr f ↦ f
-]
+none_left points tried each q yet = grind (arith, cases_Bool, both_ways)

@@ -1,9 +1,9 @@
 -- What a function of the walk needs is still so after looks.
-use Rattle.std.proofs.Common.{◌≡◌, ℕ, ◌*◌, ◌<◌, Bool, true, List, sym, subst}
+use Rattle.std.proofs.Common.{◌≡◌, ℕ, ◌*◌, ◌<◌, Bool, true, List, sym, subst, arith}
 use Rattle.std.specs.Ordering.{nat_cmp}
 use Rattle.std.specs.FinSet as sets
 use Rattle.go_rules.specs.Position.{BoardState}
-use Rattle.go_base.specs.Facts.{Fact, SizeIs, Agrees, agrees_before, same_size}
+use Rattle.go_base.specs.Facts.{Fact, SizeIs, Agrees, agrees_before}
 use Rattle.trial_board.specs.declared.moves.TrialMove.{TrialMove}
 use Rattle.trial_board.specs.Trials.{Trying, Stays, after}
 use Rattle.trial_board.proofs.AfterLemmas.{size-after}
@@ -21,15 +21,12 @@ use Rattle.read_tree.specs.Walk.{IsReady, IsPointOf, AreLibertiesOf, AreCaptures
 -- a candidate is on the board
 pub candidate_inside : (turn : Turn) (shown : BoardState) (moves : List TrialMove) (p : ℕ)
     → is_candidate turn (after shown moves) p ≡ true → p < shown.size * shown.size
-candidate_inside turn shown moves p h =
-    subst (λ n. p < n * n) (size-after shown moves) (candidate_on turn (after shown moves) p h)
+candidate_inside turn shown moves p h = grind (arith, size-after, candidate_on)
 
 -- a point that lies on the board lies on it after the moves, on a position that agrees with what was seen
 pub on_after : {seen : Fact → Bool} {pos : BoardState} {t : ℕ} (s : ℕ) → seen (SizeIs s) ≡ true → Agrees seen pos
     → (moves : List TrialMove) → t < s * s → t < (after pos moves).size * (after pos moves).size
-on_after {pos} {t} s told agrees moves on =
-    target_on (after pos moves).size pos.size t (size-after pos moves)
-    (target_on pos.size s t (same_size told agrees) on)
+on_after {pos} {t} s told agrees moves on = grind (arith, target_on, size-after)
 
 -- Looks that leave the moves and the position shown.
 module _ {L : Type 0} {shows : L → BoardState} {seen : L → Fact → Bool} {old new : Trying L}

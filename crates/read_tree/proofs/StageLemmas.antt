@@ -1,5 +1,5 @@
 -- Stages of candidates: the liberties of the target, and then the others.
-use Rattle.std.proofs.Common.{◌≡◌, ℕ, ◌-◌, ◌*◌, ◌<◌, ◌≤◌, Bool, true, false, not, ◌&&◌, ◌||◌, List, Option}
+use Rattle.std.proofs.Common.{◌≡◌, ℕ, ◌-◌, ◌*◌, ◌<◌, Bool, true, false, not, ◌&&◌, ◌||◌, List, Option}
 use Rattle.std.proofs.Common.{Some, None, is_some, refl, sym, ap, subst, ◌∙◌, arith, inl, inr}
 use Rattle.std.proofs.lemmas.Bool.{cases_Bool, both_ways, and_parts, and_from, or_left, or_right}
 use Rattle.std.specs.Ordering.{nat_cmp}
@@ -14,8 +14,7 @@ use Rattle.read_rules.proofs.CandidateLaws.{candidate_on}
 use Rattle.read_rules.specs.Turns.{mover_of}
 use Rattle.read_rules.specs.declared.node.Node.{Node}
 use Rattle.read_rules.specs.Candidates.{is_candidate}
-use Rattle.read_rules.specs.GameTree.{attacker_wins, child_of, next_node, some_child, suits}
-use Rattle.read_rules.specs.GameTree.{succeeds, first_success}
+use Rattle.read_rules.specs.GameTree.{attacker_wins, child_of, next_node, some_child, suits, succeeds, first_success}
 use Rattle.go_base.specs.Facts.{Fact}
 use Rattle.read_rules.specs.ActiveArea.{AddsNear}
 use Rattle.read_rules.proofs.RuleLemmas.{child_gives}
@@ -150,15 +149,9 @@ module _ (n : ℕ) (turn : Turn) (here : BoardState) (points more : ℕ → Bool
 pub none_succeeds : (n : ℕ) (turn : Turn) (here : BoardState) (ko : Ko)
     → ((q : ℕ) → (is_candidate turn here q && succeeds n (under turn ko) here q) ≡ false)
     → is_some (first_success n (under turn ko) here) ≡ false
-none_succeeds n turn here ko none = sym
-    (ap is_some (first_success-none n (under turn ko) here (here.size * here.size)
-    (is_candidate turn here) (λ q. refl) (λ q below. none q) off_board))
-  where
-    off_board : (q : ℕ) → here.size * here.size ≤ q → is_candidate turn here q ≡ false
-    off_board q past = elim (cases_Bool (is_candidate turn here q)) [
-      | inl t ↦ let on = candidate_on turn here q t in absurd (omega (arith, on, past))
-      | inr f ↦ f
-    ]
+none_succeeds n turn here ko none =
+    grind (arith, first_success-none n (under turn ko) here (here.size * here.size) (is_candidate turn here),
+        candidate_on turn here, cases_Bool)
 
 -- The liberties of the target were tried.
 module _ (n : ℕ) (turn : Turn) (here : BoardState) (asked good : Allowances)
@@ -263,16 +256,13 @@ none_other n turn here on attacks many ko q = elim (cases_Bool (is_liberty here.
 pub its_liberty : (s : ℕ) (here : BoardState) (t : ℕ) (known : sets.FinSet nat_cmp) → here.size ≡ s
     → known ≡ liberty_points s here.cells t
     → (q : ℕ) → sets.contains known q ≡ is_liberty here.size here.cells t q
-its_liberty s here t known size is q =
-    ap (λ k. sets.contains k q) is ∙ contains-liberty_points s here.cells t q
-    ∙ ap (λ n. is_liberty n here.cells t q) (sym size)
+its_liberty s here t known size is q = grind (arith, contains-liberty_points)
 
 -- as many are known as the target has
 pub its_count : (s : ℕ) (here : BoardState) (t : ℕ) (known : sets.FinSet nat_cmp) → here.size ≡ s
     → known ≡ liberty_points s here.cells t
     → sets.len known ≡ liberties here.size here.cells t
-its_count s here t known size is =
-    ap sets.len is ∙ len-liberty_points s here.cells t ∙ ap (λ n. liberties n here.cells t) (sym size)
+its_count s here t known size is = grind (arith, len-liberty_points)
 
 -- what is known is on the board
 pub known_inside : (s : ℕ) (cells : List Cell) (t p : ℕ) (known : sets.FinSet nat_cmp)

@@ -9,7 +9,7 @@ use Rattle.go_rules.specs.Neighbourhood.{neighbourhood_of}
 use Rattle.go_rules.specs.Strings.{liberty_points}
 use Rattle.go_rules.specs.Position.{BoardState}
 use Rattle.go_rules.proofs.Counts.{any_below_gives, any_below_from}
-use Rattle.go_base.specs.Facts.{Fact, SizeIs, Agrees, AddsIn, same_size}
+use Rattle.go_base.specs.Facts.{Fact, SizeIs, Agrees, AddsIn}
 use Rattle.go_base.specs.Views.{alone, neighbours_of}
 use Rattle.go_base.proofs.PointNeighbourhoods.{close_alone, close_again}
 use Rattle.trial_board.specs.declared.moves.TrialMove.{TrialMove}
@@ -51,14 +51,7 @@ pub standing_node : {q : ReadingQuestion} {root pos : BoardState} {n : ℕ} {tur
     → turn.target < s * s → has_some asked ≡ true → AreNodesOf q root n turn asked (after pos moves)
     → is_captured (after pos moves) turn.target ≡ false → IsStandingNode q root (after pos moves) n pos.size turn
 standing_node {pos} {turn} {asked} s told agrees moves target some nodes stands =
-    let one = some_of asked some in
-    record {
-      ko = one.0;
-      tree = nodes.each one.0 one.1;
-      size = size-after pos moves;
-      inside = target_on pos.size s turn.target (same_size told agrees) target;
-      stands = stands;
-    }
+    grind (arith, some_of, size-after, target_on)
 
 -- so is the node at which a function of the walk may go on
 pub ready_node : {L : Type 0} {shows : L → BoardState} {seen : L → Fact → Bool} {board : Trying L} {turn : Turn}
@@ -196,14 +189,7 @@ pub lost_node : {q : ReadingQuestion} {root pos : BoardState} {n : ℕ} {turn : 
     → has_lost_stones (under turn neither_may) (after pos moves) ≡ true
     → IsLostNode q root (after pos moves) n pos.size turn
 lost_node {pos} {turn} {asked} s told agrees moves target some nodes lost =
-    let one = some_of asked some in
-    record {
-      ko = one.0;
-      tree = nodes.each one.0 one.1;
-      size = size-after pos moves;
-      inside = target_on pos.size s turn.target (same_size told agrees) target;
-      lost = lost;
-    }
+    grind (arith, some_of, size-after, target_on)
 
 -- What is looked at there.
 module _ {q : ReadingQuestion} {root here : BoardState} {n s : ℕ} {turn : Turn}

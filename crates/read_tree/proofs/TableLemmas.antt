@@ -2,7 +2,6 @@
 -- verdict.
 use Rattle.std.proofs.Common.{◌≡◌, ℕ, Bool, true, false, not, ◌&&◌, ◌||◌, is_some, List, ap, sym, refl, subst, rules}
 use Rattle.std.proofs.Common.{◌∙◌, ◌<◌, length, get_or}
-use Rattle.std.proofs.lemmas.List.Elements.{All-get_or, All-weaker}
 use Rattle.go_rules.specs.declared.Colour.{Colour}
 use Rattle.go_rules.specs.Position.{BoardState}
 use Rattle.go_base.specs.Facts.{Fact, Agrees, Grows, agrees_before}
@@ -19,13 +18,13 @@ use Rattle.trial_board.specs.Changed.{changed}
 use Rattle.read_tree.specs.Allowances.{Ko, defender_may, neither_may, attacker_may, under, has, has_some, without, both}
 use Rattle.read_tree.specs.Allowances.{either, Tells}
 use Rattle.read_rules.specs.declared.node.Node.{Node}
-use Rattle.read_tree.proofs.AllowanceLemmas.{none_of, Tells-same, has-without, in_other}
+use Rattle.read_tree.proofs.AllowanceLemmas.{none_of, has-without, in_other}
 use Rattle.read_tree.specs.Table.{is_won, known_of, entry_node, IsTrueOf, IsTrueEntry, IsTrueTable}
 use Rattle.read_tree.specs.declared.known_plies.KnownPlies.{KnownPlies}
 use Rattle.read_tree.specs.KnownPlies.{is_from, IsMonotone, IsTrueKnown}
 use Rattle.read_tree.proofs.KnownPliesLemmas.{won_monotone}
 use Rattle.std.proofs.lemmas.Bool.{ltb-true}
-use Rattle.std.proofs.Common.{nat_lt}
+use Rattle.std.proofs.Common.{nat_lt, arith}
 use Rattle.trial_board.specs.declared.changes.Changes.{Changes}
 
 -- a true entry stays true while more is seen
@@ -36,39 +35,27 @@ entry_more entry t grows = record { each = λ pos a. t.each pos (agrees_before g
 -- a table that is true stays true while more is seen
 pub table_more : {seen more : Fact → Bool} {tree : Tree} {target : ℕ} {defender : Colour} {table : List Entry}
     → IsTrueTable seen tree target defender table → Grows seen more → IsTrueTable more tree target defender table
-table_more {seen} {more} {tree} {target} {defender} {table} t grows = record {
-  all = All-weaker (IsTrueEntry seen tree target defender) (IsTrueEntry more tree target defender)
-      (λ e h. entry_more e h grows) table t.all;
-}
+table_more {seen} {more} {tree} {target} {defender} {table} t grows = grind (arith, entry_more)
 
 -- an entry of a true table is true
 pub entry_true : {seen : Fact → Bool} {tree : Tree} {target : ℕ} {defender : Colour} (table : List Entry) (i : ℕ)
     (other : Entry) → i < length table → IsTrueTable seen tree target defender table
     → IsTrueEntry seen tree target defender (get_or table i other)
-entry_true {seen} {tree} {target} {defender} table i other h t =
-    All-get_or (IsTrueEntry seen tree target defender) table i other h t.all
+entry_true {seen} {tree} {target} {defender} table i other h t = grind arith
 
 -- what is true of the node that has the changes and the wide plies of another is true of this
 pub of_node : {seen : Fact → Bool} {tree : Tree} {target : ℕ} {defender : Colour} (changes : Changes) (wide : ℕ)
     (node : AttackerNode) (verdict : Verdict) → changes ≡ node.changes → wide ≡ node.wide
     → IsTrueOf seen tree target defender (record { changes = changes; plies = node.plies; wide = wide }) verdict
     → IsTrueOf seen tree target defender node verdict
-of_node {seen} {tree} {target} {defender} changes wide node verdict same_changes same_wide t =
-    subst (λ (w : ℕ). IsTrueOf seen tree target defender
-    (record { changes = node.changes; plies = node.plies; wide = w }) verdict) same_wide
-    (subst (λ (c : Changes). IsTrueOf seen tree target defender
-    (record { changes = c; plies = node.plies; wide = wide }) verdict) same_changes t)
+of_node {seen} {tree} {target} {defender} changes wide node verdict same_changes same_wide t = grind arith
 
 -- and the other way
 pub as_node : {seen : Fact → Bool} {tree : Tree} {target : ℕ} {defender : Colour} (changes : Changes) (wide : ℕ)
     (node : AttackerNode) (verdict : Verdict) → changes ≡ node.changes → wide ≡ node.wide
     → IsTrueOf seen tree target defender node verdict
     → IsTrueOf seen tree target defender (record { changes = changes; plies = node.plies; wide = wide }) verdict
-as_node {seen} {tree} {target} {defender} changes wide node verdict same_changes same_wide t =
-    subst (λ (w : ℕ). IsTrueOf seen tree target defender
-    (record { changes = changes; plies = node.plies; wide = w }) verdict) (sym same_wide)
-    (subst (λ (c : Changes). IsTrueOf seen tree target defender
-    (record { changes = c; plies = node.plies; wide = node.wide }) verdict) (sym same_changes) t)
+as_node {seen} {tree} {target} {defender} changes wide node verdict same_changes same_wide t = grind arith
 
 -- what an entry knows with so many plies is true of its node
 pub told_true : {seen : Fact → Bool} {tree : Tree} {target : ℕ} {defender : Colour} (entry : Entry) (plies : ℕ)
@@ -129,21 +116,12 @@ joined false good false found test k f h = cc
 -- what was asked is known where nothing of it is missing
 nothing_missing : (asked known : Allowances) → has_some (without asked known) ≡ false
     → (ko : Ko) → has asked ko ≡ true → has known ko ≡ true
-nothing_missing asked known none ko h = in_other (has asked ko) (has known ko) h
-    (sym (has-without asked known ko) ∙ none_of (without asked known) ko none)
+nothing_missing asked known none ko h = grind (arith, in_other, has-without, none_of)
 
 -- and where what was missing is known too
 all_known : (asked known missing : Allowances) → missing ≡ without asked known
     → (ko : Ko) → has asked ko ≡ true → has (either known missing) ko ≡ true
-all_known asked known missing e ko h =
-    has_either known missing ko
-    ∙ ap (λ b. has known ko || b) (ap (λ s. has s ko) e ∙ has-without asked known ko)
-    ∙ of_two (has asked ko) (has known ko) h
-  where
-    of_two : (a k : Bool) → a ≡ true → (k || (a && not k)) ≡ true
-    of_two true true h = refl
-    of_two true false h = refl
-    of_two false k h = cc
+all_known asked known missing e ko h = grind (arith, has_either, has-without)
 
 -- what was known before, and what was found of the rest, is true
 more_true : {seen more : Fact → Bool} {tree : Tree} {target : ℕ} {defender : Colour} {node : AttackerNode}
@@ -186,12 +164,7 @@ won_is : (turn : Turn) (node : AttackerNode) (pos here : BoardState) → turn.at
     → turn.wide ≡ node.wide → here ≡ changed pos node.changes → (ko : Ko)
     → is_won turn.tree turn.target turn.defender node pos ko ≡ is_some (first_success node.plies (under turn ko) here)
 unfolding with_turn
-won_is turn node pos here attacks wide at ko =
-    ap (λ b. is_some (first_success node.plies (with_turn turn b node.wide ko) (changed pos node.changes)))
-    (sym attacks)
-    ∙ ap (λ w. is_some (first_success node.plies (with_turn turn turn.attacker_to_play w ko)
-    (changed pos node.changes))) (sym wide)
-    ∙ ap (λ p. is_some (first_success node.plies (under turn ko) p)) (sym at)
+won_is turn node pos here attacks wide at ko = grind (arith, with_turn)
 
 -- where what was asked is known, it is told by the verdict
 told_by : {seen : Fact → Bool} (turn : Turn) (node : AttackerNode) (verdict : Verdict) (asked found : Allowances)
@@ -199,16 +172,7 @@ told_by : {seen : Fact → Bool} (turn : Turn) (node : AttackerNode) (verdict : 
     → turn.attacker_to_play ≡ true → turn.wide ≡ node.wide → here ≡ changed pos node.changes
     → ((ko : Ko) → has asked ko ≡ true → has verdict.known ko ≡ true) → found ≡ both asked verdict.good
     → Tells asked found (λ ko. is_some (first_success node.plies (under turn ko) here))
-told_by turn node verdict asked found pos here t a attacks wide at covered is = record {
-  each = λ ko.
-      ap (λ s. has s ko) is ∙ has_both asked verdict.good ko
-      ∙ same_where (has asked ko) (has verdict.good ko) (is_some (first_success node.plies (under turn ko) here))
-      (λ h. t.each pos a ko (covered ko h) ∙ won_is turn node pos here attacks wide at ko);
-}
-  where
-    same_where : (a g w : Bool) → (a ≡ true → g ≡ w) → (a && g) ≡ (a && w)
-    same_where true g w h = h refl
-    same_where false g w h = refl
+told_by turn node verdict asked found pos here t a attacks wide at covered is = grind (arith, has_both, won_is)
 
 -- it is where nothing of it is missing
 pub told_before : {seen : Fact → Bool} (turn : Turn) (node : AttackerNode) (verdict : Verdict)
@@ -218,8 +182,7 @@ pub told_before : {seen : Fact → Bool} (turn : Turn) (node : AttackerNode) (ve
     → has_some missing ≡ false → found ≡ both asked verdict.good
     → Tells asked found (λ ko. is_some (first_success node.plies (under turn ko) here))
 told_before turn node verdict asked missing found pos here t a attacks wide at e none is =
-    told_by turn node verdict asked found pos here t a attacks wide at
-    (nothing_missing asked verdict.known (sym (ap has_some e) ∙ none)) is
+    grind (arith, told_by, nothing_missing)
 
 -- and where what was missing was found
 pub told_after : {seen : Fact → Bool} (turn : Turn) (node : AttackerNode) (before verdict : Verdict)
@@ -233,8 +196,7 @@ pub told_after : {seen : Fact → Bool} (turn : Turn) (node : AttackerNode) (bef
     → found ≡ both asked verdict.good
     → Tells asked found (λ ko. is_some (first_success node.plies (under turn ko) here))
 told_after turn node before verdict asked missing good found pos here t a attacks wide at e same is =
-    told_by turn node verdict asked found pos here t a attacks wide at
-    (λ ko h. ap (λ (v : Verdict). has v.known ko) same ∙ all_known asked before.known missing e ko h) is
+    grind (arith, told_by, all_known)
 
 -- what was known before, and what the reading found of the rest, is true of the node after the moves
 pub read_true : {seen more : Fact → Bool} (turn : Turn) (node : AttackerNode) (before verdict : Verdict)
@@ -251,5 +213,4 @@ pub read_true : {seen more : Fact → Bool} (turn : Turn) (node : AttackerNode) 
     }
     → IsTrueOf more turn.tree turn.target turn.defender node verdict
 read_true turn node before verdict asked missing good moves t grows attacks wide at tells e is =
-    more_true asked missing good verdict t grows e is (λ pos a. Tells-same (tells pos a)
-    (λ ko. sym (won_is turn node pos (after pos moves) attacks wide (at pos (agrees_before grows a)) ko)))
+    grind (arith, more_true, won_is)

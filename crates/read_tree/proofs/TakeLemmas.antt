@@ -19,8 +19,7 @@ use Rattle.go_rules.specs.Position.{BoardState, other, stone_of}
 use Rattle.go_rules.specs.Play.{play, cells_after, is_taken}
 use Rattle.go_rules.proofs.Links.{path_same, path_keeps, liberties_from, are_neighbours_comm}
 use Rattle.go_rules.proofs.Paths.{path_on_board, same_cell-from, IsLiberty-from_test, is_liberty-from_fact}
-use Rattle.go_rules.proofs.Plays.{at_put_same, at_put_other, at_after, own_not_taken, taken_whole}
-use Rattle.go_rules.proofs.Plays.{stone_is}
+use Rattle.go_rules.proofs.Plays.{at_put_same, at_put_other, at_after, own_not_taken, taken_whole, stone_is}
 use Rattle.go_rules.proofs.Results.{result_of, free_done, play_else}
 use Rattle.go_rules.proofs.PlayLaws.{taken_by_words}
 use Rattle.go_rules.proofs.OnlyLiberties.{stone_not_empty, only_liberty_captures}
@@ -168,9 +167,8 @@ pub taking_wins : (n : ℕ) (node : Node) (here : BoardState) → IsWhole here �
     → has_many_liberties node.turn here ≡ false → IsTaken node.turn here
     → attacker_wins (suc n) node here ≡ true
 taking_wins n node here whole on few t =
-    let stands = stone_stands (cell_at here.cells node.turn.target) node.turn.defender t.enemy in
-    sym (ap (λ m. attacker_wins m node here) (add-one n))
-    ∙ attacker_from n node here stands t.attacks (few, take_child n node here whole on t)
+    grind (arith, stone_stands (cell_at here.cells node.turn.target) node.turn.defender t.enemy, add-one n,
+        attacker_from n node here, take_child n node here whole on t)
 
 -- the same at a turn, under any allowance
 pub take_wins : (n : ℕ) (turn : Turn) (here : BoardState) → IsWhole here → turn.target < here.size * here.size

@@ -1,7 +1,7 @@
 -- A lone stone that was just taken may be taken back: when it is lone, when the play takes, and who wins then.
 use Rattle.std.proofs.Common.{◌≡◌, ◌≢◌, ◌⊎◌, ℕ, zero, suc, ◌-◌, ◌*◌, ◌<◌, ◌≤◌, Bool, true, false, not, ◌&&◌, ◌||◌, cond}
 use Rattle.std.proofs.Common.{List, Option, Some, None, IfSome, IfNone, is_some, is_none, Result, Ok, Err, refl, sym}
-use Rattle.std.proofs.Common.{ap, subst, ◌∙◌, arith, inl, inr, eqb, nat_lt}
+use Rattle.std.proofs.Common.{ap, subst, ◌∙◌, arith, inl, inr, nat_lt}
 use Rattle.std.proofs.lemmas.Bool.{cases_Bool, cases_eq, both_ways, and_parts, and_from, or_cases, or_left, or_right}
 use Rattle.std.proofs.lemmas.Bool.{not-true, not_from_false, eqb-true, eq-eqb, ltb-true, lt-ltb}
 use Rattle.std.specs.Ordering.{nat_cmp}
@@ -45,9 +45,9 @@ use Rattle.read_rules.specs.GameTree.{allowance_of, attacker_wins, child_by, chi
 use Rattle.read_rules.proofs.WinLemmas.{wins-captured, wins-none_left, wins-taken_back, some_or_none}
 use Rattle.read_tree.specs.declared.allowances.Allowances.{Allowances}
 use Rattle.read_tree.specs.Allowances.{Ko as KoAllowance, defender_may, neither_may, attacker_may, under, has, without}
-use Rattle.read_tree.specs.Allowances.{attacker_ko_of, defender_ko_of, own_ko, own_where, Tells}
+use Rattle.read_tree.specs.Allowances.{defender_ko_of, own_ko, own_where, Tells}
 use Rattle.read_tree.specs.Steps.{IsTakenForGood, with_neighbour, AreNodesOf}
-use Rattle.read_tree.proofs.AllowanceLemmas.{has-without, Tells-all, neither_nodes}
+use Rattle.read_tree.proofs.AllowanceLemmas.{has-without, neither_nodes}
 
 -- what was found, where something was
 pub when_some : (o : Option ℕ) (P Q : ℕ → Type 0) → ((q : ℕ) → P q → Q q) → IfSome o P → is_some o ≡ true
@@ -57,27 +57,19 @@ when_some (Some q) P Q f h e = (q, f q h)
 
 -- the test for none is the opposite of the test for some
 pub none_is : (some none : Bool) → some ≡ not none → none ≡ not some
-none_is some none e = twice none ∙ sym (ap not e)
-  where
-    twice : (b : Bool) → b ≡ not (not b)
-    twice true = refl
-    twice false = refl
+none_is some none e = grind arith
 
 -- a stone that is next to a point by the test
 next_parts : (s : ℕ) (cells : List Cell) (cell : Cell) (l p : ℕ) → holds_next s cells cell l p ≡ true
     → (p < s * s) × (cell_at cells p ≡ cell) × (are_neighbours s l p ≡ true)
 unfolding holds_next
-next_parts s cells cell l p h =
-    let parts = and_parts _ _ h in
-    let first = and_parts _ _ parts.0 in
-    (ltb-true p (s * s) first.0, same_cell-true _ _ first.1, parts.1)
+next_parts s cells cell l p h = grind (arith, and_parts, ltb-true, same_cell-true)
 
 -- and by the board
 next_from : (s : ℕ) (cells : List Cell) (cell : Cell) (l p : ℕ) → p < s * s → cell_at cells p ≡ cell
     → are_neighbours s l p ≡ true → holds_next s cells cell l p ≡ true
 unfolding holds_next
-next_from s cells cell l p on its near =
-    and_from _ _ (and_from _ _ (lt-ltb p (s * s) on) (same_cell-from _ _ its)) near
+next_from s cells cell l p on its near = grind (arith, and_from, lt-ltb, same_cell-from)
 
 -- no point is in the empty set
 none_in : (points : sets.FinSet nat_cmp) (x : ℕ) → points ≡ sets.empty → sets.contains points x ≡ false
@@ -97,9 +89,7 @@ stone_beside turn here s q none now cell size e its is h =
 -- the neighbours of a point lie in its neighbourhood
 pub near_sides : (s : ℕ) (cells : List Cell) (t : ℕ) → t < s * s → (p : ℕ) → neighbours_of s t p ≡ true
     → neighbourhood_of s cells (alone t) p ≡ true
-near_sides s cells t on p h =
-    let parts = and_parts _ _ h in
-    close_sides s cells t p on (and_from _ _ parts.0 (or_right (eqb p t) (are_neighbours s t p) parts.1))
+near_sides s cells t on p h = grind (arith, and_parts, close_sides, and_from, or_right)
 
 -- a point with a neighbour that holds no stone of c is not walled in by c
 pub not_walled : (s : ℕ) (cells : List Cell) (t : ℕ) (c : Colour) (q : ℕ) → q < s * s → are_neighbours s t q ≡ true
@@ -115,23 +105,13 @@ not_walled s cells t c q on near differs = ap not (any_below_from (s * s)
 walled_from : (s : ℕ) (cells : List Cell) (t : ℕ) (c : Colour)
     → ((q : ℕ) → q < s * s → are_neighbours s t q ≡ true → cell_at cells q ≡ stone_of c)
     → is_walled_in s cells t c ≡ true
-walled_from s cells t c all = not_from_false _ (any_below_false (s * s)
-    (λ r. are_neighbours s t r && not (same_cell (cell_at cells r) (stone_of c)))
-    (λ k on. elim (cases_Bool (are_neighbours s t k && not (same_cell (cell_at cells k) (stone_of c)))) [
-      | inr f ↦ f
-      | inl t ↦ let parts = and_parts _ _ t in
-          absurd (both_ways (same_cell (cell_at cells k) (stone_of c)) (not-true _ parts.1)
-          (same_cell-from _ _ (all k on parts.0)))
-    ]))
+walled_from s cells t c all =
+    grind (arith, not_from_false, any_below_false, cases_Bool, and_parts, both_ways, not-true, same_cell-from)
 
 -- each neighbour of a point that is walled in by c holds a stone of c
 walled_gives : (s : ℕ) (cells : List Cell) (t : ℕ) (c : Colour) → is_walled_in s cells t c ≡ true → (q : ℕ) → q < s * s
     → are_neighbours s t q ≡ true → cell_at cells q ≡ stone_of c
-walled_gives s cells t c h q on near = elim (cases_Bool (same_cell (cell_at cells q) (stone_of c))) [
-  | inl same ↦ same_cell-true _ _ same
-  | inr f ↦ absurd (both_ways (is_walled_in s cells t c) (not_walled s cells t c q on near
-      (λ e. both_ways (same_cell (cell_at cells q) (stone_of c)) f (same_cell-from _ _ e))) h)
-]
+walled_gives s cells t c h q on near = grind (arith, cases_Bool, same_cell-true, both_ways, not_walled, same_cell-from)
 
 -- a cell that is not empty and holds no stone of one colour holds one of the other
 third_cell : (cell : Cell) (d : Colour) → (cell ≡ Empty → ⊥) → (cell ≡ stone_of d → ⊥) → cell ≡ stone_of (other d)
@@ -269,31 +249,18 @@ module _ (here : BoardState) (d : Colour) (t : ℕ) (sound : IsPosition here) (o
 -- no lone stone was lost in the stated tree
 pub lost_stated : (node : Node) (pos : BoardState) → is_wider node.turn.tree ≡ false
     → has_lost_one_stone node pos ≡ false
-lost_stated node pos e = ap (λ b. (b && not node.turn.attacker_to_play && is_captured pos node.turn.target)
-    && is_walled_in pos.size pos.cells node.turn.target (other node.turn.defender)) e
+lost_stated node pos e = grind arith
 
 -- nor at the attacker's turn
 pub lost_by_attacker : (node : Node) (pos : BoardState) → node.turn.attacker_to_play ≡ true
     → has_lost_one_stone node pos ≡ false
-lost_by_attacker node pos e =
-    ap (λ b. (is_wider node.turn.tree && not b && is_captured pos node.turn.target)
-    && is_walled_in pos.size pos.cells node.turn.target (other node.turn.defender)) e
-    ∙ by (is_wider node.turn.tree) (is_captured pos node.turn.target)
-    (is_walled_in pos.size pos.cells node.turn.target (other node.turn.defender))
-  where
-    by : (w c x : Bool) → ((w && false && c) && x) ≡ false
-    by true c x = refl
-    by false c x = refl
+lost_by_attacker node pos e = grind arith
 
 -- nor at a point that is not walled in
 pub lost_free : (node : Node) (pos : BoardState)
     → is_walled_in pos.size pos.cells node.turn.target (other node.turn.defender) ≡ false
     → has_lost_one_stone node pos ≡ false
-lost_free node pos e = ap (λ b. has_lost_stones node pos && b) e ∙ by (has_lost_stones node pos)
-  where
-    by : (b : Bool) → (b && false) ≡ false
-    by true = refl
-    by false = refl
+lost_free node pos e = grind arith
 
 -- else it was
 pub lost_lone : (node : Node) (pos : BoardState) → is_wider node.turn.tree ≡ true → node.turn.attacker_to_play ≡ false
@@ -358,38 +325,18 @@ module _ (node : Node) (pos : BoardState) (taken : is_captured pos node.turn.tar
 -- what is not found of the asked, where the test fails exactly where the attacker wins
 pub Tells-lost : {asked found : Allowances} {way won : KoAllowance → Bool} → Tells asked found way
     → ((ko : KoAllowance) → won ko ≡ not (way ko)) → Tells asked (without asked found) won
-Tells-lost {asked} {found} {way} {won} t is = record {
-  each = λ ko. has-without asked found ko ∙ by (has asked ko) (way ko) (has found ko) (won ko) (t.each ko) (is ko);
-}
-  where
-    by : (a w f o : Bool) → f ≡ (a && w) → o ≡ not w → (a && not f) ≡ (a && o)
-    by true w f o e i = ap not e ∙ sym i
-    by false w f o e i = refl
+Tells-lost {asked} {found} {way} {won} t is = grind (arith, has-without)
 
 -- a target that is taken for good is captured under all that is asked
 pub Tells-taken : (n : ℕ) (turn : Turn) (here : BoardState) (asked : Allowances)
     → is_captured here turn.target ≡ true → has_lost_one_stone (under turn neither_may) here ≡ false
     → Tells asked asked (λ ko. attacker_wins n (under turn ko) here)
-Tells-taken n turn here asked taken good =
-    Tells-all asked _ (λ ko. captured_for_good n (under turn ko) here taken good)
+Tells-taken n turn here asked taken good = grind (arith, captured_for_good)
 
 -- under which allowances the defender's play takes back that the ban forbids: his own
 pub Tells-banned : (asked : Allowances) (test : KoAllowance → Bool) → test defender_may ≡ true
     → test neither_may ≡ false → test attacker_may ≡ false → Tells asked (own_where false asked.defender) test
-Tells-banned asked test d n a = record { each = by }
-  where
-    with_true : (x y : Bool) → y ≡ true → x ≡ (x && y)
-    with_true true y e = sym e
-    with_true false y e = refl
-
-    with_false : (x y : Bool) → y ≡ false → false ≡ (x && y)
-    with_false true y e = sym e
-    with_false false y e = refl
-
-    by : (ko : KoAllowance) → has (own_where false asked.defender) ko ≡ (has asked ko && test ko)
-    by defender_may = with_true asked.defender (test defender_may) d
-    by neither_may = with_false asked.neither (test neither_may) n
-    by attacker_may = with_false asked.attacker (test attacker_may) a
+Tells-banned asked test d n a = grind arith
 
 -- an empty point has no liberties
 pub no_liberties : (s : ℕ) (cells : List Cell) (t : ℕ) (points : sets.FinSet nat_cmp) → points ≡ sets.empty
@@ -409,8 +356,7 @@ defends turn e = ap (λ b. cond b (other turn.defender) turn.defender) e
 -- he has no allowance left under one that is not his
 pub nothing_of_it : (turn : Turn) (ko : KoAllowance) → turn.attacker_to_play ≡ false → defender_ko_of ko ≡ 0
     → nat_lt 0 (allowance_of (under turn ko)) ≡ false
-nothing_of_it turn ko e none =
-    ap (λ b. nat_lt 0 (cond b (attacker_ko_of ko) (defender_ko_of ko))) e ∙ ap (nat_lt 0) none
+nothing_of_it turn ko e none = grind (arith, nat_lt)
 
 -- and one under his own
 pub one_of_it : (turn : Turn) → turn.attacker_to_play ≡ false → nat_lt 0 (allowance_of (under turn defender_may)) ≡ true

@@ -1,12 +1,9 @@
 -- What zones tell of the first move that succeeds.
-use Rattle.std.proofs.Common.{◌≡◌, ◌∙◌, ℕ, ◌*◌, ◌<◌, ◌≤◌, ◌&&◌, Bool, true, false, not, Option, Some, None, is_some, cond}
-use Rattle.std.proofs.Common.{refl, sym, ap, arith, inl, inr}
-use Rattle.std.specs.Prelude.{MatchOption}
-use Rattle.std.specs.FinSet as set
-use Rattle.std.specs.Ordering.{nat_cmp}
+use Rattle.std.proofs.Common.{◌≡◌, ◌∙◌, ℕ, ◌*◌, ◌<◌, ◌≤◌, ◌&&◌, Bool, true, false, not, Option, Some, None, cond}
+use Rattle.std.proofs.Common.{refl, sym, ap, arith}
 use Rattle.std.proofs.lemmas.Bool.{cases_Bool, both_ways, and_from}
 use mathlib.Core.Bool.{beq}
-use Rattle.go_rules.specs.Position.{BoardState, IsPosition}
+use Rattle.go_rules.specs.Position.{BoardState}
 use Rattle.go_rules.specs.Play.{pass}
 use Rattle.read_rules.specs.declared.node.Node.{Node}
 use Rattle.read_rules.specs.declared.question.Spot.{Spot}
@@ -18,18 +15,10 @@ use Rattle.read_tree.proofs.NodeLemmas.{way_by}
 use Rattle.sure_rules.specs.Nodes.{is_attackers, has_too_many}
 use Rattle.sure_rules.specs.SureTree.{is_tried, surely_wins}
 use Rattle.sure_rules.specs.SureAnswer.{surely_suits, surely_succeeds, pass_holds, first_sure, first_sure_move, sure_move}
-use Rattle.sure_rules.specs.Zones.{IsZone}
 use Rattle.sure_rules.proofs.SureLemmas.{tried_on}
 use Rattle.sure_rules.proofs.SureMoves.{first_sure-found, first_sure-none}
 use Rattle.read_sure.proofs.SureSteps.{no_pass, pass_made, first_pass, first_point, move_barred, move_first}
-use Rattle.read_zones.proofs.TreeLemmas.{agree_self, none_left}
-
--- the target is surely captured exactly if there is a zone
-pub sure_by_zone : (n : ℕ) (node : Node) (pos : BoardState) → IsPosition pos → (zone : Option (set.FinSet nat_cmp))
-    → MatchOption zone (surely_wins n node pos ≡ false) (λ zone. IsZone n node pos (set.contains zone))
-    → is_some zone ≡ surely_wins n node pos
-sure_by_zone n node pos sound None none = sym none
-sure_by_zone n node pos sound (Some zone) is = sym (is pos sound (agree_self pos))
+use Rattle.read_zones.proofs.TreeLemmas.{none_left}
 
 -- a child suits the side that moved to it as its outcome does
 suits_child : (n : ℕ) (attacker : Bool) (o : Option (Node × BoardState)) (child : Node × BoardState) → o ≡ Some child
@@ -72,33 +61,22 @@ module _ (n : ℕ) (node : Node) (pos : BoardState) where
     -- a point that does not succeed as one of the set does not succeed as one that is tried
     not_tried : (q : ℕ) → (points q && surely_succeeds n node pos q) ≡ false
         → (is_tried node pos q && surely_succeeds n node pos q) ≡ false
-    not_tried q none = elim (cases_Bool (is_tried node pos q)) [
-      | inr f ↦ ap (λ b. b && surely_succeeds n node pos q) f
-      | inl t ↦ ap (λ b. b && surely_succeeds n node pos q) t ∙ elim (cases_Bool (points q)) [
-        | inl inside ↦ sym (ap (λ b. b && surely_succeeds n node pos q) inside) ∙ none
-        | inr outside ↦ others q t outside
-      ]
-    ]
+    not_tried q none = grind (arith, cases_Bool)
 
     -- the first point of the set that succeeds is the first that is tried and succeeds
     pub first_found : (from p : ℕ) → ((q : ℕ) → q < from → (points q && surely_succeeds n node pos q) ≡ false)
         → ((q : ℕ) → from ≤ q → q < p → points q ≡ false) → is_tried node pos p ≡ true
         → true ≡ surely_succeeds n node pos p → Some p ≡ first_sure n node pos
     first_found from p before between tried succeeds =
-        first_sure-found n node pos p p (is_tried node pos) (λ q. refl)
-        (λ q less. not_tried q (none_before points (surely_succeeds n node pos) from p before between q less))
-        (λ q more less. absurd (omega (arith, more, less))) tried succeeds
+        grind (arith, first_sure-found n node pos p p (is_tried node pos),
+            none_before points (surely_succeeds n node pos) from p before between, not_tried)
 
     -- no point that is tried succeeds if none of the set does
     pub none_found : (from : ℕ) → ((q : ℕ) → q < from → (points q && surely_succeeds n node pos q) ≡ false)
         → ((q : ℕ) → from ≤ q → points q ≡ false) → None ≡ first_sure n node pos
     none_found from before left =
-        first_sure-none n node pos (pos.size * pos.size) (is_tried node pos) (λ q. refl)
-        (λ q less. not_tried q (none_left points (surely_succeeds n node pos) from before left q))
-        (λ q more. elim (cases_Bool (is_tried node pos q)) [
-          | inr f ↦ f
-          | inl t ↦ let on = tried_on node pos q t in absurd (omega (arith, more, on))
-        ])
+        grind (arith, first_sure-none n node pos (pos.size * pos.size) (is_tried node pos),
+            none_left points (surely_succeeds n node pos) from before left, tried_on node pos, not_tried, cases_Bool)
 
   -- an attacker whose target has too many liberties has no move
   pub barred_move : is_attackers node ≡ true → has_too_many node pos ≡ true → None ≡ sure_move n node pos

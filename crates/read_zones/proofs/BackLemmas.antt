@@ -1,6 +1,5 @@
 -- The zones of a target that is taken, by what shows whether a lone stone is taken back.
-use Rattle.std.proofs.Common.{◌≡◌, ◌≢◌, ◌∙◌, ℕ, ◌-◌, Bool, true, false, not, Option, Some, None, is_some}
-use Rattle.std.proofs.Common.{refl, ap, subst}
+use Rattle.std.proofs.Common.{◌≡◌, ◌≢◌, ◌∙◌, ℕ, ◌-◌, Bool, true, false, not, Option, Some, None, ap, arith}
 use Rattle.std.specs.Prelude.{MatchOption, IsTrue}
 use Rattle.std.specs.FinSet as sets
 use Rattle.std.specs.Ordering.{nat_cmp}
@@ -18,12 +17,7 @@ use Rattle.read_zones.proofs.TreeLemmas.{agree_less}
 pub refused_shown : (node : Node) (p : ℕ) (pos : BoardState) (after Z : ℕ → Bool) → child_of node pos p ≡ None
     → WhereverAgrees pos Z (λ here. AreAlikeChildren after (child_of node pos p) (child_of node here p))
     → WhereverAgrees pos Z (λ here. can_play node here p ≡ false)
-refused_shown node p pos after Z is shown = λ here sound same.
-    by (child_of node here p) (subst (λ o. AreAlikeChildren after o (child_of node here p)) is (shown here sound same))
-  where
-    by : (o : Option (Node × BoardState)) → AreAlikeChildren after None o → is_some o ≡ false
-    by None alike = refl
-    by (Some child) alike = absurd alike
+refused_shown node p pos after Z is shown = grind arith
 
 -- an answer that tells this tells what follows from it
 answer_gives : (A B : Type 0) (P Q : sets.FinSet nat_cmp → Type 0) (o : Option (sets.FinSet nat_cmp)) → (A → B)

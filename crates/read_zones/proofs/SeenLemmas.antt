@@ -1,11 +1,11 @@
 -- What is so on every position that agrees with recorded facts is so wherever their points agree.
-use Rattle.std.proofs.Common.{◌≡◌, ◌∙◌, ◌↔◌, ℕ, ◌*◌, ◌<◌, true, ltb, refl, sym, subst}
+use Rattle.std.proofs.Common.{◌≡◌, ◌↔◌, ℕ, ◌*◌, ◌<◌, true, ltb, refl, sym, subst, arith}
 use Rattle.std.proofs.lemmas.Bool.{and_parts, eq-eqb, ltb-true}
 use Rattle.std.specs.Ordering.{nat_cmp}
 use Rattle.std.specs.FinSet as sets
 use Rattle.go_rules.specs.Position.{BoardState, IsPosition}
 use Rattle.go_base.specs.declared.facts.Facts.{Facts}
-use Rattle.go_base.specs.Facts.{Fact, SizeIs, CellIs, BanIs, IsFactOf, Agrees}
+use Rattle.go_base.specs.Facts.{Fact, SizeIs, CellIs, BanIs, Agrees}
 use Rattle.go_base.specs.AmongFacts.{told, IsOf, HasFactOf}
 use Rattle.go_base.specs.declared.look.Watch.{Watch}
 use Rattle.go_base.specs.Watches.{shown_by, facts_of}
@@ -16,14 +16,7 @@ use Rattle.sure_rules.specs.Zones.{points_of}
 pub agrees_on_points : (f : Facts) (points : sets.FinSet nat_cmp) (pos here : BoardState)
     → ((p : ℕ) → (sets.contains points p ≡ true) ↔ HasFactOf f p) → Agrees (told f) pos → IsPosition here
     → AgreeOn (points_of (sets.contains points)) pos here → Agrees (told f) here
-agrees_on_points f points pos here are holds sound same = record { sound = sound; each = each }
-  where
-    each : (fact : Fact) → told f fact ≡ true → IsFactOf here fact
-    each (SizeIs n) told = sym same.sizes ∙ holds.each (SizeIs n) told
-    each (CellIs p cell) told =
-        sym (same.cells p ((are p).1 (CellIs p cell, told, refl))) ∙ holds.each (CellIs p cell) told
-    each (BanIs p c forbidden) told =
-        sym (same.bans p c ((are p).1 (BanIs p c forbidden, told, refl))) ∙ holds.each (BanIs p c forbidden) told
+agrees_on_points f points pos here are holds sound same = grind arith
 
 -- a point of a fact is on the board
 pub facts_on : (f : Facts) (pos : BoardState) → Agrees (told f) pos → (p : ℕ) → HasFactOf f p → p < pos.size * pos.size

@@ -1,6 +1,6 @@
 -- The zones of a node, by those of its plays and replies.
 use Rattle.std.proofs.Common.{◌≡◌, ◌∙◌, ℕ, suc, ◌+◌, ◌*◌, ◌<◌, ◌≤◌, ◌&&◌, Bool, true, false, Option, Some, None}
-use Rattle.std.proofs.Common.{refl, sym, ap, subst, inl, inr, add-one}
+use Rattle.std.proofs.Common.{refl, sym, ap, subst, inl, inr, add-one, arith}
 use Rattle.std.specs.Prelude.{MatchOption}
 use Rattle.std.specs.FinSet as sets
 use Rattle.std.specs.Ordering.{nat_cmp}
@@ -17,7 +17,6 @@ use Rattle.read_rules.proofs.LibertyLemmas.{child_free, play_size}
 use Rattle.read_rules.proofs.RuleLemmas.{child_gives, child_from}
 use Rattle.sure_rules.specs.Nodes.{is_attackers, is_gone, has_too_many}
 use Rattle.sure_rules.specs.SureTree.{surely_wins}
-use Rattle.sure_rules.specs.SureInWords.{EveryReplyFails}
 use Rattle.sure_rules.specs.Zones.{points_of, WhereverAgrees, IsZone}
 use Rattle.sure_rules.proofs.SureLemmas.{sure-captured, sure_attacker_gives, sure_attacker_from, sure_defender_gives}
 use Rattle.sure_rules.proofs.SureLemmas.{none_at_attackers}
@@ -27,11 +26,7 @@ use Rattle.sure_proof.specs.Alike.{AreAlikeChildren, IsGuarded}
 -- positions that agree on more points agree on fewer
 pub agree_less : {Y Z : ℕ → Bool} {a b : BoardState} → ((q : ℕ) → Y q ≡ true → Z q ≡ true)
     → AgreeOn (points_of Z) a b → AgreeOn (points_of Y) a b
-agree_less within same = record {
-  sizes = same.sizes;
-  cells = λ q inside. same.cells q (within q inside);
-  bans = λ q c inside. same.bans q c (within q inside);
-}
+agree_less within same = grind arith
 
 -- a position agrees with itself
 pub agree_self : {Z : ℕ → Bool} (pos : BoardState) → AgreeOn (points_of Z) pos pos
@@ -84,15 +79,6 @@ each_shown n node p pos new next after Z on is zone shown = λ here sound same.
     each_by n node p here sound (subst (λ s. p < s * s) same.sizes on) after next new zone (child_of node here p) refl
     (subst (λ o. AreAlikeChildren after o (child_of node here p)) is (shown here sound same))
 
--- and so does one that cannot be made
-pub none_shown : (n : ℕ) (node : Node) (p : ℕ) (pos : BoardState) (after Z : ℕ → Bool)
-    → p < pos.size * pos.size → child_of node pos p ≡ None
-    → WhereverAgrees pos Z (λ here. AreAlikeChildren after (child_of node pos p) (child_of node here p))
-    → WhereverAgrees pos Z (λ here. each_child (surely_wins n) (child_of node here p) ≡ true)
-none_shown n node p pos after Z on is shown = λ here sound same.
-    each_none n node p here sound (subst (λ s. p < s * s) same.sizes on) after (child_of node here p)
-    (subst (λ o. AreAlikeChildren after o (child_of node here p)) is (shown here sound same))
-
 -- the child that passes
 some_there : (n : ℕ) (o : Option (Node × BoardState)) → some_child (surely_wins n) o ≡ true
     → (next : Node) × (new : BoardState) × (o ≡ Some (next, new)) × (surely_wins n next new ≡ true)
@@ -107,20 +93,7 @@ pub attacker_has : (n : ℕ) (node : Node) (pos : BoardState) (Y W Z : ℕ → B
 attacker_has n node pos Y W Z p turn shown captures y_in w_in = λ here sound same.
     ap (λ m. surely_wins m node here) (add-one n) ∙ elim (cases_Bool (is_gone node here)) [
       | inl gone ↦ sure-captured (suc n) node here gone (none_at_attackers node here turn)
-      | inr stands ↦
-          let few = shown here sound (agree_less y_in same) in
-          let w = some_there n (child_of node here p) (captures here sound (agree_less w_in same)) in
-          sure_attacker_from n node here stands turn (
-            few.0,
-            record {
-              point = p;
-              next = w.0;
-              new = w.1;
-              candidate = few.1;
-              child = child_gives node here p w.0 w.1 w.2;
-              wins = w.3;
-            },
-          )
+      | inr stands ↦ grind (arith, agree_less, some_there, sure_attacker_from, child_gives)
     ]
 
 -- no candidate captures, if none of the first ones does and none of the others
@@ -155,36 +128,22 @@ none_gives A B P (Some zone) gives p = p
 pub attacker_barred : (n : ℕ) (node : Node) (pos : BoardState) → is_attackers node ≡ true → is_gone node pos ≡ false
     → has_too_many node pos ≡ true → surely_wins (n + 1) node pos ≡ false
 attacker_barred n node pos turn stands many =
-    ap (λ m. surely_wins m node pos) (add-one n) ∙ elim (cases_Bool (surely_wins (suc n) node pos)) [
-      | inr f ↦ f
-      | inl sure ↦ absurd (both_ways (has_too_many node pos) (sure_attacker_gives n node pos stands turn sure).0 many)
-    ]
+    grind (arith, add-one n, cases_Bool (surely_wins (suc n) node pos), both_ways (has_too_many node pos),
+        sure_attacker_gives n node pos stands turn)
 
 -- the pass holds
 pub defender_passes : (n : ℕ) (node : Node) (pos : BoardState) → is_attackers node ≡ false → is_gone node pos ≡ false
     → surely_wins n (next_node node (allowance_of node)) (pass pos) ≡ false → surely_wins (n + 1) node pos ≡ false
-defender_passes n node pos turn stands holds =
-    ap (λ m. surely_wins m node pos) (add-one n) ∙ elim (cases_Bool (surely_wins (suc n) node pos)) [
-      | inr f ↦ f
-      | inl sure ↦ absurd (both_ways (surely_wins n (next_node node (allowance_of node)) (pass pos)) holds
-          (sure_defender_gives n node pos stands turn sure).passed)
-    ]
+defender_passes n node pos turn stands holds = grind (arith, add-one, cases_Bool, both_ways, sure_defender_gives)
 
 -- a reply holds
 pub defender_replies : (n : ℕ) (node : Node) (pos : BoardState) (p : ℕ) → is_attackers node ≡ false
     → is_gone node pos ≡ false → p < pos.size * pos.size → each_child (surely_wins n) (child_of node pos p) ≡ false
     → surely_wins (n + 1) node pos ≡ false
 defender_replies n node pos p turn stands on holds =
-    ap (λ m. surely_wins m node pos) (add-one n) ∙ elim (cases_Bool (surely_wins (suc n) node pos)) [
-      | inr f ↦ f
-      | inl sure ↦ absurd (both_ways (each_child (surely_wins n) (child_of node pos p)) holds
-          (by_child (sure_defender_gives n node pos stands turn sure) (child_of node pos p) refl))
-    ]
-  where
-    by_child : EveryReplyFails n node pos → (o : Option (Node × BoardState)) → child_of node pos p ≡ o
-        → each_child (surely_wins n) o ≡ true
-    by_child every None is = refl
-    by_child every (Some child) is = every.played p child.0 child.1 on (child_gives node pos p child.0 child.1 is)
+    grind (arith, add-one, cases_Bool, both_ways, sure_defender_gives, child_gives, add-one n,
+        cases_Bool (surely_wins (suc n) node pos), both_ways (each_child (surely_wins n) (child_of node pos p)) holds,
+        sure_defender_gives n node pos stands turn, child_gives node pos p)
 
 -- every reply that is read fails
 pub defender_has : (n : ℕ) (node : Node) (pos : BoardState) (passed replies Y Z : ℕ → Bool)
@@ -219,7 +178,4 @@ child_size node pos p next new is =
 -- no number passes both tests if none below a bound does and none from there on passes the first
 pub none_left : (points test : ℕ → Bool) (from : ℕ) → ((q : ℕ) → q < from → (points q && test q) ≡ false)
     → ((q : ℕ) → from ≤ q → points q ≡ false) → (q : ℕ) → (points q && test q) ≡ false
-none_left points test from low high q = elim (cases_lt q from) [
-  | inl less ↦ low q less
-  | inr more ↦ ap (λ b. b && test q) (high q more)
-]
+none_left points test from low high q = grind (arith, cases_lt)

@@ -4,7 +4,6 @@ use Rattle.std.proofs.Common.{refl, sym, ap, subst, arith, inl, inr, set, ◌&&�
 use Rattle.std.proofs.lemmas.Bool.{both_ways, cases_Bool, and_parts, eqb-true}
 use Rattle.go_rules.specs.declared.Cell.TheVariants.{Empty}
 use Rattle.go_rules.specs.declared.Colour.{Colour}
-use Rattle.go_rules.specs.Strings.{cell_at}
 use Rattle.go_rules.specs.Position.{BoardState, IsPosition, stone_of, is_banned, same_colour}
 use Rattle.go_rules.specs.Play.{play_free, pass}
 use Rattle.go_rules.specs.Rules.{IsCaptured}
@@ -21,7 +20,7 @@ use Rattle.read_rules.proofs.RuleLemmas.{child_gives}
 use Rattle.sure_rules.specs.Nodes.{is_attackers}
 use Rattle.sure_rules.specs.SureTree.{surely_wins}
 use Rattle.sure_rules.specs.Zones.{points_of, IsZone}
-use Rattle.sure_rules.proofs.StayLemmas.{stays_sure, next_stays, no_harder-refl}
+use Rattle.sure_rules.proofs.StayLemmas.{stays_sure, no_harder-refl}
 use Rattle.sure_rules.proofs.ZoneLemmas.{captured_at_last}
 use Rattle.sure_proof.specs.Alike.{IsGuarded}
 
@@ -43,10 +42,7 @@ module _ (n : ℕ) (node : Node) (pos : BoardState) (passed replies : ℕ → Bo
   module _ (new : BoardState) (played : play_free pos (mover_of node.turn) p ≡ Ok new) where
     -- it is not played at a point of the zone
     elsewhere : (q : ℕ) → passed q ≡ true → q ≢ p
-    elsewhere q inside e =
-        let empty = (done_state pos (mover_of node.turn) p new played).0 in
-        both_ways (replies p) unread
-        (ap replies (sym e) ∙ guarded.empty_points q inside (ap (cell_at pos.cells) e ∙ empty))
+    elsewhere q inside e = grind (arith, done_state, both_ways)
 
     -- it captures no stone of the zone
     takes_none : (q : ℕ) → passed q ≡ true
@@ -60,11 +56,7 @@ module _ (n : ℕ) (node : Node) (pos : BoardState) (passed replies : ℕ → Bo
     after_reply : AgreeOn (points_of passed) (pass pos) new
     after_reply = record {
       sizes = sym (play_size pos (mover_of node.turn) p new played);
-      cells = λ q inside. elim (others_stay pos (mover_of node.turn) p new q played (on_board q inside)
-          (elsewhere q inside)) [
-            | inl stays ↦ sym stays
-            | inr taken ↦ absurd (takes_none q inside taken.2)
-          ];
+      cells = grind (arith, others_stay pos (mover_of node.turn) p new, elsewhere, takes_none);
       bans = λ q c inside. sym (not_banned new.ban c q (λ r k ban e.
           takes_none q inside (subst (IsCaptured pos.size (set pos.cells p (stone_of (mover_of node.turn))) (mover_of node.turn))
           e (ban_means pos (mover_of node.turn) p new on played r
@@ -73,11 +65,7 @@ module _ (n : ℕ) (node : Node) (pos : BoardState) (passed replies : ℕ → Bo
 
     -- and it fails as the pass does
     fails : (left : ℕ) → left ≤ allowance_of node → surely_wins n (next_node node left) new ≡ true
-    fails left less =
-        stays_sure n n (next_node node (allowance_of node)) (next_node node left) new (omega arith)
-        (next_stays node node (no_harder-refl node) (allowance_of node) left
-        (λ t. absurd (both_ways (is_attackers node) turn t)) (λ _. less))
-        (zone new (free_keeps pos (mover_of node.turn) p new sound on played) after_reply)
+    fails left less = grind (arith, stays_sure, no_harder-refl, both_ways, free_keeps, after_reply)
 
   -- the child of the reply is surely captured
   child_fails : (next : Node) (new : BoardState) → IsChild node pos p next new → surely_wins n next new ≡ true

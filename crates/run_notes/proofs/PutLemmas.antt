@@ -1,7 +1,7 @@
 -- One put after another.
 use Rattle.std.proofs.Common.{◌≡◌, ◌∙◌, ◌<◌, ◌+◌, ◌-◌, ◌++◌, ◌∷◌, ℕ, suc, List, [], Option, Result, Ok}
 use Rattle.std.proofs.Common.{Err, OnErr, length, take, drop, get_or, ap, sym, subst}
-use Rattle.std.proofs.Common.{append_assoc, append-nil, drop-cons}
+use Rattle.std.proofs.Common.{append_assoc, append-nil, drop-cons, arith}
 use Rattle.std.specs.List.{concat}
 use Rattle.std.proofs.lemmas.List.{take-append-drop, take_more, take_rest}
 use Rattle.std.proofs.lemmas.List.Folds.{concat-append}
@@ -12,22 +12,12 @@ use Rattle.run_notes.specs.Putting.{PutsFront}
 -- a call that failed put a front of more bytes too
 pub fails_early : (a b : Option (List ℕ)) (first second : List ℕ) → PutsFront a b first
     → PutsFront a b (first ++ second)
-fails_early a b first second put = record {
-  part = put.part;
-  missing = put.missing ++ second;
-  whole = ap (λ l. l ++ second) put.whole ∙ append_assoc put.part put.missing second;
-  writes = put.writes;
-}
+fails_early a b first second put = grind (arith, append_assoc)
 
 -- a text went out, and then a front of one behind it
 pub fails_later : (a b c : Option (List ℕ)) (first second : List ℕ) → Appends a b first → PutsFront b c second
     → PutsFront a c (first ++ second)
-fails_later a b c first second one two = record {
-  part = first ++ two.part;
-  missing = two.missing;
-  whole = ap (λ l. first ++ l) two.whole ∙ sym (append_assoc first two.part two.missing);
-  writes = Appends-trans a b c first two.part one two.writes;
-}
+fails_later a b c first second one two = grind (arith, append_assoc)
 
 -- the sink took n bytes more of the rest
 pub put_more : (a b c : Option (List ℕ)) (bytes done rest : List ℕ) (n : ℕ) → bytes ≡ done ++ rest → Appends a b done

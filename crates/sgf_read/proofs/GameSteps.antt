@@ -1,8 +1,7 @@
 -- Steps over the values of a node and over nodes.
 use Rattle.std.proofs.Common.{◌≡◌, ◌↔◌, ℕ, ◌*◌, true, false, List, [], ◌∷◌, ◌++◌, Option, Some, None}
-use Rattle.std.proofs.Common.{Ok, Err, IsSome, IfSome, refl, sym, ap, ◌∙◌, arith, take, if◌then◌else◌}
+use Rattle.std.proofs.Common.{Ok, Err, IsSome, IfSome, refl, sym, ap, ◌∙◌, arith, take}
 use Rattle.std.specs.List.{list_all, list_any, flat_map}
-use Rattle.std.specs.Option.{option_map}
 use Rattle.go_rules.specs.declared.Cell.{Cell}
 use Rattle.go_rules.specs.Board.{IsSize}
 use Rattle.go_rules.specs.Position.{BoardState}
@@ -19,9 +18,8 @@ use Rattle.sgf_rules.specs.MainLine.{values_in, properties_in, nodes_in, begins_
 use Rattle.sgf_rules.specs.Uses.{Use, meaning_of, uses_under, uses_in, uses_in_property}
 use Rattle.sgf_rules.specs.Points.{size_of}
 use Rattle.sgf_rules.specs.Game.{size_among, size_of_nodes, usual_size, is_readable, is_setup, cells_after_use}
-use Rattle.sgf_rules.specs.Game.{cells_after_uses, position_with, after_setup, and_then, after_use, after_uses}
-use Rattle.sgf_rules.specs.Game.{after_node, after_nodes}
-use Rattle.sgf_rules.specs.Game.{game_on, game_along, game_of}
+use Rattle.sgf_rules.specs.Game.{cells_after_uses, position_with, after_setup, after_use, after_uses}
+use Rattle.sgf_rules.specs.Game.{after_node, after_nodes, game_on, game_of}
 use Rattle.sgf_rules.specs.FirstNode.{first_alone, first_position_of}
 use Rattle.sgf_read.specs.Reads.{tokens_from, uses_from, uses_at, IsFirstNode}
 
@@ -44,17 +42,10 @@ uses_all m (Open ∷ ts) = sym (ap (λ us. us ++ []) (under_none m))
 uses_all m (Close ∷ ts) = sym (ap (λ us. us ++ []) (under_none m))
 uses_all m (Semicolon ∷ ts) = sym (ap (λ us. us ++ []) (under_none m))
 uses_all m (Stray ∷ ts) = sym (ap (λ us. us ++ []) (under_none m))
-uses_all m (Value v ∷ ts) =
-    under_more m v (values_in ts) (uses_from m ts) (flat_map uses_in_property (properties_in ts)) (uses_all m ts)
+uses_all m (Value v ∷ ts) = grind (arith, under_more, uses_all m ts)
 uses_all m (Name name ∷ []) = sym (ap (λ us. us ++ []) (under_none m))
-uses_all m (Name name ∷ (Value v ∷ ts)) =
-    uses_all (meaning_of name) (Value v ∷ ts)
-    ∙ sym (ap (λ us. us ++ (uses_under (meaning_of name) (v ∷ values_in ts)
-    ++ flat_map uses_in_property (properties_in ts))) (under_none m))
-uses_all m (Name name ∷ (Name other ∷ ts)) =
-    uses_all (meaning_of name) (Name other ∷ ts)
-    ∙ (ap (λ us. us ++ flat_map uses_in_property (properties_in (Name other ∷ ts))) (under_none (meaning_of name))
-    ∙ sym (ap (λ us. us ++ flat_map uses_in_property (properties_in (Name other ∷ ts))) (under_none m)))
+uses_all m (Name name ∷ (Value v ∷ ts)) = grind (arith, under_none, uses_all (meaning_of name) (Value v ∷ ts))
+uses_all m (Name name ∷ (Name other ∷ ts)) = grind (arith, under_none, uses_all (meaning_of name) (Name other ∷ ts))
 uses_all m (Name name ∷ (Open ∷ ts)) = sym (ap (λ us. us ++ []) (under_none m))
 uses_all m (Name name ∷ (Close ∷ ts)) = sym (ap (λ us. us ++ []) (under_none m))
 uses_all m (Name name ∷ (Semicolon ∷ ts)) = sym (ap (λ us. us ++ []) (under_none m))
@@ -89,8 +80,7 @@ some_size (Some s) n h e = ap (λ s. Some s) e
 
 -- without SZ the size is the usual one
 pub size_usual : (r : Option ℕ) → IsSome r ↔ IsSize usual_size → IfSome r (λ s. s ≡ usual_size) → r ≡ Some usual_size
-size_usual r valid value =
-    some_size r usual_size (valid.1 (record { at_least = omega arith; at_most = omega arith })) value
+size_usual r valid value = grind (arith, some_size)
 
 -- so it is where no value is left
 pub size_none : (us : List Use) → us ≡ [] → size_among us ≡ Some usual_size
@@ -100,15 +90,13 @@ size_none us e = ap size_among e
 -- the first node says the size
 pub size_at_first : (text : List ℕ) (at next : ℕ) → IsFirstNode text at next
     → size_among (uses_at text next) ≡ size_of_nodes (nodes_in (tokens_from text at))
-size_at_first text at next h =
-    ap size_among (uses_of_node (tokens_from text next)) ∙ sym (ap size_of_nodes h.nodes)
+size_at_first text at next h = grind (arith, uses_of_node)
 
 -- one value more is set
 pub set_step : (s : ℕ) (cells new : List Cell) (us rest : List Use) (u : Use) → us ≡ u ∷ rest
     → new ≡ cells_after_use s cells u → cells_after_uses s new rest ≡ cells_after_uses s cells us
 unfolding cells_after_uses
-set_step s cells new us rest u e is =
-    ap (λ t. cells_after_uses s t rest) is ∙ sym (ap (cells_after_uses s cells) e)
+set_step s cells new us rest u e is = grind arith
 
 -- and none is left
 pub set_end : (s : ℕ) (cells : List Cell) (us : List Use) → us ≡ [] → cells_after_uses s cells us ≡ cells
@@ -119,25 +107,19 @@ set_end s cells us e = ap (cells_after_uses s cells) e
 pub setup_made : (pos : BoardState) (us : List Use) (s points : ℕ) (board : Flat) (cells : List Cell)
     → list_any is_setup us ≡ true → s ≡ pos.size → points ≡ s * s → Holds pos board
     → cells ≡ cells_after_uses s (take points board.cells) us → position_with s cells ≡ after_setup pos us
-setup_made pos us s points board cells some e p h is =
-    let front : take points board.cells ≡ pos.cells =
-    ap (λ (n : ℕ). take n board.cells) (p ∙ ap (λ (n : ℕ). n * n) (e ∙ sym h.size)) ∙ h.cells in
-    ap (position_with s) (is ∙ ap (λ t. cells_after_uses s t us) front)
-    ∙ (ap (λ n. position_with n (cells_after_uses n pos.cells us)) e ∙ rw some refl)
+setup_made pos us s points board cells some e p h is = grind arith
 
 -- one move more is played
 pub play_step : (pos next : BoardState) (us rest : List Use) (u : Use) → us ≡ u ∷ rest → after_use pos u ≡ Ok next
     → after_uses next rest ≡ after_uses pos us
 unfolding after_uses
-play_step pos next us rest u e is =
-    sym (ap (after_uses pos) e ∙ ap (λ r. and_then r (λ next. after_uses next rest)) is)
+play_step pos next us rest u e is = grind arith
 
 -- or refused
 pub play_stops : (pos : BoardState) (us rest : List Use) (u : Use) (kind : FaultKind) → us ≡ u ∷ rest
     → after_use pos u ≡ Err kind → after_uses pos us ≡ Err kind
 unfolding after_uses
-play_stops pos us rest u kind e is =
-    ap (after_uses pos) e ∙ ap (λ r. and_then r (λ next. after_uses next rest)) is
+play_stops pos us rest u kind e is = grind arith
 
 -- no move is left
 pub play_end : (pos : BoardState) (us : List Use) → us ≡ [] → after_uses pos us ≡ Ok pos
@@ -171,15 +153,13 @@ node_played pos next us e d = rw (e, d) refl
 pub nodes_step : (pos : BoardState) (nodes more : List Node) (n : Node) (us : List Use) (next : BoardState)
     → nodes ≡ n ∷ more → us ≡ uses_in n → after_node pos us ≡ Ok next → after_nodes next more ≡ after_nodes pos nodes
 unfolding after_nodes
-nodes_step pos nodes more n us next e uses is = sym (ap (after_nodes pos) e
-    ∙ ap (λ r. and_then r (λ next. after_nodes next more)) (ap (after_node pos) (sym uses) ∙ is))
+nodes_step pos nodes more n us next e uses is = grind arith
 
 -- a node with a fault
 pub nodes_stop : (pos : BoardState) (nodes more : List Node) (n : Node) (us : List Use) (kind : FaultKind)
     → nodes ≡ n ∷ more → us ≡ uses_in n → after_node pos us ≡ Err kind → Err kind ≡ after_nodes pos nodes
 unfolding after_nodes
-nodes_stop pos nodes more n us kind e uses is = sym (ap (after_nodes pos) e
-    ∙ ap (λ r. and_then r (λ next. after_nodes next more)) (ap (after_node pos) (sym uses) ∙ is))
+nodes_stop pos nodes more n us kind e uses is = grind arith
 
 -- no node is left
 pub nodes_end : (pos : BoardState) (nodes : List Node) → nodes ≡ [] → Ok pos ≡ after_nodes pos nodes
@@ -200,33 +180,26 @@ game_some text e = rw e refl
 -- a record whose size is none
 pub game_unsized : (text : List ℕ) (ts : List Token) → ts ≡ record_tokens text → begins_with_tree ts ≡ true
     → None ≡ size_of_nodes (nodes_in ts) → Err BadSize ≡ game_of text
-game_unsized text ts e tree none =
-    ap (λ s. game_on s (nodes_in ts)) none ∙ (ap (λ ts. game_on (size_of_nodes (nodes_in ts)) (nodes_in ts)) e
-    ∙ sym (game_some text (ap begins_with_tree (sym e) ∙ tree)))
+game_unsized text ts e tree none = grind (arith, game_some)
 
 -- a record whose nodes are played from the empty board
 pub game_played : (text : List ℕ) (ts : List Token) (s : ℕ) (pos : BoardState) → ts ≡ record_tokens text
     → begins_with_tree ts ≡ true → Some s ≡ size_of_nodes (nodes_in ts) → pos ≡ empty_board s
     → after_nodes pos (nodes_in ts) ≡ game_of text
-game_played text ts s pos e tree some is =
-    ap (λ pos. after_nodes pos (nodes_in ts)) is
-    ∙ (ap (λ s. game_on s (nodes_in ts)) some ∙ (ap (λ ts. game_on (size_of_nodes (nodes_in ts)) (nodes_in ts)) e
-    ∙ sym (game_some text (ap begins_with_tree (sym e) ∙ tree))))
+game_played text ts s pos e tree some is = grind (arith, game_some)
 
 -- of nodes the first alone is gone through
 pub first_step : (pos : BoardState) (nodes more : List Node) (n : Node) (us : List Use) (next : BoardState)
     → nodes ≡ n ∷ more → us ≡ uses_in n → after_node pos us ≡ Ok next → Ok next ≡ after_nodes pos (first_alone nodes)
 unfolding after_nodes
-first_step pos nodes more n us next e uses is = sym (ap (λ nodes. after_nodes pos (first_alone nodes)) e
-    ∙ ap (λ r. and_then r (λ next. after_nodes next [])) (ap (after_node pos) (sym uses) ∙ is))
+first_step pos nodes more n us next e uses is = grind arith
 
 -- or it has a fault
 pub first_stop : (pos : BoardState) (nodes more : List Node) (n : Node) (us : List Use) (kind : FaultKind)
     → nodes ≡ n ∷ more → us ≡ uses_in n → after_node pos us ≡ Err kind
     → Err kind ≡ after_nodes pos (first_alone nodes)
 unfolding after_nodes
-first_stop pos nodes more n us kind e uses is = sym (ap (λ nodes. after_nodes pos (first_alone nodes)) e
-    ∙ ap (λ r. and_then r (λ next. after_nodes next [])) (ap (after_node pos) (sym uses) ∙ is))
+first_stop pos nodes more n us kind e uses is = grind arith
 
 -- without a node nothing is done
 pub first_none : (pos : BoardState) (nodes : List Node) → nodes ≡ [] → Ok pos ≡ after_nodes pos (first_alone nodes)
@@ -249,25 +222,15 @@ first_some : (text : List ℕ) → begins_with_tree (record_tokens text) ≡ tru
     → first_position_of text
     ≡ game_on (size_of_nodes (nodes_in (record_tokens text))) (first_alone (nodes_in (record_tokens text)))
 unfolding first_position_of main_line
-first_some text e =
-    let nodes = nodes_in (record_tokens text) in
-    ap (λ b. game_along (option_map first_alone (if b then Some nodes else None))) e
-    ∙ ap (λ s. game_on s (first_alone nodes)) (first_size nodes)
+first_some text e = grind (arith, first_size)
 
 -- the first node of a record whose size is none
 pub first_unsized : (text : List ℕ) (ts : List Token) → ts ≡ record_tokens text → begins_with_tree ts ≡ true
     → None ≡ size_of_nodes (nodes_in ts) → Err BadSize ≡ first_position_of text
-first_unsized text ts e tree none =
-    ap (λ s. game_on s (first_alone (nodes_in ts))) none
-    ∙ (ap (λ ts. game_on (size_of_nodes (nodes_in ts)) (first_alone (nodes_in ts))) e
-    ∙ sym (first_some text (ap begins_with_tree (sym e) ∙ tree)))
+first_unsized text ts e tree none = grind (arith, first_some)
 
 -- a first node that is gone through from the empty board
 pub first_played : (text : List ℕ) (ts : List Token) (s : ℕ) (pos : BoardState) → ts ≡ record_tokens text
     → begins_with_tree ts ≡ true → Some s ≡ size_of_nodes (nodes_in ts) → pos ≡ empty_board s
     → after_nodes pos (first_alone (nodes_in ts)) ≡ first_position_of text
-first_played text ts s pos e tree some is =
-    ap (λ pos. after_nodes pos (first_alone (nodes_in ts))) is
-    ∙ (ap (λ s. game_on s (first_alone (nodes_in ts))) some
-    ∙ (ap (λ ts. game_on (size_of_nodes (nodes_in ts)) (first_alone (nodes_in ts))) e
-    ∙ sym (first_some text (ap begins_with_tree (sym e) ∙ tree))))
+first_played text ts s pos e tree some is = grind (arith, first_some)

@@ -1,6 +1,6 @@
 -- The stones of a board as sets of points, and the position that they set up.
-use Rattle.std.proofs.Common.{◌≡◌, ℕ, ◌*◌, ◌<◌, true, false, cond, ◌&&◌, List, length, Option, Some, Ok, Err}
-use Rattle.std.proofs.Common.{MatchOption, ◌≤◌, take, refl, sym, ap, subst, ◌∙◌, arith, inl, inr, nat_lt}
+use Rattle.std.proofs.Common.{◌≡◌, ℕ, ◌*◌, ◌<◌, true, false, cond, ◌&&◌, List, length, Option, Ok, Err}
+use Rattle.std.proofs.Common.{MatchOption, ◌≤◌, take, refl, sym, ap, ◌∙◌, arith, nat_lt}
 use Rattle.std.proofs.lemmas.Bool.{and_parts, ltb-true, lt-ltb, cases_Bool}
 use Rattle.std.proofs.lemmas.List.{length-take-le}
 use Rattle.std.proofs.lemmas.List.FromFn.{fill_by_all}
@@ -11,10 +11,10 @@ use Rattle.go_rules.specs.declared.Cell.{Cell}
 use Rattle.go_rules.specs.declared.Cell.TheVariants.{Empty, Black, White}
 use Rattle.go_rules.specs.Below.{set_below}
 use Rattle.go_rules.specs.Strings.{cell_at, same_cell}
-use Rattle.go_rules.specs.Position.{BoardState, board_of}
+use Rattle.go_rules.specs.Position.{BoardState}
 use Rattle.go_rules.proofs.Counts.{any_below_false}
 use Rattle.go_rules.proofs.Sets.{contains-set_below}
-use Rattle.go_base.specs.Setups.{cell_among, cells_with, have_common_point, has_dead_string, setup_of}
+use Rattle.go_base.specs.Setups.{cell_among, cells_with, have_common_point, setup_of}
 use Rattle.sgf_rules.specs.declared.kind.FaultKind.TheVariants.{NoLiberty}
 use Rattle.sgf_rules.specs.Game.{position_with}
 use Rattle.go_base.proofs.Setups.{setup_dead, setup_done}
@@ -26,18 +26,12 @@ stones_in cells stone = set_below (length cells) (λ p. same_cell (cell_at cells
 -- they are points of the list
 pub stones_on_board : (cells : List Cell) (stone : Cell) (n p : ℕ) → length cells ≡ n
     → sets.contains (stones_in cells stone) p ≡ true → p < n
-stones_on_board cells stone n p long h =
-    let parts = and_parts (nat_lt p (length cells)) (same_cell (cell_at cells p) stone)
-    (sym (contains-set_below (length cells) (λ q. same_cell (cell_at cells q) stone) p) ∙ h) in
-    let low = ltb-true p (length cells) parts.0 in
-    omega arith
+stones_on_board cells stone n p long h = grind (arith, and_parts, nat_lt, contains-set_below, ltb-true)
 
 -- whether a stone stands at a point
 stone_there : (cells : List Cell) (stone : Cell) (p : ℕ) → p < length cells
     → sets.contains (stones_in cells stone) p ≡ same_cell (cell_at cells p) stone
-stone_there cells stone p on =
-    contains-set_below (length cells) (λ q. same_cell (cell_at cells q) stone) p
-    ∙ ap (λ b. b && same_cell (cell_at cells p) stone) (lt-ltb p (length cells) on)
+stone_there cells stone p on = grind (arith, contains-set_below, lt-ltb)
 
 -- a cell is what its stones say
 cell_again : (k : Cell) → k ≡ cond (same_cell k Black) Black (cond (same_cell k White) White Empty)
@@ -68,29 +62,11 @@ cells_again s cells long =
 apart : (s : ℕ) (cells : List Cell) → length cells ≡ s * s
     → have_common_point s (stones_in cells Black) (stones_in cells White) ≡ false
 unfolding have_common_point
-apart s cells long =
-    any_below_false (s * s) (λ p. sets.contains (stones_in cells Black) p && sets.contains (stones_in cells White) p)
-    (λ p on.
-    let here : p < length cells = omega arith in
-    ap (λ b. b && sets.contains (stones_in cells White) p) (stone_there cells Black p here)
-    ∙ (ap (λ b. same_cell (cell_at cells p) Black && b) (stone_there cells White p here)
-    ∙ never_both (cell_at cells p)))
+apart s cells long = grind (arith, any_below_false, stone_there, never_both)
 
 -- what setting up the stones of cells answers
 pub setup_answers : (s : ℕ) (cells : List Cell) (r : Option BoardState) → length cells ≡ s * s
     → r ≡ setup_of s (stones_in cells Black) (stones_in cells White)
     → MatchOption r (position_with s cells ≡ Err NoLiberty) (λ pos. position_with s cells ≡ Ok pos)
 unfolding position_with
-setup_answers s cells r long e =
-    let again = cells_again s cells long in
-    let Answer : Option BoardState → Type 0 =
-    λ r. MatchOption r (position_with s cells ≡ Err NoLiberty) (λ pos. position_with s cells ≡ Ok pos) in
-    elim (cases_Bool (has_dead_string s cells)) [
-      | inl dead ↦ subst Answer
-          (setup_dead s (stones_in cells Black) (stones_in cells White) (apart s cells long)
-          (ap (has_dead_string s) (sym again) ∙ dead) ∙ sym e) (rw dead refl)
-      | inr alive ↦ subst Answer
-          (ap (λ (t : List Cell). Some (board_of s t)) again
-          ∙ setup_done s (stones_in cells Black) (stones_in cells White) (apart s cells long)
-          (ap (has_dead_string s) (sym again) ∙ alive) ∙ sym e) (rw alive refl)
-    ]
+setup_answers s cells r long e = grind (arith, cells_again, cases_Bool, setup_dead, apart, setup_done)

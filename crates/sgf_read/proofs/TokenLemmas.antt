@@ -1,8 +1,7 @@
 -- The tokens from an index on.
 use Rattle.std.proofs.Common.{◌≡◌, ℕ, suc, ◌+◌, ◌-◌, ◌<◌, ◌≤◌, true, false, List, [], ◌∷◌, length, take, drop}
-use Rattle.std.proofs.Common.{sym, ap, subst, ◌∙◌, arith, get_or}
-use Rattle.std.proofs.lemmas.List.{drop_more, drop-drop, drop_all}
-use Rattle.std.proofs.lemmas.List.{take_rest}
+use Rattle.std.proofs.Common.{sym, ap, ◌∙◌, arith, get_or}
+use Rattle.std.proofs.lemmas.List.{drop_more, drop-drop, drop_all, take_rest}
 use Rattle.std.specs.List.{prefix_len}
 use Rattle.sgf_rules.specs.declared.token.TokenKind.{TokenKind}
 use Rattle.sgf_rules.specs.Tokens.{Token, is_blank, is_letter, letters_token, letters_at}
@@ -14,8 +13,7 @@ use Rattle.sgf_read.specs.Reads.{tokens_from, IsFirstToken, IsTokenAt, bytes_in}
 -- over a blank
 pub past_blank : (text : List ℕ) (here : ℕ) → here < length text → is_blank (get_or text here 0) ≡ true
     → tokens_from text (here + 1) ≡ tokens_from text here
-past_blank text here l e =
-    sym (ap (tokens_after 0) (drop_more text here 0 l) ∙ blank_step (get_or text here 0) (drop (here + 1) text) e)
+past_blank text here l e = grind (arith, drop_more, blank_step)
 
 -- at the end there is no token
 pub no_token : (text : List ℕ) (here : ℕ) → length text ≤ here → tokens_from text here ≡ []
@@ -31,12 +29,7 @@ first_token text at here t low l same e h =
     let rest : drop (t.next - (here + 1)) (drop (here + 1) text) ≡ drop t.next text =
     drop-drop (t.next - (here + 1)) (here + 1) text ∙ ap (λ (n : ℕ). drop n text) (omega arith) in
     record {
-      lies = record {
-        in_order = h.lies.in_order;
-        inside = h.lies.inside;
-        onward = omega arith;
-        within = h.lies.within;
-      };
+      lies = grind arith;
       tokens = sym same
           ∙ (ap (tokens_after 0) (drop_more text here 0 l)
           ∙ (token_step (get_or text here 0) (drop (here + 1) text) (token_of t.kind (bytes_in text t))
@@ -49,15 +42,7 @@ pub sign_at : (text : List ℕ) (at : ℕ) (t : Read) (kind : TokenKind) (token 
     → t ≡ record { kind = kind; from = at; to = at + 1; next = at + 1 }
     → ((bytes : List ℕ) → token_of kind bytes ≡ token)
     → token_at (get_or text at 0) (drop (at + 1) text) ≡ (token, 0) → IsTokenAt text at t
-sign_at text at t kind token l e same h =
-    let none : at + 1 - (at + 1) ≡ 0 = omega arith in
-    let read : Read = record { kind = kind; from = at; to = at + 1; next = at + 1 } in
-    let there : IsTokenAt text at read = record {
-      lies = record { in_order = omega arith; inside = omega arith; onward = omega arith; within = omega arith };
-      token = h ∙ (ap (λ x. (x, 0)) (sym (same (bytes_in text read)))
-          ∙ ap (λ (n : ℕ). (token_of kind (bytes_in text read), n)) (sym none));
-    } in
-    subst (IsTokenAt text at) (sym e) there
+sign_at text at t kind token l e same h = grind arith
 
 -- the letters that begin at an index, and how many follow the first
 pub letters_shown : (text : List ℕ) (at n : ℕ) (kind : TokenKind) → at < length text

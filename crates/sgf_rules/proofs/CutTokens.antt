@@ -1,5 +1,5 @@
 -- How a text is cut into tokens, by its first bytes.
-use Rattle.std.proofs.Common.{◌≡◌, ℕ, zero, suc, true, false, List, [], ◌∷◌, ◌++◌, drop, refl, ap, ◌∙◌}
+use Rattle.std.proofs.Common.{◌≡◌, ℕ, zero, suc, true, false, List, [], ◌∷◌, ◌++◌, drop, refl, ap, ◌∙◌, arith}
 use Rattle.std.proofs.lemmas.Bool.{ne_eqb, and_parts}
 use Rattle.std.specs.List.{list_all}
 use Rattle.sgf_rules.specs.Tokens.{Token, Open, Close, Semicolon, Stray, is_blank, is_letter, letters_at, value_at}
@@ -25,9 +25,7 @@ blank_step b bs e = rw e refl
 -- nor do blanks
 pub blanks_step : (blanks bs : List ℕ) → list_all is_blank blanks ≡ true → tokens_of (blanks ++ bs) ≡ tokens_of bs
 blanks_step [] bs e = refl
-blanks_step (b ∷ blanks) bs e =
-    let parts = and_parts (is_blank b) (list_all is_blank blanks) e in
-    blank_step b (blanks ++ bs) parts.0 ∙ blanks_step blanks bs parts.1
+blanks_step (b ∷ blanks) bs e = grind (arith, and_parts, blank_step, blanks_step blanks bs)
 
 -- a text that begins with no blank has the token that stands there, and then those of the bytes behind it
 pub token_first : (b : ℕ) (bs : List ℕ) → is_blank b ≡ false

@@ -1,9 +1,8 @@
 -- Which kinds of fault come where.
 use Rattle.std.proofs.Common.{◌≡◌, ◌↔◌, ◌⊎◌, inl, inr, ℕ, Bool, true, false, cond, List, [], ◌∷◌, ◌++◌}
-use Rattle.std.proofs.Common.{Option, Some, None, Result, Ok, Err, IfErr, refl, sym, ap, subst, ◌∙◌}
+use Rattle.std.proofs.Common.{Option, Some, None, Result, Ok, Err, IfErr, refl, sym, ap, subst, ◌∙◌, arith}
 use Rattle.std.proofs.lemmas.Bool.{cases_Bool}
 use Rattle.std.specs.List.{list_all, list_any}
-use Rattle.go_rules.specs.declared.Cell.{Cell}
 use Rattle.go_rules.specs.declared.Colour.{Colour}
 use Rattle.go_rules.specs.declared.Illegal.{Illegal}
 use Rattle.go_rules.specs.Position.{BoardState, board_of}
@@ -67,18 +66,12 @@ of_use pos (Play c, v) = of_move pos c (move_of pos.size v)
 of_uses : (us : List Use) (pos : BoardState) → IfErr (after_uses pos us) IsPlays
 unfolding after_uses
 of_uses [] pos = tt
-of_uses (u ∷ us) pos =
-    of_steps IsPlays (after_use pos u) (λ next. after_uses next us) (of_use pos u) (λ next. of_uses us next)
+of_uses (u ∷ us) pos = grind (arith, of_steps, of_use, of_uses us)
 
 -- the fault of a setup is a string without a liberty
 of_setup : (pos : BoardState) (us : List Use) → IfErr (after_setup pos us) (λ k. k ≡ NoLiberty)
 unfolding position_with
-of_setup pos us =
-    let cells = cells_after_uses pos.size pos.cells us in
-    of_choice (λ k. k ≡ NoLiberty) (list_any is_setup us) (position_with pos.size cells) (Ok pos)
-    (of_choice (λ k. k ≡ NoLiberty) (has_dead_string pos.size cells) (Err NoLiberty) (Ok (board_of pos.size cells)) refl
-    tt)
-    tt
+of_setup pos us = grind (arith, of_choice)
 
 -- the kind is that of a setup or of a play
 abbrev IsBoards : FaultKind → Type 0
@@ -88,9 +81,7 @@ IsBoards k = (k ≡ NoLiberty) ⊎ (k ≡ IllegalPlay)
 of_setup_and_plays : (pos : BoardState) (us : List Use)
     → IfErr (and_then (after_setup pos us) (λ next. after_uses next us)) IsBoards
 of_setup_and_plays pos us =
-    of_steps IsBoards (after_setup pos us) (λ next. after_uses next us)
-    (weaker (after_setup pos us) (λ k. k ≡ NoLiberty) IsBoards (of_setup pos us) (λ k e. inl e))
-    (λ next. weaker (after_uses next us) IsPlays IsBoards (of_uses us next) (λ k e. inr e))
+    grind (arith, of_steps IsBoards (after_setup pos us), weaker (after_setup pos us), of_setup pos us, of_uses us)
 
 -- the kind is that of a node
 abbrev IsNodes : FaultKind → Type 0
@@ -98,20 +89,8 @@ IsNodes k = (k ≡ Grammar → ⊥) × (k ≡ BadSize → ⊥)
 
 -- these are kinds of a node
 boards_are_nodes : (k : FaultKind) → IsBoards k → IsNodes k
-boards_are_nodes Grammar h = absurd (elim h [ inl e ↦ apart_liberty e | inr e ↦ apart_play e ])
-  where
-    apart_liberty : Grammar ≡ NoLiberty → ⊥
-    apart_liberty e = cc
-
-    apart_play : Grammar ≡ IllegalPlay → ⊥
-    apart_play e = cc
-boards_are_nodes BadSize h = absurd (elim h [ inl e ↦ apart_liberty e | inr e ↦ apart_play e ])
-  where
-    apart_liberty : BadSize ≡ NoLiberty → ⊥
-    apart_liberty e = cc
-
-    apart_play : BadSize ≡ IllegalPlay → ⊥
-    apart_play e = cc
+boards_are_nodes Grammar h = grind arith
+boards_are_nodes BadSize h = grind arith
 boards_are_nodes BadValue h = ((λ e. cc), (λ e. cc))
 boards_are_nodes NoLiberty h = ((λ e. cc), (λ e. cc))
 boards_are_nodes IllegalPlay h = ((λ e. cc), (λ e. cc))
@@ -120,18 +99,14 @@ boards_are_nodes IllegalPlay h = ((λ e. cc), (λ e. cc))
 of_node : (pos : BoardState) (us : List Use) → IfErr (after_node pos us) IsNodes
 unfolding after_node
 of_node pos us =
-    of_choice IsNodes (list_all (is_readable pos.size) us) (and_then (after_setup pos us) (λ next. after_uses next us))
-    (Err BadValue)
-    (weaker (and_then (after_setup pos us) (λ next. after_uses next us)) IsBoards IsNodes (of_setup_and_plays pos us)
-    boards_are_nodes) ((λ e. cc), (λ e. cc))
+    grind (arith, of_choice IsNodes (list_all (is_readable pos.size) us), of_setup_and_plays pos us, weaker,
+        boards_are_nodes)
 
 -- nodes one after another
 of_nodes : (nodes : List Node) (pos : BoardState) → IfErr (after_nodes pos nodes) IsNodes
 unfolding after_nodes
 of_nodes [] pos = tt
-of_nodes (n ∷ ns) pos =
-    of_steps IsNodes (after_node pos (uses_in n)) (λ next. after_nodes next ns) (of_node pos (uses_in n))
-    (λ next. of_nodes ns next)
+of_nodes (n ∷ ns) pos = grind (arith, of_steps, of_node, of_nodes ns)
 
 -- a record with a main line and a size has the position after its nodes, or their fault
 pub game_with : (text : List ℕ) (nodes : List Node) (s : ℕ) → main_line text ≡ Some nodes
@@ -184,9 +159,7 @@ pub first_faulty_node : (pos now : BoardState) (earlier later : List Node) (n : 
     → after_nodes pos earlier ≡ Ok now → after_node now (uses_in n) ≡ Err kind
     → after_nodes pos (earlier ++ n ∷ later) ≡ Err kind
 unfolding after_nodes
-first_faulty_node pos now [] later n kind e f =
-    let same : pos ≡ now = cc in
-    ap (λ r. and_then r (λ next. after_nodes next later)) (ap (λ (b : BoardState). after_node b (uses_in n)) same ∙ f)
+first_faulty_node pos now [] later n kind e f = grind arith
 first_faulty_node pos now (m ∷ ms) later n kind e f =
     step_on (after_node pos (uses_in m)) (λ next. after_nodes next ms) (λ next. after_nodes next (ms ++ n ∷ later)) now
     kind e (λ next h. first_faulty_node next now ms later n kind h f)
@@ -200,14 +173,8 @@ no_value_fault (inr e) = cc
 pub value_fault : (pos : BoardState) (us : List Use)
     → (after_node pos us ≡ Err BadValue) ↔ (list_all (is_readable pos.size) us ≡ false)
 unfolding after_node
-value_fault pos us = ((λ e. by_test (cases_Bool (list_all (is_readable pos.size) us)) e), (λ e. rw e refl))
-  where
-    by_test : (list_all (is_readable pos.size) us ≡ true) ⊎ (list_all (is_readable pos.size) us ≡ false)
-        → after_node pos us ≡ Err BadValue → list_all (is_readable pos.size) us ≡ false
-    by_test (inr not_all) e = not_all
-    by_test (inl all) e = absurd (no_value_fault
-        (of_kind (and_then (after_setup pos us) (λ next. after_uses next us)) IsBoards
-        BadValue (of_setup_and_plays pos us) (rw all at e)))
+value_fault pos us =
+    grind (arith, cases_Bool (list_all (is_readable pos.size) us), of_setup_and_plays pos us, no_value_fault, of_kind)
 
 -- a setup without a string that has no liberty leads on
 setup_made : (pos : BoardState) (us : List Use) → list_any is_setup us ≡ true
@@ -219,31 +186,10 @@ setup_made pos us some alive = rw (some, alive) refl
 -- a node whose setup leads on has no string without a liberty
 setup_leads_on : (pos next : BoardState) (us : List Use) → after_setup pos us ≡ Ok next
     → and_then (after_setup pos us) (λ next. after_uses next us) ≡ Err NoLiberty → ⊥
-setup_leads_on pos next us e f =
-    apart (of_kind (after_uses next us) IsPlays NoLiberty (of_uses us next)
-    (sym (ap (λ r. and_then r (λ next. after_uses next us)) e) ∙ f))
-  where
-    apart : NoLiberty ≡ IllegalPlay → ⊥
-    apart e = cc
+setup_leads_on pos next us e f = grind (arith, of_uses us, of_kind)
 
 -- where its values say what they should, a node has kind 4 exactly where its setup leaves a string without a liberty
 pub liberty_fault : (pos : BoardState) (us : List Use) → list_all (is_readable pos.size) us ≡ true
     → (after_node pos us ≡ Err NoLiberty) ↔ HasDeadSetup pos us
 unfolding after_node position_with
-liberty_fault pos us all =
-    ((λ e. by_setup (cases_Bool (list_any is_setup us)) (rw all at e)), (λ h. rw (all, h.some_setup, h.dead) refl))
-  where
-    cells : List Cell
-    cells = cells_after_uses pos.size pos.cells us
-
-    by_string : list_any is_setup us ≡ true
-        → (has_dead_string pos.size cells ≡ true) ⊎ (has_dead_string pos.size cells ≡ false)
-        → and_then (after_setup pos us) (λ next. after_uses next us) ≡ Err NoLiberty → HasDeadSetup pos us
-    by_string some (inl dead) e = record { some_setup = some; dead = dead }
-    by_string some (inr alive) e =
-        absurd (setup_leads_on pos (board_of pos.size cells) us (setup_made pos us some alive) e)
-
-    by_setup : (list_any is_setup us ≡ true) ⊎ (list_any is_setup us ≡ false)
-        → and_then (after_setup pos us) (λ next. after_uses next us) ≡ Err NoLiberty → HasDeadSetup pos us
-    by_setup (inl some) e = by_string some (cases_Bool (has_dead_string pos.size cells)) e
-    by_setup (inr none) e = absurd (setup_leads_on pos pos us (rw none refl) e)
+liberty_fault pos us all = grind (arith, cases_Bool, setup_leads_on, setup_made)

@@ -1,14 +1,13 @@
 -- A record goes on from its first node.
-use Rattle.std.proofs.Common.{◌≡◌, ℕ, List, [], ◌∷◌, Option, Some, None, Result, Ok, Err, refl, sym, ap, ◌∙◌}
-use Rattle.std.specs.Option.{option_map}
+use Rattle.std.proofs.Common.{◌≡◌, ℕ, List, [], ◌∷◌, Option, Some, None, Result, Ok, Err, refl, arith}
 use Rattle.go_rules.specs.Position.{BoardState}
 use Rattle.go_rules.specs.Replay.{empty_board}
 use Rattle.sgf_rules.specs.declared.kind.FaultKind.{FaultKind}
 use Rattle.sgf_rules.specs.Trees.{Node}
 use Rattle.sgf_rules.specs.MainLine.{main_line}
 use Rattle.sgf_rules.specs.Uses.{uses_in}
-use Rattle.sgf_rules.specs.Game.{size_of_nodes, and_then, after_node, after_nodes, game_on, game_along, game_of}
-use Rattle.sgf_rules.specs.FirstNode.{first_alone, first_position_of}
+use Rattle.sgf_rules.specs.Game.{and_then, after_node, after_nodes, game_on, game_of}
+use Rattle.sgf_rules.specs.FirstNode.{first_position_of}
 
 -- a step and then no other is the step
 then_nothing : (r : Result BoardState FaultKind) (f : BoardState → Result BoardState FaultKind)
@@ -33,7 +32,4 @@ game_from_first (Some s) n ns = nodes_from_first (empty_board s) n ns
 pub record_from_first : (text : List ℕ) (n : Node) (ns : List Node) → main_line text ≡ Some (n ∷ ns)
     → game_of text ≡ and_then (first_position_of text) (λ now. after_nodes now ns)
 unfolding game_of first_position_of
-record_from_first text n ns e =
-    ap game_along e
-    ∙ (game_from_first (size_of_nodes (n ∷ ns)) n ns
-    ∙ sym (ap (λ line. and_then (game_along (option_map first_alone line)) (λ now. after_nodes now ns)) e))
+record_from_first text n ns e = grind (arith, game_from_first)

@@ -1,6 +1,6 @@
 -- A tree is read back from the tokens that spell it, from the last to the first: so two trees are spelled alike only
 -- where they are the same.
-use Rattle.std.proofs.Common.{◌≡◌, ℕ, List, [], ◌∷◌, ◌++◌, refl, sym, ap, ◌∙◌, append_assoc}
+use Rattle.std.proofs.Common.{◌≡◌, ℕ, List, [], ◌∷◌, ◌++◌, refl, sym, ap, ◌∙◌, append_assoc, arith}
 use Rattle.std.specs.List.{flat_map}
 use Rattle.sgf_rules.specs.Tokens.{Token, Open, Close, Semicolon, Name, Value, Stray}
 use Rattle.sgf_rules.specs.Trees.{Node, Tree, tree, Trees, none, before, spelled_values, spelled_property}
@@ -77,9 +77,8 @@ back_nodes : (ns : List Node) (rest : List Token) (us : List Trees)
     → read_back rest ≡ waiting [] [] [] us → read_back (flat_map spelled_node ns ++ rest) ≡ waiting [] [] ns us
 back_nodes [] rest us e = e
 back_nodes (n ∷ ns) rest us e =
-    ap read_back (append_assoc (spelled_node n) (flat_map spelled_node ns) rest)
-    ∙ ap (read_before Semicolon)
-    (back_properties n (flat_map spelled_node ns ++ rest) ns us (back_nodes ns rest us e))
+    grind (arith, append_assoc (spelled_node n) (flat_map spelled_node ns) rest,
+        back_properties n (flat_map spelled_node ns ++ rest) ns us (back_nodes ns rest us e), back_nodes ns rest us e)
 
 mutual
   -- a tree waits in front of the trees behind it

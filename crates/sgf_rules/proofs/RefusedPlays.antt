@@ -1,13 +1,13 @@
 -- Where a play of a node is refused: the first value whose move the rules refuse.
-use Rattle.std.proofs.Common.{◌≡◌, ◌↔◌, ℕ, true, cond, List, [], ◌∷◌, ◌++◌, Option, Some, None, Result, Ok, Err}
-use Rattle.std.proofs.Common.{refl, sym, ap, ◌∙◌}
+use Rattle.std.proofs.Common.{◌≡◌, ◌↔◌, ℕ, true, List, [], ◌∷◌, ◌++◌, Option, Some, None, Result, Ok, Err}
+use Rattle.std.proofs.Common.{refl, ap, ◌∙◌, arith}
 use Rattle.std.specs.List.{list_all}
 use Rattle.go_rules.specs.declared.Colour.{Colour}
 use Rattle.go_rules.specs.declared.Illegal.{Illegal}
 use Rattle.go_rules.specs.Position.{BoardState}
 use Rattle.go_rules.specs.Replay.{moved_to}
 use Rattle.sgf_rules.specs.declared.kind.FaultKind.{FaultKind}
-use Rattle.sgf_rules.specs.declared.kind.FaultKind.TheVariants.{BadValue, IllegalPlay}
+use Rattle.sgf_rules.specs.declared.kind.FaultKind.TheVariants.{IllegalPlay}
 use Rattle.sgf_rules.specs.declared.meaning.Meaning.TheVariants.{Size, Setup, Play}
 use Rattle.sgf_rules.specs.Uses.{Use}
 use Rattle.sgf_rules.specs.Points.{move_of}
@@ -87,14 +87,7 @@ after_more : (before rest : List Use) (pos reached : BoardState) → after_uses 
     → after_uses pos (before ++ rest) ≡ after_uses reached rest
 unfolding after_uses
 after_more [] rest pos reached led = let same : pos ≡ reached = cc in ap (λ p. after_uses p rest) same
-after_more (u ∷ us) rest pos reached led = by_step (after_use pos u) led (λ next. after_more us rest next reached)
-  where
-    by_step : (r : Result BoardState FaultKind) → and_then r (λ next. after_uses next us) ≡ Ok reached
-        → ((next : BoardState) → after_uses next us ≡ Ok reached
-        → after_uses next (us ++ rest) ≡ after_uses reached rest)
-        → and_then r (λ next. after_uses next (us ++ rest)) ≡ after_uses reached rest
-    by_step (Ok next) leads later = later next leads
-    by_step (Err kind) leads later = absurd (cc)
+after_more (u ∷ us) rest pos reached led = grind (arith, after_more us rest)
 
 -- if one of their moves is refused, the fault of values is that of a play
 refused-to : (us : List Use) (pos : BoardState) → HasRefusedPlay pos us → after_uses pos us ≡ Err IllegalPlay
@@ -110,8 +103,4 @@ refused-to us pos has =
 pub play_fault : (pos now : BoardState) (us : List Use) → list_all (is_readable pos.size) us ≡ true
     → after_setup pos us ≡ Ok now → (after_node pos us ≡ Err IllegalPlay) ↔ HasRefusedPlay now us
 unfolding after_node
-play_fault pos now us readable stands =
-    let steps : after_node pos us ≡ after_uses now us =
-    ap (λ b. cond b (and_then (after_setup pos us) (λ next. after_uses next us)) (Err BadValue)) readable
-    ∙ ap (λ r. and_then r (λ next. after_uses next us)) stands in
-    ((λ e. refused-from us now (sym steps ∙ e)), (λ has. steps ∙ refused-to us now has))
+play_fault pos now us readable stands = grind (arith, refused-from, refused-to)

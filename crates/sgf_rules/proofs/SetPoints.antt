@@ -1,6 +1,6 @@
 -- What a point holds after the values of a node, one after another.
 use Rattle.std.proofs.Common.{◌≡◌, ℕ, ◌*◌, ◌<◌, Bool, true, false, cond, List, [], ◌∷◌, ◌++◌, Option, Some, None}
-use Rattle.std.proofs.Common.{refl, ap, ◌∙◌, arith, ◌||◌}
+use Rattle.std.proofs.Common.{refl, arith, ◌||◌}
 use Rattle.std.proofs.lemmas.List.FromFn.{get_or-map-range_with_len}
 use Rattle.std.specs.List.{list_any}
 use Rattle.go_rules.specs.declared.Cell.{Cell}
@@ -8,7 +8,7 @@ use Rattle.go_rules.specs.declared.Cell.TheVariants.{Empty}
 use Rattle.go_rules.specs.Strings.{cell_at}
 use Rattle.sgf_rules.specs.declared.area.Area.{Area}
 use Rattle.sgf_rules.specs.declared.meaning.Meaning.TheVariants.{Size, Setup, Play}
-use Rattle.sgf_rules.specs.Points.{area_of, is_in_area}
+use Rattle.sgf_rules.specs.Points.{is_in_area}
 use Rattle.sgf_rules.specs.Uses.{Use}
 use Rattle.sgf_rules.specs.Game.{is_in_some_area, sets, with_area, with_area_if, cells_after_use, cells_after_uses}
 
@@ -29,8 +29,7 @@ some_area_point s p cells cell (Some a) on = area_point s p cells cell a on
 left_alone : (s p : ℕ) (cells : List Cell) (u : Use) → p < s * s → sets s p u ≡ false
     → cell_at (cells_after_use s cells u) p ≡ cell_at cells p
 left_alone s p cells (Size, v) on e = refl
-left_alone s p cells (Setup cell, v) on e =
-    some_area_point s p cells cell (area_of s v) on ∙ ap (λ b. cond b cell (cell_at cells p)) e
+left_alone s p cells (Setup cell, v) on e = grind (arith, some_area_point)
 left_alone s p cells (Play c, v) on e = refl
 
 -- two tests of which none passes
@@ -43,17 +42,13 @@ pub all_leave : (s p : ℕ) (cells : List Cell) (us : List Use) → p < s * s �
     → cell_at (cells_after_uses s cells us) p ≡ cell_at cells p
 unfolding cells_after_uses
 all_leave s p cells [] on e = refl
-all_leave s p cells (u ∷ us) on e =
-    let tests = neither (sets s p u) (list_any (sets s p) us) e in
-    all_leave s p (cells_after_use s cells u) us on tests.1 ∙ left_alone s p cells u on tests.0
+all_leave s p cells (u ∷ us) on e = grind (arith, neither, left_alone, all_leave s p (cells_after_use s cells u) us on)
 
 -- behind the last value that sets it a point holds what that says
 pub last_sets : (s p : ℕ) (cells : List Cell) (us after : List Use) (cell : Cell) (v : List ℕ) → p < s * s
     → sets s p (Setup cell, v) ≡ true → list_any (sets s p) after ≡ false
     → cell_at (cells_after_uses s cells (us ++ (Setup cell, v) ∷ after)) p ≡ cell
 unfolding cells_after_uses
-last_sets s p cells [] after cell v on e none =
-    all_leave s p (cells_after_use s cells (Setup cell, v)) after on none
-    ∙ (some_area_point s p cells cell (area_of s v) on ∙ ap (λ b. cond b cell (cell_at cells p)) e)
+last_sets s p cells [] after cell v on e none = grind (arith, all_leave, some_area_point)
 last_sets s p cells (u ∷ us) after cell v on e none =
     last_sets s p (cells_after_use s cells u) us after cell v on e none

@@ -1,6 +1,6 @@
 -- The tokens of a text are those that its bytes write, where each name has a value behind it.
-use Rattle.std.proofs.Common.{◌≡◌, ℕ, Bool, true, false, ◌&&◌, List, [], ◌∷◌, ◌++◌, take, drop, refl, sym, subst}
-use Rattle.std.proofs.Common.{ap, ◌∙◌, inl, inr, append_assoc, append-nil}
+use Rattle.std.proofs.Common.{◌≡◌, ℕ, Bool, true, false, ◌&&◌, List, [], ◌∷◌, ◌++◌, take, drop, refl, sym}
+use Rattle.std.proofs.Common.{ap, ◌∙◌, inl, inr, append_assoc, append-nil, arith}
 use Rattle.std.proofs.lemmas.Bool.{cases_Bool, and_parts}
 use Rattle.std.proofs.lemmas.List.{take-append-drop}
 use Rattle.std.specs.List.{flat_map, list_all}
@@ -38,17 +38,13 @@ sound_values (v ∷ vs) rest = sound_values vs rest
 sound_properties : (ps : List Property) (rest : List Token)
     → is_sound (flat_map spelled_property ps ++ rest) ≡ is_sound rest
 sound_properties [] rest = refl
-sound_properties (p ∷ ps) rest =
-    ap is_sound (append_assoc (spelled_property p) (flat_map spelled_property ps) rest)
-    ∙ (sound_values p.more (flat_map spelled_property ps ++ rest) ∙ sound_properties ps rest)
+sound_properties (p ∷ ps) rest = grind (arith, append_assoc, sound_values, sound_properties ps rest)
 
 -- nodes
 sound_nodes : (nodes : List Node) (rest : List Token)
     → is_sound (flat_map spelled_node nodes ++ rest) ≡ is_sound rest
 sound_nodes [] rest = refl
-sound_nodes (n ∷ ns) rest =
-    ap is_sound (append_assoc (spelled_node n) (flat_map spelled_node ns) rest)
-    ∙ (sound_properties n (flat_map spelled_node ns ++ rest) ∙ sound_nodes ns rest)
+sound_nodes (n ∷ ns) rest = grind (arith, append_assoc, sound_properties, sound_nodes ns rest)
 
 mutual
   -- the tokens of a tree
@@ -101,10 +97,7 @@ value_no_letter (Close ∷ ts) bytes rest h w = absurd (cc)
 value_no_letter (Semicolon ∷ ts) bytes rest h w = absurd (cc)
 value_no_letter (Name name ∷ ts) bytes rest h w = absurd (cc)
 value_no_letter (Stray ∷ ts) bytes rest h w = absurd (cc)
-value_no_letter (Value v ∷ ts) bytes rest h w =
-    ap begins_with_letter (ap (λ bs. bs ++ rest) w.3 ∙ append_assoc w.0 (w.1 ++ w.2) rest)
-    ∙ blanks_no_letter w.0 ((w.1 ++ w.2) ++ rest) w.4
-    (ap (λ bs. begins_with_letter ((bs ++ w.2) ++ rest)) w.5.brackets)
+value_no_letter (Value v ∷ ts) bytes rest h w = grind (arith, append_assoc, blanks_no_letter)
 
 -- in sound tokens each lets what stands behind it begin
 sound_ends : (t : Token) (ts : List Token) (bytes rest : List ℕ) → is_sound (t ∷ ts) ≡ true → WritesAll bytes ts
@@ -112,8 +105,7 @@ sound_ends : (t : Token) (ts : List Token) (bytes rest : List ℕ) → is_sound 
 sound_ends Open ts bytes rest h w = tt
 sound_ends Close ts bytes rest h w = tt
 sound_ends Semicolon ts bytes rest h w = tt
-sound_ends (Name name) ts bytes rest h w =
-    value_no_letter ts bytes rest (and_parts (begins_with_value ts) (is_sound ts) h).0 w
+sound_ends (Name name) ts bytes rest h w = grind (arith, value_no_letter, and_parts)
 sound_ends (Value v) ts bytes rest h w = tt
 sound_ends Stray ts bytes rest h w = tt
 
@@ -171,19 +163,12 @@ pub first_written : (text : List ℕ) (t : Token) (later : List Token) → token
 first_written [] t later e h = absurd (cc (no_tokens))
 first_written (b ∷ bs) t later e h = elim (cases_Bool (is_blank b)) [
   | inl blank ↦ blank_more b bs t later blank (first_written bs t later (sym (blank_step b bs blank) ∙ e) h)
-  | inr not_blank ↦
-      let same = sym (token_first b bs not_blank) ∙ e in
-      let is : (token_at b bs).0 ≡ t = cc in
-      let rest : tokens_of (drop (token_at b bs).1 bs) ≡ later = cc in
-      same_first b bs t later is rest h
+  | inr not_blank ↦ grind (arith, token_first, same_first)
 ]
   where
     same_first : (b : ℕ) (bs : List ℕ) (t : Token) (later : List Token) → (token_at b bs).0 ≡ t
         → tokens_of (drop (token_at b bs).1 bs) ≡ later → is_stray t ≡ false → HasFirst (b ∷ bs) t later
-    same_first b bs t later is rest h =
-        subst (λ (t : Token). HasFirst (b ∷ bs) t later) is
-        (subst (λ (later : List Token). HasFirst (b ∷ bs) (token_at b bs).0 later) rest
-        (token_there b bs (ap is_stray is ∙ h)))
+    same_first b bs t later is rest h = grind (arith, token_there b bs (ap is_stray is ∙ h))
 
 -- sound tokens at the front of a text are written there
 pub tokens_written : (ts : List Token) (text : List ℕ) (later : List Token) → tokens_of text ≡ ts ++ later

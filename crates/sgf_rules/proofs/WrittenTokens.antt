@@ -1,19 +1,17 @@
 -- The token at the front of a text is the one that its bytes write.
-use Rattle.std.proofs.Common.{◌≡◌, ℕ, suc, ◌+◌, ◌<◌, ◌≤◌, Bool, true, false, List, [], ◌∷◌, ◌++◌, length}
-use Rattle.std.proofs.Common.{take, refl, sym, ap, subst, ◌∙◌, arith, inl, inr, ◌⊎◌, nat_lt, append_assoc}
-use Rattle.std.proofs.Common.{length-append}
+use Rattle.std.proofs.Common.{◌≡◌, ℕ, suc, ◌+◌, ◌≤◌, Bool, true, false, List, [], ◌∷◌, ◌++◌, length}
+use Rattle.std.proofs.Common.{take, refl, sym, ap, subst, ◌∙◌, arith, inl, inr, nat_lt, append_assoc, length-append}
 use Rattle.std.proofs.Math.Seq.{take-append_seam, take-append-add, drop-append_seam, drop-append-add}
 use Rattle.std.proofs.lemmas.Bool.{cases_Bool, cases_eq, and_parts, lt-ltb, ltb-true}
 use Rattle.std.proofs.lemmas.Bool.Decides.{nat_tests}
-use Rattle.std.specs.List.{list_all, list_any, prefix_len}
-use Rattle.sgf_rules.specs.Tokens.{is_blank, is_capital, is_letter}
+use Rattle.std.specs.List.{list_all, prefix_len}
+use Rattle.sgf_rules.specs.Tokens.{is_blank, is_letter}
 use Rattle.sgf_rules.specs.Bytes.{left_bracket, right_bracket}
-use Rattle.sgf_rules.specs.Tokens.{value_len, said}
+use Rattle.sgf_rules.specs.Tokens.{value_len}
 use Rattle.sgf_rules.specs.Tokens.{Token, Open, Close, Semicolon, Name, Value, Stray, letters_token, letters_at}
 use Rattle.sgf_rules.specs.Tokens.{value_at, token_at, tokens_of}
 use Rattle.sgf_rules.specs.Written.{Says, IsName, IsBracketed, Writes}
-use Rattle.sgf_rules.proofs.CutTokens.{token_step, open_at, close_at, semicolon_at}
-use Rattle.sgf_rules.proofs.CutTokens.{bracket_at, letter_at, stray_at}
+use Rattle.sgf_rules.proofs.CutTokens.{token_step, open_at, close_at, semicolon_at, bracket_at, letter_at, stray_at}
 use Rattle.sgf_rules.proofs.WrittenValues.{BeginsWithValue, value_ends, value_said, value_begins}
 
 -- a letter comes late among the bytes
@@ -46,10 +44,7 @@ letters_counted : (letters rest : List ℕ) → list_all is_letter letters ≡ t
     → prefix_len is_letter (letters ++ rest) ≡ length letters
 letters_counted [] [] e f = refl
 letters_counted [] (b ∷ bs) e f = rw f refl
-letters_counted (b ∷ ls) rest e f =
-    let parts = and_parts (is_letter b) (list_all is_letter ls) e in
-    let more = letters_counted ls rest parts.1 f in
-    rw parts.0 (omega arith)
+letters_counted (b ∷ ls) rest e f = grind (arith, and_parts, letters_counted ls rest)
 
 -- the letters at the front are letters
 letters_front : (bs : List ℕ) → list_all is_letter (take (prefix_len is_letter bs) bs) ≡ true
@@ -70,25 +65,14 @@ name_first : (name letters rest : List ℕ) → IsName name letters → begins_w
     → tokens_of (letters ++ rest) ≡ Name name ∷ tokens_of rest
 name_first name [] rest h f = absurd (cc (h.some_capital))
 name_first name (b ∷ ls) rest h f =
-    let parts = and_parts (is_letter b) (list_all is_letter ls) h.letters_alone in
-    let many = letters_counted ls rest parts.1 f in
-    let other = λ (k : ℕ) (no : is_letter k ≡ false). letter_other b k parts.0 no in
-    token_step b (ls ++ rest) (Name name) (length ls) (late_no_blank b (letter_late b parts.0))
-    (letter_at b (ls ++ rest) (other 40 refl) (other 41 refl) (other 59 refl) (other 91 refl) parts.0
-    ∙ (ap (λ (n : ℕ). (letters_token (b ∷ take n (ls ++ rest)), n)) many
-    ∙ (ap (λ (xs : List ℕ). (letters_token (b ∷ xs), length ls)) (take-append_seam ls rest)
-    ∙ ap (λ (t : Token). (t, length ls)) (letters_named name (b ∷ ls) h))))
-    ∙ ap (λ (bs : List ℕ). Name name ∷ tokens_of bs) (drop-append_seam ls rest)
+    grind (arith, letters_counted ls rest, letter_other b, token_step b (ls ++ rest) (Name name) (length ls),
+        late_no_blank b, letter_late b, letter_at b (ls ++ rest), take-append_seam ls rest,
+        letters_named name (b ∷ ls) h, drop-append_seam ls rest, and_parts)
 
 -- the value that bytes say stands before the `]` behind them
 value_shown : (inner value rest : List ℕ) → Says inner value
     → value_at (inner ++ right_bracket ∷ rest) ≡ (Value value, length inner + 1)
-value_shown inner value rest s =
-    let long = length-append inner (right_bracket ∷ rest) in
-    let less : length inner < length (inner ++ right_bracket ∷ rest) = omega arith in
-    rw (value_ends s rest, lt-ltb (length inner) (length (inner ++ right_bracket ∷ rest)) less)
-    (ap (λ (xs : List ℕ). (Value (said false xs), length inner + 1)) (take-append_seam inner (right_bracket ∷ rest))
-    ∙ ap (λ (v : List ℕ). (Value v, length inner + 1)) (value_said s))
+value_shown inner value rest s = grind (arith, length-append, value_ends, lt-ltb, take-append_seam, value_said)
 
 -- a value is the first token
 value_first : (value bytes rest : List ℕ) → IsBracketed value bytes
@@ -134,20 +118,7 @@ is_stray (Value value) = false
 -- letters with a capital write their name
 letters_written : (b : ℕ) (bs : List ℕ) → is_letter b ≡ true → is_stray (letters_at b bs).0 ≡ false
     → Writes (b ∷ take (letters_at b bs).1 bs) (letters_at b bs).0
-letters_written b bs e h = by_capital (cases_Bool (list_any is_capital letters))
-  where
-    letters : List ℕ
-    letters = b ∷ take (prefix_len is_letter bs) bs
-
-    by_capital : (list_any is_capital letters ≡ true) ⊎ (list_any is_capital letters ≡ false)
-        → Writes letters (letters_token letters)
-    by_capital (inl some) = rw some (record {
-      letters_alone = rw e (letters_front bs);
-      some_capital = some;
-      capitals = refl;
-    })
-    by_capital (inr none) =
-        let stray : is_stray (letters_token letters) ≡ true = rw none refl in absurd (cc (stray, h))
+letters_written b bs e h = grind (arith, cases_Bool, letters_front)
 
 -- the token and the bytes at the front of a text are those of the value with which it begins
 value_found : (bs : List ℕ) (v : BeginsWithValue bs) → value_at bs ≡ (Value v.value, length v.inner + 1)
@@ -156,12 +127,7 @@ value_found bs v = ap value_at v.parts ∙ value_shown v.inner v.value v.rest v.
 -- the bytes of a value and its `]`, behind a `[`, write it
 brackets_written : (bs : List ℕ) (v : BeginsWithValue bs)
     → Writes (left_bracket ∷ take (length v.inner + 1) bs) (Value v.value)
-brackets_written bs v = record {
-  inner = v.inner;
-  brackets = ap (λ (xs : List ℕ). left_bracket ∷ xs)
-      (ap (take (length v.inner + 1)) v.parts ∙ take-append-add v.inner (right_bracket ∷ v.rest) 1);
-  says = v.says;
-}
+brackets_written bs v = grind (arith, take-append-add)
 
 -- brackets and the bytes that say a value write it
 value_written : (bs : List ℕ) → is_stray (value_at bs).0 ≡ false
@@ -182,34 +148,15 @@ written_as b bs x e w = subst (λ (x : Token × ℕ). Writes (b ∷ take x.1 bs)
 -- what `[` begins is written by it and the bytes of a value
 bracket_written : (b : ℕ) (bs : List ℕ) → b ≡ 91 → is_stray (token_at b bs).0 ≡ false
     → Writes (b ∷ take (token_at b bs).1 bs) (token_at b bs).0
-bracket_written b bs e h =
-    let at = bracket_at b bs e in
-    written_as b bs (value_at bs) at
-    (subst (λ (x : ℕ). Writes (x ∷ take (value_at bs).1 bs) (value_at bs).0) (sym e)
-    (value_written bs (sym (ap (λ (x : Token × ℕ). is_stray x.0) at) ∙ h)))
+bracket_written b bs e h = grind (arith, bracket_at, written_as, value_written)
 
 -- what none of the four signs begins is written by letters
 unsigned_written : (b : ℕ) (bs : List ℕ) → (b ≡ 40 → ⊥) → (b ≡ 41 → ⊥) → (b ≡ 59 → ⊥) → (b ≡ 91 → ⊥)
     → is_stray (token_at b bs).0 ≡ false → Writes (b ∷ take (token_at b bs).1 bs) (token_at b bs).0
-unsigned_written b bs o c s v h = elim (cases_Bool (is_letter b)) [
-  | inl e ↦
-      let at = letter_at b bs o c s v e in
-      written_as b bs (letters_at b bs) at
-      (letters_written b bs e (sym (ap (λ (x : Token × ℕ). is_stray x.0) at) ∙ h))
-  | inr e ↦ let stray = ap (λ (x : Token × ℕ). is_stray x.0) (stray_at b bs o c s v e) in absurd (cc (stray, h))
-]
+unsigned_written b bs o c s v h = grind (arith, cases_Bool, letter_at, written_as, letters_written, stray_at)
 
 -- a byte is one of the four signs, a letter, or none of them
 pub token_written : (b : ℕ) (bs : List ℕ) → is_stray (token_at b bs).0 ≡ false
     → Writes (b ∷ take (token_at b bs).1 bs) (token_at b bs).0
-token_written b bs h = elim (cases_eq b 40) [
-  | inl e ↦ written_as b bs (Open, 0) (open_at b bs e) (ap (λ (x : ℕ). x ∷ []) e)
-  | inr o ↦ elim (cases_eq b 41) [
-    | inl e ↦ written_as b bs (Close, 0) (close_at b bs e) (ap (λ (x : ℕ). x ∷ []) e)
-    | inr c ↦ elim (cases_eq b 59) [
-      | inl e ↦ written_as b bs (Semicolon, 0) (semicolon_at b bs e) (ap (λ (x : ℕ). x ∷ []) e)
-      | inr s ↦
-          elim (cases_eq b 91) [ inl e ↦ bracket_written b bs e h | inr v ↦ unsigned_written b bs o c s v h ]
-    ]
-  ]
-]
+token_written b bs h =
+    grind (arith, cases_eq, written_as, open_at, close_at, semicolon_at, bracket_written, unsigned_written)

@@ -1,6 +1,6 @@
 -- A value ends at the `]` behind the bytes that say it, and nowhere else.
 use Rattle.std.proofs.Common.{◌≡◌, ℕ, suc, ◌<◌, Bool, true, false, ◌||◌, List, [], ◌∷◌, ◌++◌, length}
-use Rattle.std.proofs.Common.{refl, ap, ◌∙◌, arith, inl, inr}
+use Rattle.std.proofs.Common.{refl, ap, ◌∙◌, arith}
 use Rattle.std.proofs.lemmas.Bool.{cases_Bool, eqb-true}
 use Rattle.sgf_rules.specs.Tokens.{ends_value, is_backslash, value_len, said}
 use Rattle.sgf_rules.specs.Bytes.{right_bracket, backslash}
@@ -15,16 +15,13 @@ plain_byte false y e = (refl, e)
 pub value_ends : {bytes value : List ℕ} → Says bytes value → (rest : List ℕ)
     → value_len false (bytes ++ right_bracket ∷ rest) ≡ length bytes
 value_ends nothing rest = refl
-value_ends (plain b bytes value e s) rest =
-    let tests = plain_byte (ends_value b) (is_backslash b) e in
-    rw (tests.0, tests.1) (ap (λ (n : ℕ). suc n) (value_ends s rest))
+value_ends (plain b bytes value e s) rest = grind (arith, plain_byte, value_ends s rest)
 value_ends (taken b bytes value s) rest = ap (λ (n : ℕ). suc (suc n)) (value_ends s rest)
 
 -- and what they say is that value
 pub value_said : {bytes value : List ℕ} → Says bytes value → said false bytes ≡ value
 value_said nothing = refl
-value_said (plain b bytes value e s) =
-    let tests = plain_byte (ends_value b) (is_backslash b) e in rw tests.1 (ap (λ vs. b ∷ vs) (value_said s))
+value_said (plain b bytes value e s) = grind (arith, plain_byte, value_said s)
 value_said (taken b bytes value s) = ap (λ vs. b ∷ vs) (value_said s)
 
 -- the bytes begin with some that say a value, and a `]` behind them
@@ -84,14 +81,7 @@ value_empty b bs e = record {
 -- where the length of a value is less than what is there, it has an end
 pub value_begins : (bytes : List ℕ) → value_len false bytes < length bytes → BeginsWithValue bytes
 value_begins [] h = absurd (omega arith)
-value_begins (b ∷ []) h = elim (cases_Bool (ends_value b)) [
-  | inl e ↦ value_empty b [] e
-  | inr e ↦ let l = len_ends b [] e in absurd (omega arith)
-]
-value_begins (b ∷ (c ∷ cs)) h = elim (cases_Bool (ends_value b)) [
-  | inl e ↦ value_empty b (c ∷ cs) e
-  | inr e ↦ elim (cases_Bool (is_backslash b)) [
-    | inl f ↦ taken_more b c cs (eqb-true b backslash f) (value_begins cs (omega (arith, len_taken b c cs e f)))
-    | inr f ↦ plain_more b (c ∷ cs) e f (value_begins (c ∷ cs) (omega (arith, len_plain b (c ∷ cs) e f)))
-  ]
-]
+value_begins (b ∷ []) h = grind (arith, cases_Bool, value_empty, len_ends)
+value_begins (b ∷ (c ∷ cs)) h =
+    grind (arith, cases_Bool, value_empty, taken_more, eqb-true, len_taken, plain_more, len_plain, value_begins cs,
+        value_begins (c ∷ cs))

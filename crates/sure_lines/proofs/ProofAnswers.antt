@@ -79,16 +79,6 @@ module _ (contents : Contents) (machine : Machine) (p code : ℕ) (text : List �
       )
 
   module _ (kind : Kind) (stone : is_stone (cell_at (present machine).cells p) ≡ true) where
-    -- the words of the line are judged if they name no file
-    pub words-checked : names_file text ≡ false → IsAnswer (judged machine kind p code text) said machine machine
-        → IsChecked kind
-    words-checked words is = (
-      [],
-      subst (λ b. IsFileOf contents (cond b (named_file (name_behind text)) None) []) (sym words) tt,
-      subst (λ b. IsAnswer (of_point kind [] b) said machine machine) (sym stone)
-          (subst (λ b. IsAnswer (of_text kind [] b) said machine machine) (sym words) is),
-    )
-
     -- if they name a file, the words of the file are judged
     pub file-checked : names_file text ≡ true → (name : List ℕ) → name ≡ name_behind text
         → (file : List ℕ) × IsFileOf contents (named_file name) file

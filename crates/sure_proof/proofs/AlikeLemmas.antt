@@ -1,10 +1,9 @@
 -- On positions that agree on what a play rests on, the play leads to positions that are alike. On positions that agree
 -- on a zone and on what guards it, the same replies have to be read.
-use Rattle.std.proofs.Common.{◌≡◌, ◌∙◌, ℕ, ◌*◌, ◌<◌, ◌&&◌, true, Option, Some, None, refl, sym, ap, subst, ltb}
+use Rattle.std.proofs.Common.{◌≡◌, ◌∙◌, ℕ, ◌*◌, ◌<◌, ◌&&◌, true, Option, Some, None, refl, sym, ap, subst, ltb, arith}
 use Rattle.std.proofs.lemmas.Bool.{and_from, lt-ltb}
 use Rattle.std.specs.FinSet as sets
 use Rattle.go_rules.specs.Position.{BoardState, IsPosition, other}
-use Rattle.go_rules.specs.Rules.{IsOnlyLiberty}
 use Rattle.go_rules.proofs.PlayLaws.{done_state}
 use Rattle.read_rules.specs.ActiveArea.{AgreeOn}
 use Rattle.read_rules.specs.declared.node.Node.{Node}
@@ -59,12 +58,4 @@ pub zone_is_guarded : (node : Node) (pos here : BoardState) (P Z : Points) → A
     → IsWithin P Z → IsWithin (guard_of pos.size pos.cells (other (mover_of node.turn)) P) Z
     → ((q : ℕ) → has P q ≡ true → q < pos.size * pos.size)
     → IsGuarded node (has P) here (has (asked_of pos.size pos.cells (other (mover_of node.turn)) P))
-zone_is_guarded node pos here P Z same within guarded on_board =
-    let c = other (mover_of node.turn) in
-    record {
-      empty_points = λ q inside empty. asks_empty pos.size pos.cells c P q (on_board q inside) inside
-          (same.cells q (within q inside) ∙ empty);
-      last_liberties = λ q p inside stone only. last_is_asked pos.size pos.cells here.cells c P
-          (λ r its. same.cells r (within r its)) (λ r its. same.cells r (guarded r its)) q p (on_board q inside) inside
-          stone (subst (λ s. IsOnlyLiberty s here.cells q p) (sym same.sizes) only);
-    }
+zone_is_guarded node pos here P Z same within guarded on_board = grind (arith, asks_empty, last_is_asked)

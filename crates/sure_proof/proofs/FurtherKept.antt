@@ -186,7 +186,5 @@ wide_candidate turn pos p on attacks wide few l lib near = by turn.tree refl
         is_empty = near.is_empty;
         beside = near.beside;
       })))
-      | inr other ↦ wide_few
-          (let most = subst (λ t. liberties pos.size pos.cells turn.target ≤ most_wide t) is few in
-          omega (arith, other, most))
+      | inr other ↦ grind (arith, wide_few)
     ]

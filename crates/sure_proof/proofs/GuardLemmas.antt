@@ -1,6 +1,6 @@
 -- What a zone asks for and what guards it, and the walk over the zone that gathers both.
 use Rattle.std.proofs.Common.{◌≡◌, ◌≢◌, ◌∙◌, ◌⊎◌, ℕ, zero, suc, ◌+◌, ◌*◌, ◌<◌, ◌≤◌, ◌&&◌, Bool, true, false, cond, not}
-use Rattle.std.proofs.Common.{List, Option, Some, None, refl, sym, ap, subst, inl, inr, arith, eqb, ltb}
+use Rattle.std.proofs.Common.{List, Option, Some, None, refl, sym, ap, subst, inl, inr, arith, ltb}
 use Rattle.std.specs.Cmp.{nat_cmp_total}
 use Rattle.std.specs.Ordering.{nat_cmp}
 use Rattle.std.specs.FinSet as sets
@@ -51,10 +51,7 @@ in_union S T q h =
 -- a member of a set to which p came is p or was a member before
 pub in_insert : (S : Points) (p q : ℕ) → sets.contains (sets.insert S p) q ≡ true
     → (q ≡ p) ⊎ (sets.contains S q ≡ true)
-in_insert S p q h = elim (or_cases (eqb q p) (sets.contains S q) (sym (contains-insert_nat S p q) ∙ h)) [
-  | inl same ↦ inl (eqb-true q p same)
-  | inr old ↦ inr old
-]
+in_insert S p q h = grind (arith, or_cases, contains-insert_nat, eqb-true)
 
 -- the empty set has no member
 pub in_empty : {A : Type 0} (q : ℕ) → sets.contains (sets.empty {R = nat_cmp}) q ≡ true → A
@@ -64,10 +61,7 @@ in_empty q h = absurd (both_ways (sets.contains (sets.empty {R = nat_cmp}) q) (s
 pub in_union_below : (n : ℕ) (each : ℕ → Points) (p : ℕ) → sets.contains (union_below n each) p ≡ true
     → (k : ℕ) × (k < n) × (sets.contains (each k) p ≡ true)
 in_union_below zero each p h = in_empty p h
-in_union_below (suc n) each p h = elim (in_union (union_below n each) (each n) p h) [
-  | inl before ↦ let w = in_union_below n each p before in (w.0, omega (arith, w.1), w.2)
-  | inr last ↦ (n, omega arith, last)
-]
+in_union_below (suc n) each p h = grind (arith, in_union (union_below n each) (each n) p h, in_union_below n each p)
 
 -- What the point q of Z asks for and what guards it.
 module _ (s : ℕ) (cells : List Cell) (c : Colour) (Z : Points) (q : ℕ) where
@@ -145,11 +139,7 @@ module _ (s : ℕ) (cells : List Cell) (c : Colour) (Z : Points) (q : ℕ) where
         (same_cell-from (cell_at cells q) (stone_of c) stone)) ∙ last)
       where
         not_empty : (sets.contains Z q && same_cell (cell_at cells q) Empty) ≡ false
-        not_empty = elim (cases_Bool (sets.contains Z q && same_cell (cell_at cells q) Empty)) [
-          | inl t ↦ absurd (stone_not_empty c (sym stone ∙ same_cell-true (cell_at cells q) Empty
-              (and_parts (sets.contains Z q) (same_cell (cell_at cells q) Empty) t).1))
-          | inr f ↦ f
-        ]
+        not_empty = grind (arith, cases_Bool, stone_not_empty, same_cell-true, and_parts)
 
 -- a liberty is among those of the string
 its_liberty : (s : ℕ) (cells : List Cell) (q l : ℕ) → q < s * s → IsLiberty s cells q l
@@ -168,9 +158,7 @@ last_shown s a b Z q p on (all_same sa sb la lb) one = by (two_within Z (liberty
         → sets.contains (last_of (liberty_points s a q) o) p ≡ true
     by None is = its_liberty s a q p on (lb p one.its)
     by (Some w) is =
-        let found = two_within_give Z (liberty_points s a q) w.0 w.1 is in
-        absurd (found.0 (one.only w.0 (la w.0 (liberty_in s a q w.0 found.1))
-        ∙ sym (one.only w.1 (la w.1 (liberty_in s a q w.1 found.2)))))
+        grind (arith, two_within_give Z (liberty_points s a q) w.0 w.1 is, liberty_in s a q w.0, liberty_in s a q w.1)
 
 -- on a board that agrees on Z and on what guards it, the only liberty of a string of c with a stone in Z is asked for
 pub last_is_asked : (s : ℕ) (a b : List Cell) (c : Colour) (Z : Points) → SameOn Z a b → SameOn (guard_of s a c Z) a b
@@ -270,9 +258,7 @@ module _ (s : ℕ) (cells : List Cell) (q x : ℕ) (on : q < s * s) (inside : Is
 -- sets that are the same are gathered as well
 pub gathered_same : {s : ℕ} {cells : List Cell} {c : Colour} {Z : Points} {from : ℕ} {A G S B H T : Points} → B ≡ A
     → H ≡ G → T ≡ S → IsGathered s cells c Z from A G S → IsGathered s cells c Z from B H T
-gathered_same {s} {cells} {c} {Z} {from} {A} {G} {S} {B} {H} {T} a g k gathered =
-    subst (λ X. IsGathered s cells c Z from X H T) (sym a) (subst (λ X. IsGathered s cells c Z from A X T) (sym g)
-    (subst (λ X. IsGathered s cells c Z from A G X) (sym k) gathered))
+gathered_same {s} {cells} {c} {Z} {from} {A} {G} {S} {B} {H} {T} a g k gathered = grind arith
 
 -- A walk over the points of Z.
 module _ (s : ℕ) (cells : List Cell) (c : Colour) (Z : Points) where
@@ -343,14 +329,7 @@ module _ (s : ℕ) (cells : List Cell) (c : Colour) (Z : Points) where
     pub step_stale : cell_at cells q ≢ Empty
         → (same_cell (cell_at cells q) (stone_of c) && not (sets.contains S q)) ≡ false
         → IsGathered s cells c Z (q + 1) A G S
-    step_stale full stale = by (same_cell (cell_at cells q) (stone_of c)) (sets.contains S q) refl refl stale
-      where
-        by : (own searched : Bool) → same_cell (cell_at cells q) (stone_of c) ≡ own → sets.contains S q ≡ searched
-            → (own && not searched) ≡ false → IsGathered s cells c Z (q + 1) A G S
-        by false searched e f h = step_other full (λ is. both_ways (same_cell (cell_at cells q) (stone_of c)) e
-            (same_cell-from (cell_at cells q) (stone_of c) is))
-        by true true e f h = step_searched f
-        by true false e f h = absurd (let wrong = h in cc)
+    step_stale full stale = grind (arith, step_other, both_ways, same_cell-from, step_searched)
 
     -- an empty point
     pub step_empty : q < s * s → sets.contains Z q ≡ true → cell_at cells q ≡ Empty
@@ -420,10 +399,7 @@ module _ (s : ℕ) (cells : List Cell) (c : Colour) (Z : Points) where
       (left : (r : ℕ) → from ≤ r → sets.contains Z r ≡ false) where
     -- each point of Z on the board was served
     all_served : (q : ℕ) → q < s * s → sets.contains Z q ≡ true → IsServed s cells c Z A G q
-    all_served q on inside = elim (cases_lt q from) [
-      | inl less ↦ done.visited q less on inside
-      | inr more ↦ absurd (both_ways (sets.contains Z q) (left q more) inside)
-    ]
+    all_served q on inside = grind (arith, cases_lt q from, both_ways (sets.contains Z q))
 
     -- all that Z asks for was gathered
     asked_back : IsWithin (asked_of s cells c Z) A

@@ -1,6 +1,6 @@
 -- What shows whether the defender takes back a target that is taken.
 use Rattle.std.proofs.Common.{◌≡◌, ◌∙◌, ℕ, ◌*◌, ◌<◌, ◌&&◌, Bool, true, false, not, cond, List, Option, Some, None, is_none}
-use Rattle.std.proofs.Common.{refl, sym, ap, subst}
+use Rattle.std.proofs.Common.{refl, sym, ap, subst, arith}
 use Rattle.std.specs.FinSet as sets
 use Rattle.std.specs.Option.{option_and_then}
 use Rattle.std.proofs.lemmas.Bool.{and_from, and_parts, both_ways, not-true, not_from_false}
@@ -52,12 +52,7 @@ loss_is : (node : Node) (pos : BoardState) → node.turn.tree ≡ Wider → is_a
     → loss_rests_on node pos ≡ wall_rests_on pos.size pos.cells (mover_of node.turn) (target_of node)
     (open_neighbour pos.size pos.cells (other node.turn.defender) (target_of node))
 unfolding loss_rests_on
-loss_is node pos tree turn =
-    ap (λ b. cond b (wall_rests_on pos.size pos.cells (mover_of node.turn) (target_of node)
-    (open_neighbour pos.size pos.cells (other node.turn.defender) (target_of node)))
-    (sets.insert sets.empty (target_of node)))
-    (and_from (is_wider node.turn.tree) (not node.turn.attacker_to_play) (ap is_wider tree)
-    (not_from_false node.turn.attacker_to_play turn))
+loss_is node pos tree turn = grind (arith, and_from, not_from_false)
 
 -- an open neighbour is at a side, and holds no stone of c
 open_gives : (s : ℕ) (cells : List Cell) (c : Colour) (p q : ℕ) → open_neighbour s cells c p ≡ Some q
@@ -108,9 +103,7 @@ module _ (node : Node) (pos : BoardState) (good : IsPosition pos) (on : node.tur
 
     -- what the play at its point rests on is among the points
     pub play_within : IsWithin (play_rests_on pos.size pos.cells (mover_of node.turn) sets.empty (target_of node)) Z
-    play_within q inside =
-        wall_within q (ap (λ o. has (wall_rests_on pos.size pos.cells (mover_of node.turn) (target_of node) o) q) none_open
-        ∙ inside)
+    play_within q inside = grind (arith, wall_within, none_open)
 
     -- he takes back here too
     pub back_here : is_gone node pos ≡ true → (first : BoardState) × TakesBack node pos next first
@@ -119,14 +112,8 @@ module _ (node : Node) (pos : BoardState) (good : IsPosition pos) (on : node.tur
         back.child in (
           child.0,
           record {
-            lost = record {
-              tree = back.lost.tree;
-              turn = back.lost.turn;
-              taken = same_cell-true (cell_at pos.cells (target_of node)) Empty gone;
-            };
-            lone = λ q q_on near. same.cells q (play_within q
-                (play_beside pos.size pos.cells (mover_of node.turn) sets.empty (target_of node) q on q_on near))
-                ∙ walled_there q q_on near;
+            lost = grind (arith, same_cell-true (cell_at pos.cells (target_of node)) Empty gone);
+            lone = grind (arith, play_within, play_beside, walled_there);
             child = child.1;
           },
         )

@@ -1,7 +1,7 @@
 -- A play on two boards that show the same of the neighbours of its point: it can be made on both or on neither, captures
 -- the same, and leaves the same ban.
 use Rattle.std.proofs.Common.{◌≡◌, ◌≢◌, ◌∙◌, ◌⊎◌, ℕ, ◌-◌, ◌*◌, ◌<◌, true, false, cond, List, length, set, Option}
-use Rattle.std.proofs.Common.{Some, None, Ok, refl, sym, ap, subst, inl, inr}
+use Rattle.std.proofs.Common.{Some, None, Ok, refl, sym, ap, subst, inl, inr, arith}
 use Rattle.std.proofs.lemmas.Bool.{cases_eq, cases_Bool, both_ways}
 use Rattle.go_rules.specs.declared.Cell.{Cell}
 use Rattle.go_rules.specs.declared.Cell.TheVariants.{Empty}
@@ -17,8 +17,7 @@ use Rattle.go_rules.proofs.Links.{path_keeps, path_same, liberty_moves, libertie
 use Rattle.go_rules.proofs.OnlyLiberties.{stone_not_empty, only_liberty_captures}
 use Rattle.go_rules.proofs.Plays.{stone_is, enemy_differs, at_put_same, at_put_other, at_after, taken_parts, own_not_taken}
 use Rattle.go_rules.proofs.Plays.{taken_whole, taken_beside}
-use Rattle.go_rules.proofs.PlayLaws.{captured_from, removes, free_follows, taken_by_words, done_state}
-use Rattle.go_rules.proofs.PlayLaws.{answered}
+use Rattle.go_rules.proofs.PlayLaws.{captured_from, removes, free_follows, taken_by_words, done_state, answered}
 use Rattle.read_rules.proofs.AfterPlays.{put_liberty, after_liberty}
 use Rattle.sure_proof.proofs.ShownLemmas.{IsShown, IsShown-sym, has_two, all_same}
 
@@ -358,23 +357,11 @@ ban_on s a b x y c p h first second played_a played_b q k e =
   where
     words : (cells : List Cell) (ban : Option (ℕ × Colour)) → {after : List Cell}
         → LeavesBan (state s cells ban) c p after q → LeavesBan (board_of s cells) c p after q
-    words cells ban w = record {
-      on_board = w.on_board;
-      taken = w.taken;
-      one_taken = w.one_taken;
-      stone_alone = w.stone_alone;
-      one_liberty = w.one_liberty;
-    }
+    words cells ban w = grind arith
 
     of : (cells : List Cell) (ban : Option (ℕ × Colour)) → {after : List Cell}
         → LeavesBan (board_of s cells) c p after q → LeavesBan (state s cells ban) c p after q
-    of cells ban w = record {
-      on_board = w.on_board;
-      taken = w.taken;
-      one_taken = w.one_taken;
-      stone_alone = w.stone_alone;
-      one_liberty = w.one_liberty;
-    }
+    of cells ban w = grind arith
 
 -- two bans are the same if each that is on the first board is on the second, and back
 same_ban : (a b : Option (ℕ × Colour)) → ((q : ℕ) (k : Colour) → a ≡ Some (q, k) → b ≡ Some (q, k))

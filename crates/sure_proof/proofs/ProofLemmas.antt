@@ -35,21 +35,19 @@ use Rattle.read_proof.specs.Proves.{child_after}
 use Rattle.read_proof.proofs.SoundLemmas.{played_on_board}
 use Rattle.vertices.specs.Vertices.{target_of as target_named}
 use Rattle.wider_rules.specs.FurtherInWords.{links}
-use Rattle.sure_rules.specs.Nodes.{is_attackers, is_gone, is_taken_for_good, has_too_many, target_of}
+use Rattle.sure_rules.specs.Nodes.{is_attackers, is_gone, has_too_many, target_of}
 use Rattle.sure_rules.specs.SureTree.{surely_wins}
 use Rattle.sure_rules.specs.Zones.{points_of, IsZone}
 use Rattle.sure_rules.proofs.ZoneLemmas.{zone_taken_back, zone_attacker, zone_defender}
 use Rattle.sure_proof.specs.Rests.{Points, close_to, loss_rests_on}
-use Rattle.sure_proof.specs.Rests.{most_wide, most_of_enemy, shown_at, with_string, candidate_rests_on}
-use Rattle.sure_proof.specs.Rests.{all_points}
+use Rattle.sure_proof.specs.Rests.{most_wide, most_of_enemy, shown_at, with_string, candidate_rests_on, all_points}
 use Rattle.sure_proof.specs.Rests.{guard_of, asked_of}
-use Rattle.sure_proof.specs.SureProofs.{Proved, Prover, proved_by, with_points, behind_word, behind_vertex, is_to, by_capture, by_back}
+use Rattle.sure_proof.specs.SureProofs.{Proved, Prover, with_points, behind_word, behind_vertex, is_to, by_capture, by_back}
 use Rattle.sure_proof.specs.SureProofs.{by_child, move_rests_on, with_move, with_candidate, with_reply}
 use Rattle.sure_proof.specs.SureProofs.{by_move, at_reply, at_replies, replies_to, at_end, behind_pass, by_replies, by_turn}
 use Rattle.sure_proof.specs.SureProofs.{proves_surely}
 use Rattle.sure_proof.specs.Gathered.{IsWithin}
-use Rattle.sure_proof.proofs.ShownLemmas.{insert_self, insert_more, union_first, union_second, below_in}
-use Rattle.sure_proof.proofs.ShownLemmas.{SameOn}
+use Rattle.sure_proof.proofs.ShownLemmas.{insert_self, insert_more, union_first, union_second, below_in, SameOn}
 use Rattle.sure_proof.proofs.GuardLemmas.{asks_empty, last_is_asked}
 use Rattle.sure_proof.proofs.PlayLemmas.{state}
 use Rattle.sure_proof.proofs.SoundLemmas.{has, on_board, zone_on_board, child_there, child_here, stone_of_cell}
@@ -62,8 +60,7 @@ use Rattle.sure_proof.proofs.SoundLemmas.{liberties_same, count_same, many_same,
 cells_same : (Z : Points) (pos here : BoardState) → IsPosition pos → IsPosition here → AgreeOn (points_of (has Z)) pos here
     → IsWithin (all_points pos.size) Z → pos.cells ≡ here.cells
 cells_same Z pos here good sound same within =
-    ext_get_or Empty pos.cells here.cells (good.cells ∙ ap (λ t. t * t) same.sizes ∙ sym sound.cells)
-    (λ i less. same.cells i (within i (below_in (pos.size * pos.size) (λ q. true) i (omega (arith, less, good.cells)) refl)))
+    grind (arith, ext_get_or Empty pos.cells here.cells, below_in (pos.size * pos.size))
 
 -- p is a wide candidate by the target's liberties: a wide ply is left, the target has few, and p is empty and next to one
 abbrev pub is_wide : Turn → BoardState → ℕ → Bool
@@ -177,12 +174,9 @@ candidate_there turn pos here p Z good sound on stone attacks candidate same wit
         → (has_many_liberties turn (state pos.size here.cells here.ban) ≡ has_many_liberties turn pos)
         × (is_candidate turn (state pos.size here.cells here.ban) p ≡ true)
     by_other None is all =
-        let cells = cells_same Z pos here good sound same all in (
-          many_same turn pos.size pos.cells here.cells pos.ban here.ban
-              (ap (λ k. liberties pos.size k turn.target) cells),
-          subst (λ k. is_candidate turn (state pos.size k here.ban) p ≡ true) cells
-              (candidate_without_ban turn pos.size pos.cells pos.ban here.ban p candidate),
-        )
+        grind (arith, cells_same Z pos here good sound same all,
+            many_same turn pos.size pos.cells here.cells pos.ban here.ban,
+            candidate_without_ban turn pos.size pos.cells pos.ban here.ban p candidate)
     by_other (Some q) is both =
         let its = close_to pos.size pos.cells turn.target in
         let close : SameOn its pos.cells here.cells = λ x inside.
@@ -425,13 +419,7 @@ module _ (n : ℕ) (node : Node) (pos : BoardState) (P Z : Points) (good : IsPos
 -- `.` shows a zone
 capture_shows : (node : Node) (pos : BoardState) (m : ℕ) (rest : List Word) (found : Proved) → IsPosition pos
     → node.turn.target < pos.size * pos.size → by_capture node pos rest ≡ Some found → IsZone m node pos (has found.zone)
-capture_shows node pos m rest found good on e = elim (cases_Bool (is_taken_for_good node pos)) [
-  | inl t ↦
-      let is : proved_by rest (loss_rests_on node pos) ≡ found =
-      (let w = sym (ap (λ v. cond v (Some (proved_by rest (loss_rests_on node pos))) None) t) ∙ e in cc) in
-      subst (λ (v : Proved). IsZone m node pos (has v.zone)) is (loss_zone node pos m good on t)
-  | inr f ↦ absurd (let wrong = sym (ap (λ v. cond v (Some (proved_by rest (loss_rests_on node pos))) None) f) ∙ e in cc)
-]
+capture_shows node pos m rest found good on e = grind (arith, cases_Bool, loss_zone)
 
 -- What each kind of proof shows, by a prover that is sound.
 module _ (n : ℕ) (prove : Prover) (sound : IsSound n prove) (node : Node) (pos : BoardState) (good : IsPosition pos)
@@ -551,11 +539,7 @@ pub proof_shows : (n : ℕ) → IsSound n (proves_surely n)
 unfolding proves_surely
 proof_shows zero node pos [] found good on e = absurd (let wrong = e in cc)
 proof_shows (suc n) node pos [] found good on e = absurd (let wrong = e in cc)
-proof_shows zero node pos (word ∷ rest) found good on e = elim (cases_Bool (bytes_eq word (codes "."))) [
-  | inl t ↦ capture_shows node pos zero rest found good on
-      (sym (ap (λ v. cond v (by_capture node pos rest) None) t) ∙ e)
-  | inr f ↦ absurd (let wrong = sym (ap (λ v. cond v (by_capture node pos rest) None) f) ∙ e in cc)
-]
+proof_shows zero node pos (word ∷ rest) found good on e = grind (arith, cases_Bool, capture_shows)
 proof_shows (suc n) node pos (word ∷ rest) found good on e = elim (cases_Bool (bytes_eq word (codes "."))) [
   | inl t ↦ capture_shows node pos (suc n) rest found good on
       (sym (ap (λ v. cond v (by_capture node pos rest) (by_turn (proves_surely n) node pos word rest)) t) ∙ e)

@@ -6,13 +6,11 @@ use Rattle.std.specs.FinSet as sets
 use Rattle.std.specs.Prelude.{IfSome, IfNone}
 use Rattle.std.proofs.lemmas.Bool.{lt-ltb}
 use Rattle.go_rules.specs.declared.Cell.{Cell}
-use Rattle.go_rules.specs.BesideStrings.{is_enemy, is_beside_string}
 use Rattle.go_rules.specs.Below.{any_below}
 use Rattle.go_rules.specs.Board.{largest_points, are_neighbours}
 use Rattle.go_rules.specs.declared.Cell.TheVariants.{Empty}
 use Rattle.go_rules.specs.declared.Colour.{Colour}
-use Rattle.go_rules.specs.Strings.{cell_at, same_cell, is_liberty, is_in_string, string_at, liberty_points}
-use Rattle.go_rules.specs.Strings.{liberties}
+use Rattle.go_rules.specs.Strings.{cell_at, same_cell, is_liberty, is_in_string, string_at, liberty_points, liberties}
 use Rattle.go_base.specs.Floods.{enemy_points}
 use Rattle.go_base.specs.Sides.{neighbour_at}
 use Rattle.read_rules.specs.Candidates.{is_empty_beside}
@@ -83,19 +81,14 @@ liberties_in s cells q = len-set_below (s * s) (is_liberty s cells q)
 pub beside_same : (s : ℕ) (cells : List Cell) (q p : ℕ)
     → any_below (s * s) (λ l. sets.contains (liberty_points s cells q) l && are_neighbours s l p)
     ≡ any_below (s * s) (λ l. is_liberty s cells q l && are_neighbours s l p)
-beside_same s cells q p = any_below_same (s * s) (λ l. sets.contains (liberty_points s cells q) l && are_neighbours s l p)
-    (λ l. is_liberty s cells q l && are_neighbours s l p)
-    (λ l on. ap (λ b. b && are_neighbours s l p) (in_liberties s cells q l on))
+beside_same s cells q p = grind (arith, any_below_same, in_liberties)
 
 -- a point of the board is empty and next to a liberty exactly if nothing stands there and a neighbour is in their set
 pub empty_beside : (s : ℕ) (cells : List Cell) (q p : ℕ) → p < s * s
     → is_empty_beside s cells (is_liberty s cells q) p ≡ (same_cell (cell_at cells p) Empty
     && any_below (s * s) (λ l. sets.contains (liberty_points s cells q) l && are_neighbours s l p))
 unfolding is_empty_beside
-empty_beside s cells q p on =
-    ap (λ b. b && same_cell (cell_at cells p) Empty
-    && any_below (s * s) (λ l. is_liberty s cells q l && are_neighbours s l p)) (lt-ltb p (s * s) on)
-    ∙ ap (λ v. same_cell (cell_at cells p) Empty && v) (sym (beside_same s cells q p))
+empty_beside s cells q p on = grind (arith, lt-ltb, beside_same)
 
 -- what shows whether a string is in atari, written out
 pub shows_is : (s : ℕ) (cells : List Cell) (Z : Points) (q : ℕ) → shows_atari s cells Z q
@@ -154,12 +147,7 @@ pub weak_by_set : (most s : ℕ) (cells : List Cell) (target q p : ℕ) (foes : 
     ≡ (sets.contains foes q && (leb (liberties s cells q) most && is_liberty s cells q p))
 unfolding is_weak_enemy
 weak_by_set most s cells target q p foes on e =
-    let enemy = is_enemy (cell_at cells target) (cell_at cells q) in
-    let beside = is_beside_string s cells target q in
-    let few = leb (liberties s cells q) most in
-    sym (three_grouped (enemy && beside) few (is_liberty s cells q p))
-    ∙ ap (λ b. b && (few && is_liberty s cells q p)) (both_swapped enemy beside
-    ∙ sym (has_enemy s cells target q foes e ∙ ap (λ b. b && (beside && enemy)) (lt-ltb q (s * s) on)))
+    grind (arith, has_enemy s cells target q foes e, lt-ltb q (s * s) on, three_grouped, both_swapped)
 
 -- The points of the board, one by one.
 module _ (most s : ℕ) (cells : List Cell) (target p : ℕ) where
@@ -188,9 +176,7 @@ pub linked_by_parts : (s : ℕ) (cells : List Cell) (target q p : ℕ)
     && not (is_in_string s cells target q))
     && (leb (liberties s cells q) few_of_parted && is_liberty s cells q p))
 unfolding is_linked
-linked_by_parts s cells target q p = sym (three_grouped ((same_cell (cell_at cells q) (cell_at cells target)
-    && any_below (s * s) (λ l. is_liberty s cells target l && are_neighbours s l q))
-    && not (is_in_string s cells target q)) (leb (liberties s cells q) few_of_parted) (is_liberty s cells q p))
+linked_by_parts s cells target q p = grind (arith, three_grouped)
 
 -- The points of the board, one by one.
 module _ (s : ℕ) (cells : List Cell) (target p : ℕ) where

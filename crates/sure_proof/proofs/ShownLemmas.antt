@@ -145,13 +145,7 @@ module _ (s : ℕ) (a b : List Cell) (q : ℕ) where
 
     -- and a liberty there is one here
     pub liberty_back_here : (l : ℕ) → IsLiberty s b q l → IsLiberty s a q l
-    liberty_back_here l lib =
-        let inside = string_back_here lib.beside.0 lib.beside.1 in
-        record {
-          on_board = lib.on_board;
-          is_empty = beside lib.beside.0 l inside lib.on_board lib.beside.2 ∙ lib.is_empty;
-          beside = (lib.beside.0, inside, lib.beside.2);
-        }
+    liberty_back_here l lib = grind (arith, string_back_here)
 
 -- on both boards the string of q has two liberties, or the same stones and the same liberties
 pub data IsShown (s : ℕ) (a b : List Cell) (q : ℕ) : Type 0 where
@@ -262,9 +256,7 @@ shown_all s a b q on stone agree = shown_close s a b q on stone agree
 in_string_at : (s : ℕ) (cells : List Cell) (q : ℕ) → q < s * s → (x : ℕ) → IsInString s cells q x
     → sets.contains (string_at s cells q) x ≡ true
 unfolding string_at
-in_string_at s cells q on x inside =
-    below_in (s * s) (is_in_string s cells q) x (path_on_board s cells q on inside.path)
-    (is_is_in_string-from_fact s cells q x on inside)
+in_string_at s cells q on x inside = grind (arith, below_in, path_on_board, is_is_in_string-from_fact)
 
 -- boards that agree on what shows whether a string is in atari show the same of it
 pub shown : (s : ℕ) (a b : List Cell) (Z : Points) (q : ℕ) → q < s * s → is_stone (cell_at a q) ≡ true

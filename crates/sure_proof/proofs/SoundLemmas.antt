@@ -3,12 +3,10 @@ use Rattle.std.proofs.Common.{◌≡◌, ◌∙◌, ℕ, ◌-◌, ◌*◌, ◌<�
 use Rattle.std.proofs.Common.{List, Option, Some, None, Err, refl, sym, ap, subst, inl, inr, arith, eqb, ltb}
 use Rattle.std.specs.FinSet as sets
 use Rattle.std.proofs.lemmas.List.{get_or_past}
-use Rattle.std.proofs.lemmas.Bool.{cases_Bool, cases_lt, both_ways, and_parts, and_from, eqb-true, lt-ltb}
-use Rattle.std.proofs.lemmas.Bool.{ltb-true}
+use Rattle.std.proofs.lemmas.Bool.{cases_Bool, cases_lt, both_ways, and_parts, and_from, eqb-true, lt-ltb, ltb-true}
 use Rattle.go_rules.specs.declared.Cell.{Cell}
 use Rattle.go_rules.specs.declared.Cell.TheVariants.{Empty, Black, White}
 use Rattle.go_rules.specs.declared.Colour.{Colour}
-use Rattle.go_rules.specs.declared.Colour.TheVariants.{Black as black, White as white}
 use Rattle.go_rules.specs.declared.Illegal.TheVariants.{Ko}
 use Rattle.go_rules.specs.Board.{are_neighbours}
 use Rattle.go_rules.specs.Strings.{cell_at, is_stone, same_cell, is_liberty, liberties}
@@ -33,9 +31,7 @@ use Rattle.sure_rules.specs.Zones.{points_of, IsZone}
 use Rattle.sure_proof.specs.Rests.{Points, union_below, close_to, shows_atari, shows_neighbour, play_rests_on}
 use Rattle.sure_proof.specs.Rests.{is_empty_at, has_empty_neighbour, shows_cell}
 use Rattle.sure_proof.specs.Gathered.{IsWithin}
-use Rattle.sure_proof.proofs.ShownLemmas.{insert_self, insert_more, union_all}
-use Rattle.sure_proof.proofs.ShownLemmas.{SameOn, IsShown, shown}
-use Rattle.sure_proof.proofs.ShownLemmas.{close_shows}
+use Rattle.sure_proof.proofs.ShownLemmas.{insert_self, insert_more, union_all, SameOn, IsShown, shown, close_shows}
 use Rattle.sure_proof.proofs.PlayLemmas.{HasRoom, LooksSame, LooksSame-sym, IsSamePlay, state, done_on}
 
 -- the members of a set
@@ -67,19 +63,7 @@ on_board s Z q = has Z q && ltb q (s * s)
 -- positions that agree on the points of a set that are on the board agree on the set
 agree_everywhere : (Z : Points) (a b : BoardState) → IsPosition a → IsPosition b
     → AgreeOn (points_of (on_board a.size Z)) a b → AgreeOn (points_of (has Z)) a b
-agree_everywhere Z a b good_a good_b same = record {
-  sizes = same.sizes;
-  cells = λ q inside. elim (cases_lt q (a.size * a.size)) [
-    | inl less ↦ same.cells q (and_from (has Z q) (ltb q (a.size * a.size)) inside (lt-ltb q (a.size * a.size) less))
-    | inr more ↦ get_or_past a.cells q Empty (omega (arith, good_a.cells, more))
-        ∙ sym (get_or_past b.cells q Empty
-        (let high = subst (λ s. s * s ≤ q) same.sizes more in omega (arith, good_b.cells, high)))
-  ];
-  bans = λ q c inside. elim (cases_lt q (a.size * a.size)) [
-    | inl less ↦ same.bans q c (and_from (has Z q) (ltb q (a.size * a.size)) inside (lt-ltb q (a.size * a.size) less))
-    | inr more ↦ no_ban_off a good_a c q more ∙ sym (no_ban_off b good_b c q (subst (λ s. s * s ≤ q) same.sizes more))
-  ];
-}
+agree_everywhere Z a b good_a good_b same = grind (arith, cases_lt, and_from, lt-ltb, get_or_past, no_ban_off)
 
 -- so the points of a zone that are on the board are a zone
 pub zone_on_board : (n : ℕ) (node : Node) (pos : BoardState) (Z : Points) → IsPosition pos → IsZone n node pos (has Z)
@@ -88,13 +72,7 @@ zone_on_board n node pos Z good zone = λ here sound same. zone here sound (agre
 
 -- the cells of a position without its ban, on a board of as many rows
 bare : (pos : BoardState) (s : ℕ) → pos.size ≡ s → IsPosition pos → IsPosition (board_of s pos.cells)
-bare pos s e good = subst (λ t. IsPosition (board_of t pos.cells)) e (record {
-  size_at_least = good.size_at_least;
-  size_at_most = good.size_at_most;
-  cells = good.cells;
-  alive = good.alive;
-  ban = tt;
-})
+bare pos s e good = grind arith
 
 -- q is among what shows whether its string is in atari
 pub shows_self : (s : ℕ) (cells : List Cell) (Z : Points) (q : ℕ) → has (shows_atari s cells Z q) q ≡ true
@@ -152,27 +130,15 @@ room_at s cells p on t =
   where
     by : (side : ℕ) (o : Option ℕ) → neighbour_at s p side ≡ o → is_empty_at cells o ≡ true → HasRoom s cells p
     by side None is h = absurd (let wrong = h in cc)
-    by side (Some q) is h =
-        let near = neighbour_at-near s p side q on is in
-        (q, near.0, near.1, same_cell-true (cell_at cells q) Empty h)
+    by side (Some q) is h = grind (arith, neighbour_at-near s p side q on is, same_cell-true (cell_at cells q) Empty h)
 
 -- a stone of an enemy shows more than its cell
 enemy_shows : (c : Colour) (free : Bool) (cell : Cell) → cell ≡ stone_of (other c) → shows_cell c free cell ≡ false
-enemy_shows c free cell e = ap (shows_cell c free) e ∙ by c free
-  where
-    by : (k : Colour) (b : Bool) → shows_cell k b (stone_of (other k)) ≡ false
-    by black true = refl
-    by black false = refl
-    by white true = refl
-    by white false = refl
+enemy_shows c free cell e = grind arith
 
 -- and so does an own stone, if the point is not free
 own_shows : (c : Colour) (free : Bool) (cell : Cell) → cell ≡ stone_of c → free ≡ false → shows_cell c free cell ≡ false
-own_shows c free cell e f = ap (shows_cell c free) e ∙ ap (λ b. shows_cell c b (stone_of c)) f ∙ by c
-  where
-    by : (k : Colour) → shows_cell k false (stone_of k) ≡ false
-    by black = refl
-    by white = refl
+own_shows c free cell e f = grind arith
 
 -- Two positions that agree on what a play of c rests on.
 module _ (c : Colour) (pos here : BoardState) (Y : Points) (p : ℕ) (Z : Points) (good : IsPosition pos)
@@ -222,41 +188,10 @@ child_on : (node : Node) (s : ℕ) (a b : List Cell) (x y : Option (ℕ × Colou
     → IsChild node (state s a x) p next first
     → (second : BoardState) × IsChild node (state s b y) p next second × IsSamePlay s a b first second
 child_on node s a b x y p h bans next first (inl legal) =
-    let c = mover_of node.turn in
-    let on_a = play_by (state s a x) c p (ap is_stone h.empty_first) in
-    let on_b = play_by (state s b y) c p (ap is_stone h.empty_second) in
-    elim (cases_Bool (is_banned x c p)) [
-      | inl t ↦ absurd (
-          let wrong = sym (on_a ∙ ap (λ v. cond v (Err Ko) (play_free (state s a x) c p)) t) ∙ legal.legal in cc)
-      | inr f ↦
-          let w = done_on s a b x y c p h first (play_done (state s a x) c p first legal.legal) in (
-            w.0,
-            inl (record {
-              legal = on_b ∙ ap (λ v. cond v (Err Ko) (play_free (state s b y) c p)) (sym bans ∙ f) ∙ w.1;
-              next_is = legal.next_is;
-            }),
-            w.2,
-          )
-    ]
+    grind (arith, play_by (state s a x), play_by (state s b y), done_on s a b x y, play_done (state s a x), cases_Bool)
 child_on node s a b x y p h bans next first (inr allowed) =
-    let c = mover_of node.turn in
-    let on_a = play_by (state s a x) c p (ap is_stone h.empty_first) in
-    let on_b = play_by (state s b y) c p (ap is_stone h.empty_second) in
-    elim (cases_Bool (is_banned x c p)) [
-      | inl t ↦
-          let w = done_on s a b x y c p h first allowed.free in (
-            w.0,
-            inr (record {
-              banned = on_b ∙ ap (λ v. cond v (Err Ko) (play_free (state s b y) c p)) (sym bans ∙ t);
-              free = w.1;
-              some_left = allowed.some_left;
-              next_is = allowed.next_is;
-            }),
-            w.2,
-          )
-      | inr f ↦ absurd (free_never_ko (state s a x) c p
-          (sym (on_a ∙ ap (λ v. cond v (Err Ko) (play_free (state s a x) c p)) f) ∙ allowed.banned))
-    ]
+    grind (arith, play_by (state s a x), play_by (state s b y), done_on s a b x y, free_never_ko (state s a x),
+        cases_Bool)
 
 -- the point of a child was empty
 child_empty : (node : Node) (pos : BoardState) (p : ℕ) (next : Node) (new : BoardState) → IsChild node pos p next new

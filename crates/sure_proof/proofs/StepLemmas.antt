@@ -39,16 +39,13 @@ module _ (node : Node) (pos : BoardState) (words : List Word) where
     pub capture_word : (n : ℕ) → bytes_eq word (codes ".") ≡ true
         → proves_surely n node pos words ≡ by_capture node pos rest
     unfolding proves_surely
-    capture_word zero is = ap (proves_surely zero node pos) first
-        ∙ ap (λ b. cond b (by_capture node pos rest) None) is
-    capture_word (suc n) is = ap (proves_surely (suc n) node pos) first
-        ∙ ap (λ b. cond b (by_capture node pos rest) (by_turn (proves_surely n) node pos word rest)) is
+    capture_word zero is = grind arith
+    capture_word (suc n) is = grind arith
 
     -- if it is another word, a ply must be left
     pub out_of_plies : (n : ℕ) → bytes_eq word (codes ".") ≡ false → n ≡ 0 → proves_surely n node pos words ≡ None
     unfolding proves_surely
-    out_of_plies zero is none = ap (proves_surely zero node pos) first
-        ∙ ap (λ b. cond b (by_capture node pos rest) None) is
+    out_of_plies zero is none = grind arith
     out_of_plies (suc n) is none = absurd (let wrong = none in cc)
 
     -- and it says what its side does
@@ -66,10 +63,7 @@ module _ (node : Node) (pos : BoardState) (words : List Word) where
 none_passes : (g : ℕ → Bool) (m a : ℕ) → ((k : ℕ) → a ≤ k → k < a + m → g k ≡ false)
     → filter g (range_with_len a m) ≡ []
 none_passes g zero a none = refl
-none_passes g (suc m) a none =
-    ap (λ b. cond b (a ∷ filter g (range_with_len (a + 1) m)) (filter g (range_with_len (a + 1) m)))
-    (none a (omega arith) (omega arith))
-    ∙ none_passes g m (a + 1) (λ k lo hi. none k (omega (arith, lo)) (omega (arith, hi)))
+none_passes g (suc m) a none = grind (arith, none_passes g m (a + 1))
 
 -- The replies from a number on, of those below n that pass the test.
 module _ (prove : Prover) (node : Node) (pos : BoardState) (g : ℕ → Bool) (n a : ℕ) (so_far : Proved)
@@ -96,9 +90,7 @@ module _ (prove : Prover) (node : Node) (pos : BoardState) (g : ℕ → Bool) (n
     -- if it is proved they are what is left
     pub replies_on : (found : Proved) → at_reply prove node pos p (child_of node pos p) so_far ≡ Some found
         → at_replies prove node pos (filter g (range_with_len (p + 1) (n - (p + 1)))) found ≡ whole
-    replies_on found e =
-        sym (ap (option_and_then (at_replies prove node pos (filter g (range_with_len (p + 1) (n - (p + 1)))))) e)
-        ∙ replies_split
+    replies_on found e = grind (arith, replies_split)
 
     -- if it is not, nothing is
     pub replies_fail : at_reply prove node pos p (child_of node pos p) so_far ≡ None → whole ≡ None
@@ -147,17 +139,13 @@ module _ (prove : Prover) (node : Node) (pos : BoardState) (word : Word) (o : Op
     -- nor does the vertex behind which no proof comes
     pub back_fails : is_to (target_named pos.size word) (target_of node) ≡ true
         → prove child.0 child.1 words ≡ None → by_back prove node pos word o words ≡ None
-    back_fails t e = named
-        ∙ ap (λ b. cond b (option_map (with_points (loss_rests_on node pos)) (prove child.0 child.1 words)) None) t
-        ∙ ap (option_map (with_points (loss_rests_on node pos))) e
+    back_fails t e = grind (arith, named)
 
     -- with a proof behind it, it rests on its points and on those of that proof
     pub back_holds : is_to (target_named pos.size word) (target_of node) ≡ true → (rest : List Word) (zone : Points)
         → prove child.0 child.1 words ≡ Some (proved_by rest zone)
         → by_back prove node pos word o words ≡ Some (proved_by rest (sets.union (loss_rests_on node pos) zone))
-    back_holds t rest zone e = named
-        ∙ ap (λ b. cond b (option_map (with_points (loss_rests_on node pos)) (prove child.0 child.1 words)) None) t
-        ∙ ap (option_map (with_points (loss_rests_on node pos))) e
+    back_holds t rest zone e = grind (arith, named)
 
 -- The proof of the node after a reply.
 module _ (prove : Prover) (node : Node) (pos : BoardState) (p : ℕ) (o : Option (Node × BoardState)) (words : List Word)
@@ -176,18 +164,14 @@ module _ (prove : Prover) (node : Node) (pos : BoardState) (p : ℕ) (o : Option
     -- and behind that a proof
     pub reply_fails : (left : List Word) → behind_vertex pos.size p words ≡ Some left
         → prove child.0 child.1 left ≡ None → at_reply prove node pos p o (proved_by words Z) ≡ None
-    reply_fails left e none = ap (λ v. at_reply prove node pos p v (proved_by words Z)) is
-        ∙ ap (λ v. option_map (with_reply node pos p Z) (option_and_then (prove child.0 child.1) v)) e
-        ∙ ap (option_map (with_reply node pos p Z)) none
+    reply_fails left e none = grind arith
 
     -- on whose points it rests too
     pub reply_holds : (left rest : List Word) (zone : Points) → behind_vertex pos.size p words ≡ Some left
         → prove child.0 child.1 left ≡ Some (proved_by rest zone)
         → at_reply prove node pos p o (proved_by words Z)
         ≡ Some (proved_by rest (with_move node pos p (sets.union Z zone)))
-    reply_holds left rest zone e holds = ap (λ v. at_reply prove node pos p v (proved_by words Z)) is
-        ∙ ap (λ v. option_map (with_reply node pos p Z) (option_and_then (prove child.0 child.1) v)) e
-        ∙ ap (option_map (with_reply node pos p Z)) holds
+    reply_holds left rest zone e holds = grind arith
 
 -- The proof at the defender's turn.
 module _ (prove : Prover) (node : Node) (pos : BoardState) (words : List Word) where

@@ -1,10 +1,9 @@
 -- A sure capture stands against every defence.
-use Rattle.std.proofs.Common.{◌≡◌, ◌≢◌, ℕ, zero, suc, ◌+◌, ◌-◌, ◌≤◌, true, not, cond, List, [], ◌∷◌, length}
+use Rattle.std.proofs.Common.{◌≡◌, ◌≢◌, ℕ, zero, suc, ◌+◌, ◌-◌, ◌≤◌, true, cond, List, [], ◌∷◌, length}
 use Rattle.std.proofs.Common.{refl, sym, ap, subst, ◌∙◌, arith, inl, inr}
 use Rattle.std.proofs.lemmas.Bool.{cases_Bool, not-false}
 use Rattle.go_rules.specs.declared.Colour.{Colour}
 use Rattle.go_rules.specs.Position.{BoardState, other}
-use Rattle.go_rules.specs.Play.{pass}
 use Rattle.read_rules.specs.declared.node.Node.{Node}
 use Rattle.read_rules.specs.declared.question.Kind.{Kind}
 use Rattle.read_rules.specs.declared.question.Kind.TheVariants.{Attack, Defend}
@@ -13,7 +12,7 @@ use Rattle.read_rules.specs.declared.question.Spot.{Spot}
 use Rattle.read_rules.specs.declared.question.Spot.TheVariants.{At}
 use Rattle.read_rules.specs.declared.tree.Tree.{Tree}
 use Rattle.read_rules.specs.GameTree.{allowance_of, next_node}
-use Rattle.read_rules.specs.Answer.{is_attack, first_node, is_about}
+use Rattle.read_rules.specs.Answer.{first_node, is_about}
 use Rattle.read_rules.specs.Rules.{IsChild}
 use Rattle.read_rules.proofs.AreaWords.{asked_as}
 use Rattle.read_rules.proofs.CandidateLaws.{candidate_on}
@@ -41,15 +40,7 @@ record IsLost (n : ℕ) (node : Node) (there : Standing) : Type 0 where
 -- if every reply fails, so does each move that the defender may make
 reply_fails : (n : ℕ) (node : Node) (pos : BoardState) → EveryReplyFails n node pos
     → (spot : Spot) (there : Standing) → IsMove (standing_at node pos) spot there → IsLost n node there
-reply_fails n node pos every spot there passes = record {
-  next = next_node node (allowance_of node);
-  new = pass pos;
-  standing = stands_next node pos (pass pos) (allowance_of node);
-  tree = refl;
-  target = refl;
-  defender = refl;
-  sure = every.passed;
-}
+reply_fails n node pos every spot there passes = grind (arith, stands_next)
 reply_fails n node pos every spot there (plays p new on legal) =
     let next = next_node node (allowance_of node) in
     let child : IsChild node pos p next new = inl (record { legal = legal; next_is = refl }) in
@@ -86,12 +77,7 @@ record IsAboutIn (tree : Tree) (target : ℕ) (defender : Colour) (node : Node) 
 about_child : (tree : Tree) (target : ℕ) (defender : Colour) (node : Node) (pos : BoardState) (p : ℕ) (next : Node)
     → (new : BoardState) → IsAboutIn tree target defender node → IsChild node pos p next new
     → IsAboutIn tree target defender next
-about_child tree target defender node pos p next new about child =
-    let same = child_target node pos p next new child in record {
-      its_tree = same.2 ∙ about.its_tree;
-      its_target = same.0 ∙ about.its_target;
-      its_defender = same.1 ∙ about.its_defender;
-    }
+about_child tree target defender node pos p next new about child = grind (arith, child_target)
 
 -- Games in which the defender of a colour answers by a reply.
 module _ (tree : Tree) (target : ℕ) (defender : Colour) (start : Standing) (reply : List Spot → Spot)
@@ -164,27 +150,18 @@ pub question_taken : (q : ReadingQuestion) (pos : BoardState) (code : ℕ)
     → surely_wins q.plies (first_node q code) pos ≡ true
     → IsTakenAnyway q.tree q.plies q.target q.colour (start_of q pos code)
 question_taken q pos code sure =
-    subst (IsTakenAnyway q.tree q.plies q.target q.colour) (start_is q pos code q.kind)
-    (taken_anyway q.plies (first_node q code) pos sure)
+    grind (arith, start_is q pos code q.kind, taken_anyway q.plies (first_node q code) pos sure)
 
 -- what is surely captured if an attack has a sure code
 pub attack_sure : (q : ReadingQuestion) (pos : BoardState) → q.kind ≡ Attack → sure_code_of q pos ≢ 0
     → surely_wins q.plies (first_node q (sure_code_of q pos)) pos ≡ true
-attack_sure q pos kind some = elim (cases_Bool (is_about q pos)) [
-  | inr f ↦ absurd (some (sure_code_another q pos f))
-  | inl about ↦
-      let sure = surely_wins q.plies (first_node q (sure_code_of q pos)) pos in
-      sym (ap (λ b. cond b sure (not sure)) (ap is_attack kind)) ∙ (sure_code_greatest q pos about).attained some
-]
+attack_sure q pos kind some = grind (arith, cases_Bool, sure_code_another, sure_code_greatest)
 
 -- and under each code if a string is surely not to be saved
 pub defence_sure : (q : ReadingQuestion) (pos : BoardState) → is_about q pos ≡ true → q.kind ≡ Defend
     → sure_code_of q pos ≡ 0 → (code : ℕ) → 1 ≤ code → code ≤ 3
     → surely_wins q.plies (first_node q code) pos ≡ true
-defence_sure q pos about kind none code lo hi =
-    let sure = surely_wins q.plies (first_node q code) pos in
-    not-false sure (sym (ap (λ b. cond b sure (not sure)) (ap is_attack kind))
-    ∙ (sure_code_greatest q pos about).greatest code (omega (arith, none, lo)) hi)
+defence_sure q pos about kind none code lo hi = grind (arith, not-false, sure_code_greatest)
 
 -- a sure attack takes the target against every defence
 pub attack_taken : (q : ReadingQuestion) (pos : BoardState) → q.kind ≡ Attack → sure_code_of q pos ≢ 0
@@ -195,5 +172,4 @@ attack_taken q pos kind some = question_taken q pos (sure_code_of q pos) (attack
 pub defence_taken : (q : ReadingQuestion) (pos : BoardState) → is_about q pos ≡ true → q.kind ≡ Defend
     → sure_code_of q pos ≡ 0 → (code : ℕ) → 1 ≤ code → code ≤ 3
     → IsTakenAnyway q.tree q.plies q.target q.colour (start_of q pos code)
-defence_taken q pos about kind none code lo hi =
-    question_taken q pos code (defence_sure q pos about kind none code lo hi)
+defence_taken q pos about kind none code lo hi = grind (arith, question_taken, defence_sure)

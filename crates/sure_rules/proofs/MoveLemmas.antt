@@ -1,5 +1,6 @@
 -- Moves of a game about a node's target are plays at the node.
 use Rattle.std.proofs.Common.{◌≡◌, ℕ, ◌-◌, ◌*◌, ◌<◌, Bool, true, false, not, cond, refl, sym, ap, subst, ◌∙◌, inl, inr}
+use Rattle.std.proofs.Common.{arith}
 use Rattle.go_rules.specs.declared.Colour.{Colour}
 use Rattle.go_rules.specs.declared.Colour.TheVariants.{Black, White}
 use Rattle.go_rules.specs.Position.{BoardState, other}
@@ -34,8 +35,7 @@ sides false White a d left new = refl
 -- where the two sides stand after a move is where they stand at the next node
 pub stands_next : (node : Node) (pos new : BoardState) (left : ℕ)
     → standing_at (next_node node left) new ≡ turned (standing_at node pos) new left
-stands_next node pos new left =
-    sides node.turn.attacker_to_play node.turn.defender node.attacker_ko node.defender_ko left new
+stands_next node pos new left = grind (arith, sides)
 
 -- a play that can be made at a node is a move from where the two sides stand
 pub child_is_move : (node : Node) (pos : BoardState) (p : ℕ) (next : Node) (new : BoardState) → p < pos.size * pos.size
@@ -53,10 +53,8 @@ child_is_move node pos p next new on (inr w) =
 pub child_target : (node : Node) (pos : BoardState) (p : ℕ) (next : Node) (new : BoardState) → IsChild node pos p next new
     → (target_of next ≡ target_of node) × (defender_of next ≡ defender_of node)
     × (next.turn.tree ≡ node.turn.tree)
-child_target node pos p next new (inl w) =
-    (ap target_of w.next_is, ap defender_of w.next_is, ap (λ (m : Node). m.turn.tree) w.next_is)
-child_target node pos p next new (inr w) =
-    (ap target_of w.next_is, ap defender_of w.next_is, ap (λ (m : Node). m.turn.tree) w.next_is)
+child_target node pos p next new (inl w) = grind arith
+child_target node pos p next new (inr w) = grind arith
 
 -- no colour is its other
 other_differs : (c : Colour) → other c ≡ c → ⊥

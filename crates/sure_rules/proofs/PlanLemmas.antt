@@ -3,13 +3,13 @@ use Rattle.std.proofs.Common.{◌≡◌, ◌≢◌, ℕ, suc, ◌+◌, ◌-◌, 
 use Rattle.std.proofs.Common.{length, Option, Some, None, refl, sym, ap, subst, ◌∙◌, arith}
 use Rattle.go_rules.specs.declared.Colour.{Colour}
 use Rattle.go_rules.specs.Position.{BoardState, other}
-use Rattle.go_rules.specs.Play.{pass}
 use Rattle.read_rules.specs.declared.node.Node.{Node}
 use Rattle.read_rules.specs.declared.question.Kind.TheVariants.{Attack, Defend}
 use Rattle.read_rules.specs.declared.question.ReadingQuestion.{ReadingQuestion}
 use Rattle.read_rules.specs.declared.question.Spot.{Spot}
 use Rattle.read_rules.specs.declared.question.Spot.TheVariants.{At, Pass}
 use Rattle.read_rules.specs.declared.tree.Tree.{Tree}
+use Rattle.go_rules.specs.Play.{pass}
 use Rattle.read_rules.specs.GameTree.{child_of, some_child, allowance_of, next_node}
 use Rattle.read_rules.specs.Answer.{first_node, is_about}
 use Rattle.read_rules.specs.Rules.{IsChild}
@@ -24,8 +24,7 @@ use Rattle.sure_rules.proofs.SureLemmas.{tried_on}
 use Rattle.sure_rules.proofs.SureMoves.{first_sure_there}
 use Rattle.sure_rules.proofs.MoveLemmas.{child_is_move, child_target, moved_child, moved_pass, attackers_by, defenders_by}
 use Rattle.sure_rules.proofs.TakenLemmas.{not_taken_for_good, some_ply_left, stands_at_attackers, every_reply_fails}
-use Rattle.sure_rules.proofs.DefenceLemmas.{start_is}
-use Rattle.sure_rules.proofs.DefenceLemmas.{attack_sure, defence_sure}
+use Rattle.sure_rules.proofs.DefenceLemmas.{start_is, attack_sure, defence_sure}
 
 -- the plies that are left, the node and its position
 record Stage : Type 0 where
@@ -251,5 +250,4 @@ attack_plan q pos kind some = question_plan q pos (sure_code_of q pos) (attack_s
 pub defence_plan : (q : ReadingQuestion) (pos : BoardState) → is_about q pos ≡ true → q.kind ≡ Defend
     → sure_code_of q pos ≡ 0 → (code : ℕ) → 1 ≤ code → code ≤ 3
     → HasPlanWithin q.tree q.plies q.target q.colour (start_of q pos code)
-defence_plan q pos about kind none code lo hi =
-    question_plan q pos code (defence_sure q pos about kind none code lo hi)
+defence_plan q pos about kind none code lo hi = grind (arith, question_plan, defence_sure)

@@ -1,23 +1,22 @@
 -- A sure capture stays sure with more plies, with further candidates of the attacker in the same tree, and with fewer
 -- allowances of the defender.
-use Rattle.std.proofs.Common.{◌≡◌, ◌⊎◌, ℕ, zero, suc, ◌-◌, ◌<◌, ◌≤◌, Bool, true, false, not, ◌&&◌, ◌||◌, cond}
+use Rattle.std.proofs.Common.{◌≡◌, ◌⊎◌, ℕ, zero, suc, ◌-◌, ◌≤◌, Bool, true, false, not, ◌&&◌, cond}
 use Rattle.std.proofs.Common.{Some, refl, sym, ap, ◌∙◌, arith, inl, inr, subst, ltb}
 use Rattle.std.proofs.lemmas.Bool.{cases_Bool, and_parts, and_from, both_ways, or_cases, or_left, or_right}
 use Rattle.std.proofs.lemmas.Bool.{lt-ltb, ltb-true}
 use Rattle.go_rules.specs.declared.Colour.{Colour}
 use Rattle.go_rules.specs.Board.{are_neighbours}
-use Rattle.go_rules.specs.Strings.{cell_at, liberties, is_liberty}
+use Rattle.go_rules.specs.Strings.{cell_at}
 use Rattle.go_rules.specs.Position.{BoardState, other, stone_of}
 use Rattle.go_rules.specs.Play.{play, play_free, pass}
-use Rattle.go_base.specs.Surroundings.{is_last_liberty_of_enemy}
-use Rattle.wider_rules.specs.Further.{is_further_always, is_further_wide, is_further}
+use Rattle.wider_rules.specs.Further.{is_further}
 use Rattle.read_rules.specs.Candidates.{is_candidate}
 use Rattle.read_rules.specs.declared.node.Node.{Node}
 use Rattle.read_rules.specs.declared.turn.Turn.{Turn}
 use Rattle.read_rules.specs.declared.tree.Tree.{Tree}
 use Rattle.read_rules.specs.declared.tree.Tree.TheVariants.{Stated, Wider}
 use Rattle.read_rules.specs.Trees.{is_wider, most_narrow}
-use Rattle.read_rules.specs.Stages.{is_wide_by_liberties, is_later_candidate}
+use Rattle.read_rules.specs.Stages.{is_later_candidate}
 use Rattle.read_rules.proofs.StageLemmas.{candidate_stages}
 use Rattle.read_rules.specs.GameTree.{is_captured, has_many_liberties, allowance_of, next_node, taking_back}
 use Rattle.read_rules.specs.Turns.{mover_of}
@@ -42,20 +41,8 @@ most_as_wide Wider larger (inr e) = subst (λ t. 4 ≤ most_narrow t) (sym e) (o
 -- with more wide plies, or in the wider tree, no target has too many liberties that had few enough
 pub few_stay : (small large : Turn) (pos : BoardState) → large.target ≡ small.target → IsAsWide small.tree large.tree
     → small.wide ≤ large.wide → has_many_liberties small pos ≡ false → has_many_liberties large pos ≡ false
-few_stay small large pos same as_wide more few = elim (cases_Bool (has_many_liberties large pos)) [
-  | inr f ↦ f
-  | inl many ↦ absurd (both_ways (has_many_liberties small pos) few (many_from small pos
-      (elim (many_gives large pos many) [
-        | inl above ↦ inl (subst (λ t. 4 < liberties pos.size pos.cells t) same above)
-        | inr w ↦ inr (
-          omega (arith, more, w.0),
-          let most = most_as_wide small.tree large.tree as_wide in
-              let over : most_narrow large.tree < liberties pos.size pos.cells small.target =
-              subst (λ t. most_narrow large.tree < liberties pos.size pos.cells t) same w.1 in
-              omega (arith, most, over),
-        )
-      ])))
-]
+few_stay small large pos same as_wide more few =
+    grind (arith, cases_Bool, both_ways, many_from, many_gives, most_as_wide)
 
 -- the further candidates are there in the wider tree alone
 further_stay : (tree larger : Tree) (x : Bool) → IsAsWide tree larger → (is_wider tree && x) ≡ true
@@ -71,14 +58,7 @@ more_wide few many more h = lt-ltb 0 many (let some = ltb-true 0 few h in omega 
 further_with_more : (few many side : Bool) (pos : BoardState) (target p : ℕ) → (few ≡ true → many ≡ true)
     → is_further few side pos.size pos.cells target p ≡ true → is_further many side pos.size pos.cells target p ≡ true
 unfolding is_further
-further_with_more few many side pos target p more h =
-    let always = is_further_always side pos.size pos.cells target p in
-    let wide = is_further_wide side pos.size pos.cells target p in
-    elim (or_cases always (few && wide) h) [
-      | inl a ↦ or_left always (many && wide) a
-      | inr w ↦ let parts = and_parts few wide w in
-          or_right always (many && wide) (and_from many wide (more parts.0) parts.1)
-    ]
+further_with_more few many side pos target p more h = grind (arith, or_cases, or_left, and_parts, or_right, and_from)
 
 -- a later candidate is one with more wide plies and in the wider tree too
 later_stays : (small large : Turn) (pos : BoardState) (p : ℕ) → large.target ≡ small.target
@@ -86,40 +66,14 @@ later_stays : (small large : Turn) (pos : BoardState) (p : ℕ) → large.target
     → is_later_candidate small pos p ≡ true → is_later_candidate large pos p ≡ true
 unfolding is_later_candidate
 later_stays small large pos p same side as_wide more h =
-    let less = ltb 0 small.wide in
-    let many = ltb 0 large.wide in
-    let still = more_wide small.wide large.wide more in
-    let near : ℕ → Bool = λ t. is_wide_by_liberties pos t p in
-    let further : Bool → Bool → ℕ → Bool = λ w b t. is_further w b pos.size pos.cells t p in
-    let here = further less small.attacker_to_play small.target in
-    let there = further many small.attacker_to_play small.target in
-    ap (λ t. (many && near t) || (is_wider large.tree && further many large.attacker_to_play t)) same
-    ∙ ap (λ b. (many && near small.target) || (is_wider large.tree && further many b small.target)) side
-    ∙ elim (or_cases (less && near small.target) (is_wider small.tree && here) h) [
-      | inl n ↦ let parts = and_parts less (near small.target) n in
-          or_left (many && near small.target) (is_wider large.tree && there)
-          (and_from many (near small.target) (still parts.0) parts.1)
-      | inr f ↦ let parts = and_parts (is_wider small.tree) here f in
-          or_right (many && near small.target) (is_wider large.tree && there)
-          (further_stay small.tree large.tree there as_wide (and_from (is_wider small.tree) there parts.0
-          (further_with_more less many small.attacker_to_play pos small.target p still parts.1)))
-    ]
+    grind (arith, more_wide, or_cases, and_parts, or_left, and_from, or_right, further_stay, further_with_more)
 
 -- a candidate is one with more wide plies and in the wider tree too
 pub candidate_stays : (small large : Turn) (pos : BoardState) (p : ℕ) → large.target ≡ small.target
     → large.attacker_to_play ≡ small.attacker_to_play → IsAsWide small.tree large.tree → small.wide ≤ large.wide
     → is_candidate small pos p ≡ true → is_candidate large pos p ≡ true
 candidate_stays small large pos p same side as_wide more h =
-    let near : ℕ → Bool =
-    λ t. is_liberty pos.size pos.cells t p || is_last_liberty_of_enemy pos.size pos.cells t p in
-    let less = is_later_candidate small pos p in
-    let later = is_later_candidate large pos p in
-    candidate_stages large pos p
-    ∙ ap (λ t. near t || later) same
-    ∙ elim (or_cases (near small.target) less (sym (candidate_stages small pos p) ∙ h)) [
-      | inl n ↦ or_left (near small.target) later n
-      | inr l ↦ or_right (near small.target) later (later_stays small large pos p same side as_wide more l)
-    ]
+    grind (arith, candidate_stages, or_cases, or_left, or_right, later_stays)
 
 -- of two choices by the same test the one is at most the other if each of its parts is
 le_chosen : (a b : Bool) (x y v w : ℕ) → b ≡ a → (a ≡ true → x ≤ v) → (a ≡ false → y ≤ w) → cond a x y ≤ cond b v w
@@ -295,12 +249,4 @@ stays_sure (suc n) (suc m) node more pos plies h sure = elim (cases_Bool (is_gon
 
 -- a node gives the attacker at least as much as itself
 pub no_harder-refl : (node : Node) → IsNoHarder node node
-no_harder-refl node = record {
-  target = refl;
-  defender = refl;
-  turn = refl;
-  tree = refl;
-  wide = omega arith;
-  attacker_ko = omega arith;
-  defender_ko = omega arith;
-}
+no_harder-refl node = grind arith

@@ -7,7 +7,7 @@ use Rattle.read_rules.specs.declared.question.Kind.{Kind}
 use Rattle.read_rules.specs.declared.question.Kind.TheVariants.{Attack, Defend}
 use Rattle.read_rules.specs.declared.question.Spot.{Spot}
 use Rattle.read_rules.specs.declared.question.ReadingQuestion.{ReadingQuestion}
-use Rattle.read_rules.specs.GameTree.{is_captured, attacker_wins}
+use Rattle.read_rules.specs.GameTree.{is_captured}
 use Rattle.read_rules.specs.Answer.{is_attack, first_node, is_about, code_of, attains_code}
 use Rattle.read_rules.specs.Rules.{node_under}
 use Rattle.read_rules.proofs.AnswerLemmas.{about_stands}
@@ -56,16 +56,7 @@ defend_attains q pos kind = defend_codes q pos q.kind kind
 -- with at least as much for the attacker, and at most as much for the defender, a sure capture stays
 under_stays : (q : ReadingQuestion) (pos : BoardState) (a d x y : ℕ) → a ≤ x → y ≤ d
     → sure_under q pos a d ≡ true → sure_under q pos x y ≡ true
-under_stays q pos a d x y attacks defends sure =
-    stays_sure q.plies q.plies (node_under q a d) (node_under q x y) pos (omega arith) (record {
-      target = refl;
-      defender = refl;
-      turn = refl;
-      tree = refl;
-      wide = omega arith;
-      attacker_ko = attacks;
-      defender_ko = defends;
-    }) sure
+under_stays q pos a d x y attacks defends sure = grind (arith, stays_sure)
 
 -- what is not so before is not so after
 not_before : (a b : Bool) → (a ≡ true → b ≡ true) → not b ≡ true → not a ≡ true
@@ -75,24 +66,12 @@ not_before false b h n = refl
 -- a question that attains code 3 attains code 2
 pub three_gives_two : (q : ReadingQuestion) (pos : BoardState) → surely_attains q pos 3 ≡ true
     → surely_attains q pos 2 ≡ true
-three_gives_two q pos h = by (q.kind) refl
-  where
-    by : (kind : Kind) → q.kind ≡ kind → surely_attains q pos 2 ≡ true
-    by Attack e = let w = attack_attains q pos e in
-        w.1 ∙ under_stays q pos 0 1 0 0 (omega arith) (omega arith) (sym w.0 ∙ h)
-    by Defend e = let w = defend_attains q pos e in
-        w.1 ∙ not_before _ _ (under_stays q pos 0 0 1 0 (omega arith) (omega arith)) (sym w.0 ∙ h)
+three_gives_two q pos h = grind (arith, attack_attains, under_stays, defend_attains, not_before)
 
 -- a question that attains code 2 attains code 1
 pub two_gives_one : (q : ReadingQuestion) (pos : BoardState) → surely_attains q pos 2 ≡ true
     → surely_attains q pos 1 ≡ true
-two_gives_one q pos h = by (q.kind) refl
-  where
-    by : (kind : Kind) → q.kind ≡ kind → surely_attains q pos 1 ≡ true
-    by Attack e = let w = attack_attains q pos e in
-        w.2 ∙ under_stays q pos 0 0 1 0 (omega arith) (omega arith) (sym w.1 ∙ h)
-    by Defend e = let w = defend_attains q pos e in
-        w.2 ∙ not_before _ _ (under_stays q pos 0 1 0 0 (omega arith) (omega arith)) (sym w.1 ∙ h)
+two_gives_one q pos h = grind (arith, attack_attains, under_stays, defend_attains, not_before)
 
 -- a code is the greatest from 1 to 3 that passes a test
 record IsGreatest (test : ℕ → Bool) (code : ℕ) : Type 0 where
@@ -103,39 +82,28 @@ record IsGreatest (test : ℕ → Bool) (code : ℕ) : Type 0 where
 -- more than 0 is 1, 2 or 3
 above_zero : (test : ℕ → Bool) → test 3 ≡ false → test 2 ≡ false → test 1 ≡ false → (more : ℕ) → 0 < more → more ≤ 3
     → test more ≡ false
-above_zero test t3 t2 t1 more lo hi = elim (cases_eq more 1) [
-  | inl e ↦ ap test e ∙ t1
-  | inr ne ↦ above_one test t3 t2 more (omega arith) hi
-]
+above_zero test t3 t2 t1 more lo hi = grind (arith, cases_eq, above_one)
 
 -- the code that is chosen from three to one is the greatest that passes
 greatest_by : (about three two one : Bool) (test : ℕ → Bool) → about ≡ true → test 3 ≡ three → test 2 ≡ two
     → test 1 ≡ one
     → IsGreatest test (cond (not about) 0 (cond three 3 (cond two 2 (cond one 1 0))))
 greatest_by false three two one test a t3 t2 t1 = absurd (let w = a in cc)
-greatest_by true true two one test a t3 t2 t1 =
-    record { bounded = omega arith; attained = λ _. t3; greatest = λ more lo hi. absurd (omega arith) }
-greatest_by true false true one test a t3 t2 t1 =
-    record { bounded = omega arith; attained = λ _. t2; greatest = above_two test t3 }
-greatest_by true false false true test a t3 t2 t1 =
-    record { bounded = omega arith; attained = λ _. t1; greatest = above_one test t3 t2 }
-greatest_by true false false false test a t3 t2 t1 =
-    record { bounded = omega arith; attained = λ ne. absurd (ne refl); greatest = above_zero test t3 t2 t1 }
+greatest_by true true two one test a t3 t2 t1 = grind arith
+greatest_by true false true one test a t3 t2 t1 = grind (arith, above_two)
+greatest_by true false false true test a t3 t2 t1 = grind (arith, above_one)
+greatest_by true false false false test a t3 t2 t1 = grind (arith, above_zero)
 
 -- the sure code of a question is the greatest that it surely attains on a position that it is about
 pub sure_code_greatest : (q : ReadingQuestion) (pos : BoardState) → is_about q pos ≡ true
     → IsGreatestSureCode q pos (sure_code_of q pos)
 unfolding sure_code_of
-sure_code_greatest q pos about =
-    let w = greatest_by (is_about q pos) (surely_attains q pos 3) (surely_attains q pos 2) (surely_attains q pos 1)
-    (surely_attains q pos) about refl refl refl in
-    record { bounded = w.bounded; attained = w.attained; greatest = w.greatest }
+sure_code_greatest q pos about = grind (arith, greatest_by)
 
 -- a question about another position
 pub sure_code_another : (q : ReadingQuestion) (pos : BoardState) → is_about q pos ≡ false → sure_code_of q pos ≡ 0
 unfolding sure_code_of
-sure_code_another q pos f = ap (λ b. cond (not b) 0
-    (cond (surely_attains q pos 3) 3 (cond (surely_attains q pos 2) 2 (cond (surely_attains q pos 1) 1 0)))) f
+sure_code_another q pos f = grind arith
 
 -- a question about another position is answered with code 0 and no move
 pub sure_answer_another : (q : ReadingQuestion) (pos : BoardState) → is_about q pos ≡ false
@@ -167,14 +135,7 @@ not_not false = refl
 pub surely_attained_by : (q : ReadingQuestion) (pos : BoardState) (code : ℕ) → q.plies ≢ 0
     → is_captured pos q.target ≡ false
     → is_some (sure_move (q.plies - 1) (first_node q code) pos) ≡ surely_attains q pos code
-surely_attained_by q pos code ne h =
-    let node = first_node q code in
-    let wins = surely_wins q.plies node pos in
-    elim (cases_Bool (is_attack q.kind)) [
-      | inl t ↦ sym (sure-attacker_move q.plies node pos h ne t) ∙ sym (ap (λ b. cond b wins (not wins)) t)
-      | inr f ↦ sym (not_not (is_some (sure_move (q.plies - 1) node pos)))
-          ∙ ap not (sym (sure-defender_move q.plies node pos h ne f)) ∙ sym (ap (λ b. cond b wins (not wins)) f)
-    ]
+surely_attained_by q pos code ne h = grind (arith, cases_Bool, sure-attacker_move, not_not, sure-defender_move)
 
 -- a move that is there was not barred
 pub not_barred : (barred : Bool) (first : Option Spot) → is_some (cond barred None first) ≡ true
@@ -213,51 +174,21 @@ sure_answer_first q pos some ne = elim (cases_Bool (is_about q pos)) [
 -- a code that an attack surely attains it attains
 attack_is_attained : (q : ReadingQuestion) (pos : BoardState) (code : ℕ) → is_attack q.kind ≡ true
     → surely_attains q pos code ≡ true → attains_code q pos code ≡ true
-attack_is_attained q pos code t h =
-    let node = first_node q code in
-    let sure = surely_wins q.plies node pos in
-    let wins = attacker_wins q.plies node pos in
-    ap (λ b. cond b wins (not wins)) t
-    ∙ sure_is_won q.plies node pos (sym (ap (λ b. cond b sure (not sure)) t) ∙ h)
+attack_is_attained q pos code t h = grind (arith, sure_is_won)
 
 -- a code that a defence attains is not surely refuted
 defence_is_not_refuted : (q : ReadingQuestion) (pos : BoardState) (code : ℕ) → is_attack q.kind ≡ false
     → attains_code q pos code ≡ true → surely_attains q pos code ≡ true
-defence_is_not_refuted q pos code f h =
-    let node = first_node q code in
-    let sure = surely_wins q.plies node pos in
-    let wins = attacker_wins q.plies node pos in
-    ap (λ b. cond b sure (not sure)) f
-    ∙ not_before sure wins (sure_is_won q.plies node pos) (sym (ap (λ b. cond b wins (not wins)) f) ∙ h)
+defence_is_not_refuted q pos code f h = grind (arith, not_before, sure_is_won)
 
 -- the sure code of an attack is at most its code
 pub attack_code_at_most : (q : ReadingQuestion) (pos : BoardState) → q.kind ≡ Attack → sure_code_of q pos ≤ code_of q pos
-attack_code_at_most q pos kind = elim (cases_Bool (is_about q pos)) [
-  | inr f ↦ let none = sure_code_another q pos f in omega (arith, none)
-  | inl about ↦
-      let sure = sure_code_greatest q pos about in
-      let code = code_greatest q pos about in
-      elim (cases_lt (code_of q pos) (sure_code_of q pos)) [
-        | inr le ↦ le
-        | inl less ↦ absurd (both_ways (attains_code q pos (sure_code_of q pos))
-            (code.greatest (sure_code_of q pos) less sure.bounded)
-            (attack_is_attained q pos (sure_code_of q pos) (ap is_attack kind)
-            (sure.attained (omega (arith, less)))))
-      ]
-]
+attack_code_at_most q pos kind =
+    grind (arith, cases_Bool, sure_code_another, sure_code_greatest, code_greatest, cases_lt, both_ways,
+        attack_is_attained)
 
 -- the sure code of a defence is at least its code
 pub defend_code_at_least : (q : ReadingQuestion) (pos : BoardState) → q.kind ≡ Defend → code_of q pos ≤ sure_code_of q pos
-defend_code_at_least q pos kind = elim (cases_Bool (is_about q pos)) [
-  | inr f ↦ let none = code_another q pos f in omega (arith, none)
-  | inl about ↦
-      let sure = sure_code_greatest q pos about in
-      let code = code_greatest q pos about in
-      elim (cases_lt (sure_code_of q pos) (code_of q pos)) [
-        | inr le ↦ le
-        | inl less ↦ absurd (both_ways (surely_attains q pos (code_of q pos))
-            (sure.greatest (code_of q pos) less code.bounded)
-            (defence_is_not_refuted q pos (code_of q pos) (ap is_attack kind)
-            (code.attained (omega (arith, less)))))
-      ]
-]
+defend_code_at_least q pos kind =
+    grind (arith, cases_Bool, code_another, sure_code_greatest, code_greatest, cases_lt, both_ways,
+        defence_is_not_refuted)

@@ -1,5 +1,5 @@
 -- The four rules of sure captures, and that a sure capture is a capture of the game tree.
-use Rattle.std.proofs.Common.{◌≡◌, ℕ, zero, suc, ◌+◌, ◌*◌, ◌<◌, Bool, true, false, not, ◌&&◌, cond, nat_lt, is_none}
+use Rattle.std.proofs.Common.{◌≡◌, ℕ, zero, suc, ◌+◌, ◌*◌, ◌<◌, Bool, true, false, not, ◌&&◌, cond, nat_lt}
 use Rattle.std.proofs.Common.{Option, Some, None, refl, sym, ap, ◌∙◌, arith, inl, inr, add-one}
 use Rattle.std.specs.List.{list_any, list_all}
 use Rattle.std.proofs.lemmas.Bool.{cases_Bool, and_parts, and_from, both_ways, not-true, not_from_false, lt-ltb, ltb-true}
@@ -32,10 +32,7 @@ tried_anywhere node pos p turn = ap (λ b. cond b (is_candidate node.turn pos p)
 
 -- a point that is tried is on the board
 pub tried_on : (node : Node) (pos : BoardState) (p : ℕ) → is_tried node pos p ≡ true → p < pos.size * pos.size
-tried_on node pos p h = elim (cases_Bool (is_attackers node)) [
-  | inl turn ↦ candidate_on node.turn pos p (sym (tried_candidate node pos p turn) ∙ h)
-  | inr turn ↦ ltb-true p (pos.size * pos.size) (sym (tried_anywhere node pos p turn) ∙ h)
-]
+tried_on node pos p h = grind (arith, cases_Bool, candidate_on, tried_candidate, ltb-true, tried_anywhere)
 
 -- the target is taken, and is not taken back
 pub sure-captured : (n : ℕ) (node : Node) (pos : BoardState) → is_gone node pos ≡ true → taking_back node pos ≡ None
@@ -48,12 +45,7 @@ sure-captured (suc n) node pos h none = rw (h, none) refl
 pub sure-none_left : (node : Node) (pos : BoardState) (child : Node × BoardState) → taking_back node pos ≡ Some child
     → surely_wins zero node pos ≡ false
 unfolding surely_wins
-sure-none_left node pos child some = by (is_gone node pos) (taking_back node pos) some
-  where
-    by : (c : Bool) (o : Option (Node × BoardState)) → o ≡ Some child → (c && is_none o) ≡ false
-    by true (Some x) e = refl
-    by true None e = cc
-    by false o e = refl
+sure-none_left node pos child some = grind arith
 
 -- the target is taken, and the defender takes it back
 pub sure-taken_back : (n : ℕ) (node : Node) (pos : BoardState) (child : Node × BoardState) → is_gone node pos ≡ true
@@ -73,20 +65,14 @@ pub sure-attacker : (n : ℕ) (node : Node) (pos : BoardState) → is_gone node 
     → surely_wins (suc n) node pos ≡ (not (has_too_many node pos)
     && list_any (λ p. some_child (surely_wins n) (child_of node pos p)) (tried_points node pos))
 unfolding surely_wins
-sure-attacker n node pos h e = choose (is_gone node pos) (is_attackers node) true _ _ _ h e
-  where
-    choose : (c turn b z x y : Bool) → c ≡ false → turn ≡ b → cond c z (cond turn x y) ≡ cond b x y
-    choose c turn b z x y h e = ap (λ v. cond v z (cond turn x y)) h ∙ ap (λ v. cond v x y) e
+sure-attacker n node pos h e = grind arith
 
 -- it stands, and it is the defender's turn
 pub sure-defender : (n : ℕ) (node : Node) (pos : BoardState) → is_gone node pos ≡ false → is_attackers node ≡ false
     → surely_wins (suc n) node pos ≡ (surely_wins n (next_node node (allowance_of node)) (pass pos)
     && list_all (λ p. each_child (surely_wins n) (child_of node pos p)) (tried_points node pos))
 unfolding surely_wins
-sure-defender n node pos h e = choose (is_gone node pos) (is_attackers node) false _ _ _ h e
-  where
-    choose : (c turn b z x y : Bool) → c ≡ false → turn ≡ b → cond c z (cond turn x y) ≡ cond b x y
-    choose c turn b z x y h e = ap (λ v. cond v z (cond turn x y)) h ∙ ap (λ v. cond v x y) e
+sure-defender n node pos h e = grind arith
 
 -- a child that is there and passes a test is a child, and passes it
 some_gives : (test : Node → BoardState → Bool) (o : Option (Node × BoardState)) → some_child test o ≡ true
@@ -97,24 +83,14 @@ some_gives test (Some child) h = (child, refl, h)
 -- a candidate at whose child the target is surely captured by the test is one in words
 some_candidate : (n : ℕ) (node : Node) (pos : BoardState) (p : ℕ) → is_candidate node.turn pos p ≡ true
     → some_child (surely_wins n) (child_of node pos p) ≡ true → SomeCandidateCaptures n node pos
-some_candidate n node pos p candidate h = let child = some_gives (surely_wins n) (child_of node pos p) h in record {
-  point = p;
-  next = child.0.0;
-  new = child.0.1;
-  candidate = candidate;
-  child = child_gives node pos p child.0.0 child.0.1 child.1;
-  wins = child.2;
-}
+some_candidate n node pos p candidate h = grind (arith, some_gives, child_gives)
 
 -- at the attacker's turn a sure capture rests on one candidate
 pub sure_attacker_gives : (n : ℕ) (node : Node) (pos : BoardState) → is_gone node pos ≡ false
     → is_attackers node ≡ true → surely_wins (suc n) node pos ≡ true
     → (has_too_many node pos ≡ false) × SomeCandidateCaptures n node pos
 sure_attacker_gives n node pos stands turn h =
-    let parts = and_parts _ _ (sym (sure-attacker n node pos stands turn) ∙ h) in
-    let w = any_gives (is_tried node pos) (λ p. some_child (surely_wins n) (child_of node pos p))
-    (pos.size * pos.size) 0 parts.1 in
-    (not-true _ parts.0, some_candidate n node pos w.0 (sym (tried_candidate node pos w.0 turn) ∙ w.2) w.3)
+    grind (arith, and_parts, sure-attacker, any_gives, not-true, some_candidate, tried_candidate)
 
 -- at his turn the attacker surely captures if the target has few enough liberties and some candidate does it
 pub sure_attacker_from : (n : ℕ) (node : Node) (pos : BoardState) → is_gone node pos ≡ false
@@ -159,22 +135,12 @@ sure_defender_gives n node pos stands turn h =
 pub sure_defender_from : (n : ℕ) (node : Node) (pos : BoardState) → is_gone node pos ≡ false
     → is_attackers node ≡ false → EveryReplyFails n node pos → surely_wins (suc n) node pos ≡ true
 sure_defender_from n node pos stands turn w =
-    sure-defender n node pos stands turn
-    ∙ and_from _ _ w.passed (all_from (is_tried node pos)
-    (λ p. each_child (surely_wins n) (child_of node pos p)) (pos.size * pos.size) 0
-    (λ p tried. each_from (surely_wins n) (child_of node pos p)
-    (λ next new e. w.played p next new (tried_on node pos p tried) (child_gives node pos p next new e))))
+    grind (arith, sure-defender, and_from, all_from, each_from, tried_on, child_gives)
 
 -- a target that is surely captured with no ply left is taken, and is not taken back
 pub sure_at_end : (node : Node) (pos : BoardState) → surely_wins 0 node pos ≡ true
     → (is_gone node pos ≡ true) × (taking_back node pos ≡ None)
-sure_at_end node pos h = elim (cases_Bool (is_gone node pos)) [
-  | inr f ↦ absurd (both_ways (surely_wins 0 node pos) (sure-no_plies 0 node pos f refl) h)
-  | inl t ↦ elim (some_or_none (taking_back node pos)) [
-    | inl none ↦ (t, none)
-    | inr back ↦ absurd (both_ways (surely_wins 0 node pos) (sure-none_left node pos back.0 back.1) h)
-  ]
-]
+sure_at_end node pos h = grind (arith, cases_Bool, both_ways, sure-no_plies, some_or_none, sure-none_left)
 
 -- so it is taken
 pub sure_now : (node : Node) (pos : BoardState) → surely_wins 0 node pos ≡ true → is_gone node pos ≡ true

@@ -1,7 +1,6 @@
 -- The first move that succeeds, and that a side has one exactly if it has its way.
 use Rattle.std.proofs.Common.{◌≡◌, ◌≢◌, ℕ, zero, suc, ◌-◌, ◌*◌, ◌<◌, ◌≤◌, Bool, true, false, not, ◌&&◌, cond}
 use Rattle.std.proofs.Common.{List, [], ◌∷◌, Option, Some, None, refl, ap, sym, subst, ◌∙◌, arith, is_some, is_none}
-use Rattle.std.proofs.Common.{inl, inr}
 use Rattle.std.specs.List.{find, list_any, list_all}
 use mathlib.Core.Bool.{beq}
 use Rattle.std.proofs.lemmas.Bool.{cases_Bool, both_ways, not-true, not_from_false, and_from, and_parts}
@@ -9,7 +8,7 @@ use Rattle.go_rules.specs.Position.{BoardState}
 use Rattle.go_rules.specs.Play.{pass}
 use Rattle.read_rules.specs.declared.node.Node.{Node}
 use Rattle.read_rules.specs.declared.question.Spot.{Spot}
-use Rattle.read_rules.specs.declared.question.Spot.TheVariants.{At, Pass}
+use Rattle.read_rules.specs.declared.question.Spot.TheVariants.{Pass}
 use Rattle.read_rules.specs.GameTree.{child_of, next_node, allowance_of, some_child, each_child, at_point}
 use Rattle.read_rules.proofs.RuleLemmas.{child_gives, child_from}
 use Rattle.read_rules.proofs.WinLemmas.{any-first, first-found, first-none, none_before}
@@ -24,13 +23,7 @@ use Rattle.sure_rules.proofs.SureLemmas.{tried_on, sure-attacker, sure-defender}
 none-first : {X : Type 0} (f g : X → Bool) (xs : List X) → ((x : X) → f x ≡ not (g x))
     → is_none (find f xs) ≡ list_all g xs
 none-first f g [] h = refl
-none-first f g (x ∷ xs) h =
-    ap (λ b. is_none (cond b (Some x) (find f xs))) (h x) ∙ by (g x) (none-first f g xs h)
-  where
-    by : (b : Bool) → is_none (find f xs) ≡ list_all g xs
-        → is_none (cond (not b) (Some x) (find f xs)) ≡ (b && list_all g xs)
-    by true h = h
-    by false h = refl
+none-first f g (x ∷ xs) h = grind (arith, none-first f g xs)
 
 -- a reply to a child that is not surely captured is there exactly if not each child is surely captured
 lost_child : (n : ℕ) (child : Option (Node × BoardState))
@@ -42,8 +35,7 @@ lost_child n (Some child) = refl
 all-first : (n : ℕ) (f : ℕ → Option (Node × BoardState)) (ps : List ℕ)
     → is_none (find (λ p. some_child (λ s pos. not (surely_wins n s pos)) (f p)) ps)
     ≡ list_all (λ p. each_child (surely_wins n) (f p)) ps
-all-first n f ps = none-first (λ p. some_child (λ s pos. not (surely_wins n s pos)) (f p))
-    (λ p. each_child (surely_wins n) (f p)) ps (λ p. lost_child n (f p))
+all-first n f ps = grind (arith, none-first, lost_child)
 
 -- a move at a point is there exactly if the point is
 some-at_point : (o : Option ℕ) → is_some (at_point o) ≡ is_some o
@@ -79,43 +71,27 @@ defender_none many false first all e = refl
 attacker_first : (n : ℕ) (node : Node) (pos : BoardState) → is_attackers node ≡ true
     → is_some (first_sure n node pos)
     ≡ list_any (λ p. some_child (surely_wins n) (child_of node pos p)) (tried_points node pos)
-attacker_first n node pos e =
-    ap (λ turn. is_some (find (λ p. surely_suits n turn (child_of node pos p)) (tried_points node pos))) e
-    ∙ any-first (λ p. some_child (surely_wins n) (child_of node pos p)) (tried_points node pos)
+attacker_first n node pos e = grind (arith, any-first)
 
 -- at the defender's turn none succeeds exactly if each child is surely captured
 defender_first : (n : ℕ) (node : Node) (pos : BoardState) → is_attackers node ≡ false
     → is_none (first_sure n node pos)
     ≡ list_all (λ p. each_child (surely_wins n) (child_of node pos p)) (tried_points node pos)
-defender_first n node pos e =
-    ap (λ turn. is_none (find (λ p. surely_suits n turn (child_of node pos p)) (tried_points node pos))) e
-    ∙ all-first n (child_of node pos) (tried_points node pos)
+defender_first n node pos e = grind (arith, all-first n (child_of node pos) (tried_points node pos))
 
 -- at the attacker's turn the target is surely captured exactly if he has a move that succeeds
 pub sure-attacker_move : (n : ℕ) (node : Node) (pos : BoardState) → is_gone node pos ≡ false → n ≢ 0
     → is_attackers node ≡ true → surely_wins n node pos ≡ is_some (sure_move (n - 1) node pos)
 sure-attacker_move zero node pos h ne e = absurd (ne refl)
 sure-attacker_move (suc n) node pos h ne e =
-    let less : n ≡ suc n - 1 = omega arith in
-    let many = has_too_many node pos in
-    let held = not (surely_wins n (next_node node (allowance_of node)) (pass pos)) in
-    sure-attacker n node pos h e
-    ∙ sym (ap (λ m. is_some (sure_move m node pos)) (sym less) ∙ ap is_some (sure_move-by_turn n node pos)
-    ∙ ap (λ turn. is_some (by_turn turn many held (first_sure n node pos))) e
-    ∙ attacker_some many held (first_sure n node pos) _ (attacker_first n node pos e))
+    grind (arith, sure-attacker, sure_move-by_turn, by_turn, attacker_some, attacker_first)
 
 -- and at the defender's turn exactly if he has none
 pub sure-defender_move : (n : ℕ) (node : Node) (pos : BoardState) → is_gone node pos ≡ false → n ≢ 0
     → is_attackers node ≡ false → surely_wins n node pos ≡ is_none (sure_move (n - 1) node pos)
 sure-defender_move zero node pos h ne e = absurd (ne refl)
 sure-defender_move (suc n) node pos h ne e =
-    let less : n ≡ suc n - 1 = omega arith in
-    let many = has_too_many node pos in
-    let lost = surely_wins n (next_node node (allowance_of node)) (pass pos) in
-    sure-defender n node pos h e
-    ∙ sym (ap (λ m. is_none (sure_move m node pos)) (sym less) ∙ ap is_none (sure_move-by_turn n node pos)
-    ∙ ap (λ turn. is_none (by_turn turn many (not lost) (first_sure n node pos))) e
-    ∙ defender_none many lost (first_sure n node pos) _ (defender_first n node pos e))
+    grind (arith, sure-defender, sure_move-by_turn, by_turn, defender_none, defender_first)
 
 -- the first point that succeeds, found by a walk over the points that are tried
 pub first_sure-found : (n : ℕ) (node : Node) (pos : BoardState) (next p : ℕ) (tried : ℕ → Bool)
@@ -124,38 +100,22 @@ pub first_sure-found : (n : ℕ) (node : Node) (pos : BoardState) (next p : ℕ)
     → ((q : ℕ) → next ≤ q → q < p → tried q ≡ false)
     → tried p ≡ true → true ≡ surely_succeeds n node pos p → Some p ≡ first_sure n node pos
 first_sure-found n node pos next p tried same before between c t =
-    let on = tried_on node pos p (sym (same p) ∙ c) in
-    sym (first-found (is_tried node pos) (surely_succeeds n node pos) (pos.size * pos.size) 0 p
-    (omega arith) (omega (arith, on))
-    (λ q l h. rw (← same q) (none_before tried (surely_succeeds n node pos) next p before between q h))
-    (and_from _ _ (sym (same p) ∙ c) (sym t)))
+    grind (arith, tried_on node pos p (sym (same p) ∙ c),
+        first-found (is_tried node pos) (surely_succeeds n node pos) (pos.size * pos.size) 0 p,
+        none_before tried (surely_succeeds n node pos) next p before between, and_from)
 
 -- none succeeds if no point is left
 pub first_sure-none : (n : ℕ) (node : Node) (pos : BoardState) (next : ℕ) (tried : ℕ → Bool)
     → ((q : ℕ) → tried q ≡ is_tried node pos q)
     → ((q : ℕ) → q < next → (tried q && surely_succeeds n node pos q) ≡ false)
     → ((q : ℕ) → next ≤ q → tried q ≡ false) → None ≡ first_sure n node pos
-first_sure-none n node pos next tried same before left =
-    sym (first-none (is_tried node pos) (surely_succeeds n node pos) (pos.size * pos.size) 0
-    (λ q l h. rw (← same q) (none_before tried (surely_succeeds n node pos) next (pos.size * pos.size) before
-    (λ k g m. left k g) q (omega arith))))
+first_sure-none n node pos next tried same before left = grind (arith, first-none, none_before)
 
 -- whether the target is surely captured at a node that no earlier rule decides, by whether its mover has a move that
 -- succeeds
 pub sure-by_move : (n : ℕ) (node : Node) (pos : BoardState) (some : Bool) → is_gone node pos ≡ false → n ≢ 0
     → some ≡ is_some (sure_move (n - 1) node pos) → beq some (is_attackers node) ≡ surely_wins n node pos
-sure-by_move n node pos some h ne e = elim (cases_Bool (is_attackers node)) [
-  | inl t ↦ ap (λ turn. beq some turn) t ∙ same_as_true some ∙ e ∙ sym (sure-attacker_move n node pos h ne t)
-  | inr f ↦ ap (λ turn. beq some turn) f ∙ same_as_false some ∙ ap not e ∙ sym (sure-defender_move n node pos h ne f)
-]
-  where
-    same_as_true : (b : Bool) → beq b true ≡ b
-    same_as_true true = refl
-    same_as_true false = refl
-
-    same_as_false : (b : Bool) → beq b false ≡ not b
-    same_as_false true = refl
-    same_as_false false = refl
+sure-by_move n node pos some h ne e = grind (arith, cases_Bool, beq, sure-attacker_move, sure-defender_move)
 
 -- what a child that suits the mover is
 suits_gives : (n : ℕ) (turn : Bool) (o : Option (Node × BoardState)) → surely_suits n turn o ≡ true
@@ -174,34 +134,18 @@ suits_from n false next new e = not_from_false _ e
 -- a point that succeeds by the test succeeds in words
 succeeds_gives : (n : ℕ) (node : Node) (pos : BoardState) (p : ℕ) → is_tried node pos p ≡ true
     → surely_succeeds n node pos p ≡ true → SurelySucceeds n node pos p
-succeeds_gives n node pos p tried h =
-    let w = suits_gives n (is_attackers node) (child_of node pos p) h in
-    record {
-      next = w.0.0;
-      new = w.0.1;
-      tried = tried;
-      child = child_gives node pos p w.0.0 w.0.1 w.1;
-      outcome = w.2;
-    }
+succeeds_gives n node pos p tried h = grind (arith, suits_gives, child_gives)
 
 -- a point that succeeds in words succeeds by the test
 succeeds_from : (n : ℕ) (node : Node) (pos : BoardState) (p : ℕ) → SurelySucceeds n node pos p
     → surely_succeeds n node pos p ≡ true
 succeeds_from n node pos p w =
-    ap (surely_suits n (is_attackers node)) (child_from node pos p w.next w.new w.child)
-    ∙ suits_from n (is_attackers node) w.next w.new w.outcome
+    grind (arith, child_from node pos p w.next w.new w.child, suits_from n (is_attackers node) w.next w.new w.outcome)
 
 -- the first point
 first_point : (n : ℕ) (node : Node) (pos : BoardState) (p : ℕ) → pass_holds n node pos ≡ false
     → first_sure n node pos ≡ Some p → IsFirstSurePoint n node pos p
-first_point n node pos p none e =
-    let w = find_gives (is_tried node pos) (surely_succeeds n node pos) (pos.size * pos.size) 0 p e in
-    record {
-      no_pass = none;
-      succeeds = succeeds_gives n node pos p w.chosen w.passes;
-      first = λ q lt s. both_ways (surely_succeeds n node pos q) (w.first q (omega arith) lt s.tried)
-          (succeeds_from n node pos q s);
-    }
+first_point n node pos p none e = grind (arith, find_gives, succeeds_gives, both_ways, succeeds_from)
 
 -- the pass if it holds, and else the first point that succeeds, is the first move that does
 first_by : (n : ℕ) (node : Node) (pos : BoardState) (holds : Bool) (found : Option ℕ) (spot : Spot)
@@ -209,14 +153,12 @@ first_by : (n : ℕ) (node : Node) (pos : BoardState) (holds : Bool) (found : Op
     → cond holds (Some Pass) (at_point found) ≡ Some spot → IsFirstSureMove n node pos spot
 first_by n node pos true found spot ps fs e = let same : Pass ≡ spot = cc in subst (IsFirstSureMove n node pos) same ps
 first_by n node pos false None spot ps fs e = absurd (let w = e in cc)
-first_by n node pos false (Some p) spot ps fs e = let same : At p ≡ spot = cc in
-    subst (IsFirstSureMove n node pos) same (first_point n node pos p ps fs)
+first_by n node pos false (Some p) spot ps fs e = grind (arith, first_point)
 
 -- the first move that is computed is the first that succeeds
 pub first_sure_move_gives : (n : ℕ) (node : Node) (pos : BoardState) (spot : Spot)
     → first_sure_move n node pos ≡ Some spot → IsFirstSureMove n node pos spot
-first_sure_move_gives n node pos spot e =
-    first_by n node pos (pass_holds n node pos) (first_sure n node pos) spot refl refl e
+first_sure_move_gives n node pos spot e = grind (arith, first_by)
 
 -- a point that is there
 there_point : (o : Option ℕ) → is_some o ≡ true → (p : ℕ) × (o ≡ Some p)
@@ -229,11 +171,6 @@ pub first_sure_there : (n : ℕ) (node : Node) (pos : BoardState) → is_gone no
     → (p : ℕ) × (first_sure n node pos ≡ Some p) × (is_tried node pos p ≡ true)
     × (some_child (surely_wins n) (child_of node pos p) ≡ true)
 first_sure_there n node pos stands turn sure =
-    let parts = and_parts _ _ (sym (sure-attacker n node pos stands turn) ∙ sure) in
-    let found = there_point (first_sure n node pos) (attacker_first n node pos turn ∙ parts.1) in
-    let w = find_gives (is_tried node pos) (surely_succeeds n node pos) (pos.size * pos.size) 0 found.0 found.1 in (
-      found.0,
-      found.1,
-      w.chosen,
-      sym (ap (λ b. surely_suits n b (child_of node pos found.0)) turn) ∙ w.passes,
-    )
+    grind (arith, sure-attacker n node pos stands turn, there_point (first_sure n node pos),
+        attacker_first n node pos turn,
+        find_gives (is_tried node pos) (surely_succeeds n node pos) (pos.size * pos.size) 0, and_parts)

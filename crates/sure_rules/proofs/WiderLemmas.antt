@@ -37,12 +37,7 @@ use Rattle.sure_rules.proofs.TakenLemmas.{free_on_board}
 wider_child : (node : Node) (pos : BoardState) (p : ℕ) (next : Node) (new : BoardState) → IsChild node pos p next new
     → IsChild (in_wider_tree node) pos p (in_wider_tree next) new
 wider_child node pos p next new (inl w) = inl (record { legal = w.legal; next_is = ap in_wider_tree w.next_is })
-wider_child node pos p next new (inr w) = inr (record {
-  banned = w.banned;
-  free = w.free;
-  some_left = w.some_left;
-  next_is = ap in_wider_tree w.next_is;
-})
+wider_child node pos p next new (inr w) = grind arith
 
 -- a child of the node in the wider tree comes of one of the node
 narrow_child : (node : Node) (pos : BoardState) (p : ℕ) (next : Node) (new : BoardState)
@@ -129,15 +124,9 @@ WasMoreStones node pos = IsPosition pos × (HasMoreStones node pos ⊎ IsGap nod
 
 -- it is not taken back
 none_of_more : (node : Node) (pos : BoardState) → WasMoreStones node pos → taking_back (in_wider_tree node) pos ≡ None
-none_of_more node pos was = elim (some_or_none (taking_back (in_wider_tree node) pos)) [
-  | inl e ↦ e
-  | inr some ↦
-      let back = takes_back_gives (in_wider_tree node) pos some.0.0 some.0.1 some.1 in
-      elim was.1 [
-        | inl more ↦ absurd (stone_not_empty node.turn.defender (sym more.stands ∙ back.lost.taken))
-        | inr gap ↦ absurd (gap.free (back.lone gap.beside gap.on_board gap.adjacent))
-      ]
-]
+none_of_more node pos was =
+    grind (arith, some_or_none, takes_back_gives, stone_not_empty, some_or_none (taking_back (in_wider_tree node) pos),
+        takes_back_gives (in_wider_tree node) pos, stone_not_empty node.turn.defender)
 
 -- a stone of the defender is no stone of the attacker
 not_attackers : (cell : Cell) (c : Colour) → cell ≡ stone_of c → cell ≢ stone_of (other c)
@@ -150,10 +139,7 @@ not_empty_stone cell c empty e = stone_not_empty c (sym e ∙ empty)
 -- a stone stands on the board
 stone_on : (pos : BoardState) (q : ℕ) (c : Colour) → IsPosition pos → cell_at pos.cells q ≡ stone_of c
     → q < pos.size * pos.size
-stone_on pos q c sound its = elim (cases_lt q (pos.size * pos.size)) [
-  | inl on ↦ on
-  | inr off ↦ absurd (stone_not_empty c (sym its ∙ get_or_past pos.cells q Empty (omega (arith, off, sound.cells))))
-]
+stone_on pos q c sound its = grind (arith, cases_lt, stone_not_empty, get_or_past)
 
 -- A play at a node whose target is a string of two stones or more.
 module _ (node : Node) (pos : BoardState) (sound : IsPosition pos) (more : HasMoreStones node pos) (p : ℕ)

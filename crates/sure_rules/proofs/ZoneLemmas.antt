@@ -2,16 +2,14 @@
 use Rattle.std.proofs.Common.{◌≡◌, ◌≢◌, ℕ, suc, ◌-◌, ◌*◌, ◌<◌, ◌≤◌, Bool, true, false, Option, Some, None, Ok}
 use Rattle.std.proofs.Common.{refl, sym, ap, subst, ◌∙◌, arith, inl, inr, eqb, ◌&&◌, set}
 use Rattle.std.proofs.lemmas.Bool.{cases_Bool, cases_eq, both_ways, and_parts, eqb-true}
-use Rattle.go_rules.specs.declared.Cell.TheVariants.{Empty}
 use Rattle.go_rules.specs.declared.Colour.{Colour}
-use Rattle.go_rules.specs.Strings.{cell_at, same_cell, IsLiberty}
+use Rattle.go_rules.specs.Strings.{cell_at, IsLiberty}
 use Rattle.go_rules.specs.Position.{BoardState, IsPosition, other, stone_of, is_banned, same_colour}
 use Rattle.go_rules.specs.Play.{play_free, pass}
 use Rattle.go_rules.specs.Rules.{IsCaptured, IsOnlyLiberty}
 use Rattle.go_rules.proofs.BanLaws.{ban_means, ban_parts}
 use Rattle.go_rules.proofs.OnlyLiberties.{stone_not_empty}
-use Rattle.go_rules.proofs.PlayLaws.{done_state, free_keeps, others_stay, pass_keeps, play_done}
-use Rattle.go_rules.proofs.PlayLaws.{position_in_words}
+use Rattle.go_rules.proofs.PlayLaws.{done_state, free_keeps, others_stay, pass_keeps, play_done, position_in_words}
 use Rattle.go_rules.proofs.Plays.{at_put_same, at_put_other, enemy_differs}
 use Rattle.read_rules.proofs.AfterPlays.{put_liberty}
 use Rattle.read_rules.proofs.CandidateLaws.{candidate_on}
@@ -27,7 +25,7 @@ use Rattle.sure_rules.specs.Zones.{points_of, IsZone, IsTakenZone, IsTakingBackZ
 use Rattle.sure_rules.proofs.SureLemmas.{sure-captured, none_at_attackers, sure_by_rules, sure_if_back_fails}
 use Rattle.sure_rules.proofs.SureLemmas.{sure_attacker_from, sure_defender_from}
 use Rattle.sure_rules.proofs.TakenLemmas.{child_on_board}
-use Rattle.sure_rules.proofs.StayLemmas.{stays_sure, next_stays, no_harder-refl}
+use Rattle.sure_rules.proofs.StayLemmas.{stays_sure, no_harder-refl}
 
 -- What a play captures.
 module _ (pos : BoardState) (c : Colour) (p : ℕ) (new : BoardState) (sound : IsPosition pos)
@@ -58,8 +56,7 @@ module _ (pos : BoardState) (c : Colour) (p : ℕ) (new : BoardState) (sound : I
 -- a target that is taken is taken on every position that agrees on its point
 gone_there : (node : Node) (pos here : BoardState) (Z : ℕ → Bool) → is_gone node pos ≡ true → Z (target_of node) ≡ true
     → AgreeOn (points_of Z) pos here → is_gone node here ≡ true
-gone_there node pos here Z gone inside agrees =
-    ap (λ k. same_cell k Empty) (sym (agrees.cells (target_of node) inside)) ∙ gone
+gone_there node pos here Z gone inside agrees = grind arith
 
 -- what shows that a taken target is not taken back is a zone
 pub zone_captured : (n : ℕ) (node : Node) (pos : BoardState) (Z : ℕ → Bool) → is_gone node pos ≡ true
@@ -70,8 +67,7 @@ zone_captured n node pos Z gone w = λ here sound agrees.
 -- and so is, with a ply more, what shows that to take back does not save it
 pub zone_taken_back : (n : ℕ) (node : Node) (pos : BoardState) (Z : ℕ → Bool) → is_gone node pos ≡ true
     → IsTakingBackZone n node pos Z → IsZone (suc n) node pos Z
-zone_taken_back n node pos Z gone w = λ here sound agrees.
-    sure_if_back_fails n node here (gone_there node pos here Z gone w.point agrees) (w.fails here sound agrees)
+zone_taken_back n node pos Z gone w = grind (arith, sure_if_back_fails, gone_there)
 
 -- a play of the attacker that captures on every position that agrees shows a zone
 pub zone_attacker : (n : ℕ) (node : Node) (pos : BoardState) (Z : ℕ → Bool) → is_attackers node ≡ true
@@ -126,11 +122,7 @@ module _ (n : ℕ) (node : Node) (pos : BoardState) (Z : ℕ → Bool) (turn : i
 
     -- it is not played at a point of the zone
     elsewhere : (q : ℕ) → w.passed q ≡ true → q ≢ p
-    elsewhere q inside e =
-        let empty = (done_state here (mover_of node.turn) p new played).0 in
-        both_ways (w.is_read p) unread
-        (ap w.is_read (sym e) ∙ w.empty_points q inside
-        (agrees.cells q (w.within q inside) ∙ ap (cell_at here.cells) e ∙ empty))
+    elsewhere q inside e = grind (arith, done_state, both_ways)
 
     -- it captures no stone of the zone
     takes_none : (q : ℕ) → w.passed q ≡ true
@@ -157,11 +149,7 @@ module _ (n : ℕ) (node : Node) (pos : BoardState) (Z : ℕ → Bool) (turn : i
 
     -- and fails as the pass does
     unread_fails : (left : ℕ) → left ≤ allowance_of node → surely_wins n (next_node node left) new ≡ true
-    unread_fails left less =
-        stays_sure n n (next_node node (allowance_of node)) (next_node node left) new (omega arith)
-        (next_stays node node (no_harder-refl node) (allowance_of node) left
-        (λ t. absurd (both_ways (is_attackers node) turn t)) (λ _. less))
-        (w.zone new (free_keeps here (mover_of node.turn) p new sound on played) after_reply)
+    unread_fails left less = grind (arith, stays_sure, no_harder-refl, both_ways, free_keeps, after_reply)
 
   -- every reply fails
   reply_fails : (p : ℕ) (next : Node) (new : BoardState) → p < here.size * here.size → IsChild node here p next new

@@ -1,5 +1,5 @@
 -- The least points of enemy strings: those of the strings that a search meets make up the boundary.
-use Rattle.std.proofs.Common.{◌≡◌, ◌↔◌, ℕ, ◌+◌, ◌*◌, ◌<◌, ◌≤◌, ◌&&◌, true, false, ltb, List, sym, ap, subst}
+use Rattle.std.proofs.Common.{◌≡◌, ◌↔◌, ℕ, ◌+◌, ◌*◌, ◌<◌, ◌≤◌, ◌&&◌, true, false, ltb, List, sym, ap}
 use Rattle.std.proofs.Common.{arith, inl, inr, ◌∙◌}
 use Rattle.std.proofs.lemmas.Bool.{cases_Bool, cases_eq, cases_lt, or_cases, or_left, or_right, eqb-true, eq-eqb}
 use Rattle.std.proofs.lemmas.Bool.{both_ways, and_parts, and_from, lt-ltb, ltb-true, not-true, not_from_false}
@@ -8,8 +8,7 @@ use Rattle.std.specs.Cmp.{nat_cmp_total}
 use Rattle.std.specs.FinSet as sets
 use Rattle.go_rules.specs.declared.Cell.{Cell}
 use Rattle.go_rules.specs.Strings.{cell_at, is_stone, is_in_string, string_at, start}
-use Rattle.trial_board.specs.Boundary.{is_boundary, IsBoundary, boundary_points, LeastOf, AddsLeast}
-use Rattle.trial_board.specs.Boundary.{KnowsLeast}
+use Rattle.trial_board.specs.Boundary.{is_boundary, IsBoundary, boundary_points, LeastOf, AddsLeast, KnowsLeast}
 use Rattle.go_rules.specs.BesideStrings.{is_enemy, is_beside_string}
 use Rattle.go_rules.proofs.StringMembers.{is_in_string_on, string_back}
 use Rattle.go_rules.proofs.Tests.{same_tests}
@@ -52,13 +51,7 @@ Bounds-none s cells p least e = record {
 pub Bounds-jump : (s : ℕ) (cells : List Cell) (p n m : ℕ) (least : sets.FinSet nat_cmp) → Bounds s cells p n least
     → ((q : ℕ) → n ≤ q → q < m → is_beside_string s cells p q ≡ true
     → is_enemy (cell_at cells p) (cell_at cells q) ≡ true → ⊥) → Bounds s cells p m least
-Bounds-jump s cells p n m least b none = record {
-  only = b.only;
-  all = λ q l beside enemy r h. elim (cases_lt q n) [
-    | inl below ↦ b.all q below beside enemy r h
-    | inr above ↦ absurd (none q above l beside enemy)
-  ];
-}
+Bounds-jump s cells p n m least b none = grind (arith, cases_lt)
 
 -- the least point of an enemy string next to the string is of the boundary
 boundary_of : (s : ℕ) (cells : List Cell) (p q r : ℕ) → q < s * s → is_beside_string s cells p q ≡ true
@@ -84,45 +77,22 @@ pub Bounds-add : (s : ℕ) (cells : List Cell) (p n : ℕ) (least new : sets.Fin
     → n < s * s
     → is_beside_string s cells p n ≡ true → is_enemy (cell_at cells p) (cell_at cells n) ≡ true
     → AddsLeast s cells n least new → Bounds s cells p (n + 1) new
-Bounds-add s cells p n least new b on beside enemy add = record {
-  only = λ r h. elim (add.only r h) [
-    | inl old ↦ b.only r old
-    | inr now ↦ boundary_of s cells p n r on beside enemy now
-  ];
-  all = λ q l beside' enemy' r h. elim (cases_eq q n) [
-    | inl e ↦ add.all r (subst (λ x. LeastOf s cells x r) e h)
-    | inr ne ↦ add.kept r (b.all q (omega arith) beside' enemy' r h)
-  ];
-}
+Bounds-add s cells p n least new b on beside enemy add = grind (arith, boundary_of, cases_eq)
 
 -- each least point is found from a point of its string
 least_found : (s : ℕ) (cells : List Cell) (p n r : ℕ) (least : sets.FinSet nat_cmp) → Bounds s cells p n least
     → s * s ≤ n → r < s * s → is_boundary s cells p r ≡ true → sets.contains least r ≡ true
 unfolding is_boundary
 least_found s cells p n r least b whole on h =
-    let parts = and_parts _ _ h in
-    let first = and_parts _ _ parts.0 in
-    let found = any_below_gives (s * s) _ parts.1 in
-    let both = and_parts _ _ found.2 in
-    b.all found.0 (omega (arith, found.1, whole)) both.1
-    (ap (is_enemy (cell_at cells p)) (string_cell s cells r found.0 both.0) ∙ first.0) r (record {
-      inside = string_back s cells r found.0 on both.0;
-      least = λ k l. elim (cases_Bool (is_in_string s cells found.0 k)) [
-        | inl t ↦ absurd (both_ways (is_in_string s cells r k)
-            (any_below_none r (is_in_string s cells r) k (not-true _ first.1) l)
-            (string_on s cells r found.0 k on both.0 t))
-        | inr f ↦ f
-      ];
-    })
+    grind (arith, any_below_gives (s * s), string_cell s cells r, string_back s cells r,
+        any_below_none r (is_in_string s cells r), string_on s cells r, and_parts, cases_Bool, both_ways, not-true)
 
 -- where every point was passed, the set is the boundary
 pub Bounds-all : (s : ℕ) (cells : List Cell) (p n : ℕ) (least : sets.FinSet nat_cmp) → Bounds s cells p n least
     → s * s ≤ n → least ≡ boundary_points s cells p
 unfolding boundary_points
 Bounds-all s cells p n least b whole =
-    same_nat_set _ _ (λ r. same_tests _ _ (λ h. let o = b.only r h in and_from _ _ (lt-ltb r (s * s) o.0) o.1)
-    (λ h. let parts = and_parts _ _ h in least_found s cells p n r least b whole (ltb-true r (s * s) parts.0) parts.1)
-    ∙ sym (contains-set_below (s * s) (is_boundary s cells p) r))
+    grind (arith, same_nat_set, same_tests, and_from, lt-ltb, and_parts, least_found, ltb-true, contains-set_below)
 
 -- the string's set tells its least point
 pub least_in : (s : ℕ) (cells : List Cell) (q r : ℕ) (found : sets.FinSet nat_cmp) → q < s * s
@@ -143,36 +113,15 @@ pub least_is : (s : ℕ) (cells : List Cell) (q r : ℕ) (found : sets.FinSet na
     → found ≡ string_at s cells q → LeastOf s cells q r
     → (sets.contains found r ≡ true) × ((k : ℕ) → k < r → sets.contains found k ≡ false)
 unfolding string_at
-least_is s cells q r found on e h =
-    let at = λ (k : ℕ). ap (λ t. sets.contains t k) e ∙ contains-set_below (s * s) (is_in_string s cells q) k in
-    let r_on = is_in_string_on s cells q r on h.inside in (
-      at r ∙ and_from _ _ (lt-ltb r (s * s) r_on) h.inside,
-      λ k l. at k ∙ ap (λ b. b && is_in_string s cells q k) (lt-ltb k (s * s) (omega (arith, l, r_on))) ∙ h.least k l,
-    )
+least_is s cells q r found on e h = grind (arith, contains-set_below, is_in_string_on, and_from, lt-ltb)
 
 -- a string's least point was added
 pub AddsLeast-some : (s : ℕ) (cells : List Cell) (q r : ℕ) (found old new : sets.FinSet nat_cmp) → q < s * s
     → found ≡ string_at s cells q → sets.contains found r ≡ true
     → ((k : ℕ) → k < r → sets.contains found k ≡ false) → new ≡ sets.insert old r → AddsLeast s cells q old new
 AddsLeast-some s cells q r found old new on e h none is =
-    let at = λ (k : ℕ). ap (λ t. sets.contains t k) is ∙ contains-insert_nat old r k in
-    record {
-      kept = λ k i. at k ∙ or_right _ _ i;
-      only = λ k i. elim (or_cases _ _ (sym (at k) ∙ i)) [
-        | inl same ↦ inr (subst (λ x. LeastOf s cells q x) (sym (eqb-true k r same))
-            (least_in s cells q r found on e h none))
-        | inr before ↦ inl before
-      ];
-      all = λ k l.
-          let its = least_is s cells q k found on e l in
-          at k ∙ or_left _ _ (eq-eqb k r (elim (cases_lt k r) [
-            | inl below ↦ absurd (both_ways (sets.contains found k) (none k below) its.0)
-            | inr above ↦ elim (cases_lt r k) [
-              | inl below ↦ absurd (both_ways (sets.contains found r) (its.1 r below) h)
-              | inr not_below ↦ omega arith
-            ]
-          ]));
-    }
+    grind (arith, contains-insert_nat, or_right, or_cases, eqb-true, least_in, least_is, or_left, eq-eqb, cases_lt,
+        both_ways)
 
 -- an empty string has no least point
 pub AddsLeast-none : (s : ℕ) (cells : List Cell) (q : ℕ) (found old : sets.FinSet nat_cmp) → q < s * s
@@ -186,20 +135,7 @@ AddsLeast-none s cells q found old on e none = record {
 -- the points of one string have the same least point
 LeastOf-moves : (s : ℕ) (cells : List Cell) (q x r : ℕ) → q < s * s → is_in_string s cells q x ≡ true
     → LeastOf s cells x r → LeastOf s cells q r
-LeastOf-moves s cells q x r on link h = record {
-  inside = string_on s cells q x r on link h.inside;
-  least = λ k l. elim (cases_Bool (is_in_string s cells q k)) [
-    | inl t ↦ absurd (both_ways (is_in_string s cells x k) (h.least k l)
-        (string_on s cells x q k (is_in_string_on s cells q x on link) (string_back s cells q x on link) t))
-    | inr f ↦ f
-  ];
-}
-
--- a string that was seen adds nothing
-pub AddsLeast-seen : (s : ℕ) (cells : List Cell) (q : ℕ) (seen least : sets.FinSet nat_cmp)
-    → KnowsLeast s cells seen least → sets.contains seen q ≡ true → AddsLeast s cells q least least
-AddsLeast-seen s cells q seen least knows h =
-    record { kept = λ r i. i; only = λ r i. inl i; all = λ r l. knows q h r l }
+LeastOf-moves s cells q x r on link h = grind (arith, string_on, cases_Bool, both_ways, is_in_string_on, string_back)
 
 -- after a string's least point was added, the string is among those seen
 pub KnowsLeast-join : (s : ℕ) (cells : List Cell) (q : ℕ) (seen joined found least new : sets.FinSet nat_cmp)
@@ -210,10 +146,7 @@ unfolding string_at
 KnowsLeast-join s cells q seen joined found least new on e is knows adds x h r l =
     elim (or_cases _ _ (sym (ap (λ t. sets.contains t x) is ∙ sets.contains-union nat_cmp_total seen found x) ∙ h)) [
       | inl before ↦ adds.kept r (knows x before r l)
-      | inr now ↦
-          let link = (and_parts _ _
-          (sym (ap (λ t. sets.contains t x) e ∙ contains-set_below (s * s) (is_in_string s cells q) x) ∙ now)).1 in
-          adds.all r (LeastOf-moves s cells q x r on link l)
+      | inr now ↦ grind (arith, and_parts, contains-set_below, LeastOf-moves)
     ]
 
 -- nothing is known at first

@@ -1,5 +1,5 @@
 -- The row of captured stones: what a play writes there, and that there is room for it.
-use Rattle.std.proofs.Common.{◌≡◌, ◌≢◌, ℕ, zero, suc, ◌+◌, ◌<◌, ◌≤◌, ◌&&◌, Bool, IsTrue, true, false, cond}
+use Rattle.std.proofs.Common.{◌≡◌, ◌≢◌, ℕ, zero, suc, ◌+◌, ◌<◌, ◌≤◌, Bool, IsTrue, true, false, cond}
 use Rattle.std.proofs.Common.{List, length, refl, sym, ap, arith, inl, inr, ◌∙◌, add-one, get_or-set_same}
 use Rattle.std.proofs.Common.{get_or-set_other}
 use Rattle.std.specs.Prelude.{slice_index_or}
@@ -9,8 +9,7 @@ use Rattle.std.specs.Ordering.{nat_cmp}
 use Rattle.std.specs.FinSet as sets
 use Rattle.go_rules.specs.Below.{count_below, set_below}
 use Rattle.go_rules.proofs.Counts.{count_below_mono}
-use Rattle.go_rules.proofs.Sets.{same_nat_set, contains-set_below}
-use Rattle.go_rules.proofs.Sets.{contains-insert_nat, len-set_below, set_below-hit}
+use Rattle.go_rules.proofs.Sets.{same_nat_set, contains-set_below, contains-insert_nat, len-set_below, set_below-hit}
 use Rattle.trial_board.specs.Captured.{points_in}
 
 -- rows that are the same at some places have the same points there
@@ -18,9 +17,7 @@ pub points_in-same : (a b : List ℕ) (first n : ℕ)
     → ((i : ℕ) → i < first + n → slice_index_or a i 0 ≡ slice_index_or b i 0)
     → points_in a first n ≡ points_in b first n
 points_in-same a b first zero h = refl
-points_in-same a b first (suc n) h =
-    ap (λ t. sets.insert t (slice_index_or a (first + n) 0)) (points_in-same a b first n (λ i l. h i (omega arith)))
-    ∙ ap (sets.insert (points_in b first n)) (h (first + n) (omega arith))
+points_in-same a b first (suc n) h = grind (arith, points_in-same a b first n)
 
 -- one place more has one point more
 pub points_in-more : (row : List ℕ) (first n : ℕ) → sets.insert (points_in row first n)
@@ -32,12 +29,7 @@ pub points_in-has : (row : List ℕ) (first n i : ℕ) → i < n
     → IsTrue (sets.contains (points_in row first n) (slice_index_or row (first + i) 0))
 points_in-has row first zero i h = absurd (omega arith)
 points_in-has row first (suc n) i h =
-    let x = slice_index_or row (first + n) 0 in
-    let y = slice_index_or row (first + i) 0 in
-    contains-insert_nat (points_in row first n) x y ∙ elim (cases_eq i n) [
-      | inl e ↦ or_left _ _ (eq-eqb y x (ap (λ m. slice_index_or row (first + m) 0) e))
-      | inr ne ↦ or_right _ _ (points_in-has row first n i (omega arith))
-    ]
+    grind (arith, contains-insert_nat, cases_eq, or_left, eq-eqb, or_right, points_in-has row first n i)
 
 -- if no number from n on passes, the set is whole
 pub set_below-rest : (n m : ℕ) (test : ℕ → Bool) → n ≤ m → ((k : ℕ) → n ≤ k → k < m → test k ≡ false)
@@ -66,17 +58,12 @@ count_below-rest n (suc m) test l h = elim (cases_eq n (suc m)) [
 
 -- a number that passes is counted
 pub count_below-hit : (n : ℕ) (test : ℕ → Bool) → test n ≡ true → count_below (suc n) test ≡ suc (count_below n test)
-count_below-hit n test t = ap (λ b. cond b 1 0 + count_below n test) t
-    ∙ (let e : 1 + count_below n test ≡ suc (count_below n test) = omega arith in e)
+count_below-hit n test t = grind arith
 
 -- fewer numbers are counted below a lesser bound
 pub count_below-less : (n m : ℕ) (test : ℕ → Bool) → n ≤ m → count_below n test ≤ count_below m test
 count_below-less n zero test l = let e : n ≡ zero = omega arith in rw e (omega arith)
-count_below-less n (suc m) test l = elim (cases_eq n (suc m)) [
-  | inl e ↦ rw e (omega arith)
-  | inr ne ↦ let rest = count_below-less n m test (omega arith) in elim
-      (cases_Bool (test m)) [ inl t ↦ rw t (omega (arith, rest)) | inr f ↦ rw f (omega (arith, rest)) ]
-]
+count_below-less n (suc m) test l = grind (arith, cases_eq n (suc m), count_below-less n m test, cases_Bool (test m))
 
 -- a number that passes at most one of two tests, and then a third, is counted no more often for the two
 apart : (a b all : Bool) → (a ≡ true → (b ≡ false) × (all ≡ true)) → (b ≡ true → all ≡ true)
@@ -90,10 +77,7 @@ pub count_below-two : (n : ℕ) (a b all : ℕ → Bool) → ((k : ℕ) → k < 
     → ((k : ℕ) → k < n → b k ≡ true → all k ≡ true)
     → count_below n a + count_below n b ≤ count_below n all
 count_below-two zero a b all h i = omega arith
-count_below-two (suc n) a b all h i =
-    let rest = count_below-two n a b all (λ k l. h k (omega arith)) (λ k l. i k (omega arith)) in
-    let here = apart (a n) (b n) (all n) (h n (omega arith)) (i n (omega arith)) in
-    omega (arith, rest, here)
+count_below-two (suc n) a b all h i = grind (arith, apart, count_below-two n a b all)
 
 -- a number is counted once at most
 once : (a : Bool) → cond a 1 0 ≤ 1
@@ -104,16 +88,8 @@ once false = omega arith
 pub count_below-one : (n p : ℕ) (a b : ℕ → Bool) → ((k : ℕ) → k < n → k ≢ p → a k ≡ true → b k ≡ true)
     → count_below n a ≤ count_below n b + 1
 count_below-one zero p a b h = omega arith
-count_below-one (suc n) p a b h = elim (cases_eq n p) [
-  | inl e ↦
-      let rest = count_below_mono n a b (λ k l. h k (omega arith) (omega arith)) in
-      let here = once (a n) in
-      omega (arith, rest, here)
-  | inr ne ↦
-      let rest = count_below-one n p a b (λ k l. h k (omega arith)) in
-      let here = apart (a n) false (b n) (λ t. (refl, h n (omega arith) ne t)) (λ f. absurd (both_ways false refl f)) in
-      omega (arith, rest, here)
-]
+count_below-one (suc n) p a b h =
+    grind (arith, cases_eq, count_below_mono, once, apart, both_ways, count_below-one n p a b)
 
 -- the points of the test below n are written into the row from the place `first` on, and what stands before it is as it
 -- was
@@ -132,34 +108,18 @@ Noted-none test first row = record { whole = refl; counted = refl; points = refl
 pub Noted-jump : {test : ℕ → Bool} {first : ℕ} {old new : List ℕ} {count n : ℕ} (m : ℕ)
     → Noted test first old new count n → n ≤ m → ((k : ℕ) → n ≤ k → k < m → test k ≡ false)
     → Noted test first old new count m
-Noted-jump {test = test} {n = n} m noted l none = record {
-  whole = noted.whole;
-  counted = noted.counted ∙ count_below-rest n m test l none;
-  points = noted.points ∙ set_below-rest n m test l none;
-  before = noted.before;
-}
+Noted-jump {test = test} {n = n} m noted l none = grind (arith, count_below-rest, set_below-rest)
 
 -- a place more, into which n was written, has n more
 points_in-put : (row : List ℕ) (first count n : ℕ) → first + count < length row
     → points_in (set row (first + count) n) first (count + 1) ≡ sets.insert (points_in row first count) n
-points_in-put row first count n room =
-    let new = set row (first + count) n in
-    sym (points_in-more new first count)
-    ∙ ap (λ t. sets.insert t (slice_index_or new (first + count) 0)) (points_in-same new row first count
-    (λ i l. get_or-set_other row (first + count) i n 0 (λ e. omega arith)))
-    ∙ ap (sets.insert (points_in row first count)) (get_or-set_same row (first + count) n 0 room)
+points_in-put row first count n room = grind (arith, points_in-more, points_in-same, get_or-set_other, get_or-set_same)
 
 -- one more point of the test was written
 Noted-hit : {test : ℕ → Bool} {first : ℕ} {old new : List ℕ} {count n : ℕ} → Noted test first old new count n
     → first + count < length new → test n ≡ true → Noted test first old (set new (first + count) n) (count + 1) (n + 1)
-Noted-hit {test} {first} {old} {new} {count} {n} noted room hit = record {
-  whole = length-set new (first + count) n ∙ noted.whole;
-  counted =
-      let one = ap (λ k. count_below k test) (add-one n) in
-      omega (arith, noted.counted, count_below-hit n test hit, one);
-  points = points_in-put new first count n room ∙ ap (λ t. sets.insert t n) noted.points ∙ set_below-hit n test hit;
-  before = λ i l. get_or-set_other new (first + count) i n 0 (λ e. omega arith) ∙ noted.before i l;
-}
+Noted-hit {test} {first} {old} {new} {count} {n} noted room hit =
+    grind (arith, length-set, add-one, count_below-hit, points_in-put, set_below-hit, get_or-set_other)
 
 -- a point of the test was come to, with none before it, and was written
 pub Noted-next : {test : ℕ → Bool} {first : ℕ} {old row : List ℕ} {count n : ℕ} (q : ℕ)
@@ -170,33 +130,18 @@ Noted-next q noted l none hit room = Noted-hit (Noted-jump q noted l none) room 
 -- a set whose members are below n is that of the numbers below n that are its members
 pub members_below : (points : sets.FinSet nat_cmp) (n : ℕ) → ((q : ℕ) → n ≤ q → sets.contains points q ≡ false)
     → set_below n (sets.contains points) ≡ points
-members_below points n h = same_nat_set (set_below n (sets.contains points)) points (λ q.
-    contains-set_below n (sets.contains points) q ∙ elim (cases_lt q n) [
-      | inl l ↦ ap (λ b. b && sets.contains points q) (lt-ltb q n l)
-      | inr g ↦ ap (λ b. b && sets.contains points q) (le-ltb q n g) ∙ sym (h q g)
-    ])
+members_below points n h = grind (arith, same_nat_set, contains-set_below, cases_lt, lt-ltb, le-ltb)
 
 -- a set whose members are below m has as many as are counted below m
 len_counted : (points : sets.FinSet nat_cmp) (m : ℕ) → ((r : ℕ) → IsTrue (sets.contains points r) → r < m)
     → sets.len points ≡ count_below m (sets.contains points)
-len_counted points m small =
-    ap sets.len (sym (members_below points m past)) ∙ len-set_below m (sets.contains points)
-  where
-    past : (r : ℕ) → m ≤ r → sets.contains points r ≡ false
-    past r g = elim (cases_Bool (sets.contains points r)) [
-      | inl t ↦ absurd (let h = small r t in omega (arith, h, g))
-      | inr f ↦ f
-    ]
+len_counted points m small = grind (arith, members_below points m, len-set_below m (sets.contains points), cases_Bool)
 
 -- where q passes, more pass below a bound above q than below n, if none from n on comes before q
 counted_more : (n q m : ℕ) (test : ℕ → Bool) → n ≤ q → ((k : ℕ) → n ≤ k → k < q → test k ≡ false) → test q ≡ true
     → q < m → count_below n test < count_below m test
-counted_more n q m test l none hit below = omega (
-  arith,
-  count_below-rest n q test l none,
-  count_below-hit q test hit,
-  count_below-less (suc q) m test below,
-)
+counted_more n q m test l none hit below =
+    grind (arith, count_below-rest n q test l none, count_below-hit q test hit, count_below-less (suc q) m test below)
 
 -- there is a place for the next member, if there are places for all, which are below m
 pub Noted-room : (points : sets.FinSet nat_cmp) {first : ℕ} {old row : List ℕ} {count n : ℕ} (q m places : ℕ)
@@ -205,17 +150,13 @@ pub Noted-room : (points : sets.FinSet nat_cmp) {first : ℕ} {old row : List �
     → ((r : ℕ) → IsTrue (sets.contains points r) → r < m)
     → first + sets.len points ≤ places → first + count < places
 Noted-room points {n = n} q m places noted l none hit small room =
-    let more = counted_more n q m (sets.contains points) l none hit (small q hit) in
-    omega (arith, noted.counted, more, len_counted points m small)
+    grind (arith, counted_more n q m (sets.contains points) l none hit (small q hit), len_counted points m small)
 
 -- if no member is left, as many were written as there are
 pub Noted-all : (points : sets.FinSet nat_cmp) {first : ℕ} {old row : List ℕ} {count n : ℕ}
     → Noted (sets.contains points) first old row count n → ((k : ℕ) → n ≤ k → sets.contains points k ≡ false)
     → points_in row first (sets.len points) ≡ points
-Noted-all points {first = first} {row = row} {n = n} noted none =
-    let whole = members_below points n none in
-    ap (points_in row first) (ap sets.len (sym whole) ∙ len-set_below n (sets.contains points) ∙ sym noted.counted)
-    ∙ noted.points ∙ whole
+Noted-all points {first = first} {row = row} {n = n} noted none = grind (arith, members_below, len-set_below)
 
 -- a row has the points of an empty set in no place
 pub points_in-none : (row : List ℕ) (first : ℕ) (points : sets.FinSet nat_cmp) → sets.len points ≡ 0

@@ -1,6 +1,6 @@
 -- What the trial moves changed: a point that no move touched is as the position has it, and of each other it is told
 -- what was put there.
-use Rattle.std.proofs.Common.{◌≡◌, ◌≢◌, ℕ, zero, suc, ◌+◌, ◌*◌, ◌<◌, ◌||◌, Bool, true, false, cond, eqb, List, ◌∷◌}
+use Rattle.std.proofs.Common.{◌≡◌, ◌≢◌, ℕ, zero, suc, ◌+◌, ◌*◌, ◌<◌, ◌||◌, Bool, true, false, cond, eqb, List}
 use Rattle.std.proofs.Common.{length, get_or, Option, Some, None, map, refl, sym, ap, subst, arith, inl, inr, ◌∙◌}
 use Rattle.std.specs.Prelude.{◌⊎◌}
 use Rattle.std.proofs.lemmas.Bool.{cases_Bool, cases_eq, ne_eqb, eqb-true, or_parts}
@@ -97,11 +97,7 @@ before_same : (s : ℕ) (made : TrialMove) (taken : sets.FinSet nat_cmp) (cells 
     → (is_played_at made q || sets.contains taken q) ≡ false
     → cell_at (before_move s made taken cells) q ≡ cell_at cells q
 before_same s Pass taken cells q l f = refl
-before_same s (Play m) taken cells q l f =
-    let both = or_parts (eqb q m.at) (sets.contains taken q) f in
-    at_before s m.colour m.at taken cells q l
-    ∙ ap (λ b. cond b Empty (cond (sets.contains taken q) (stone_of (other m.colour)) (cell_at cells q))) both.0
-    ∙ ap (λ b. cond b (stone_of (other m.colour)) (cell_at cells q)) both.1
+before_same s (Play m) taken cells q l f = grind (arith, or_parts, at_before)
 
 -- a point that no move touched is as the position has it
 untouched : (pos : BoardState) (row : List ℕ) (kept : List UndoableMove) (n q : ℕ) → q < pos.size * pos.size
@@ -109,14 +105,7 @@ untouched : (pos : BoardState) (row : List ℕ) (kept : List UndoableMove) (n q 
     → is_touched row kept n q ≡ false
     → cell_at (after pos (newest_first kept n)).cells q ≡ cell_at pos.cells q
 untouched pos row kept zero q l before f = refl
-untouched pos row kept (suc n) q l before f =
-    let move = kept_at kept n in
-    let ms = newest_first kept n in
-    let both = or_parts (is_touched_by row move q) (is_touched row kept n q) f in
-    let b = before n (omega arith) in
-    sym (before_same pos.size move.made (taken_by row move) (after pos (move.made ∷ ms)).cells q l both.0)
-    ∙ sym (ap (λ t. cell_at t q) b.at.cells)
-    ∙ untouched pos row kept n q l (λ k h. before k (omega arith)) both.1
+untouched pos row kept (suc n) q l before f = grind (arith, or_parts, before_same, untouched pos row kept n q l)
 
 -- what was put at a point, or else the cell of the position
 over_put : (known : Known) (cell : Cell) → over known cell ≡ told_or (put_cell known) cell
@@ -127,10 +116,7 @@ over_put (Put k) cell = refl
 -- a point where the board has the position's cell, or where what was put is told
 told_is : (told : Option Cell) (known : Known) (cell : Cell) → (told ≡ None) ⊎ (told ≡ put_cell known)
     → (told ≡ None → over known cell ≡ cell) → over known cell ≡ told_or told cell
-told_is told known cell by none = elim by [
-  | inl n ↦ none n ∙ sym (ap (λ t. told_or t cell) n)
-  | inr s ↦ over_put known cell ∙ sym (ap (λ t. told_or t cell) s)
-]
+told_is told known cell by none = grind (arith, over_put)
 
 -- so the board is the position's cells with what is told
 overlaid_told : (pos : BoardState) (row : List ℕ) (kept : List UndoableMove) (n : ℕ) (known : List Known) (c : Changes)
@@ -164,12 +150,7 @@ pub changed_is : (pos : BoardState) (row : List ℕ) (kept : List UndoableMove) 
     → after pos (newest_first kept n) ≡ changed pos c
 unfolding changed
 changed_is pos row kept n known ban c at some before tells same =
-    let here = after pos (newest_first kept n) in
-    let cells = at.cells ∙ overlaid_told pos row kept n known c at.cells before tells in
-    ap (λ m. board m here.cells here.ban) (size-after pos (newest_first kept n))
-    ∙ ap (λ t. board pos.size t here.ban) cells
-    ∙ ap (board pos.size (map (λ q. told_or (told_at c q) (cell_at pos.cells q))
-    (range_with_len 0 (pos.size * pos.size)))) (at.ban_is some ∙ sym same)
+    grind (arith, overlaid_told pos row kept n known c at.cells before tells, size-after pos (newest_first kept n))
 
 -- the point of a play on the board is on it
 played_on : (s : ℕ) (made : TrialMove) (q : ℕ) → PlaysOn s made → is_played_at made q ≡ true → q < s * s
@@ -179,14 +160,9 @@ played_on s (Play m) q on t = subst (λ x. x < s * s) (sym (eqb-true q m.at t)) 
 -- the points that a move on the board touched are on it
 pub touched_on : (s : ℕ) (row : List ℕ) (move : UndoableMove) (q : ℕ)
     → IsMoveOnBoard s move.made (taken_by row move) → is_touched_by row move q ≡ true → q < s * s
-touched_on s row move q on h = elim (cases_Bool (is_played_at move.made q)) [
-  | inl t ↦ played_on s move.made q on.made_on t
-  | inr f ↦ on.taken_on q (or_else (is_played_at move.made q) (sets.contains (taken_by row move) q) f h)
-]
+touched_on s row move q on h = grind (arith, cases_Bool, played_on, or_else)
 
 -- one of the points of a row is the next, or one of those before it
 pub one_more : (row : List ℕ) (first n q : ℕ) → sets.contains (points_in row first (n + 1)) q
     ≡ (eqb q (get_or row (first + n) 0) || sets.contains (points_in row first n) q)
-one_more row first n q =
-    sym (ap (λ t. sets.contains t q) (points_in-more row first n))
-    ∙ contains-insert_nat (points_in row first n) (get_or row (first + n) 0) q
+one_more row first n q = grind (arith, points_in-more, contains-insert_nat)

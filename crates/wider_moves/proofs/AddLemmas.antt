@@ -11,14 +11,9 @@ use Rattle.go_rules.proofs.Tests.{same_tests}
 -- a test of all numbers below a bound stays the same where the numbers between fail
 any_below_skip : (test : ℕ → Bool) (n m : ℕ) → n ≤ m → ((k : ℕ) → n ≤ k → k < m → test k ≡ false)
     → any_below m test ≡ any_below n test
-any_below_skip test n m up none = same_tests _ _
-    (λ h.
-    let k = any_below_gives m test h in
-    elim (cases_lt k.0 n) [
-      | inl l ↦ any_below_from n test k.0 l k.2
-      | inr g ↦ absurd (both_ways (test k.0) (none k.0 g k.1) k.2)
-    ])
-    (λ h. let k = any_below_gives n test h in any_below_from m test k.0 (omega (arith, k.1, up)) k.2)
+any_below_skip test n m up none =
+    grind (arith, any_below_gives m test, any_below_from n test, any_below_gives n test, any_below_from m test,
+        same_tests, cases_lt, both_ways)
 
 -- what is added to the empty set is all there is
 pub added_to_none : (none : sets.FinSet nat_cmp) (p : ℕ) (here : Bool) → none ≡ sets.empty

@@ -120,9 +120,7 @@ module _ (s : ℕ) (cells : List Cell) (own : Cell) (l : ℕ) where
 pub cramped_adds : (s : ℕ) (cells : List Cell) (own : Cell) (l : ℕ) (foe : Cell) (r : ℕ) (old new : Bool)
     → foe ≡ foe_of own → is_cramped s cells own l ≡ true → new ≡ (old || holds_next s cells foe l r)
     → new ≡ (old || (is_cramped s cells own l && holds_next s cells (foe_of own) l r))
-cramped_adds s cells own l foe r old new e cramped came =
-    came ∙ ap (λ c. old || holds_next s cells c l r) e
-    ∙ ap (λ b. old || (b && holds_next s cells (foe_of own) l r)) (sym cramped)
+cramped_adds s cells own l foe r old new e cramped came = grind arith
 
 -- what is near a point of a set is in the neighbourhood of the neighbourhood of the set
 pub near_twice : (s : ℕ) (cells : List Cell) (S : ℕ → Bool) (l : ℕ) → S l ≡ true → (r : ℕ)

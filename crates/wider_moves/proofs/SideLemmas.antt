@@ -7,7 +7,6 @@ use Rattle.std.specs.Ordering.{nat_cmp}
 use Rattle.std.specs.FinSet as sets
 use Rattle.go_rules.specs.declared.Cell.{Cell}
 use Rattle.go_rules.specs.Below.{any_below}
-use Rattle.go_rules.specs.Board.{are_neighbours}
 use Rattle.go_rules.specs.Neighbourhood.{neighbourhood_of}
 use Rattle.go_rules.specs.Strings.{cell_at, same_cell}
 use Rattle.go_rules.proofs.Counts.{any_below_gives}
@@ -31,10 +30,7 @@ pub record IsSide (s l side q : ℕ) : Type 0 where
 -- a side that was found on a board of the same size is one of this board
 pub side_found : (s l side q : ℕ) {shown size : ℕ} {found : Option ℕ} → s ≡ shown → l < shown * shown → size ≡ shown
     → found ≡ neighbour_at size l side → found ≡ Some q → IsSide s l side q
-side_found s l side q e on size value is = record {
-  on_board = subst (λ n. l < n * n) (sym e) on;
-  at = ap (λ n. neighbour_at n l side) (e ∙ sym size) ∙ sym value ∙ is;
-}
+side_found s l side q e on size value is = grind arith
 
 -- if no side was found on a board of the same size this board has none
 no_side : (s l side : ℕ) {shown size : ℕ} {found : Option ℕ} → s ≡ shown → size ≡ shown
@@ -44,10 +40,7 @@ no_side s l side e size value none q at =
 
 -- the point at a side is a neighbour
 pub side_near : {s l side q : ℕ} → IsSide s l side q → (r : ℕ) → alone q r ≡ true → neighbours_of s l r ≡ true
-side_near {s} {l} {side} {q} is r h =
-    let near = neighbour_at-near s l side q is.on_board is.at in
-    let is_q = eqb-true r q h in
-    and_from _ _ (lt-ltb r (s * s) (subst (λ x. x < s * s) (sym is_q) near.0)) (ap (are_neighbours s l) is_q ∙ near.1)
+side_near {s} {l} {side} {q} is r h = grind (arith, neighbour_at-near, eqb-true, and_from, lt-ltb)
 
 -- Looks from l, at one side after another, where the side was asked for by the size of the board that is shown.
 module _ {L : Type 0} {shows : L → BoardState} {seen : L → Fact → Bool} {area : ℕ → BoardState → ℕ → Bool}

@@ -1,5 +1,5 @@
 -- The tests for the further candidates say what their words say, in terms of strings and liberties.
-use Rattle.std.proofs.Common.{◌≡◌, ℕ, ◌*◌, ◌<◌, ◌&&◌, ◌||◌, Bool, true, false, not, List, refl, inl, inr}
+use Rattle.std.proofs.Common.{◌≡◌, ℕ, ◌*◌, ◌<◌, ◌&&◌, ◌||◌, Bool, true, false, not, List, refl, inl, inr, arith}
 use Rattle.std.proofs.lemmas.Bool.{cases_Bool, both_ways, and_parts, and_from, or_cases, or_left, or_right}
 use Rattle.std.proofs.lemmas.Bool.{not-true, not_from_false, lt-ltb, ltb-true, le-leb, leb-true, eqb-true, eq-eqb}
 use Rattle.go_rules.specs.declared.Cell.{Cell}
@@ -13,8 +13,7 @@ use Rattle.go_rules.proofs.StringMembers.{is_in_string_on}
 use Rattle.go_base.specs.Surroundings.{is_only_liberty}
 use Rattle.wider_rules.specs.Further.{is_net, is_weak_enemy, is_beside, is_ally, is_rescue, is_linked, is_join}
 use Rattle.wider_rules.specs.Further.{is_cutter, is_cut, is_covered, is_covered_liberty, is_cover}
-use Rattle.wider_rules.specs.Further.{is_in_the_way, is_approach}
-use Rattle.wider_rules.specs.Further.{is_further_always, is_further_wide, is_further}
+use Rattle.wider_rules.specs.Further.{is_in_the_way, is_approach, is_further_always, is_further_wide, is_further}
 use Rattle.wider_rules.specs.FurtherInWords.{IsNetAt, IsEnemyBeside, IsWeakEnemy, IsLastAt, IsAlly, IsLinkedAt}
 use Rattle.wider_rules.specs.FurtherInWords.{IsCoveredAt, IsFurther, strengthens, rescues, saves, cuts, nets, links}
 use Rattle.wider_rules.specs.FurtherInWords.{IsApproachAt, presses, joins, covers, approaches}
@@ -53,8 +52,7 @@ last_gives s cells r p h =
 pub last_from : (s : ℕ) (cells : List Cell) (r p : ℕ) → r < s * s → IsLastAt s cells r p
     → is_only_liberty s cells r p ≡ true
 unfolding is_only_liberty
-last_from s cells r p on w =
-    and_from _ _ (eq-eqb (liberties s cells r) 1 w.in_atari) (is_liberty-from_fact s cells r p on w.last)
+last_from s cells r p on w = grind (arith, and_from, eq-eqb, is_liberty-from_fact)
 
 -- the stone of the other colour is an enemy of a stone
 foe_is_enemy : (own there : Cell) → is_stone own ≡ true → there ≡ foe_of own → is_enemy own there ≡ true

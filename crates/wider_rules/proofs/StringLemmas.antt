@@ -37,9 +37,7 @@ how_many s cells q libs e = ap sets.len e ∙ len-set_below (s * s) (is_liberty 
 pub has_enemy : (s : ℕ) (cells : List Cell) (q r : ℕ) (foes : sets.FinSet nat_cmp) → foes ≡ enemy_points s cells q
     → sets.contains foes r
     ≡ (ltb r (s * s) && (is_beside_string s cells q r && is_enemy (cell_at cells q) (cell_at cells r)))
-has_enemy s cells q r foes e =
-    ap (λ t. sets.contains t r) e
-    ∙ contains-set_below (s * s) (λ x. is_beside_string s cells q x && is_enemy (cell_at cells q) (cell_at cells x)) r
+has_enemy s cells q r foes e = grind (arith, contains-set_below)
 
 -- the set of the stones of a string has them
 pub has_stone : (s : ℕ) (cells : List Cell) (q r : ℕ) (stones : sets.FinSet nat_cmp) → q < s * s
@@ -47,9 +45,7 @@ pub has_stone : (s : ℕ) (cells : List Cell) (q r : ℕ) (stones : sets.FinSet 
     → sets.contains stones r ≡ is_in_string s cells q r
 unfolding string_at
 has_stone s cells q r stones on e =
-    ap (λ t. sets.contains t r) e ∙ contains-set_below (s * s) (is_in_string s cells q) r
-    ∙ same_tests _ _ (λ h. (and_parts _ _ h).1)
-    (λ h. and_from _ _ (lt-ltb r (s * s) (is_in_string_on s cells q r on h)) h)
+    grind (arith, contains-set_below, same_tests, and_parts, and_from, lt-ltb, is_in_string_on)
 
 -- What is joined to what was found before.
 module _ (old added new : sets.FinSet nat_cmp) (p : ℕ) where
@@ -59,8 +55,7 @@ module _ (old added new : sets.FinSet nat_cmp) (p : ℕ) where
 
 -- nothing more comes by a test that fails
 pub adds_nothing : (a b : Bool) → b ≡ false → a ≡ (a || b)
-adds_nothing a b e = same_tests _ _ (λ h. or_left _ _ h)
-    (λ h. elim (or_cases _ _ h) [ inl i ↦ i | inr j ↦ absurd (both_ways b e j) ])
+adds_nothing a b e = grind (arith, same_tests, or_left, or_cases, both_ways)
 
 -- each string has none at least
 pub from_none : (most s : ℕ) (cells : List Cell) (q : ℕ) → has_between 0 most s cells q ≡ leb (liberties s cells q) most

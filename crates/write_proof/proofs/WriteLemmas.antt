@@ -1,7 +1,7 @@
 -- What is written at a node, by what is written at the nodes to which its moves lead.
 use Rattle.std.proofs.Common.{◌≡◌, ◌∙◌, ℕ, ◌-◌, ◌≤◌, Bool, true, false, cond, List, [], ◌∷◌, ◌++◌, length}
 use Rattle.std.proofs.Common.{Option, Some, None, Result, Ok, Err, refl, sym, ap, subst, arith, ltb, eqb, ◌||◌, ◌&&◌}
-use Rattle.std.proofs.Common.{not, is_some, ◌+◌, ◌*◌, ◌/◌, ◌<◌, ◌≢◌, drop, ◌↔◌}
+use Rattle.std.proofs.Common.{not, is_some, ◌+◌, ◌*◌, ◌/◌, ◌<◌, ◌≢◌, drop}
 use Rattle.std.proofs.lemmas.Bool.{ne_eqb}
 use Rattle.std.specs.List.{filter_map, filter, range_with_len}
 use Rattle.std.specs.Option.{option_to_list, option_map}
@@ -25,8 +25,6 @@ use Rattle.read_tree.specs.Nodes.{LeadsTo}
 use Rattle.read_proof.specs.Proves.{child_after, passed, pass_children, play_children, is_settled, has_too_many}
 use Rattle.read_proof.specs.Tokens.{Word}
 use Rattle.read_proof.specs.FirstProof.{Writer, move_word, write_child, write_each, write_move, first_words}
-use Rattle.write_proof.specs.declared.text.ProofError.{ProofError}
-use Rattle.write_proof.specs.declared.text.ProofError.TheVariants.{TooLong, NoMemory}
 use Rattle.write_proof.specs.declared.text.NoRoom.{NoRoom}
 use Rattle.write_proof.specs.Printed.{behind_blanks, Puts, position_on}
 use Rattle.write_proof.specs.Room.{most_bytes}
@@ -274,8 +272,3 @@ module _ (bytes text : List ℕ) (is : drop 1 bytes ≡ text) where
       let less = one_less bytes some in
       let same = ap length is in
       omega (arith, less, same, many)
-
--- a proof that was found is not told to be too long, and is not
-pub found_short : {U : Type 0} (proof : U) (n : ℕ) → n ≤ 60000 → ◌≢◌ {A = Result U ProofError} (Ok proof) (Err NoMemory)
-    → ◌≡◌ {A = Result U ProofError} (Ok proof) (Err TooLong) ↔ (60000 < n)
-found_short proof n few memory = ((λ e. absurd cc), (λ long. absurd (omega (arith, few, long))))

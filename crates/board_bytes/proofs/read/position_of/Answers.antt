@@ -1,5 +1,5 @@
 -- Each case of the bytes.
-use Rattle.std.proofs.Common.{sym, ap, ◌∙◌}
+use Rattle.std.proofs.Common.{sym, ap, ◌∙◌, arith}
 use Rattle.board_bytes.specs.Bytes.{with_stones}
 use Rattle.board_bytes.proofs.Boards.{is_read, refuses_size, refuses_cell, by_stones_read}
 use Rattle.board_bytes.proofs.read.position_of.Goals as goal
@@ -10,11 +10,7 @@ returns-in_default c = refuses_size c.args.board.now c.new.result c.new.ensures.
 
 -- the byte of a point names nothing
 pub returns-then-not-are_cell_bytes : goal.returns-then-not-are_cell_bytes
-returns-then-not-are_cell_bytes c =
-    refuses_cell c.args.board.now c.in-Some.size _ c.are_cell_bytes.result
-    (is_read c.args.board.now c.new.result c.in-Some.size c.from.result c.points.result c.new.ensures.valid
-    c.new.ensures.value c.in-Some.is c.from.ensures c.points.ensures.value)
-    c.are_cell_bytes.ensures c.if-not-are_cell_bytes.true
+returns-then-not-are_cell_bytes c = grind (arith, refuses_cell, is_read)
 
 -- a string has no liberty
 pub returns-in_default-stones_of : goal.returns-in_default-stones_of

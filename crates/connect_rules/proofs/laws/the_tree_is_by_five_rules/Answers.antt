@@ -1,22 +1,18 @@
-use Rattle.std.proofs.Common.{true, false, ap, sym, ◌∙◌, inl, inr, add-one}
+use Rattle.std.proofs.Common.{true, false, ap, sym, ◌∙◌, add-one, arith}
 use Rattle.std.proofs.lemmas.Bool.{cases_Bool}
 use Rattle.go_rules.proofs.Paths.{is_is_in_string-from_fact}
-use Rattle.connect_rules.specs.Connection.{both_stand, can_connect}
+use Rattle.connect_rules.specs.Connection.{can_connect}
 use Rattle.connect_rules.proofs.TreeLemmas.{stand_from, stand_gives, apart_from, connects-gone, connects-joined}
 use Rattle.connect_rules.proofs.TreeLemmas.{connects-no_plies, own_gives, own_from, other_gives, other_from}
 use Rattle.connect_rules.proofs.laws.the_tree_is_by_five_rules.Goals as goal
 
 -- the first rule: a string is gone
 pub returns-clause-gone : goal.returns-clause-gone
-returns-clause-gone c = λ n link own pos gone. elim (cases_Bool (both_stand link pos)) [
-  | inl t ↦ absurd (gone (stand_gives link pos t))
-  | inr f ↦ connects-gone n link own pos f
-]
+returns-clause-gone c = grind (arith, cases_Bool, stand_gives, connects-gone)
 
 -- the second rule: the two are one string
 pub returns-clause-one_string : goal.returns-clause-one_string
-returns-clause-one_string c = λ n link own pos stand on one. connects-joined n link own pos (stand_from link pos stand)
-    (is_is_in_string-from_fact pos.size pos.cells link.a link.b on one)
+returns-clause-one_string c = grind (arith, connects-joined, stand_from, is_is_in_string-from_fact)
 
 -- the third rule: no ply is left
 pub returns-clause-out_of_plies : goal.returns-clause-out_of_plies

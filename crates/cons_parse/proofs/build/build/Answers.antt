@@ -1,7 +1,6 @@
 -- The run over items with a stack.
-use Rattle.std.proofs.Common.{refl, sym, ◌∙◌, ap, []}
-use Rattle.cons_parse.specs.Building.{trees, run, waiting, stepped, State}
-use Rattle.cons_parse.specs.Trees.{Tree}
+use Rattle.std.proofs.Common.{refl, arith}
+use Rattle.cons_parse.specs.Building.{run}
 use Rattle.cons_parse.proofs.Runs.{run_more}
 use Rattle.cons_parse.proofs.build.build.Goals as goal
 
@@ -12,6 +11,4 @@ loop-item-init c = rw c.new-frames.ensures.items refl
 
 -- an item is a step of the run
 pub loop-item-preserved : goal.loop-item-preserved
-loop-item-preserved c =
-    run_more trees (waiting []) c.loop-item.yielded c.in-Some.item
-    ∙ (ap (λ (s : State Tree). stepped trees s c.in-Some.item) c.loop-item.invariant ∙ sym c.in_ok-now.ensures)
+loop-item-preserved c = grind (arith, run_more)

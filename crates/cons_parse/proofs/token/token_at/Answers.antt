@@ -17,10 +17,7 @@ returns-then-are_too_many-clause-value c =
 
 -- there are few enough digits
 pub value_of-requires-clause-few : goal.value_of-requires-clause-few
-value_of-requires-clause-few c =
-    let few =
-    few_enough c.digits_len-more.result c.are_too_many.result c.are_too_many.ensures c.if-are_too_many.false in
-    omega (arith, length-take (c.digits_len-more.result + 1) c.args.bytes.now)
+value_of-requires-clause-few c = grind (arith, few_enough, length-take)
 
 -- they are digits
 pub value_of-requires-clause-digits : goal.value_of-requires-clause-digits
@@ -50,7 +47,4 @@ returns-then-is_letter-clause-value c =
 
 -- what is no digit and no letter begins a sign
 pub returns-else-is_letter-clause-value : goal.returns-else-is_letter-clause-value
-returns-else-is_letter-clause-value c =
-    c.sign_at.ensures.value
-    ∙ sym (signs c.args.bytes.now c.requires (sym c.is_digit.ensures ∙ c.if-is_digit.false)
-    (sym c.is_letter.ensures ∙ c.if-is_letter.false))
+returns-else-is_letter-clause-value c = grind (arith, signs)

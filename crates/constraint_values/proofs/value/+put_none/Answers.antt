@@ -7,14 +7,12 @@ use Rattle.constraint_values.proofs.value.+put_none.Goals as goal
 -- what stands behind a `!` is smaller
 pub put_none-requires : goal.put_none-requires
 put_none-requires t c =
-    let part = part_of_not c.deref.result.now c.args.expr.now c.in-Not.e c.deref.ensures c.in-Not.is in
-    (omega (arith, part.smaller, c.decreases), tt)
+    grind (arith, part_of_not c.deref.result.now c.args.expr.now c.in-Not.e c.deref.ensures c.in-Not.is)
 
 -- what stands behind a `-` is smaller
 pub put_none-requires-in-Neg : goal.put_none-requires-in-Neg
 put_none-requires-in-Neg t c =
-    let part = part_of_neg c.deref-in-Neg.result.now c.args.expr.now c.in-Neg.e c.deref-in-Neg.ensures c.in-Neg.is in
-    (omega (arith, part.smaller, c.decreases), tt)
+    grind (arith, part_of_neg c.deref-in-Neg.result.now c.args.expr.now c.in-Neg.e c.deref-in-Neg.ensures c.in-Neg.is)
 
 -- the left side is smaller
 pub put_none-requires-in-Bin : goal.put_none-requires-in-Bin
@@ -34,15 +32,11 @@ put_none-requires-in-Bin-2 t c =
 
 -- a number is one part
 pub returns-in_ok-push-in-Num : goal.returns-in_ok-push-in-Num
-returns-in_ok-push-in-Num t c =
-    none_of_num c.args.expr.now c.in-Num.field-0 c.args.values.now.items c.push.new.self.items c.in-Num.is
-    c.in_ok-push-in-Num.ensures.items
+returns-in_ok-push-in-Num t c = grind (arith, none_of_num)
 
 -- a call is one part
 pub returns-in_ok-push-in-Call : goal.returns-in_ok-push-in-Call
-returns-in_ok-push-in-Call t c =
-    none_of_call c.args.expr.now c.in-Call.field-0 c.in-Call.field-1 c.args.values.now.items
-    c.push-in-Call.new.self.items c.in-Call.is c.in_ok-push-in-Call.ensures.items
+returns-in_ok-push-in-Call t c = grind (arith, none_of_call)
 
 -- a `!` comes behind what stands behind it
 pub returns-in_ok-push-in-Not : goal.returns-in_ok-push-in-Not

@@ -19,22 +19,12 @@ use Rattle.constraint_values.proofs.value.+put_values.Goals as goal
 -- what stands behind a `!` is smaller and keeps what is required
 pub put_values-requires : goal.put_values-requires
 put_values-requires g t c κs within =
-    let part : IsPartOf c.deref.result.now c.args.expr.now =
-    part_of_not c.deref.result.now c.args.expr.now c.in-Not.e c.deref.ensures c.in-Not.is in
-    let con : IsConstraint c.deref.result.now = part.constraint c.requires.constraint in
-    let place : are_placed (g.E.Env.view c.args.env.now).meanings c.deref.result.now ≡ true =
-    part.placed (g.E.Env.view c.args.env.now).meanings c.requires.placed in
-    (omega (arith, part.smaller, c.decreases), (within, (con, place)))
+    grind (arith, part_of_not c.deref.result.now c.args.expr.now c.in-Not.e c.deref.ensures c.in-Not.is)
 
 -- what stands behind a `-` is smaller and keeps what is required
 pub put_values-requires-in-Neg : goal.put_values-requires-in-Neg
 put_values-requires-in-Neg g t c κs within =
-    let part : IsPartOf c.deref-in-Neg.result.now c.args.expr.now =
-    part_of_neg c.deref-in-Neg.result.now c.args.expr.now c.in-Neg.e c.deref-in-Neg.ensures c.in-Neg.is in
-    let con : IsConstraint c.deref-in-Neg.result.now = part.constraint c.requires.constraint in
-    let place : are_placed (g.E.Env.view c.args.env.now).meanings c.deref-in-Neg.result.now ≡ true =
-    part.placed (g.E.Env.view c.args.env.now).meanings c.requires.placed in
-    (omega (arith, part.smaller, c.decreases), (within, (con, place)))
+    grind (arith, part_of_neg c.deref-in-Neg.result.now c.args.expr.now c.in-Neg.e c.deref-in-Neg.ensures c.in-Neg.is)
 
 -- the left side is smaller and keeps what is required
 pub put_values-requires-in-Bin : goal.put_values-requires-in-Bin
@@ -62,20 +52,11 @@ put_values-requires-then-needs_right g t c κs within =
 
 -- the opposite of a small value fits
 pub overflow_sub-inner : goal.overflow_sub-inner
-overflow_sub-inner g t c =
-    let part = part_of_neg c.deref-in-Neg.result.now c.args.expr.now c.in-Neg.e c.deref-in-Neg.ensures c.in-Neg.is in
-    let con = part.constraint c.requires.constraint in
-    let small = c.in_ok-inner-in-Neg.ensures.small in
-    let x = c.in_ok-inner-in-Neg.inner in
-    opposite_fits x (value_fits c.deref-in-Neg.result.now x con small)
-    (all_small c.deref-in-Neg.result.now x con small)
+overflow_sub-inner g t c = grind (arith, part_of_neg, opposite_fits, value_fits, all_small)
 
 -- the right side goes on from where the left one led
 pub returns-in_err-right-in-Bin-clause-stays : goal.returns-in_err-right-in-Bin-clause-stays
-returns-in_err-right-in-Bin-clause-stays g t c =
-    stays_on (g.E.Env.view c.args.env.now) (g.E.Env.view c.put_values-in-Bin.new.env)
-    (g.E.Env.view c.put_values-then-needs_right.new.env) c.in_ok-left-in-Bin.ensures.stays
-    c.in_err-right-in-Bin.ensures.stays
+returns-in_err-right-in-Bin-clause-stays g t c = grind (arith, stays_on)
 
 -- the left side is small
 pub joined-requires-clause-left_small : goal.joined-requires-clause-left_small
@@ -103,21 +84,11 @@ joined-requires-clause-right_small g t c =
 
 -- a number is one part
 pub returns-in-Num-clause-put : goal.returns-in-Num-clause-put
-returns-in-Num-clause-put g t c =
-    on_ok_weaker c.put_leaf.result
-    (λ put. values_of_num (g.E.Env.view c.args.env.now).meanings c.args.expr.now c.in-Num.field-0
-    c.args.values.now.items c.put_leaf.new.values.items
-    c.in-Num.is put)
-    c.put_leaf.ensures.put
+returns-in-Num-clause-put g t c = grind (arith, on_ok_weaker, values_of_num)
 
 -- a call is one part
 pub returns-in-Call-clause-put : goal.returns-in-Call-clause-put
-returns-in-Call-clause-put g t c =
-    on_ok_weaker c.put_leaf-in-Call.result
-    (λ put. values_of_call (g.E.Env.view c.args.env.now).meanings c.args.expr.now c.in-Call.field-0 c.in-Call.field-1
-    c.args.values.now.items
-    c.put_leaf-in-Call.new.values.items c.in-Call.is put)
-    c.put_leaf-in-Call.ensures.put
+returns-in-Call-clause-put g t c = grind (arith, on_ok_weaker, values_of_call)
 
 -- the value behind a `!`
 pub returns-in_ok-inner-in-Not-clause-value : goal.returns-in_ok-inner-in-Not-clause-value
@@ -274,10 +245,7 @@ returns-in_ok-right-in-Bin-clause-put g t c =
 
 -- the right side goes on from where the left one led
 pub returns-in_ok-right-in-Bin-clause-stays : goal.returns-in_ok-right-in-Bin-clause-stays
-returns-in_ok-right-in-Bin-clause-stays g t c =
-    stays_on (g.E.Env.view c.args.env.now) (g.E.Env.view c.put_values-in-Bin.new.env)
-    (g.E.Env.view c.put_values-then-needs_right.new.env) c.in_ok-left-in-Bin.ensures.stays
-    c.in_ok-right-in-Bin.ensures.stays
+returns-in_ok-right-in-Bin-clause-stays g t c = grind (arith, stays_on)
 
 -- the value of the left side alone
 pub returns-in_ok-put_none-in-Bin-clause-value : goal.returns-in_ok-put_none-in-Bin-clause-value

@@ -1,10 +1,8 @@
-use Rattle.std.proofs.Common.{◌≡◌, ◌∙◌, ◌+◌, sym, ap, subst, refl, List, [], ◌∷◌, Result}
-use Rattle.std.specs.Prelude.{ℕ, IfOk}
+use Rattle.std.proofs.Common.{◌≡◌, ◌∙◌, ◌+◌, sym, ap, subst, refl, [], ◌∷◌, arith}
+use Rattle.std.specs.Prelude.{ℕ}
 use Rattle.std.specs.List.{slice_range}
 use Rattle.std.proofs.lemmas.Result.{IfOk-weaker, IfErr-weaker}
-use Rattle.db_lex.specs.declared.line.BadByte.{BadByte}
-use Rattle.db_lex.specs.declared.line.Line.{Line}
-use Rattle.db_lex.specs.Lines.{Lexed, IsSpelled}
+use Rattle.db_lex.specs.Lines.{Lexed}
 use Rattle.db_rules.specs.Faults.{first_fault, found_at_end}
 use Rattle.db_read.specs.declared.error.DbError.{DbError}
 use Rattle.db_read.specs.Reading.{BlamesAt}
@@ -43,18 +41,12 @@ returns-in-Err-clause-err c =
 -- the lines that are left begin with the one that was read
 walked : (c : After-line) → Walked c.args.helpers.now c.args.text.now c.loop-told.reader
     (c.in-Some.ensures.next.line ∷ c.next.new.self.left)
-walked c =
-    subst (λ left. Walked c.args.helpers.now c.args.text.now c.loop-told.reader left) c.in-Some.ensures.next.first
-    c.loop-told.invariant.1
+walked c = grind arith
 
 -- its bytes stand in the text where it says
 bytes_there : (c : After-line) → c.in-Some.ensures.next.line.bytes
     ≡ slice_range c.args.text.now c.in-Ok.line.from c.in-Ok.line.to
-bytes_there c =
-    let spelled = subst (λ (r : Result Line BadByte). IfOk r
-    (λ l. IsSpelled c.loop-told.lexer.text l c.in-Some.ensures.next.line.bytes)) c.in-Ok.is
-    c.in-Some.ensures.next.spelled in
-    sym spelled.there ∙ ap (λ (t : List ℕ). slice_range t c.in-Ok.line.from c.in-Ok.line.to) c.loop-told.invariant.0
+bytes_there c = grind arith
 
 -- a line without a fault is one more
 pub loop-told-preserved : goal.loop-told-preserved

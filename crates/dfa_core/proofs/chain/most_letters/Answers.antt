@@ -1,4 +1,4 @@
-use Rattle.std.proofs.Common.{◌≡◌, ◌+◌, ◌*◌, ◌≤◌, max, min, refl, ap, ◌∙◌, arith}
+use Rattle.std.proofs.Common.{◌≡◌, ◌+◌, ◌*◌, ◌≤◌, max, min, ap, ◌∙◌, arith}
 use Rattle.std.proofs.Math.Nat.{mul-le-mul_left, mul-le-mul_right}
 use Rattle.go_rules.specs.Transform.{largest_offset}
 use Rattle.dfa_core.proofs.Reaches.{length-inside}
@@ -11,9 +11,7 @@ reach c = c.from-k.ensures ∙ c.min.ensures ∙ ap (λ n. min n largest_offset)
 
 -- past the square nothing is drawn
 pub returns-clause-same : goal.returns-clause-same
-returns-clause-same c =
-    length-inside c.args.p.now c.from-k.result ((2 * c.from-k.result + 1) * (2 * c.from-k.result + 1))
-    (reach (goal.at.returns-clause-same c).After-from-k) refl
+returns-clause-same c = grind (arith, length-inside, reach)
 
 -- the number of letters is at most that of all offsets
 pub returns-clause-bound : goal.returns-clause-bound

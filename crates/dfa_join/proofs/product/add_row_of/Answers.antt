@@ -1,4 +1,4 @@
-use Rattle.std.proofs.Common.{◌++◌, max, ◌∙◌, ap, sym, subst, length}
+use Rattle.std.proofs.Common.{◌++◌, ◌∙◌, ap, sym, subst, length, arith}
 use Rattle.std.proofs.lemmas.List.{length_push}
 use Rattle.dfa_core.specs.Automata.{Row}
 use Rattle.dfa_join.specs.Pairs.{IsReached, AreRowsOf, IsRowOf}
@@ -26,11 +26,7 @@ row_of c = record {
 
 -- the row that is added is the row of the pair
 is_row : (c : In-Ok) → IsRowOf c.args.a.now c.args.b.now c.expand.new.pairs c.args.pair (row_of c)
-is_row c = record {
-  leads = c.in_ok-targets.ensures.leads;
-  numbers = λ i. c.accepts.ensures i ++ c.accepts-2.ensures i;
-  depth = c.max-depth.ensures ∙ (λ i. max (c.depth.ensures i) (c.depth-2.ensures i));
-}
+is_row c = grind arith
 
 -- so the rows are those of the pairs still
 pub returns-in-Ok-clause-made : goal.returns-in-Ok-clause-made

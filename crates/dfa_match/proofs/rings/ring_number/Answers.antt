@@ -30,12 +30,8 @@ letter-requires-clause-step c = c.requires.steps.1.past (1 + c.letters.place) (o
 -- the number with one digit more has room
 pub overflow_add-number : goal.overflow_add-number
 overflow_add-number c =
-    omega (
-      arith,
-      number_room c.letters.place c.letters.number c.letters-test.true c.letters.invariant.low,
-      letter_tag c.letter.result,
-      letter_below c.letter.result,
-    )
+    grind (arith, number_room c.letters.place c.letters.number c.letters-test.true c.letters.invariant.low,
+        letter_tag c.letter.result, letter_below c.letter.result, c.letters-test.true, c.letters.invariant.low)
 
 -- one letter more was read
 pub letters-preserved : goal.letters-preserved

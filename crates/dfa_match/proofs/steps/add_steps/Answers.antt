@@ -10,10 +10,7 @@ use Rattle.dfa_match.proofs.steps.add_steps.Goals as goal
 
 -- at first no step was added, and the first offset leads nowhere
 pub offsets-init : goal.offsets-init
-offsets-init c = record {
-  by = λ some. sym offset_at-zero;
-  added = steps_none c.args.t c.args.steps.now.items;
-}
+offsets-init c = grind (arith, offset_at-zero, steps_none)
 
 -- the offset with the index is near
 pub apply-requires : goal.apply-requires

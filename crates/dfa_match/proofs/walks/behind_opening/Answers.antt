@@ -1,5 +1,5 @@
-use Rattle.std.proofs.Common.{◌≡◌, ℕ, List, get_or, sym, ap, ◌∙◌}
-use Rattle.dfa_shortcuts.specs.Openings.{opening_letters, unknown, word_number}
+use Rattle.std.proofs.Common.{◌≡◌, ℕ, List, arith}
+use Rattle.dfa_shortcuts.specs.Openings.{opening_letters, word_number}
 use Rattle.dfa_match.specs.Steps.{AreSteps}
 use Rattle.dfa_match.specs.Walks.{word_behind}
 use Rattle.dfa_match.proofs.StandingWalks.{unopened}
@@ -15,7 +15,4 @@ number_read c steps are = c.opening_number.ensures c.args.sights.now.letters ste
 
 -- nothing is known of the row behind the opening
 pub returns-in-None : goal.returns-in-None
-returns-in-None c steps are = unopened c.args.shortcuts.now.openings.items steps c.args.sights.now.letters c.args.walk
-    (ap (λ n. get_or c.args.shortcuts.now.openings.items n unknown)
-    (sym (number_read (goal.at.returns-in-None c).After-opening_number steps are))
-    ∙ c.in-None.ensures.none)
+returns-in-None c steps are = grind (arith, unopened, number_read)

@@ -1,9 +1,6 @@
-use Rattle.std.proofs.Common.{◌≡◌, ℕ, ◌<◌, ◌≤◌, List, length, get_or, ap, sym, ◌∙◌, subst, arith}
+use Rattle.std.proofs.Common.{◌≡◌, ℕ, ◌<◌, List, length, get_or, ap, sym, ◌∙◌, arith}
 use Rattle.std.proofs.lemmas.List.{get_or-map, length-set}
-use Rattle.dfa_match.specs.declared.rings.Ring.{Ring}
 use Rattle.dfa_match.specs.declared.walks.Walk.{Walk}
-use Rattle.dfa_match.specs.Rings.{ring_of}
-use Rattle.dfa_match.specs.Steps.{last_corner}
 use Rattle.dfa_match.specs.Walks.{after_opening, goes_on}
 use Rattle.dfa_match.proofs.InPlace.{same_next, same_more, counted, GathersInFront-more, MapsInPlace-more}
 use Rattle.dfa_match.proofs.walks.open_all.Goals.{In-walks}
@@ -24,18 +21,11 @@ is_walk c = same_next c.args.walks.now c.walks.walks c.walks.index none c.walks.
 
 -- the walk at the index reads on the padded board
 pub behind_opening-next-requires-clause-corner : goal.behind_opening-next-requires-clause-corner
-behind_opening-next-requires-clause-corner c =
-    let at = (goal.at.behind_opening-next-requires-clause-corner c).In-walks in
-    subst (λ (w : Walk). w.corner ≤ last_corner) (sym (is_walk at)) (c.requires.corners c.walks.index none (on at))
+behind_opening-next-requires-clause-corner c = grind (arith, is_walk, on)
 
 -- its ring has its place
 pub behind_opening-next-requires-clause-ring : goal.behind_opening-next-requires-clause-ring
-behind_opening-next-requires-clause-ring c =
-    let at = (goal.at.behind_opening-next-requires-clause-ring c).In-walks in
-    let ring : Ring = record { plain = 0; mirrored = 0 } in
-    ap (λ rs. get_or rs c.walks.index ring) c.requires.rings
-    ∙ get_or-map (ring_of c.args.sights.now.letters) c.args.walks.now c.walks.index none ring (on at)
-    ∙ ap (ring_of c.args.sights.now.letters) (sym (is_walk at))
+behind_opening-next-requires-clause-ring c = grind (arith, get_or-map, on, is_walk)
 
 -- one walk more is behind its opening
 pub walks-preserved : goal.walks-preserved

@@ -18,9 +18,7 @@ next c = after_letters c.args.shortcuts.now.entries.items c.args.shortcuts.now.p
 
 -- each walk has read its letter
 read : (c : After-read_on-met) → c.read_on-met.new.walks ≡ map (next c) c.args.walks.now.items
-read c = c.read_on-met.ensures.value
-    ∙ (λ i. map (after_letters (c.deref.ensures.value i) (c.deref-2.ensures.value i) c.args.steps.now
-    c.args.sights.now.letters) (c.deref_mut.ensures.value i))
+read c = grind arith
 
 -- these are the walks of the whole list
 written : (c : After-read_on-met)

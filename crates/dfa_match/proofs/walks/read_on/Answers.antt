@@ -30,10 +30,7 @@ even_silent entry even = ne_eqb (entry % 4) 1 (λ same. omega (arith, same, even
 -- the next walk is as it was
 next_same : (f : Walk → Walk) (xs ys : List Walk) (i : ℕ) (x : Walk) → i < length xs
     → ys ≡ map f (take i xs) ++ drop i xs → get_or ys i x ≡ get_or xs i x
-next_same f xs ys i x low is =
-    ap (λ l. get_or l i x) (is ∙ ap (λ l. map f (take i xs) ++ l) (drop_more xs i x low))
-    ∙ get_or_at (map f (take i xs)) (get_or xs i x) (drop (i + 1) xs) x i
-    (length-map (take i xs) f ∙ omega (arith, length-take i xs))
+next_same f xs ys i x low is = grind (arith, drop_more, get_or_at, length-map, length-take)
 
 -- what is read past the end of a list
 abbrev none : Walk
@@ -53,12 +50,7 @@ moved w entry more = record { entry = entry; letters = w.letters + (1 + more); c
 moved_is : (entries passed steps : List ℕ) (letters : List Seen) (w : Walk) (place entry more : ℕ)
     → place ≡ place_of steps letters w → entry ≡ get_or entries place 0 → more ≡ get_or passed place 0
     → moved w entry more ≡ after_letters entries passed steps letters w
-moved_is entries passed steps letters w place entry more at row count =
-    let entry_is = row ∙ ap (λ n. get_or entries n 0) at in
-    let more_is = count ∙ ap (λ n. get_or passed n 0) at in
-    let letters_are : w.letters + (1 + more) ≡ (after_letters entries passed steps letters w).letters =
-    omega (arith, more_is) in
-    λ i. record { entry = entry_is i; letters = letters_are i; corner = w.corner }
+moved_is entries passed steps letters w place entry more at row count = grind arith
 
 -- one walk more has read its letter
 pub walks-preserved : goal.walks-preserved

@@ -1,4 +1,4 @@
-use Rattle.std.proofs.Common.{ℕ, ◌%◌, ◌≤◌, ◌<◌, arith}
+use Rattle.std.proofs.Common.{ℕ, ◌≤◌, ◌<◌, arith}
 use Rattle.go_base.proofs.Lowest.{none_before, is_marked-found}
 use Rattle.go_base.proofs.UsedWords.{first_in_next}
 use Rattle.go_base.proofs.bits.first_in_words.Goals as goal
@@ -22,10 +22,4 @@ returns-then-bit-lt-WORD_BITS-clause-some c =
 
 -- no word up to the next one in use marks a point, and its lowest bit is that of the first point that is marked
 pub returns-clause-some : goal.returns-clause-some
-returns-clause-some c =
-    let next = c.lowest_bit-next in
-    let rest = λ (k : ℕ) (l : c.args.first % 64 ≤ k) (m : k < 64). c.lowest_bit-bit.ensures.misses k l
-    (omega (arith, m, c.if-bit-lt-WORD_BITS.false)) in
-    first_in_next c.args.words.now c.args.used c.args.first next.result c.requires rest next.ensures.misses
-    c.lowest_bit.result (next.ensures.hit (omega (arith, c.if-next-ge-WORD_BITS.false))) c.lowest_bit.ensures.bound
-    next.ensures.low c.lowest_bit.ensures.misses c.lowest_bit.ensures.hit
+returns-clause-some c = grind (arith, first_in_next)

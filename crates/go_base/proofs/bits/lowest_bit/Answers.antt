@@ -8,8 +8,7 @@ returns-then-rest-eq0-clause-misses c = λ k l m. nothing_left c.args.word c.arg
 
 -- the place is that of the lowest bit of what is left
 pub returns-clause-bound : goal.returns-clause-bound
-returns-clause-bound c = let low = lowest_from c.args.word c.args.from c.ranges.word.fits (omega arith) in
-    omega (arith, low.bound)
+returns-clause-bound c = grind (arith, lowest_from)
 
 -- its bit is marked
 pub returns-clause-hit : goal.returns-clause-hit

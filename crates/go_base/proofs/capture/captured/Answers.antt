@@ -31,16 +31,4 @@ returns-clause-over g c = λ pos a beside.
 
 -- each side gave points of the board
 pub returns-clause-on_board : goal.returns-clause-on_board
-returns-clause-on_board g c =
-    let s = g.V.View.rows c.args.board.now in
-    let above = c.take_side.ensures in
-    let below = c.take_side-2.ensures in
-    let left = c.take_side-3.ensures in
-    let right = c.take_side-4.ensures in
-    let rows1 = g.met.V.View.asks_rows _ _ _ above.looks.asked in
-    let rows2 = g.met.V.View.asks_rows _ _ _ below.looks.asked in
-    let rows3 = g.met.V.View.asks_rows _ _ _ left.looks.asked in
-    let first = on_board_with s _ _ (λ r h. absurd (none_at _ r c.new-taken.ensures h)) above.on_board in
-    let second = on_board_with s _ _ first (rw rows1 at below.on_board) in
-    let third = on_board_with s _ _ second (rw (rows2, rows1) at left.on_board) in
-    on_board_with s _ _ third (rw (rows3, rows2, rows1) at right.on_board)
+returns-clause-on_board g c = grind (arith, on_board_with, none_at)

@@ -1,5 +1,4 @@
-use Rattle.std.proofs.Common.{sym, ap, ◌∙◌}
-use Rattle.std.specs.Option.{is_some}
+use Rattle.std.proofs.Common.{sym, ap, ◌∙◌, arith}
 use Rattle.std.specs.Ordering.{nat_cmp}
 use Rattle.std.specs.FinSet as set
 use Rattle.std.proofs.lemmas.Bool.{ne_eqb}
@@ -15,6 +14,4 @@ returns-then-count-ne0-clause-over g c = λ pos a stone alive.
 
 -- a stone's string is told exactly if it has no liberty
 pub returns-clause-over : goal.returns-clause-over
-returns-clause-over g c = λ pos a stone alive.
-    c.is_some.ensures ∙ ap is_some (c.string_without_liberty.ensures.over pos a stone)
-    ∙ told_where_none (g.V.View.rows c.args.board.now) (g.V.View.cells c.args.board.now pos) c.args.p stone
+returns-clause-over g c = grind (arith, told_where_none)

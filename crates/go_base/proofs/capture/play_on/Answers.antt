@@ -1,4 +1,4 @@
-use Rattle.std.proofs.Common.{◌≡◌, ◌*◌, ◌<◌, false, eqb, ap, sym, subst, refl, ◌∙◌}
+use Rattle.std.proofs.Common.{◌≡◌, false, eqb, ap, sym, refl, ◌∙◌, arith}
 use Rattle.std.proofs.Math.ListN.{set}
 use Rattle.std.proofs.lemmas.Bool.{both_ways, eq-eqb, eqb-true}
 use Rattle.go_rules.specs.declared.Cell.TheVariants.{Empty}
@@ -29,10 +29,7 @@ returns-then-ne-clause-asks g c = g.met.V.View.asks_within _ _ _ _ c.at.ensures.
 
 -- a play on a stone is refused as occupied
 pub returns-then-ne-clause-over : goal.returns-then-ne-clause-over
-returns-then-ne-clause-over g c = λ pos a good.
-    sym (free_occupied (board_of (g.V.View.rows c.args.board.now) (g.V.View.cells c.args.board.now pos)) c.args.c
-    c.args.p
-    (sym (occupied_is g (goal.at.returns-then-ne-clause-over g c).After-ne pos a) ∙ c.if-ne.true))
+returns-then-ne-clause-over g c = grind (arith, free_occupied, occupied_is)
 
 -- a point lies in its own second neighbourhood
 pub returns-then-ne-clause-near : goal.returns-then-ne-clause-near
@@ -42,8 +39,7 @@ returns-then-ne-clause-near g c =
 
 -- what was taken is on the board
 pub put_all-requires : goal.put_all-requires
-put_all-requires g c = λ r h. subst (λ n. r < n * n)
-    (sym (g.met.V.View.asks_rows _ _ _ c.captured-taken.ensures.looks.asked)) (c.captured-taken.ensures.on_board r h)
+put_all-requires g c = grind arith
 
 -- until the stone's string was judged, only looks and writes happened
 asked : (g : Over) (c : After-is_suicide g) → g.V.View.asks c.args.board.now c.is_suicide.new.board anywhere
@@ -69,11 +65,7 @@ returns-clause-asks g c =
 
 -- the board kept its size until then
 rows_are : (g : Over) (c : After-is_suicide g) → g.V.View.rows c.put_all.new.board ≡ g.V.View.rows c.args.board.now
-rows_are g c =
-    g.met.V.View.asks_rows _ _ _ c.put_all.ensures.asks
-    ∙ g.met.V.View.asks_rows _ _ _ c.captured-taken.ensures.looks.asked
-    ∙ g.met.V.View.asks_rows _ _ _ c.put.ensures.asks
-    ∙ g.met.V.View.asks_rows _ _ _ c.at.ensures.looks.asked
+rows_are g c = grind arith
 
 module _ (g : Over) (c : After-is_suicide g) (pos : BoardState) (a : g.V.View.agrees c.is_suicide.new.board pos) where
   -- a position that agrees after the test for suicide agreed before it

@@ -1,10 +1,9 @@
-use Rattle.std.proofs.Common.{◌≡◌, ◌*◌, ◌<◌, ◌||◌, ◌&&◌, true, false, ap, sym, subst, refl, inl, inr, ◌∙◌}
+use Rattle.std.proofs.Common.{◌≡◌, ◌*◌, ◌<◌, ◌||◌, ◌&&◌, false, ap, sym, subst, refl, inl, inr, ◌∙◌, arith}
 use Rattle.std.specs.FinSet as set
 use Rattle.std.specs.Cmp.{nat_cmp_total}
 use Rattle.std.proofs.lemmas.Bool.{cases_Bool, not-false, not-true, or_cases, or_left, or_right, and_from}
 use Rattle.go_rules.specs.Strings.{cell_at, is_stone, same_cell}
 use Rattle.go_rules.specs.Neighbourhood.{neighbourhood_of}
-use Rattle.go_rules.specs.Play.{is_taken}
 use Rattle.go_rules.specs.Position.{BoardState, other, stone_of}
 use Rattle.go_rules.proofs.Cells.{cells_same, eq_is_same_cell}
 use Rattle.go_rules.proofs.Paths.{same_cell-from}
@@ -18,31 +17,17 @@ use Rattle.go_base.proofs.capture.take.Goals.{After-string_without_liberty}
 
 -- what is among the taken ones came with its string
 pub returns-then-has-clause-over : goal.returns-then-has-clause-over
-returns-then-has-clause-over g c = λ pos a whole.
-    let s = g.V.View.rows c.args.board.now in
-    let cells = g.V.View.cells c.args.board.now pos in
-    elim (cases_Bool (is_taken s cells c.args.c c.args.q)) [
-      | inl t ↦ rw t (union_there s cells c.args.q c.args.taken.now whole (sym c.has.ensures ∙ c.if-has.true))
-      | inr f ↦ rw f refl
-    ]
+returns-then-has-clause-over g c = grind (arith, cases_Bool, union_there)
 
 -- what is no enemy is not taken
 pub returns-then-ne-clause-over : goal.returns-then-ne-clause-over
-returns-then-ne-clause-over g c = λ pos a whole.
-    let differ = sym (eq_is_same_cell c.at.result c.cell.result) ∙ not-true _ (sym c.ne.ensures ∙ c.if-ne.true) in
-    let kept = no_enemy_taken (g.V.View.rows c.args.board.now) (g.V.View.cells c.args.board.now pos) c.args.c c.args.q
-    (rw (c.at.ensures.over pos a, c.cell.ensures ∙ ap stone_of c.other.ensures) at differ) in
-    rw kept refl
+returns-then-ne-clause-over g c = grind (arith, eq_is_same_cell, not-true, no_enemy_taken)
 
 -- an enemy stands there
 enemy_is : (g : Over) (c : After-string_without_liberty g) → c.ne.result ≡ false → (pos : BoardState)
     → g.V.View.agrees c.string_without_liberty.new.board pos
     → cell_at (g.V.View.cells c.args.board.now pos) c.args.q ≡ stone_of (other c.args.c)
-enemy_is g c enemy pos a =
-    let a0 = g.met.V.View.asks_agrees _ _ _ c.string_without_liberty.ensures.looks.asked pos a in
-    let same = not-false _ (sym c.ne.ensures ∙ enemy) in
-    sym (c.at.ensures.over pos a0) ∙ cells_same c.at.result c.cell.result true (sym same) refl ∙ c.cell.ensures
-    ∙ ap stone_of c.other.ensures
+enemy_is g c enemy pos a = grind (arith, not-false, cells_same)
 
 -- only the string and its neighbours were looked at
 near_is : (g : Over) (c : After-string_without_liberty g) → c.ne.result ≡ false → (pos : BoardState)
@@ -95,29 +80,16 @@ returns-in-Some-clause-on_board g c = λ r h.
 
 -- only an enemy's string and its neighbours were looked at
 pub returns-in-Some-clause-near : goal.returns-in-Some-clause-near
-returns-in-Some-clause-near g c =
-    near_is g (goal.at.returns-in-Some-clause-near g c).After-string_without_liberty c.if-ne.false
+returns-in-Some-clause-near g c = grind (arith, near_is)
 
 -- a string with a liberty stays
 pub returns-in_default-clause-looks : goal.returns-in_default-clause-looks
-returns-in_default-clause-looks g c =
-    looks_are g (goal.at.returns-in_default-clause-looks g c).After-string_without_liberty
+returns-in_default-clause-looks g c = grind (arith, looks_are)
 
 -- a string with a liberty is not taken
 pub returns-in_default-clause-over : goal.returns-in_default-clause-over
-returns-in_default-clause-over g c = λ pos a whole.
-    let told = rw (
-      g.met.V.View.asks_rows _ _ _ c.at.ensures.looks.asked,
-      c.at.ensures.looks.same pos,
-    ) at (c.string_without_liberty.ensures.over pos a) in
-    let enemy = enemy_is g (goal.at.returns-in_default-clause-over g c).After-string_without_liberty c.if-ne.false pos a
-    in
-    let kept = not_taken_from (g.V.View.rows c.args.board.now)
-    (g.V.View.cells c.args.board.now pos) c.args.c c.args.q enemy
-    (sym c.in_default.is ∙ told (ap is_stone enemy ∙ stone_is (other c.args.c))) in
-    rw kept refl
+returns-in_default-clause-over g c = grind (arith, enemy_is, not_taken_from, stone_is)
 
 -- only an enemy's string and its neighbours were looked at
 pub returns-in_default-clause-near : goal.returns-in_default-clause-near
-returns-in_default-clause-near g c =
-    near_is g (goal.at.returns-in_default-clause-near g c).After-string_without_liberty c.if-ne.false
+returns-in_default-clause-near g c = grind (arith, near_is)

@@ -1,9 +1,9 @@
-use Rattle.std.proofs.Common.{ap, sym, ◌∙◌}
+use Rattle.std.proofs.Common.{ap, sym, ◌∙◌, arith}
 use Rattle.go_base.specs.Sides.{neighbour_at}
 use Rattle.go_base.proofs.LookSequences.{Looks-none}
 use Rattle.go_base.proofs.PlayLooks.{near_taken_from}
 use Rattle.go_base.proofs.SidesOfPoints.{neighbour_at-near}
-use Rattle.go_base.proofs.Takes.{Takes-next, Takes-nothing}
+use Rattle.go_base.proofs.Takes.{Takes-next}
 use Rattle.go_base.proofs.capture.take_side.Goals as goal
 
 -- the side's string came if it is taken
@@ -29,11 +29,7 @@ returns-in-Some-clause-near g c = λ pos a.
 
 -- the side is off the board
 pub returns-in_default-clause-over : goal.returns-in_default-clause-over
-returns-in_default-clause-over g c = λ pos a before.
-    let p = c.args.spot.now.point in
-    Takes-nothing (g.V.View.rows c.args.board.now) (g.V.View.cells c.args.board.now pos) c.args.c p c.args.side
-    c.args.taken.now before (λ r e. c.in_default.not-Some r (c.neighbour.ensures.value
-    ∙ ap (λ n. neighbour_at n p c.args.side) c.requires.rows ∙ e))
+returns-in_default-clause-over g c = grind arith
 
 -- nothing was looked at
 pub returns-in_default-clause-looks : goal.returns-in_default-clause-looks

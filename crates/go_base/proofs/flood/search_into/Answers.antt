@@ -30,9 +30,7 @@ returns-then-eq-clause-over g c = λ pos a.
 
 -- nor are there enemies next to it
 pub returns-then-eq-clause-enemies : goal.returns-then-eq-clause-enemies
-returns-then-eq-clause-enemies g c = λ pos a wanted few.
-    no_enemies (g.V.View.rows c.args.board.now) (g.V.View.cells c.args.board.now pos) c.args.p _
-    (sym (c.at-own.ensures.over pos a) ∙ cells_same _ _ c.eq.result c.eq.ensures c.if-eq.true) c.requires.enemies
+returns-then-eq-clause-enemies g c = grind (arith, no_enemies, cells_same)
 
 -- an empty point's string has no liberties
 pub returns-then-eq-clause-few : goal.returns-then-eq-clause-few
@@ -49,10 +47,7 @@ returns-then-eq-clause-enemies_on_board g c = λ q h. absurd (none_at _ q c.requ
 
 -- only the point itself was looked at
 pub returns-then-eq-clause-near : goal.returns-then-eq-clause-near
-returns-then-eq-clause-near g c =
-    λ pos a. g.met.V.View.asks_within _ _ _ _ c.at-own.ensures.looks.asked
-    (λ r h. close_alone (g.V.View.rows c.args.board.now) (g.V.View.cells c.args.board.now pos) c.args.p r
-    c.requires.on_board h)
+returns-then-eq-clause-near g c = grind (arith, close_alone)
 
 -- the search begins with the point
 begins : (g : Over) (c : After-add_stone g) → Begins c.args.p c.add_stone.new.stones c.add_stone.new.waiting
@@ -80,17 +75,12 @@ loop-q-init g c =
 
 -- what still waits was found
 pub spread-requires-clause-waits : goal.spread-requires-clause-waits
-spread-requires-clause-waits g c = λ r h.
-    c.loop-q.invariant.waits r (waited_before c.in-Some.q r c.loop-q.waiting _ c.in-Some.ensures.some.2 h)
+spread-requires-clause-waits g c = grind (arith, waited_before)
 
 -- a stone waits no longer, and its neighbours were visited
 steps : (g : Over) (c : After-spread g) → Steps (g.V.View.rows c.args.board.now) c.in-Some.q c.loop-q.found.stones
     c.spread.new.found.stones c.loop-q.waiting c.next_stone.new.waiting c.spread.new.waiting
-steps g c = record {
-  waited = c.loop-q.invariant.waits c.in-Some.q c.in-Some.ensures.some.1;
-  taken = c.in-Some.ensures.some.2;
-  finds = rw (g.met.V.View.asks_rows _ _ _ c.loop-q.invariant.looks.asked) at c.spread.ensures.finds;
-}
+steps g c = grind arith
 
 -- fewer points are left to come or to be visited
 pub loop-q-smaller : goal.loop-q-smaller
@@ -110,8 +100,7 @@ agreed g c pos a = g.met.V.View.asks_agrees _ _ _ c.spread.ensures.looks.asked p
 -- on it the point has the cell that was read first
 own_is : (g : Over) (c : After-spread g) (pos : BoardState) → g.V.View.agrees c.spread.new.board pos
     → c.at-own.result ≡ cell_at (g.V.View.cells c.args.board.now pos) c.args.p
-own_is g c pos a = c.at-own.ensures.over pos
-    (g.met.V.View.asks_agrees _ _ _ c.loop-q.invariant.more.asked pos (agreed g c pos a))
+own_is g c pos a = grind (arith, agreed)
 
 -- the neighbours of one more stone were found, or enough liberties were seen
 flooded : (g : Over) (c : After-spread g) (pos : BoardState) → g.V.View.agrees c.spread.new.board pos

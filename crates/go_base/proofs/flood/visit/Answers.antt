@@ -1,3 +1,4 @@
+use Rattle.std.proofs.Common.{arith}
 use Rattle.go_base.proofs.FloodResults.{Finds-one}
 use Rattle.go_base.proofs.FloodVisits.{met_alone}
 use Rattle.go_base.proofs.flood.visit.Goals as goal
@@ -11,5 +12,4 @@ returns-then-eq-clause-finds g c =
 
 -- only the visited point may have come
 pub returns-else-eq-2-clause-enemies_alone : goal.returns-else-eq-2-clause-enemies_alone
-returns-else-eq-2-clause-enemies_alone g c =
-    met_alone g.E.Enemies.asked c.args.r _ _ c.meet.ensures
+returns-else-eq-2-clause-enemies_alone g c = grind (arith, met_alone)

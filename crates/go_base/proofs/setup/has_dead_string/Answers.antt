@@ -1,6 +1,5 @@
 -- The points of the board, one after another.
-use Rattle.std.proofs.Common.{◌*◌, sym, ap, ◌∙◌, arith, refl, take}
-use Rattle.go_base.specs.Setups.{is_dead_at}
+use Rattle.std.proofs.Common.{◌*◌, arith, refl, take}
 use Rattle.go_base.specs.Flats.{KeepsRest-refl}
 use Rattle.go_base.proofs.Marks.{marked-nothing}
 use Rattle.go_base.proofs.Setups.{none_dead, one_dead, AreAlive-none}
@@ -19,17 +18,8 @@ loop-p-init c = record {
 
 -- a dead stone ends the search
 pub returns-then-is_dead_at-clause-value : goal.returns-then-is_dead_at-clause-value
-returns-then-is_dead_at-clause-value c =
-    let i = c.loop-p.invariant in
-    sym (one_dead c.args.board.now.size (take (c.args.board.now.size * c.args.board.now.size) c.args.board.now.cells)
-    c.loop-p.p (omega (arith, c.points-p-end.ensures.value))
-    (ap (λ n. is_dead_at n (take (c.args.board.now.size * c.args.board.now.size) c.args.board.now.cells) c.loop-p.p)
-    (sym i.keeps.size)
-    ∙ ap (λ cells. is_dead_at c.loop-p.board.size cells c.loop-p.p) (sym i.same)
-    ∙ sym c.is_dead_at.ensures.value ∙ c.if-is_dead_at.true))
+returns-then-is_dead_at-clause-value c = grind (arith, one_dead)
 
 -- no stone is dead
 pub returns-clause-value : goal.returns-clause-value
-returns-clause-value c =
-    sym (none_dead c.args.board.now.size (take (c.args.board.now.size * c.args.board.now.size) c.args.board.now.cells)
-    (λ k on. c.loop-p.invariant.none k (omega (arith, on, c.points-p-end.ensures.value, c.loop-p-test.false))))
+returns-clause-value c = grind (arith, none_dead)

@@ -1,11 +1,10 @@
 -- A stone that is not noted to be alive has its string searched, and nothing is written.
-use Rattle.std.proofs.Common.{◌≡◌, ◌*◌, ◌<◌, ◌≤◌, arith, List, [], length, not, ap, sym, ◌∙◌, take, get_or-take}
+use Rattle.std.proofs.Common.{◌≡◌, ◌*◌, ◌≤◌, arith, List, [], length, ap, ◌∙◌, take, get_or-take}
 use Rattle.std.specs.FinSet as set
 use Rattle.go_rules.specs.Board.{largest_points, largest_size}
 use Rattle.go_rules.specs.declared.Cell.{Cell}
-use Rattle.go_rules.specs.declared.Cell.TheVariants.{Empty}
 use Rattle.go_rules.specs.Position.{board_of}
-use Rattle.go_rules.specs.Strings.{cell_at, is_stone, liberties}
+use Rattle.go_rules.specs.Strings.{liberties}
 use Rattle.go_rules.proofs.Cells.{stone_test}
 use Rattle.go_base.specs.Bits.{marked}
 use Rattle.go_base.proofs.HeldBoards.{whole_after}
@@ -17,11 +16,7 @@ use Rattle.go_base.proofs.setup.is_dead_at.Goals.{After-count}
 
 -- a stone that is noted to be alive is
 pub returns-then-has-clause-value : goal.returns-then-has-clause-value
-returns-then-has-clause-value c =
-    let small : c.args.p < largest_points = omega
-    (arith, c.requires.on_board, c.points.ensures.value, c.points.ensures.bound) in
-    sym (c.requires.alive c.args.p
-    (contains-small c.args.alive.now c.args.p small ∙ sym c.has.ensures ∙ c.if-has.true))
+returns-then-has-clause-value c = grind (arith, contains-small)
 
 -- the board is as it was
 pub returns-then-count-eq0-clause-same : goal.returns-then-count-eq0-clause-same
@@ -48,18 +43,11 @@ counted c =
 
 -- a string without a liberty is dead
 pub returns-then-count-eq0-clause-value : goal.returns-then-count-eq0-clause-value
-returns-then-count-eq0-clause-value c =
-    let d = (goal.at.returns-then-count-eq0-clause-value c).After-count in
-    let size = c.args.board.now.size in
-    let stone = ap is_stone (get_or-take (size * size) c.args.board.now.cells c.args.p Empty c.requires.on_board)
-    ∙ sym (stone_test (cell_at c.args.board.now.cells c.args.p)) ∙ ap not (sym c.eq.ensures ∙ c.if-eq.false) in
-    sym (dead_from size (cells_of d) c.args.p c.count.result stone (counted d) c.if-count-eq0.true)
+returns-then-count-eq0-clause-value c = grind (arith, get_or-take, stone_test, dead_from, counted)
 
 -- one with a liberty is not
 pub returns-clause-value : goal.returns-clause-value
-returns-clause-value c =
-    let d = (goal.at.returns-clause-value c).After-count in
-    sym (alive_seen c.args.board.now.size (cells_of d) c.args.p c.count.result (counted d) c.if-count-eq0.false)
+returns-clause-value c = grind (arith, alive_seen, counted)
 
 -- and its stones come to those that are alive
 pub returns-clause-alive : goal.returns-clause-alive

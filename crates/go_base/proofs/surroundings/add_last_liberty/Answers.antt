@@ -1,5 +1,5 @@
-use Rattle.std.proofs.Common.{sym, ◌∙◌}
-use Rattle.go_base.proofs.LastLiberties.{AddsLast-seen, AddsLast-one, AddsLast-none, KnowsLast-join}
+use Rattle.std.proofs.Common.{arith}
+use Rattle.go_base.proofs.LastLiberties.{AddsLast-one, AddsLast-none, KnowsLast-join}
 use Rattle.go_base.specs.Bits.{marked}
 use Rattle.go_base.proofs.Marks.{contains-small}
 use Rattle.go_base.proofs.LookSequences.{Looks-none}
@@ -15,9 +15,7 @@ returns-then-has-clause-near g c = λ pos a. g.met.V.View.asks_none _ _
 
 -- its last liberty, if it has one, came with it
 pub returns-then-has-clause-adds : goal.returns-then-has-clause-adds
-returns-then-has-clause-adds g c =
-    λ pos a knows. AddsLast-seen _ _ c.args.q (marked c.args.seen.now) c.args.last.now knows
-    (contains-small c.args.seen.now c.args.q c.requires.small ∙ sym c.has.ensures ∙ c.if-has.true)
+returns-then-has-clause-adds g c = grind (arith, contains-small)
 
 -- the one liberty of a string that was not seen comes
 pub returns-then-count-eq-IN_ATARI-clause-adds : goal.returns-then-count-eq-IN_ATARI-clause-adds

@@ -30,11 +30,7 @@ loop-q-init g c = record {
 
 -- an enemy is on the board
 pub add_last_liberty-requires : goal.add_last_liberty-requires
-add_last_liberty-requires g c = record {
-  on_board = rw (g.met.V.View.asks_rows _ _ _ c.loop-q.invariant.looks.asked)
-      (c.search_into.ensures.enemies_on_board c.in-Some.q c.in-Some.ensures.some.2);
-  small = c.in-Some.ensures.some.1;
-}
+add_last_liberty-requires g c = grind arith
 
 -- a position that agrees with all that was asked agreed before the enemy's string was looked at
 agreed : (g : Over) (c : After-add_last_liberty g) (pos : BoardState)
@@ -96,10 +92,7 @@ loop-q-preserved g c =
       more = Looks-more g.met.V.View.asks_more i.more one;
       near = close g d;
       over = lasts g d;
-      knows = λ pos a.
-          let knows = rw (g.met.V.View.asks_rows _ _ _ i.looks.asked, i.looks.same pos)
-          at (c.add_last_liberty.ensures.knows pos a) in
-          knows (i.knows pos (agreed g d pos a));
+      knows = grind (arith, agreed);
     }
 
 -- no enemy is left

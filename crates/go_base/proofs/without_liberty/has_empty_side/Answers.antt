@@ -1,8 +1,8 @@
-use Rattle.std.proofs.Common.{◌≡◌, ◌*◌, ◌<◌, sym, subst, refl, ◌∙◌, arith, Some}
+use Rattle.std.proofs.Common.{◌≡◌, sym, refl, ◌∙◌, arith, Some}
 use Rattle.go_base.specs.Sides.{neighbour_at}
 use Rattle.go_base.proofs.FloodResults.{at_side}
 use Rattle.go_base.proofs.LookSequences.{Looks-none, Looks-more, Looks-within}
-use Rattle.go_base.proofs.WithoutLiberty.{NoneEmpty-full, NoneEmpty-off, NoneEmpty-all, empty_found}
+use Rattle.go_base.proofs.WithoutLiberty.{NoneEmpty-full, NoneEmpty-all, empty_found}
 use Rattle.go_base.proofs.without_liberty.has_empty_side.Given.{Over}
 use Rattle.go_base.proofs.without_liberty.has_empty_side.Goals as goal
 use Rattle.go_base.proofs.without_liberty.has_empty_side.Goals.{Then-is_empty_at, in-Some+else-is_empty_at, in_default}
@@ -13,15 +13,12 @@ loop-side-init g c = record { looks = Looks-none g.met.V.View.asks_none _ _; ove
 
 -- a side of the point is on the board
 pub is_empty_at-requires : goal.is_empty_at-requires
-is_empty_at-requires g c =
-    subst (λ n. c.in-Some.r < n * n) (c.new-spot.ensures.size ∙ c.size.ensures
-    ∙ sym (g.met.V.View.asks_rows _ _ _ c.loop-side.invariant.looks.asked)) c.in-Some.ensures.near.0
+is_empty_at-requires g c = grind arith
 
 -- what the side gives
 side_is : (g : Over) (c : Then-is_empty_at g)
     → neighbour_at (g.V.View.rows c.args.board.now) c.args.p c.loop-side.side ≡ Some c.in-Some.r
-side_is g c = sym (c.neighbour.ensures.value
-    ∙ rw (c.new-spot.ensures.point, c.new-spot.ensures.size, c.size.ensures) refl) ∙ c.in-Some.is
+side_is g c = grind arith
 
 -- an empty neighbour ends the search
 pub returns-then-is_empty_at-clause-looks : goal.returns-then-is_empty_at-clause-looks
@@ -33,11 +30,7 @@ returns-then-is_empty_at-clause-looks g c =
 
 -- the point has an empty neighbour
 pub returns-then-is_empty_at-clause-over : goal.returns-then-is_empty_at-clause-over
-returns-then-is_empty_at-clause-over g c = λ pos a.
-    let seen = rw (c.loop-side.invariant.looks.same pos) at (c.is_empty_at.ensures.over pos a) in
-    sym (empty_found (g.V.View.rows c.args.board.now)
-    (g.V.View.cells c.args.board.now pos) c.args.p c.loop-side.side c.in-Some.r c.requires (side_is g c)
-    (sym seen ∙ c.if-is_empty_at.true))
+returns-then-is_empty_at-clause-over g c = grind (arith, empty_found, side_is)
 
 -- one more side is not empty, or off the board
 pub loop-side-preserved : goal.loop-side-preserved
@@ -60,12 +53,7 @@ loop-side-preserved g c =
                 (i.over pos (g.met.V.View.asks_agrees _ _ _ one.asked pos seen)) (here ∙ w.in-Some.is)
                 (sym ((rw (i.looks.same pos) at (w.is_empty_at.ensures.over pos seen))) ∙ w.if-is_empty_at.false);
           }
-      | in_default w ↦ record {
-        looks = rw w.board-is i.looks;
-        over = λ pos a.
-            NoneEmpty-off s (g.V.View.cells c.args.board.now pos) p side (i.over pos (rw w.board-is at a))
-            (λ r e. w.in_default.not-Some r (sym here ∙ e));
-      }
+      | in_default w ↦ grind arith
     ]
 
 -- no side was empty

@@ -1,4 +1,4 @@
-use Rattle.std.proofs.Common.{refl, sym, ◌∙◌}
+use Rattle.std.proofs.Common.{refl, arith}
 use Rattle.go_base.proofs.PointNeighbourhoods.{close_sides}
 use Rattle.go_base.proofs.LookSequences.{Looks-more, Looks-within}
 use Rattle.go_base.proofs.WithoutLiberty.{liberty_there}
@@ -6,9 +6,7 @@ use Rattle.go_base.proofs.without_liberty.string_without_liberty.Goals as goal
 
 -- a stone with an empty neighbour has a liberty
 pub returns-then-has_empty_side-clause-over : goal.returns-then-has_empty_side-clause-over
-returns-then-has_empty_side-clause-over g c = λ pos a stone.
-    liberty_there (g.V.View.rows c.args.board.now) (g.V.View.cells c.args.board.now pos) c.args.p c.requires stone
-    (sym (c.has_empty_side.ensures.over pos a) ∙ c.if-has_empty_side.true)
+returns-then-has_empty_side-clause-over g c = grind (arith, liberty_there)
 
 -- only its sides were looked at
 pub returns-then-has_empty_side-clause-near : goal.returns-then-has_empty_side-clause-near

@@ -1,9 +1,8 @@
-use Rattle.std.proofs.Common.{◌≡◌, ap, sym, ◌∙◌}
+use Rattle.std.proofs.Common.{◌≡◌, ap, sym, ◌∙◌, arith}
 use Rattle.go_rules.specs.Strings.{cell_at, is_stone}
 use Rattle.go_rules.proofs.Cells.{stone_test}
 use Rattle.go_rules.proofs.Results.{play_occupied, play_ko}
 use Rattle.go_strings.specs.Stands.{cells_of}
-use Rattle.go_strings.specs.Trails.{position_in}
 use Rattle.go_strings.proofs.StandingBoards.{judged_suicide, judged_allowed}
 use Rattle.go_strings.proofs.judge.judge.Goals as goal
 use Rattle.go_strings.proofs.judge.judge.Goals.{After-ne}
@@ -14,16 +13,11 @@ stone_was c = c.ne.ensures ∙ stone_test c.cell_on.result ∙ ap is_stone c.cel
 
 -- a stone stands there
 pub returns-then-ne-clause-refused : goal.returns-then-ne-clause-refused
-returns-then-ne-clause-refused c =
-    let at = goal.at.returns-then-ne-clause-refused c in
-    sym (play_occupied (position_in c.args.now.now) c.args.c c.args.p (sym (stone_was at.After-ne) ∙ c.if-ne.true))
+returns-then-ne-clause-refused c = grind (arith, play_occupied, stone_was)
 
 -- the ban is on the play
 pub returns-then-is_banned-clause-refused : goal.returns-then-is_banned-clause-refused
-returns-then-is_banned-clause-refused c =
-    let at = goal.at.returns-then-is_banned-clause-refused c in
-    sym (play_ko (position_in c.args.now.now) c.args.c c.args.p (sym (stone_was at.After-ne) ∙ c.if-ne.false)
-    (sym c.is_banned.ensures ∙ c.if-is_banned.true))
+returns-then-is_banned-clause-refused c = grind (arith, play_ko, stone_was)
 
 -- the stone would have no liberty
 pub returns-then-is_suicide-clause-refused : goal.returns-then-is_suicide-clause-refused

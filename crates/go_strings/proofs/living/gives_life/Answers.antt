@@ -1,4 +1,4 @@
-use Rattle.std.proofs.Common.{◌≡◌, true, false, sym, ap, ◌∙◌}
+use Rattle.std.proofs.Common.{◌≡◌, true, false, sym, ap, ◌∙◌, arith}
 use Rattle.std.proofs.lemmas.Bool.{not-true, not-false}
 use Rattle.std.specs.FinSet as set
 use Rattle.go_rules.specs.Strings.{cell_at, is_stone}
@@ -23,25 +23,17 @@ returns-then-eq-clause-yes c = λ _. alive_by_empty c.requires.put c.args.q c.re
 -- the string that was read is that of q
 string_is : (c : After-eq-2) → is_stone (cell_at (cells_of c.args.board.now) c.args.q) ≡ true
     → IsStringOf c.args.board.now.size (cells_of c.args.board.now) c.args.q c.index-strings-names.result
-string_is c stone =
-    named_there c.args.board.now.size (cells_of c.args.board.now) c.args.strings.now c.args.names.now c.args.q
-    c.index-strings-names.result c.requires.stands.named c.requires.on_board stone c.index-strings-names.is
+string_is c stone = grind (arith, named_there)
 
 -- a friend stands there
 friend_is : (c : After-eq-2) → c.eq-2.result ≡ true
     → IsFriend c.args.board.now.size (cells_of c.args.board.now) c.args.c c.args.p c.args.q
-friend_is c own = record {
-  on_board = c.requires.on_board;
-  near = c.requires.near;
-  own = sym c.cell_on-cell.ensures ∙ cells_same _ _ _ c.eq-2.ensures own ∙ c.cell.ensures;
-}
+friend_is c own = grind (arith, cells_same)
 
 -- an enemy stands there
 enemy_is : (c : After-eq-2) → c.eq-2.result ≡ false → cell_at (cells_of c.args.board.now) c.args.q
     ≡ stone_of (other c.args.c)
-enemy_is c not_own =
-    enemy_from c.args.c _ (λ e. cells_differ _ _ _ c.eq.ensures c.if-eq.false (c.cell_on-cell.ensures ∙ e))
-    (λ e. cells_differ _ _ _ c.eq-2.ensures not_own (c.cell_on-cell.ensures ∙ e ∙ sym c.cell.ensures))
+enemy_is c not_own = grind (arith, enemy_from, cells_differ)
 
 -- a friend with another liberty gives life
 pub returns-then-eq-2-clause-yes : goal.returns-then-eq-2-clause-yes

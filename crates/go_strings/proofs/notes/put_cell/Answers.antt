@@ -1,4 +1,4 @@
-use Rattle.std.proofs.Common.{◌*◌}
+use Rattle.std.proofs.Common.{arith}
 use Rattle.std.proofs.Math.Seq.{take-set-lt}
 use Rattle.go_strings.proofs.NoteTrails.{noted_cell, keeps_set}
 use Rattle.go_strings.proofs.notes.put_cell.Goals as goal
@@ -13,6 +13,4 @@ returns-clause-keeps c = keeps_set c.args.board.now c.args.p c.args.cell c.requi
 
 -- and it was written at p alone
 pub returns-clause-ok : goal.returns-clause-ok
-returns-clause-ok c =
-    take-set-lt (c.args.board.now.size * c.args.board.now.size) c.args.board.now.cells c.args.p c.args.cell
-    c.requires.on_board
+returns-clause-ok c = grind (arith, take-set-lt)

@@ -1,5 +1,5 @@
 -- What the words of a line say lies within the board, and its spans within the line.
-use Rattle.std.proofs.Common.{◌∷◌, Some, None, length, drop, sym, subst}
+use Rattle.std.proofs.Common.{◌∷◌, Some, None, length, drop, sym, subst, arith}
 use Rattle.gtp_cmd.specs.Words.{kept, plain, words_of}
 use Rattle.gtp_cmd.specs.Spans.{spans_at}
 use Rattle.gtp_cmd.specs.Within.{SaysWithin, SaysWithinLine}
@@ -10,10 +10,7 @@ use Rattle.gtp_cmd.proofs.parser.parse.Goals as goal
 
 -- the words behind an id
 pub returns-in-Some-id-clause-within : goal.returns-in-Some-id-clause-within
-returns-in-Some-id-clause-within c =
-    subst (SaysWithin c.args.size) (sym c.after_id.ensures)
-    (said-within (Some c.in-Some-id.id) c.args.size (words_of (plain c.in-Some.more.now))
-    (drop 1 (spans_at c.before_comment-text.result.now 0)))
+returns-in-Some-id-clause-within c = grind (arith, said-within)
 
 -- the words of a line without an id
 pub returns-in-None-clause-within : goal.returns-in-None-clause-within

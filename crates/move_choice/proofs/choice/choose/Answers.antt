@@ -1,7 +1,7 @@
-use Rattle.std.proofs.Common.{◌+◌, ◌<◌, length, take, sym, ◌∙◌, subst}
+use Rattle.std.proofs.Common.{◌+◌, ◌<◌, length, take, sym, ◌∙◌, subst, arith}
 use Rattle.match_rules.specs.declared.found.Match.{Match}
 use Rattle.move_choice.specs.Choice.{worth_at, choice_of}
-use Rattle.move_choice.proofs.Choices.{choice-empty, first_among, among, IsFirst, IsFirst-first, IsFirst-keeps_more}
+use Rattle.move_choice.proofs.Choices.{choice-empty, first_among, among, IsFirst, IsFirst-keeps_more}
 use Rattle.move_choice.proofs.Choices.{IsFirst-takes_more, choice-all}
 use Rattle.move_choice.proofs.choice.choose.Goals as goal
 use Rattle.move_choice.proofs.choice.choose.Goals.{then-is_preferred, else-is_preferred}
@@ -17,9 +17,7 @@ loop-z-init c = record {
   named =
       c.requires c.in_ok-first.first.now
       (first_among c.args.found.now c.in_ok-first.rest.now c.in_ok-first.first.now c.in_ok-first.ensures.cases.0);
-  is =
-      IsFirst-first c.args.found.now c.in_ok-first.rest.now c.in_ok-first.first.now c.in_ok-first.ensures.cases.0
-      (worth_at c.args.patterns.now);
+  is = grind arith;
 }
 
 -- each of the rest is one of the matches

@@ -1,5 +1,5 @@
 -- The loop over the points of a board.
-use Rattle.std.proofs.Common.{◌≡◌, ◌≢◌, ◌∙◌, ◌+◌, ℕ, nat_lt, refl, ap, sym, arith, inl, inr}
+use Rattle.std.proofs.Common.{◌≡◌, ◌≢◌, ◌∙◌, ◌+◌, ℕ, nat_lt, ap, sym, arith}
 use Rattle.std.specs.FinSet as set
 use Rattle.std.specs.Ordering.{nat_cmp}
 use Rattle.std.proofs.lemmas.Bool.{cases_eq, cases_lt, lt-ltb, le-ltb, eq-eqb, ne_eqb}
@@ -13,16 +13,8 @@ points-init c = λ q.
 
 -- a point below the next one is the one that came or below it
 next_below : (q p : ℕ) → q ≢ p → nat_lt q p ≡ nat_lt q (p + 1)
-next_below q p ne = elim (cases_lt q p) [
-  | inl low ↦ lt-ltb q p low ∙ sym (lt-ltb q (p + 1) (omega (arith, low)))
-  | inr high ↦ le-ltb q p high ∙ sym (le-ltb q (p + 1) (omega (arith, high, ne)))
-]
+next_below q p ne = grind (arith, cases_lt, lt-ltb, le-ltb)
 
 -- the next point came
 pub points-preserved : goal.points-preserved
-points-preserved c = λ q.
-    ap (λ s. set.contains s q) c.add.ensures ∙ contains-insert_nat c.points.points c.points.p q
-    ∙ elim (cases_eq q c.points.p) [
-      | inl same ↦ rw (same, eq-eqb c.points.p c.points.p refl) (sym (lt-ltb c.points.p (c.points.p + 1) (omega arith)))
-      | inr ne ↦ rw (ne_eqb q c.points.p ne) (c.points.invariant q ∙ next_below q c.points.p ne)
-    ]
+points-preserved c = grind (arith, contains-insert_nat, cases_eq, eq-eqb, lt-ltb, ne_eqb, next_below)

@@ -15,8 +15,4 @@ returns-clause-some g c = λ some.
 
 -- the points are on the board
 pub returns-clause-on_board : goal.returns-clause-on_board
-returns-clause-on_board g c =
-    moves_inside (c.moves_among.ensures.over (g.L.Look.shows c.args.look)
-    (subst (Agrees (g.L.Look.seen c.moves_among.result.look))
-    (c.moves_among.ensures.shown ∙ c.question_on-question.ensures.shown)
-    (g.met.L.Look.holds c.moves_among.result.look)))
+returns-clause-on_board g c = grind (arith, moves_inside)

@@ -1,27 +1,20 @@
 -- The loop over the points that are tried.
-use Rattle.std.proofs.Common.{◌∙◌, refl, sym}
+use Rattle.std.proofs.Common.{◌∙◌, sym, arith}
 use Rattle.std.specs.FinSet as set
-use Rattle.go_base.specs.Facts.{agrees_before, Grows-refl}
+use Rattle.go_base.specs.Facts.{agrees_before}
 use Rattle.trial_board.specs.Trials.{after, Stays-trans}
 use Rattle.read_rules.specs.GameTree.{succeeds}
-use Rattle.read_tree.proofs.ReadyLemmas.{point_after}
 use Rattle.read_all.proofs.FoundMoves.{none_below, one_more, no_more}
 use Rattle.read_all.proofs.moves.successes.Goals as goal
 use Rattle.read_all.proofs.moves.successes.Goals.{then-is_success, else-is_success}
 
 -- no point was tried yet
 pub points-init : goal.points-init
-points-init g c = record {
-  stays = record { moves = refl; shown = refl; grows = Grows-refl _ };
-  table = c.requires.table;
-  found = λ pos a. none_below (set.contains c.args.tried.now)
-      (succeeds c.args.plies c.args.node (after pos c.args.board.now.moves)) c.new-found.result c.new-found.ensures;
-}
+points-init g c = grind (arith, none_below)
 
 -- the next point is on the board
 pub is_success-requires-clause-on_board : goal.is_success-requires-clause-on_board
-is_success-requires-clause-on_board g c =
-    point_after c.points.invariant.stays c.in-Some.p (c.requires.on_board c.in-Some.p c.in-Some.ensures.some.2)
+is_success-requires-clause-on_board g c = grind arith
 
 -- it came exactly if its play succeeds
 pub points-preserved : goal.points-preserved

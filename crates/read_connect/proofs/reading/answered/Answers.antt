@@ -1,5 +1,5 @@
 -- The question that is read is the one that is asked.
-use Rattle.std.proofs.Common.{◌≡◌, ◌∙◌, ap, sym, subst}
+use Rattle.std.proofs.Common.{◌≡◌, ◌∙◌, ap, sym, subst, arith}
 use Rattle.go_rules.specs.Strings.{cell_at}
 use Rattle.go_rules.specs.Position.{BoardState, stone_of}
 use Rattle.go_base.specs.Facts.{CellIs, same_size}
@@ -7,7 +7,7 @@ use Rattle.read_rules.specs.ActiveArea.{AddsNear}
 use Rattle.read_rules.proofs.AreaLemmas.{AddsNear-trans}
 use Rattle.connect_rules.specs.declared.question.LinkQuestion.{LinkQuestion}
 use Rattle.connect_rules.specs.ConnectionArea.{InConnectionArea}
-use Rattle.connect_rules.specs.Linkages.{linkage_of, asked_on}
+use Rattle.connect_rules.specs.Linkages.{asked_on}
 use Rattle.read_connect.proofs.StandingNodes.{point_on}
 use Rattle.read_connect.proofs.ReadingLemmas.{about_stones, look_a, question_is}
 use Rattle.read_connect.proofs.reading.answered.Given.{Over}
@@ -31,19 +31,15 @@ asked g c = asked_on (g.L.Look.shows c.args.look) c.args.kind c.args.a c.args.b 
 
 -- the first cell is that of the position shown
 first_cell : (g : Over) (c : After-size g) → cell_at (g.L.Look.shows c.args.look).cells c.args.a ≡ c.cell.result
-first_cell g c = subst (λ (p : BoardState). cell_at p.cells c.args.a ≡ c.cell.result) c.cell.ensures.same
-    ((g.met.L.Look.holds c.cell.new.self).each (CellIs c.args.a c.cell.result) c.cell.ensures.told)
+first_cell g c = grind arith
 
 -- the two questions are one
 is_asked : (g : Over) (c : After-size g) → question g c ≡ asked g c
-is_asked g c = question_is (g.L.Look.shows c.args.look) c.size.result c.args.a c.args.b c.args.plies c.args.kind
-    c.cell.result c.colour-colour.result (c.size.ensures ∙ ap (λ (p : BoardState). p.size) c.cell.ensures.same)
-    c.colour-colour.ensures (sym (first_cell g c))
+is_asked g c = grind (arith, question_is, first_cell)
 
 -- the answer is that of the question asked
 pub returns-clause-over : goal.returns-clause-over
-returns-clause-over g c = λ pos a. c.read.ensures.over pos a
-    ∙ ap (λ (q : LinkQuestion). linkage_of q pos) (is_asked g (goal.at.returns-clause-over g c).After-size)
+returns-clause-over g c = grind (arith, is_asked)
 
 -- the look at the first point and the reading lie in the active area
 pub returns-clause-near : goal.returns-clause-near

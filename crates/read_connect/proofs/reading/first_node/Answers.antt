@@ -1,12 +1,11 @@
 -- The first node is read by the rules of its turn.
-use Rattle.std.proofs.Common.{◌≡◌, ◌∙◌, ◌-◌, ◌*◌, ◌<◌, suc, false, IfSome, sym, subst, arith}
+use Rattle.std.proofs.Common.{◌≡◌, ◌∙◌, ◌-◌, suc, false, sym, subst, arith}
 use Rattle.std.proofs.lemmas.Bool.{and_parts}
 use Rattle.go_rules.specs.Position.{BoardState}
 use Rattle.go_base.specs.Facts.{Agrees, agrees_before, same_size}
 use Rattle.go_base.proofs.SidesOfPoints.{square_small}
 use Rattle.trial_board.specs.Trials.{after, Stays-trans}
 use Rattle.trial_board.proofs.AfterLemmas.{size-after}
-use Rattle.read_rules.specs.GoodMoves.{IsOnBoard}
 use Rattle.read_rules.proofs.AreaLemmas.{AddsNear-trans}
 use Rattle.connect_rules.specs.Connection.{is_one_string}
 use Rattle.connect_rules.specs.ConnectionArea.{IsUndecided}
@@ -22,11 +21,7 @@ use Rattle.read_connect.proofs.reading.first_node.Goals.{After-has}
 
 -- the second point is one of the largest board
 pub has-requires : goal.has-requires
-has-requires g c = omega (
-  arith,
-  c.requires.on_board.b,
-  square_small _ (g.met.L.Look.holds c.args.board.now.look).sound.size_at_most,
-)
+has-requires g c = grind (arith, square_small)
 
 -- whether the two are one string, on each position that agrees with what was seen of the first
 one : (g : Over) (c : After-has g) (pos : BoardState) → Agrees (g.L.Look.seen c.string-stones.new.self.look) pos
@@ -43,10 +38,7 @@ one g c pos a =
 apart : (g : Over) (c : After-has g) → c.has.result ≡ false → (pos : BoardState)
     → Agrees (g.L.Look.seen c.string-stones.new.self.look) pos
     → IsUndecided (link_of c.args.question.now) (after pos c.args.board.now.moves)
-apart g c none pos a = record {
-  stand = (and_parts _ _ (c.requires.about pos (agrees_before c.string-stones.ensures.stays.grows a))).1;
-  apart = one g c pos a ∙ none;
-}
+apart g c none pos a = grind (arith, one g c pos a, and_parts)
 
 -- the answer about one string
 pub returns-then-has : goal.returns-then-has
@@ -68,8 +60,7 @@ returns-then-has g c = record {
 
 -- the second point is on the board
 pub liberties-of_b-requires : goal.liberties-of_b-requires
-liberties-of_b-requires g c = subst (λ (pos : BoardState). c.args.question.now.b < pos.size * pos.size)
-    (sym c.string-stones.ensures.stays.shown) c.requires.on_board.b
+liberties-of_b-requires g c = grind arith
 
 -- the first node is undecided, and these are the liberties
 pub first_move-at-requires : goal.first_move-at-requires
@@ -102,8 +93,7 @@ returns-clause-none g c = told_none c.first_move-at.result c.is_some.result c.is
 
 -- the move is on the board
 pub returns-clause-on_board : goal.returns-clause-on_board
-returns-clause-on_board g c = subst (λ (pos : BoardState). IfSome c.first_move-at.result (IsOnBoard pos.size))
-    (c.liberties-of_b.ensures.stays.shown ∙ c.string-stones.ensures.stays.shown) c.first_move-at.ensures.on_board
+returns-clause-on_board g c = grind arith
 
 -- both strings and what follows are looked at near
 pub returns-clause-near : goal.returns-clause-near

@@ -1,5 +1,5 @@
 -- The first looks are at the two points, and the reading stays in the area.
-use Rattle.std.proofs.Common.{◌≡◌, ◌∙◌, true, refl, ap, sym, subst}
+use Rattle.std.proofs.Common.{◌≡◌, ◌∙◌, true, refl, ap, sym, subst, arith}
 use Rattle.go_rules.specs.Position.{BoardState}
 use Rattle.go_base.specs.Facts.{Agrees, agrees_before, same_size}
 use Rattle.trial_board.specs.Trials.{after}
@@ -26,15 +26,7 @@ size_is g c pos a = same_size (g.met.L.Look.sized c.cell-2.new.self) a ∙ ap (�
 -- the question is about each position that agrees, since both stones stand there
 about : (g : Over) (c : After-cell-2 g) (pos : BoardState) → Agrees (g.L.Look.seen c.cell-2.new.self) pos
     → is_about c.args.question pos ≡ true
-about g c pos a =
-    let q = c.args.question in
-    about_stones q pos (c.requires.size ∙ sym (size_is g c pos a))
-    (stands_too q.a c.cell.result c.cell.ensures.told
-    (subst (Agrees (g.L.Look.seen c.cell.new.self)) c.cell.ensures.same (g.met.L.Look.holds c.cell.new.self))
-    (agrees_before c.cell-2.ensures.grows a) c.requires.a_stands)
-    (stands_too q.b c.cell-2.result c.cell-2.ensures.told
-    (subst (Agrees (g.L.Look.seen c.cell-2.new.self)) (shown g c) (g.met.L.Look.holds c.cell-2.new.self))
-    a c.requires.b_stands)
+about g c pos a = grind (arith, about_stones, size_is, stands_too, shown)
 
 -- the looks at the two points and those at the first node lie in the active area
 pub returns-clause-near : goal.returns-clause-near

@@ -1,5 +1,5 @@
 -- One more member came where it reaches across.
-use Rattle.std.proofs.Common.{◌≡◌, ℕ, ◌<◌, ◌≤◌, false, ◌∙◌}
+use Rattle.std.proofs.Common.{◌≡◌, ℕ, ◌<◌, ◌≤◌, false, ◌∙◌, arith}
 use Rattle.read_connect.specs.Stages.{reaches_among}
 use Rattle.go_base.proofs.FilteredSets.{none_apart, added_apart, skipped_apart, all_apart}
 use Rattle.read_connect.proofs.StageLemmas.{none_reaches, reach_test}
@@ -33,5 +33,4 @@ loop-p-preserved c =
 
 -- no member is left, and each that reaches across has come
 pub returns : goal.returns
-returns c = λ p. all_apart _ c.loop-p.next c.loop-p.found c.loop-p.invariant
-    (λ k past. none_reaches c.args.size c.args.points.now c.args.others.now k (c.in_default.ensures.none k past)) p
+returns c = grind (arith, all_apart, none_reaches)

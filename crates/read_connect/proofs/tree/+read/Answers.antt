@@ -1,10 +1,9 @@
 -- The walk over the tree answers what the tree says, over every position that agrees with what was seen.
-use Rattle.std.proofs.Common.{arith, ◌≡◌, ◌∙◌, ◌+◌, ◌-◌, ◌*◌, ◌<◌, ◌≤◌, ℕ, suc, inl, true, false, not}
-use Rattle.std.proofs.Common.{length, ap, sym, subst, refl, rules}
+use Rattle.std.proofs.Common.{arith, ◌≡◌, ◌∙◌, ◌-◌, ◌*◌, ◌<◌, ℕ, suc, true, false, not, ap, sym, subst, refl, rules}
 use Rattle.std.proofs.lemmas.Bool.{and_parts}
 use Rattle.std.specs.FinSet as set
 use Rattle.go_rules.specs.Position.{BoardState}
-use Rattle.go_base.specs.Facts.{Agrees, agrees_before, Grows-refl, same_size}
+use Rattle.go_base.specs.Facts.{Agrees, agrees_before, same_size}
 use Rattle.go_base.proofs.SidesOfPoints.{square_small}
 use Rattle.trial_board.specs.Trials.{after, Stays-trans}
 use Rattle.trial_board.proofs.AfterLemmas.{size-after}
@@ -14,17 +13,15 @@ use Rattle.connect_rules.specs.Connection.{can_connect, has_way, is_one_string, 
 use Rattle.connect_rules.specs.ConnectionArea.{IsUndecided}
 use Rattle.connect_rules.proofs.TreeLemmas.{connects-gone, connects-joined, connects-no_plies}
 use Rattle.read_connect.specs.Stages.{attains}
-use Rattle.read_connect.specs.Walk.{IsPointOf, AreOnBoard, AreLiberties, IsReady, IsNodeFor, LooksNear, LooksNearFrom}
-use Rattle.read_connect.proofs.StageLemmas.{in_both}
-use Rattle.read_connect.proofs.StageLemmas.{one_by, shared_move, crossing_move, AreStages, stages_found}
+use Rattle.read_connect.specs.Walk.{IsPointOf, IsReady, IsNodeFor, LooksNear, LooksNearFrom}
+use Rattle.read_connect.proofs.StageLemmas.{in_both, one_by, shared_move, crossing_move, AreStages, stages_found}
 use Rattle.read_connect.proofs.StageLemmas.{a_inside, b_inside, crossing_inside, rest_inside, rest_is_move, last_stage}
 use Rattle.read_connect.proofs.StandingNodes.{point_on, standing_node, ready_node, near_ends, near_a, near_b}
 use Rattle.read_connect.proofs.StandingNodes.{near_captures, near_play, played_child, passed_child}
 use Rattle.read_connect.proofs.TurnLemmas.{own_by, parted_by, other_by}
 use Rattle.read_connect.proofs.WalkLemmas.{none_first, none_next, none_left, tells_none, tells_hit, tells_more}
 use Rattle.read_connect.proofs.WalkLemmas.{done_legal, refused_leads, one_more_move, ready_still, ready_after}
-use Rattle.read_connect.proofs.WalkLemmas.{liberties_after}
-use Rattle.read_connect.proofs.WalkLemmas.{liberties_still}
+use Rattle.read_connect.proofs.WalkLemmas.{liberties_after, liberties_still}
 use Rattle.read_connect.proofs.tree.+read.Given.{Over}
 use Rattle.read_connect.proofs.tree.+read.Goals.{can_connect-After-string-stones, can_connect-After-has}
 use Rattle.read_connect.proofs.tree.+read.Goals.{some_move-After-some_of-2, some_move-After-captures_of}
@@ -79,9 +76,7 @@ attains-returns-in_default-clause-near g t c = λ pos a q root node moved.
 
 -- the pass parts the strings where they cannot be joined after it
 pub pass_parts-returns-clause-over : goal.pass_parts-returns-clause-over
-pass_parts-returns-clause-over g t c = λ pos a.
-    let a2 = rw c.back.ensures.moves at a in
-    ap not (rw c.pass.ensures at (c.can_connect-joined.ensures.over pos a2))
+pass_parts-returns-clause-over g t c = grind arith
 
 -- what is read after it is read at a child
 pub pass_parts-returns-clause-near : goal.pass_parts-returns-clause-near
@@ -94,11 +89,7 @@ pass_parts-returns-clause-near g t c = λ pos a q root node.
 
 -- nothing was tried
 pub some_of-loop-p-init : goal.some_of-loop-p-init
-some_of-loop-p-init g t c = record {
-  stays = record { moves = refl; shown = refl; grows = Grows-refl _ };
-  near = λ pos a q root node its. record { added = λ fact h. inl h };
-  none = λ pos a. none_first _ _;
-}
+some_of-loop-p-init g t c = grind (arith, none_first)
 
 -- one more point failed
 pub some_of-loop-p-preserved : goal.some_of-loop-p-preserved
@@ -130,30 +121,19 @@ some_of-returns-then-attains-clause-over g t c = λ pos a.
 
 -- its play and those before it look near
 pub some_of-returns-then-attains-clause-near : goal.some_of-returns-then-attains-clause-near
-some_of-returns-then-attains-clause-near g t c = λ pos a q root node its.
-    let i = c.loop-p.invariant in
-    let a0 = agrees_before c.attains.ensures.stays.grows a in
-    AddsNear-trans (i.near pos a0 q root node its)
-    ((rw i.stays.moves at (c.attains.ensures.near pos a q root)) node (its c.in-Some.p c.in-Some.ensures.some.2))
+some_of-returns-then-attains-clause-near g t c = grind arith
 
 -- no point serves
 pub some_of-returns-clause-over : goal.some_of-returns-clause-over
-some_of-returns-clause-over g t c = λ pos a.
-    let points = set.contains c.args.points.now in
-    let test = attains c.args.plies c.args.link c.args.own (after pos c.args.board.now.moves) in
-    tells_none points test false refl
-    (none_left points test c.loop-p.next (c.loop-p.invariant.none pos a) c.in_default.ensures.none)
+some_of-returns-clause-over g t c = grind (arith, tells_none, none_left)
 
 -- a string is gone
 pub can_connect-returns-then-not-both_stand-clause-over : goal.can_connect-returns-then-not-both_stand-clause-over
-can_connect-returns-then-not-both_stand-clause-over g t c = λ pos a.
-    sym (connects-gone c.args.plies c.args.link c.args.own (after pos c.args.board.now.moves)
-    (sym (c.both_stand.ensures.over pos a) ∙ c.if-not-both_stand.true))
+can_connect-returns-then-not-both_stand-clause-over g t c = grind (arith, connects-gone)
 
 -- the two points are in the area
 pub can_connect-returns-then-not-both_stand-clause-near : goal.can_connect-returns-then-not-both_stand-clause-near
-can_connect-returns-then-not-both_stand-clause-near g t c = λ pos a q root child.
-    near_ends child c.both_stand.ensures.near
+can_connect-returns-then-not-both_stand-clause-near g t c = grind (arith, near_ends)
 
 -- what was looked at before the first string's stones are known lies in the area
 first_near : (g : Over) (t : ℕ) (c : can_connect-After-string-stones g t) → LooksNearFrom g.L.Look.seen
@@ -183,11 +163,7 @@ one g t c pos a =
 apart : (g : Over) (t : ℕ) (c : can_connect-After-has g t) → c.has.result ≡ false → (pos : BoardState)
     → Agrees (g.L.Look.seen c.string-stones.new.self.look) pos
     → IsUndecided c.args.link (after pos c.args.board.now.moves)
-apart g t c none pos a = record {
-  stand = sym (c.both_stand.ensures.over pos (agrees_before c.string-stones.ensures.stays.grows a))
-      ∙ c.if-not-both_stand.false;
-  apart = one g t c pos a ∙ none;
-}
+apart g t c none pos a = grind (arith, one g t c pos a)
 
 -- the two are one string
 pub can_connect-returns-then-has-clause-over : goal.can_connect-returns-then-has-clause-over
@@ -217,29 +193,15 @@ can_connect-returns-then-plies-eq0-clause-near g t c =
 
 -- their own colour is to play
 pub goes_on-returns-then-own-clause-over : goal.goes_on-returns-then-own-clause-over
-goes_on-returns-then-own-clause-over g t c = λ pos a.
-    let a0 = agrees_before c.some_move.ensures.stays.grows a in
-    let here = after pos c.args.board.now.moves in
-    own_by c.args.plies c.args.link c.args.own here c.some_move.result c.if-own.true
-    (c.requires.ready.undecided pos a0) (c.some_move.ensures.over pos a)
+goes_on-returns-then-own-clause-over g t c = grind (arith, own_by)
 
 -- the other colour's pass parts them
 pub goes_on-returns-then-pass_parts-clause-over : goal.goes_on-returns-then-pass_parts-clause-over
-goes_on-returns-then-pass_parts-clause-over g t c = λ pos a.
-    let a0 = agrees_before c.pass_parts.ensures.stays.grows a in
-    let here = after pos c.args.board.now.moves in
-    parted_by c.args.plies c.args.link c.args.own here c.if-own.false (c.requires.ready.undecided pos a0)
-    (sym (c.pass_parts.ensures.over pos a) ∙ c.if-pass_parts.true)
+goes_on-returns-then-pass_parts-clause-over g t c = grind (arith, parted_by)
 
 -- or one of its moves does, or none
 pub goes_on-returns-clause-over : goal.goes_on-returns-clause-over
-goes_on-returns-clause-over g t c = λ pos a.
-    let a1 = agrees_before c.some_move-2.ensures.stays.grows a in
-    let a0 = agrees_before c.pass_parts.ensures.stays.grows a1 in
-    let here = after pos c.args.board.now.moves in
-    other_by c.args.plies c.args.link c.args.own here c.some_move-2.result c.if-own.false
-    (c.requires.ready.undecided pos a0) (sym (c.pass_parts.ensures.over pos a1) ∙ c.if-pass_parts.false)
-    (rw c.pass_parts.ensures.stays.moves at (c.some_move-2.ensures.over pos a))
+goes_on-returns-clause-over g t c = grind (arith, other_by)
 
 -- a liberty of both serves
 pub some_move-returns-then-some_of-clause-over : goal.some_move-returns-then-some_of-clause-over
@@ -253,37 +215,21 @@ some_move-returns-then-some_of-clause-over g t c = λ pos a.
 
 -- the first point is on the board
 pub can_connect-string-stones-requires : goal.can_connect-string-stones-requires
-can_connect-string-stones-requires g t c = subst (λ (pos : BoardState). c.args.link.a < pos.size * pos.size)
-    (sym c.both_stand.ensures.stays.shown) c.requires.on_board.a
+can_connect-string-stones-requires g t c = grind arith
 
 -- and the second is one of the largest board
 pub can_connect-has-requires : goal.can_connect-has-requires
-can_connect-has-requires g t c = omega (
-  arith,
-  c.requires.on_board.b,
-  square_small _ (g.met.L.Look.holds c.args.board.now.look).sound.size_at_most,
-)
+can_connect-has-requires g t c = grind (arith, square_small)
 
 -- it is on this board
 pub can_connect-liberties-of_b-requires : goal.can_connect-liberties-of_b-requires
-can_connect-liberties-of_b-requires g t c = subst (λ (pos : BoardState). c.args.link.b < pos.size * pos.size)
-    (sym (c.string-stones.ensures.stays.shown ∙ c.both_stand.ensures.stays.shown)) c.requires.on_board.b
+can_connect-liberties-of_b-requires g t c = grind arith
 
 -- both stand, they are apart, and these are their liberties
 pub can_connect-goes_on-requires : goal.can_connect-goes_on-requires
 can_connect-goes_on-requires g t c κs within =
-    let link = c.args.link in
-    let board = c.liberties-of_b.new.self in
-    let first = c.string-stones.ensures.stays in
-    let second = c.liberties-of_b.ensures.stays in
-    let ready : IsReady g.L.Look.shows g.L.Look.seen board link (c.args.plies - 1) =
-    ready_after _ (Stays-trans c.both_stand.ensures.stays (Stays-trans first second))
-    (omega (arith, c.requires.room, c.if-plies-eq0.false)) c.requires.on_board
-    (λ pos a. apart g t (goal.at.can_connect-goes_on-requires g t c).After-has c.if-has.false pos
-    (agrees_before second.grows a)) in
-    let found : AreLiberties g.L.Look.seen board link c.string-stones.result.liberties c.liberties-of_b.result =
-    liberties_after first second (λ pos a. (c.string-stones.ensures.over pos a).1) c.liberties-of_b.ensures.over in
-    search rules
+    grind (arith, apart g t (goal.at.can_connect-goes_on-requires g t c).After-has c.if-has.false, ready_after,
+        liberties_after)
 
 -- the strings and what follows are looked at near
 pub can_connect-returns-clause-near : goal.can_connect-returns-clause-near
@@ -306,65 +252,23 @@ can_connect-returns-clause-near g t c = λ pos a q root child.
 
 -- and told by the tree
 pub can_connect-returns-clause-over : goal.can_connect-returns-clause-over
-can_connect-returns-clause-over g t c = λ pos a.
-    let more : c.args.plies ≡ suc (c.args.plies - 1) = omega (arith, c.if-plies-eq0.false) in
-    let moves = c.liberties-of_b.ensures.stays.moves ∙ c.string-stones.ensures.stays.moves
-    ∙ c.both_stand.ensures.stays.moves in
-    rw moves at (c.goes_on.ensures.over pos a)
-    ∙ ap (λ n. can_connect n c.args.link c.args.own (after pos c.args.board.now.moves)) (sym more)
+can_connect-returns-clause-over g t c = grind arith
 
 -- one more move stands
 pub attains-can_connect-joined-requires : goal.attains-can_connect-joined-requires
-attains-can_connect-joined-requires g t c κs within =
-    let link = c.args.link in
-    let longer = one_more_move c.mover.result c.args.p c.play.result c.args.board.now.moves c.play.new.self.moves
-    c.play.ensures.moves c.in-Done.is in
-    let room : length c.play.new.self.moves + c.args.plies ≤ 200 = omega (arith, longer, c.requires.ready.room) in
-    let on : AreOnBoard g.L.Look.shows c.play.new.self link =
-    record {
-      a = subst (λ (pos : BoardState). link.a < pos.size * pos.size) (sym c.play.ensures.shown)
-          c.requires.ready.on_board.a;
-      b = subst (λ (pos : BoardState). link.b < pos.size * pos.size) (sym c.play.ensures.shown)
-          c.requires.ready.on_board.b;
-    } in
-    search rules
+attains-can_connect-joined-requires g t c κs within = grind (arith, one_more_move)
 
 -- the pass stands
 pub pass_parts-can_connect-joined-requires : goal.pass_parts-can_connect-joined-requires
-pass_parts-can_connect-joined-requires g t c κs within =
-    let link = c.args.link in
-    let same = c.pass.ensures in
-    let room : length c.pass.new.self.moves + c.args.plies ≤ 200 =
-    rw same (omega (arith, c.requires.room)) in
-    let on : AreOnBoard g.L.Look.shows c.pass.new.self link =
-    rw same (record { a = c.requires.on_board.a; b = c.requires.on_board.b }) in
-    search rules
+pass_parts-can_connect-joined-requires g t c κs within = grind arith
 
 -- the loop keeps what is asked of a node
 pub some_of-attains-requires : goal.some_of-attains-requires
-some_of-attains-requires g t c κs within =
-    let link = c.args.link in
-    let i = c.loop-p.invariant in
-    let ready : IsReady g.L.Look.shows g.L.Look.seen c.loop-p.board link c.args.plies =
-    ready_still g.L.Look.shows g.L.Look.seen c.args.board.now c.loop-p.board link c.args.plies i.stays c.requires.ready
-    in
-    let on : c.in-Some.p < (g.L.Look.shows c.loop-p.board.look).size * (g.L.Look.shows c.loop-p.board.look).size =
-    subst (λ (pos : BoardState). c.in-Some.p < pos.size * pos.size) (sym i.stays.shown)
-    (c.requires.on_board c.in-Some.p c.in-Some.ensures.some.2) in
-    search rules
+some_of-attains-requires g t c κs within = grind (arith, ready_still)
 
 -- the pass was taken back
 pub goes_on-some_move-requires-2 : goal.goes_on-some_move-requires-2
-goes_on-some_move-requires-2 g t c κs within =
-    let link = c.args.link in
-    let stays = c.pass_parts.ensures.stays in
-    let ready : IsReady g.L.Look.shows g.L.Look.seen c.pass_parts.new.board link c.args.plies =
-    ready_still g.L.Look.shows g.L.Look.seen c.args.board.now c.pass_parts.new.board link c.args.plies stays
-    c.requires.ready in
-    let found : AreLiberties g.L.Look.seen c.pass_parts.new.board link c.args.of_a.now c.args.of_b.now =
-    liberties_still g.L.Look.shows g.L.Look.seen c.args.board.now c.pass_parts.new.board link c.args.of_a.now
-    c.args.of_b.now stays c.requires.liberties in
-    search rules
+goes_on-some_move-requires-2 g t c κs within = grind (arith, ready_still, liberties_still)
 
 -- their own moves look near
 pub goes_on-returns-then-own-clause-near : goal.goes_on-returns-then-own-clause-near
@@ -372,9 +276,7 @@ goes_on-returns-then-own-clause-near g t c = λ pos a q root node. c.some_move.e
 
 -- the other colour's pass looks near
 pub goes_on-returns-then-pass_parts-clause-near : goal.goes_on-returns-then-pass_parts-clause-near
-goes_on-returns-then-pass_parts-clause-near g t c = λ pos a q root node. c.pass_parts.ensures.near pos a q root
-    (subst (λ o. IsNodeFor c.args.link q root (suc c.args.plies) o (after pos c.args.board.now.moves)) c.if-own.false
-    node)
+goes_on-returns-then-pass_parts-clause-near g t c = grind arith
 
 -- and the moves after it
 pub goes_on-returns-clause-near : goal.goes_on-returns-clause-near
@@ -422,9 +324,7 @@ some_move-some_of-requires-2 g t c κs within =
 
 -- both points are still on the board
 pub some_move-captures_of-requires : goal.some_move-captures_of-requires
-some_move-captures_of-requires g t c =
-    (ready_still g.L.Look.shows g.L.Look.seen c.args.board.now c.some_of-2.new.board c.args.link c.args.plies
-    (Stays-trans c.some_of.ensures.stays c.some_of-2.ensures.stays) c.requires.ready).on_board
+some_move-captures_of-requires g t c = grind (arith, ready_still)
 
 -- the stages that were found, on a position that agrees with what was seen of the captures
 stages : (g : Over) (t : ℕ) (c : some_move-After-captures_of g t) (pos : BoardState)

@@ -1,5 +1,6 @@
 -- What is reached tells what a quiet play leaves, and a play that takes something leaves nothing that was empty.
-use Rattle.std.proofs.Common.{◌≡◌, ℕ, ◌*◌, ◌<◌, ◌||◌, Bool, true, false, not, eqb, ap, sym, subst, refl, inl, inr, ◌∙◌}
+use Rattle.std.proofs.Common.{◌≡◌, ℕ, ◌*◌, ◌<◌, ◌||◌, Bool, true, false, eqb, ap, sym, subst, refl, inl, inr, ◌∙◌}
+use Rattle.std.proofs.Common.{arith}
 use Rattle.std.proofs.lemmas.Bool.{cases_Bool, both_ways}
 use Rattle.std.specs.FinSet as set
 use Rattle.go_rules.specs.declared.Cell.TheVariants.{Empty}
@@ -40,11 +41,8 @@ at_size here s c l r e h = subst (λ n. Reaches n here.cells c l r) (sym e) h
 
 -- no play is legal at a stone
 pub returns-then-ne-clause-over : goal.returns-then-ne-clause-over
-returns-then-ne-clause-over g c = λ pos a p.
-    let here = after pos c.args.board.now.moves in
-    or_none (set.contains c.args.found.now p) _ (refuted (is_left here c.args.c c.args.l p) (λ left.
-    both_ways c.ne.result (c.ne.ensures ∙ ap not (eq_is_same_cell c.cell.result Empty
-    ∙ same_cell-from _ _ (c.cell.ensures.over pos a ∙ left_vacant here c.args.c c.args.l p left))) c.if-ne.true))
+returns-then-ne-clause-over g c =
+    grind (arith, or_none, refuted, both_ways, eq_is_same_cell, same_cell-from, left_vacant)
 
 -- the point alone was looked at
 pub returns-then-ne-clause-near : goal.returns-then-ne-clause-near

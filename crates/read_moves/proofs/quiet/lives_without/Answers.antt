@@ -1,12 +1,12 @@
 -- The string has another liberty, where it is of the other colour.
-use Rattle.std.proofs.Common.{◌≡◌, ℕ, ◌*◌, ◌<◌, true, Option, Some, None, IfSome, IfNone, is_some, false, ap, sym}
+use Rattle.std.proofs.Common.{◌≡◌, ℕ, ◌*◌, ◌<◌, true, Option, Some, None, IfSome, IfNone, is_some, false, sym}
 use Rattle.std.proofs.Common.{arith, ◌∙◌}
 use Rattle.go_rules.specs.Position.{BoardState, other, stone_of}
 use Rattle.go_rules.specs.Strings.{cell_at}
 use Rattle.go_rules.specs.Neighbourhood.{neighbourhood_of}
 use Rattle.go_rules.proofs.Cells.{ne_false_same}
 use Rattle.go_rules.proofs.Paths.{same_cell-true, IsLiberty-from_test, is_liberty-from_fact}
-use Rattle.go_base.specs.Facts.{Agrees, AddsIn, agrees_before, AddsIn-trans, AddsIn-mono}
+use Rattle.go_base.specs.Facts.{Agrees, AddsIn, agrees_before}
 use Rattle.go_base.specs.Views.{alone}
 use Rattle.go_base.proofs.PointNeighbourhoods.{close_alone}
 use Rattle.trial_board.proofs.WalkLemmas.{on_agreed}
@@ -28,19 +28,14 @@ inside g c pos a = on_agreed _ _ (g.met.L.Look.sized c.args.board.now.look)
 enemy : (g : Over) (c : After-some_liberties-found g) (pos : BoardState)
     → Agrees (g.L.Look.seen c.some_liberties-found.new.self.look) pos
     → cell_at (after pos c.args.board.now.moves).cells c.args.q ≡ stone_of (other c.args.c)
-enemy g c pos a =
-    sym (c.cell.ensures.over pos (agrees_before c.some_liberties-found.ensures.stays.grows a))
-    ∙ same_cell-true _ _ (ne_false_same c.cell.result c.cell-2.result c.ne.result c.ne.ensures c.if-ne.false)
-    ∙ c.cell-2.ensures ∙ ap stone_of c.other.ensures
+enemy g c pos a = grind (arith, same_cell-true, ne_false_same)
 
 -- the stone and its string were looked at
 near : (g : Over) (c : After-some_liberties-found g) (pos : BoardState)
     → Agrees (g.L.Look.seen c.some_liberties-found.new.self.look) pos
     → AddsIn (g.L.Look.seen c.args.board.now.look) (g.L.Look.seen c.some_liberties-found.new.self.look)
     (neighbourhood_of pos.size (after pos c.args.board.now.moves).cells (alone c.args.q))
-near g c pos a = AddsIn-trans (AddsIn-mono c.cell.ensures.near
-    (λ r h. close_alone pos.size (after pos c.args.board.now.moves).cells c.args.q r (inside g c pos a) h))
-    (rw c.cell.ensures.stays.moves at (c.some_liberties-found.ensures.near pos a))
+near g c pos a = grind (arith, close_alone, inside)
 
 -- of two liberties one is not l
 pub returns-then-count-gt-IN_ATARI-clause-over : goal.returns-then-count-gt-IN_ATARI-clause-over
@@ -97,8 +92,4 @@ returns-clause-near g c = near g (goal.at.returns-clause-near g c).After-some_li
 
 -- or its point alone
 pub returns-then-ne-clause-near : goal.returns-then-ne-clause-near
-returns-then-ne-clause-near g c = λ pos a.
-    let cells = (after pos c.args.board.now.moves).cells in
-    let on = on_agreed _ _ (g.met.L.Look.sized c.args.board.now.look)
-    (agrees_before c.cell.ensures.stays.grows a) c.requires.on_board in
-    AddsIn-mono c.cell.ensures.near (λ r h. close_alone pos.size cells c.args.q r on h)
+returns-then-ne-clause-near g c = grind (arith, on_agreed, close_alone)

@@ -67,8 +67,4 @@ returns-then-is_more-clause-over g c = λ pos a.
 
 -- all sides were visited
 pub returns-clause-over : goal.returns-clause-over
-returns-clause-over g c = λ pos a.
-    let i = c.loop-side.invariant in
-    strings_told pos.size (after pos c.args.board.now.moves).cells c.args.l
-    (on_agreed _ _ (g.met.L.Look.sized c.args.board.now.look) (agrees_before i.stays.grows a) c.requires) c.args.c
-    c.loop-side.side c.loop-side.reach (omega arith) (i.over pos a)
+returns-clause-over g c = grind (arith, strings_told, on_agreed)

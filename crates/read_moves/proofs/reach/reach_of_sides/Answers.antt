@@ -5,11 +5,10 @@ use Rattle.go_rules.specs.Strings.{cell_at, same_cell}
 use Rattle.go_base.specs.Facts.{agrees_before}
 use Rattle.go_base.specs.Views.{alone}
 use Rattle.trial_board.specs.Trials.{after}
-use Rattle.trial_board.proofs.WalkLemmas.{Walked-none, on_agreed}
+use Rattle.trial_board.proofs.WalkLemmas.{on_agreed}
 use Rattle.wider_moves.proofs.SideLemmas.{side_near, Walked-side, Walked-off}
 use Rattle.read_moves.specs.declared.reach.Reach.TheVariants.{Nothing, Only}
-use Rattle.read_moves.proofs.TellLemmas.{IsEmptySide, Nowhere, SoFar-none, SoFar-skip, SoFar-next, side_told}
-use Rattle.read_moves.proofs.TellLemmas.{sides_told}
+use Rattle.read_moves.proofs.TellLemmas.{IsEmptySide, Nowhere, SoFar-skip, SoFar-next, side_told, sides_told}
 use Rattle.read_moves.proofs.reach.reach_of_sides.Goals as goal
 use Rattle.read_moves.proofs.reach.reach_of_sides.Goals.{in-Some, in_default}
 
@@ -37,9 +36,7 @@ loop-side-preserved g c =
 
 -- no side was visited
 pub loop-side-init : goal.loop-side-init
-loop-side-init g c = Walked-none (λ pos.
-    SoFar-none Nowhere (IsEmptySide pos.size (after pos c.args.board.now.moves).cells c.args.l) Nothing
-    (λ x none. none))
+loop-side-init g c = grind arith
 
 -- all sides were visited
 pub returns-clause-over : goal.returns-clause-over

@@ -1,5 +1,5 @@
 -- The string is told by its liberties, where it is of the colour.
-use Rattle.std.proofs.Common.{ℕ, ◌≡◌, ◌*◌, ◌<◌, true, not, List, ap, sym, arith, ◌∙◌}
+use Rattle.std.proofs.Common.{ℕ, ◌≡◌, ◌*◌, ◌<◌, true, List, sym, arith, ◌∙◌}
 use Rattle.std.proofs.lemmas.Bool.{both_ways}
 use Rattle.std.specs.FinSet as set
 use Rattle.std.specs.Ordering.{nat_cmp}
@@ -10,7 +10,7 @@ use Rattle.go_rules.specs.Position.{BoardState, stone_of}
 use Rattle.go_rules.specs.Neighbourhood.{neighbourhood_of}
 use Rattle.go_rules.proofs.Cells.{eq_is_same_cell, ne_false_same}
 use Rattle.go_rules.proofs.Paths.{same_cell-true, same_cell-from, IsLiberty-from_test, is_liberty-from_fact}
-use Rattle.go_base.specs.Facts.{Agrees, AddsIn, agrees_before, AddsIn-trans, AddsIn-mono}
+use Rattle.go_base.specs.Facts.{Agrees, AddsIn, agrees_before}
 use Rattle.go_base.specs.Views.{alone}
 use Rattle.go_base.proofs.PointNeighbourhoods.{close_alone}
 use Rattle.trial_board.proofs.WalkLemmas.{on_agreed}
@@ -34,35 +34,24 @@ inside g c pos a = on_agreed _ _ (g.met.L.Look.sized c.args.board.now.look)
 stone : (g : Over) (c : After-some_liberties-found g) (pos : BoardState)
     → Agrees (g.L.Look.seen c.some_liberties-found.new.self.look) pos
     → cell_at (after pos c.args.board.now.moves).cells c.args.q ≡ stone_of c.args.c
-stone g c pos a =
-    sym (c.cell.ensures.over pos (agrees_before c.some_liberties-found.ensures.stays.grows a))
-    ∙ same_cell-true _ _ (ne_false_same c.cell.result c.cell-2.result c.ne.result c.ne.ensures c.if-ne.false)
-    ∙ c.cell-2.ensures
+stone g c pos a = grind (arith, same_cell-true, ne_false_same)
 
 -- the stone and its string were looked at
 near : (g : Over) (c : After-some_liberties-found g) (pos : BoardState)
     → Agrees (g.L.Look.seen c.some_liberties-found.new.self.look) pos
     → AddsIn (g.L.Look.seen c.args.board.now.look) (g.L.Look.seen c.some_liberties-found.new.self.look)
     (neighbourhood_of pos.size (after pos c.args.board.now.moves).cells (alone c.args.q))
-near g c pos a =
-    AddsIn-trans (AddsIn-mono c.cell.ensures.near
-    (λ r h. close_alone pos.size (after pos c.args.board.now.moves).cells c.args.q r (inside g c pos a) h))
-    (rw c.cell.ensures.stays.moves at (c.some_liberties-found.ensures.near pos a))
+near g c pos a = grind (arith, close_alone, inside)
 
 -- another string reaches nothing
 pub returns-then-ne-clause-over : goal.returns-then-ne-clause-over
-returns-then-ne-clause-over g c = λ pos a x i.
-    both_ways c.ne.result
-    (c.ne.ensures ∙ ap not (eq_is_same_cell c.cell.result c.cell-2.result
-    ∙ same_cell-from _ _ (c.cell.ensures.over pos a ∙ i.its.stone ∙ sym c.cell-2.ensures))) c.if-ne.true
+returns-then-ne-clause-over g c =
+    grind (arith, both_ways c.ne.result, eq_is_same_cell c.cell.result c.cell-2.result, same_cell-from, c.ne.ensures,
+        c.cell.ensures.over, c.cell-2.ensures, c.if-ne.true)
 
 -- its point alone was looked at
 pub returns-then-ne-clause-near : goal.returns-then-ne-clause-near
-returns-then-ne-clause-near g c = λ pos a.
-    let cells = (after pos c.args.board.now.moves).cells in
-    let on = on_agreed _ _ (g.met.L.Look.sized c.args.board.now.look)
-    (agrees_before c.cell.ensures.stays.grows a) c.requires.on_board in
-    AddsIn-mono c.cell.ensures.near (λ r h. close_alone pos.size cells c.args.q r on h)
+returns-then-ne-clause-near g c = grind (arith, on_agreed, close_alone)
 
 -- of three liberties one is neither l nor the given point
 pub returns-then-count-gt-FEW_LIBERTIES-clause-over : goal.returns-then-count-gt-FEW_LIBERTIES-clause-over
@@ -74,10 +63,7 @@ returns-then-count-gt-FEW_LIBERTIES-clause-over g c = λ pos a p.
     let x = other_of_three pos.size cells c.args.q c.args.l p (omega (arith, many)) in
     record {
       point = x.0;
-      inside = record {
-        its = record { on_board = inside g d pos a; stone = stone g d pos a; liberty = x.1 };
-        other = x.2;
-      };
+      inside = grind (arith, inside g d pos a, stone g d pos a);
       other = x.3;
     }
 

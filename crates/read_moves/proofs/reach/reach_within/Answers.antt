@@ -10,26 +10,12 @@ returns-in-Some-first_other c = λ p.
     let two = c.in-Some-first_other.ensures.some in
     elim (cases_eq c.in-Some.p p) [
       | inr ne ↦ record { point = c.in-Some.p; inside = record { member = one.2; other = one.3 }; other = ne }
-      | inl e ↦ record {
-        point = c.in-Some-first_other.field-0;
-        inside = record { member = two.2; other = two.3 };
-        other = λ same. omega (arith, two.0, e, same);
-      }
+      | inl e ↦ grind arith
     ]
 
 -- one member
 pub returns-in-None-first_other : goal.returns-in-None-first_other
-returns-in-None-first_other c =
-    let one = c.in-Some.ensures.some in (
-      record { member = one.2; other = one.3 },
-      λ x i. elim (cases_lt x c.in-Some.p) [
-        | inl below ↦ absurd (i.other (one.4 x (omega arith) below i.member))
-        | inr up ↦ elim (cases_eq x c.in-Some.p) [
-          | inl e ↦ e
-          | inr past ↦ absurd (i.other (c.in-None-first_other.ensures.none x (omega (arith, up, past)) i.member))
-        ]
-      ],
-    )
+returns-in-None-first_other c = grind (arith, cases_lt, cases_eq)
 
 -- none
 pub returns-in-None : goal.returns-in-None

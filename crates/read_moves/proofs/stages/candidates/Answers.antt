@@ -1,9 +1,8 @@
 -- What was gathered are the candidates, on every position that agrees with what was seen.
-use Rattle.std.proofs.Common.{◌||◌, ap, sym, subst, ◌∙◌}
+use Rattle.std.proofs.Common.{◌||◌, ap, sym, ◌∙◌, arith}
 use Rattle.std.specs.Cmp.{nat_cmp_total}
 use Rattle.std.specs.FinSet as set
-use Rattle.go_rules.specs.Position.{BoardState}
-use Rattle.go_base.specs.Facts.{Agrees, agrees_before, AddsIn-trans, AddsIn-mono}
+use Rattle.go_base.specs.Facts.{agrees_before, AddsIn-trans, AddsIn-mono}
 use Rattle.go_base.specs.Surroundings.{is_last_liberty_of_enemy}
 use Rattle.trial_board.specs.Trials.{after}
 use Rattle.trial_board.proofs.WalkLemmas.{on_agreed}
@@ -72,14 +71,11 @@ returns-else-has_later_candidates-clause-near g c = λ pos a.
 -- the position shown is one of those that agree
 pub returns-then-has_later_candidates-clause-answer : goal.returns-then-has_later_candidates-clause-answer
 returns-then-has_later_candidates-clause-answer g c =
-    let shown = c.later_candidates.ensures.stays.shown ∙ c.surroundings-liberties.ensures.stays.shown in
-    returns-then-has_later_candidates-clause-over g c (g.L.Look.shows c.args.board.now.look)
-    (subst (λ (pos : BoardState). Agrees (g.L.Look.seen c.later_candidates.new.board.look) pos) shown
-    (g.met.L.Look.holds c.later_candidates.new.board.look))
+    grind (arith, returns-then-has_later_candidates-clause-over g c (g.L.Look.shows c.args.board.now.look),
+        c.later_candidates.ensures.stays.shown, c.surroundings-liberties.ensures.stays.shown)
 
 -- if there are no later candidates, what was gathered are the candidates on the position shown
 pub returns-else-has_later_candidates-clause-answer : goal.returns-else-has_later_candidates-clause-answer
 returns-else-has_later_candidates-clause-answer g c =
-    returns-else-has_later_candidates-clause-over g c (g.L.Look.shows c.args.board.now.look)
-    (subst (λ (pos : BoardState). Agrees (g.L.Look.seen c.surroundings-liberties.new.self.look) pos)
-    c.surroundings-liberties.ensures.stays.shown (g.met.L.Look.holds c.surroundings-liberties.new.self.look))
+    grind (arith, returns-else-has_later_candidates-clause-over g c (g.L.Look.shows c.args.board.now.look),
+        c.surroundings-liberties.ensures.stays.shown)

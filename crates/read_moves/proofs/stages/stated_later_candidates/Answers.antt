@@ -1,5 +1,5 @@
 -- Where a wide ply is left, the wide candidates by the liberties were gathered, and none where none is left.
-use Rattle.std.proofs.Common.{◌&&◌, ap, sym, ◌∙◌}
+use Rattle.std.proofs.Common.{◌&&◌, ap, sym, ◌∙◌, arith}
 use Rattle.std.proofs.lemmas.Bool.{lt-ltb, le-ltb}
 use Rattle.std.specs.Ordering.{nat_cmp}
 use Rattle.std.specs.FinSet as set
@@ -9,10 +9,7 @@ use Rattle.read_moves.proofs.stages.stated_later_candidates.Goals as goal
 
 -- a wide ply is left
 pub returns-then-turn-gt0-clause-over : goal.returns-then-turn-gt0-clause-over
-returns-then-turn-gt0-clause-over g c = λ pos a p.
-    c.wide_by_liberties.ensures.over pos a p
-    ∙ sym (ap (λ b. b && is_wide_by_liberties (after pos c.args.board.now.moves) c.args.turn.target p)
-    (lt-ltb 0 c.args.turn.wide c.if-turn-gt0.true))
+returns-then-turn-gt0-clause-over g c = grind (arith, lt-ltb)
 
 -- no wide ply is left
 pub returns-else-turn-gt0-clause-over : goal.returns-else-turn-gt0-clause-over

@@ -1,7 +1,6 @@
 -- What was gathered are the wide candidates by the liberties, on every position that agrees with what was seen.
-use Rattle.std.proofs.Common.{◌≡◌, ◌<◌, ◌*◌, ℕ, true, ap, sym, subst, ◌∙◌}
+use Rattle.std.proofs.Common.{◌≡◌, ◌<◌, ◌*◌, ℕ, true, ap, ◌∙◌, arith}
 use Rattle.std.specs.FinSet as set
-use Rattle.go_rules.specs.Position.{BoardState}
 use Rattle.go_base.specs.Facts.{agrees_before, AddsIn-trans, AddsIn-mono}
 use Rattle.trial_board.proofs.WalkLemmas.{on_agreed}
 use Rattle.trial_board.specs.Trials.{after}
@@ -27,10 +26,7 @@ add_beside_few-requires g c = inside g (goal.at.add_beside_few-requires g c).Aft
 
 -- the liberties are on the board, whose size the looks beside them and at the target keep
 pub add_backfilling-requires : goal.add_backfilling-requires
-add_backfilling-requires g c = λ l h.
-    subst (λ (pos : BoardState). l < pos.size * pos.size)
-    (sym (c.cell.ensures.stays.shown ∙ c.add_beside_few.ensures.stays.shown))
-    (inside g (goal.at.add_backfilling-requires g c).After-new-found l h)
+add_backfilling-requires g c = grind (arith, inside)
 
 -- the neighbours and what the plays leave were gathered
 pub returns-clause-over : goal.returns-clause-over

@@ -1,5 +1,5 @@
 -- What was gathered are the later candidates of the wider tree, on every position that agrees with what was seen.
-use Rattle.std.proofs.Common.{◌&&◌, ltb, ap, sym, ◌∙◌}
+use Rattle.std.proofs.Common.{◌&&◌, ltb, ap, sym, ◌∙◌, arith}
 use Rattle.std.specs.Cmp.{nat_cmp_total}
 use Rattle.std.specs.FinSet as set
 use Rattle.go_base.specs.Facts.{agrees_before, AddsIn-trans, AddsIn-mono}
@@ -14,9 +14,7 @@ use Rattle.read_moves.proofs.stages.wider_later_candidates.Goals as goal
 
 -- the looks for the stated ones made no move
 pub further_candidates-further-requires-clause-liberties : goal.further_candidates-further-requires-clause-liberties
-further_candidates-further-requires-clause-liberties g c = λ pos a.
-    let first = c.stated_later_candidates-found.ensures.stays in
-    rw first.moves (c.requires.liberties pos (agrees_before first.grows a))
+further_candidates-further-requires-clause-liberties g c = grind arith
 
 -- the stated ones and the further ones were gathered
 pub returns-clause-over : goal.returns-clause-over

@@ -1,8 +1,8 @@
-use Rattle.std.proofs.Common.{◌∙◌, ◌-◌, Some, ap, sym}
+use Rattle.std.proofs.Common.{◌∙◌, ◌-◌, Some, ap, sym, arith}
 use Rattle.go_rules.specs.Play.{play_free}
 use Rattle.read_rules.specs.declared.node.Node.{Node}
 use Rattle.read_rules.specs.GameTree.{next_node}
-use Rattle.read_proof.proofs.ChildLemmas.{child_spent, child_allowed, child_hopeless, target_on_child}
+use Rattle.read_proof.proofs.ChildLemmas.{child_spent, child_allowed, child_hopeless}
 use Rattle.read_proof.proofs.children.allowed_child.Goals as goal
 
 -- no allowance is left
@@ -22,9 +22,7 @@ returns-in-Ok-clause-value c =
 
 -- the target stays on the board
 pub returns-in-Ok-clause-target : goal.returns-in-Ok-clause-target
-returns-in-Ok-clause-target c =
-    target_on_child c.args.node c.args.pos.now c.args.p (Some (c.next.result, c.in-Ok.new)) c.requires.target
-    (returns-in-Ok-clause-value c)
+returns-in-Ok-clause-target c = grind (arith, returns-in-Ok-clause-value)
 
 -- it is illegal even so
 pub returns-in-Err-clause-value : goal.returns-in-Err-clause-value

@@ -1,14 +1,12 @@
 -- The enemies next to the near friends' strings that have few liberties may cut.
-use Rattle.std.proofs.Common.{◌*◌, ◌∙◌, sym}
+use Rattle.std.proofs.Common.{◌∙◌, arith}
 use Rattle.std.proofs.lemmas.Bool.{and_parts, ltb-true}
 use Rattle.wider_rules.proofs.SetLemmas.{cutter_is}
 use Rattle.read_proof.proofs.further.cutters.Goals as goal
 
 -- the near friends are on the board
 pub around_strings-requires : goal.around_strings-requires
-around_strings-requires c = λ q h.
-    let pos = c.args.pos.now in
-    ltb-true q (pos.size * pos.size) (and_parts _ _ (sym (c.near_friends.ensures q) ∙ h)).0
+around_strings-requires c = grind (arith, ltb-true, and_parts)
 
 -- the enemies next to their strings that have few liberties
 pub returns : goal.returns

@@ -1,5 +1,5 @@
 -- A lone stone was lost by the tree, the turn, the target's point and its neighbours.
-use Rattle.std.proofs.Common.{◌∙◌, ◌&&◌, ap, sym}
+use Rattle.std.proofs.Common.{◌∙◌, ◌&&◌, ap, sym, arith}
 use Rattle.std.proofs.lemmas.Bool.{not-true}
 use Rattle.go_base.specs.Facts.{agrees_before}
 use Rattle.go_rules.specs.declared.Cell.TheVariants.{Empty}
@@ -15,20 +15,15 @@ use Rattle.read_sure.proofs.taking_back.has_lost_one_stone.Goals as goal
 
 -- none in the stated tree
 pub returns-then-not-is_wider-clause-over : goal.returns-then-not-is_wider-clause-over
-returns-then-not-is_wider-clause-over g c = λ pos a.
-    sym (lost_stated c.args.node (after pos c.args.board.now.moves) (sym c.is_wider.ensures ∙ c.if-not-is_wider.true))
+returns-then-not-is_wider-clause-over g c = grind (arith, lost_stated)
 
 -- none at the attacker's turn
 pub returns-then-node-clause-over : goal.returns-then-node-clause-over
-returns-then-node-clause-over g c = λ pos a.
-    sym (lost_by_attacker c.args.node (after pos c.args.board.now.moves) c.if-node.true)
+returns-then-node-clause-over g c = grind (arith, lost_by_attacker)
 
 -- none where the target stands
 pub returns-then-ne-clause-over : goal.returns-then-ne-clause-over
-returns-then-ne-clause-over g c = λ pos a.
-    sym (lost_standing c.args.node (after pos c.args.board.now.moves)
-    (ap (λ k. same_cell k Empty) (sym (c.cell.ensures.over pos a)) ∙ sym (eq_is_same_cell c.cell.result Empty)
-    ∙ not-true _ (sym c.ne.ensures ∙ c.if-ne.true)))
+returns-then-ne-clause-over g c = grind (arith, lost_standing, eq_is_same_cell, not-true)
 
 -- else where its point is walled in
 pub returns-clause-over : goal.returns-clause-over

@@ -1,7 +1,7 @@
 -- With one number of plies after another, what the attacker wins is closed.
-use Rattle.std.proofs.Common.{◌≡◌, ◌∙◌, ◌≤◌, suc, true, ap, refl, sym, arith}
-use Rattle.go_base.specs.Facts.{agrees_before, Grows-refl}
-use Rattle.trial_board.specs.Trials.{Stays-trans, after}
+use Rattle.std.proofs.Common.{◌≡◌, ◌∙◌, ◌≤◌, suc, true, ap, sym, arith}
+use Rattle.go_base.specs.Facts.{agrees_before}
+use Rattle.trial_board.specs.Trials.{Stays-trans}
 use Rattle.read_rules.proofs.AreaLemmas.{AddsNear-trans}
 use Rattle.read_tree.proofs.StageLemmas.{nothing_near}
 use Rattle.read_rules.specs.Candidates.{is_candidate}
@@ -15,13 +15,7 @@ use Rattle.read_tree.proofs.deepening.open_after_fewer.Goals as goal
 
 -- nothing was read yet
 pub depths-init : goal.depths-init
-depths-init g c = record {
-  stays = record { moves = refl; shown = refl; grows = Grows-refl _ };
-  some = c.requires.ready.some;
-  table = c.requires.ready.table;
-  near = λ pos a q root tree und its. nothing_near _ _;
-  left = λ pos a. open_first c.args.plies c.args.turn (after pos c.args.board.now.moves) c.args.p c.args.asked;
-}
+depths-init g c = grind (arith, nothing_near, open_first)
 
 -- One more number of plies was read.
 module _ (g : Over) (c : After-without-left g) where

@@ -1,12 +1,11 @@
 -- The defender runs free at the liberty that was found.
-use Rattle.std.proofs.Common.{◌*◌, ◌&&◌, ◌||◌, sym, ◌∙◌}
+use Rattle.std.proofs.Common.{◌*◌, ◌&&◌, ◌||◌, arith}
 use Rattle.std.specs.FinSet as set
 use Rattle.std.proofs.lemmas.Bool.{and_from, or_right}
-use Rattle.go_base.specs.Facts.{Agrees, AddsIn, agrees_before, Grows-trans, same_size, AddsIn-trans, AddsIn-mono}
+use Rattle.go_base.specs.Facts.{Agrees, AddsIn, agrees_before, same_size, AddsIn-trans, AddsIn-mono}
 use Rattle.go_base.specs.Views.{alone, neighbours_of}
 use Rattle.go_rules.specs.Below.{any_below}
 use Rattle.go_rules.specs.Position.{BoardState}
-use Rattle.trial_board.specs.Trials.{Stays-trans}
 use Rattle.go_rules.proofs.Cells.{ne_false_same}
 use Rattle.go_rules.proofs.Counts.{any_below_from}
 use Rattle.go_rules.proofs.Paths.{same_cell-true}
@@ -17,16 +16,7 @@ use Rattle.read_tree.proofs.escape.escapes.Goals as goal
 
 -- he escapes there, on each position that agrees
 pub returns-then-runs_free-clause-over : goal.returns-then-runs_free-clause-over
-returns-then-runs_free-clause-over g c = λ pos a yes.
-    let i = c.loop-l.invariant in
-    let a1 = agrees_before i.grows (agrees_before c.runs_free.ensures.stays.grows a) in
-    record {
-      own = sym (c.cell.ensures.over pos a1) ∙ same_cell-true _ _
-          (ne_false_same c.cell.result c.stone_of.result c.ne.result c.ne.ensures c.if-ne.false) ∙ c.stone_of.ensures;
-      l = c.in-Some.l;
-      there = c.in-Some.ensures.some.2;
-      runs = rw i.stays.moves at (c.runs_free.ensures.over pos a c.if-runs_free.true);
-    }
+returns-then-runs_free-clause-over g c = grind (arith, same_cell-true, ne_false_same)
 
 -- the looks at that liberty are among those that are told
 run_near : (g : Over) (c : After-runs_free g) (pos : BoardState) → Agrees (g.L.Look.seen c.runs_free.new.board.look) pos
@@ -50,10 +40,4 @@ returns-then-runs_free-clause-near g c = run_near g (goal.at.returns-then-runs_f
 
 -- and so are those at each liberty before
 pub loop-l-preserved : goal.loop-l-preserved
-loop-l-preserved g c =
-    let runs = c.runs_free.ensures in
-    record {
-      stays = Stays-trans c.loop-l.invariant.stays runs.stays;
-      grows = Grows-trans c.loop-l.invariant.grows runs.stays.grows;
-      near = run_near g (goal.at.loop-l-preserved g c).After-runs_free;
-    }
+loop-l-preserved g c = grind (arith, run_near g (goal.at.loop-l-preserved g c).After-runs_free)

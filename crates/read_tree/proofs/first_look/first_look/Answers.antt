@@ -1,5 +1,5 @@
 -- What the search finds of the target's liberties on the view alone.
-use Rattle.std.proofs.Common.{◌≡◌, ◌∙◌, ℕ, Bool, List, ap}
+use Rattle.std.proofs.Common.{◌≡◌, ℕ, Bool, List, arith}
 use Rattle.go_rules.specs.declared.Cell.{Cell}
 use Rattle.go_rules.specs.Position.{BoardState}
 use Rattle.go_rules.specs.Neighbourhood.{neighbourhood_of}
@@ -17,8 +17,7 @@ use Rattle.read_tree.proofs.first_look.first_look.Goals as goal
 
 -- the position shown stays
 pub returns-clause-shown : goal.returns-clause-shown
-returns-clause-shown g c =
-    c.search-found.ensures.looks.asked.shown ∙ ap g.L.Look.shows c.new-board.ensures.look
+returns-clause-shown g c = grind arith
 
 -- and the facts seen only grow
 pub returns-clause-grows : goal.returns-clause-grows

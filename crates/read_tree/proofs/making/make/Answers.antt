@@ -32,8 +32,7 @@ returns-then-not-own-clause-over g c = λ pos a ko asked.
 
 -- a first try that the ban forbids leaves the moves
 moves_left : (g : Over) (c : After-play-in-Banned g) → c.play.new.self.moves ≡ c.args.board.now.moves
-moves_left g c = moves-banned c.mover.result c.args.p c.play.result c.args.board.now.moves c.play.new.self.moves
-    c.play.ensures.moves c.in-Banned.is
+moves_left g c = grind (arith, moves-banned)
 
 -- two tries at p look no further than one
 two_near : (g : Over) (c : After-play-in-Banned g) (pos : BoardState)

@@ -1,5 +1,5 @@
 -- The liberties that were found are the target's.
-use Rattle.std.proofs.Common.{◌∙◌}
+use Rattle.std.proofs.Common.{◌∙◌, arith}
 use Rattle.std.proofs.lemmas.Bool.{not-true, not-false}
 use Rattle.trial_board.specs.Trials.{after}
 use Rattle.trial_board.proofs.AfterLemmas.{size-after}
@@ -9,9 +9,7 @@ use Rattle.read_tree.proofs.nodes.is_barred.Goals as goal
 
 -- it is the defender's turn
 pub returns-then-not-node-clause-over : goal.returns-then-not-node-clause-over
-returns-then-not-node-clause-over g c = λ pos a.
-    not_barred c.args.node (after pos c.args.board.now.moves)
-    (not-true c.args.node.turn.attacker_to_play c.if-not-node.true)
+returns-then-not-node-clause-over g c = grind (arith, not_barred, not-true)
 
 -- it is the attacker's
 pub returns-clause-over : goal.returns-clause-over

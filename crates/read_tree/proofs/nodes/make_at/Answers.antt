@@ -26,8 +26,7 @@ returns-then-left-eq0-clause-over g c = λ pos a.
 
 -- a first try that the ban forbids leaves the moves
 moves_left : (g : Over) (c : After-play-in-Banned g) → c.play.new.self.moves ≡ c.args.board.now.moves
-moves_left g c = moves-banned c.mover.result c.args.p c.play.result c.args.board.now.moves c.play.new.self.moves
-    c.play.ensures.moves c.in-Banned.is
+moves_left g c = grind (arith, moves-banned)
 
 -- the ban alone forbade it, and an allowance is spent
 pub returns-in-Done-play-clause-over : goal.returns-in-Done-play-clause-over

@@ -1,6 +1,5 @@
-use Rattle.std.proofs.Common.{subst}
+use Rattle.std.proofs.Common.{arith}
 use Rattle.std.proofs.lemmas.List.Elements.{All-nil}
-use Rattle.go_base.specs.Facts.{Agrees}
 use Rattle.read_tree.proofs.nodes.wins.Goals as goal
 
 -- a table of no entries tells nothing
@@ -9,14 +8,8 @@ wins_with-requires-clause-table g c = record { all = All-nil _ }
 
 -- the position shown agrees with what is seen
 pub returns-then-node-lt-PLIES_WITH_TABLE-clause-answer : goal.returns-then-node-lt-PLIES_WITH_TABLE-clause-answer
-returns-then-node-lt-PLIES_WITH_TABLE-clause-answer g c =
-    c.wins_with.ensures.over (g.L.Look.shows c.args.board.now.look)
-    (subst (Agrees (g.L.Look.seen c.wins_with.new.board.look)) c.wins_with.ensures.stays.shown
-    (g.met.L.Look.holds c.wins_with.new.board.look))
+returns-then-node-lt-PLIES_WITH_TABLE-clause-answer g c = grind arith
 
 -- and so where a table is made
 pub returns-clause-answer : goal.returns-clause-answer
-returns-clause-answer g c =
-    c.wins_with_table.ensures.over (g.L.Look.shows c.args.board.now.look)
-    (subst (Agrees (g.L.Look.seen c.wins_with_table.new.board.look)) c.wins_with_table.ensures.stays.shown
-    (g.met.L.Look.holds c.wins_with_table.new.board.look))
+returns-clause-answer g c = grind arith

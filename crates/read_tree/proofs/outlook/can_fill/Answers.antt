@@ -1,11 +1,11 @@
 -- The only liberty of an enemy string at which no ban forbids to play.
-use Rattle.std.proofs.Common.{cond, refl, ◌≡◌, ◌+◌, ◌*◌, ◌<◌, ◌≤◌, ◌∙◌, ℕ, Bool, true, false, not, Option, Some, None}
-use Rattle.std.proofs.Common.{IfNone, is_none, ap, sym, subst, arith, inl, inr}
+use Rattle.std.proofs.Common.{cond, refl, ◌≡◌, ◌+◌, ◌<◌, ◌≤◌, ◌∙◌, ℕ, Bool, true, false, not, Option, Some, None}
+use Rattle.std.proofs.Common.{IfNone, is_none, ap, sym, arith}
 use Rattle.std.specs.Ordering.{nat_cmp}
 use Rattle.std.specs.FinSet as set
 use Rattle.std.proofs.lemmas.Bool.{cases_eq, cases_lt, both_ways}
 use Rattle.go_rules.specs.declared.Colour.{Colour}
-use Rattle.go_rules.specs.Position.{BoardState, other, is_banned}
+use Rattle.go_rules.specs.Position.{other, is_banned}
 use Rattle.go_rules.proofs.Cells.{ne_false_same}
 use Rattle.go_rules.proofs.Paths.{same_cell-true}
 use Rattle.go_base.specs.Facts.{agrees_before}
@@ -26,11 +26,7 @@ flip some none e h = ap not e ∙ ap (λ b. not (not b)) h
 -- the attacker is not banned
 free_by : (attacker : Bool) (d : Colour) (ban : Option (ℕ × Colour)) (l : ℕ) {banned : Bool} → attacker ≡ true
     → banned ≡ is_banned ban (cond attacker (other d) d) l → not banned ≡ true → is_banned ban (other d) l ≡ false
-free_by attacker d ban l t e h = ap (λ b. is_banned ban (cond b (other d) d) l) (sym t) ∙ sym e ∙ not_true _ h
-  where
-    not_true : (b : Bool) → not b ≡ true → b ≡ false
-    not_true true h = cc
-    not_true false h = refl
+free_by attacker d ban l t e h = grind arith
 
 -- what holds if nothing was found holds where the test for none passes
 when_none : (o : Option ℕ) (P : Type 0) → IfNone o P → is_none o ≡ true → P
@@ -39,23 +35,13 @@ when_none (Some x) P h e = cc
 
 -- the first liberty of the target is on the board
 pub bans-requires : goal.bans-requires
-bans-requires g c =
-    let shown = g.L.Look.shows c.args.board.now.look in
-    let inside = known_inside shown.size (after shown c.args.board.now.moves).cells c.args.turn.target c.in-Some.l
-    c.args.liberties.now c.requires.liberties c.in-Some.ensures.some.2 in
-    subst (λ (p : BoardState). c.in-Some.l < p.size * p.size) (sym c.cell.ensures.stays.shown) inside
+bans-requires g c = grind (arith, known_inside)
 
 -- where no point before l is in a set, and none behind it, each point of the set is l
 only_member : (points : set.FinSet nat_cmp) (l : ℕ)
     → ((x : ℕ) → 0 ≤ x → x < l → set.contains points x ≡ false)
     → ((x : ℕ) → l + 1 ≤ x → set.contains points x ≡ false) → (x : ℕ) → set.contains points x ≡ true → x ≡ l
-only_member points l before behind x h = elim (cases_eq x l) [
-  | inl e ↦ e
-  | inr ne ↦ absurd (both_ways (set.contains points x) (elim (cases_lt x l) [
-    | inl less ↦ before x (omega arith) less
-    | inr more ↦ behind x (omega arith)
-  ]) h)
-]
+only_member points l before behind x h = grind (arith, cases_eq, both_ways, cases_lt)
 
 -- the first liberty is the only one, and no ban forbids the attacker to play there
 pub returns-then-is_none-clause-over : goal.returns-then-is_none-clause-over

@@ -1,6 +1,6 @@
 -- The one liberty that is known is the target's, and its stone is the defender's.
-use Rattle.std.proofs.Common.{sym, ◌∙◌}
-use Rattle.go_base.specs.Facts.{agrees_before, same_size, AddsIn-trans, AddsIn-mono}
+use Rattle.std.proofs.Common.{sym, ◌∙◌, arith}
+use Rattle.go_base.specs.Facts.{agrees_before}
 use Rattle.go_base.proofs.PointNeighbourhoods.{close_alone}
 use Rattle.go_rules.proofs.Cells.{eq_is_same_cell}
 use Rattle.go_rules.proofs.Paths.{same_cell-true}
@@ -38,19 +38,11 @@ returns-then-eq-clause-over g c = λ pos a yes.
 cell_near : (g : Over) (c : After-cell g) (pos : BoardState) → Agrees (g.L.Look.seen c.cell.new.self.look) pos
     → AddsIn (g.L.Look.seen c.args.board.now.look) (g.L.Look.seen c.cell.new.self.look)
     (neighbourhood_of pos.size (after pos c.args.board.now.moves).cells (alone c.args.turn.target))
-cell_near g c pos a =
-    let on = target_on pos.size (g.L.Look.shows c.args.board.now.look).size c.args.turn.target
-    (same_size (g.met.L.Look.sized c.args.board.now.look) (agrees_before c.cell.ensures.stays.grows a))
-    c.requires.target in
-    AddsIn-mono c.cell.ensures.near
-    (λ p h. close_alone pos.size (after pos c.args.board.now.moves).cells c.args.turn.target p on h)
+cell_near g c pos a = grind (arith, target_on, close_alone)
 
 -- and so do those beside it
 pub returns-then-eq-clause-near : goal.returns-then-eq-clause-near
-returns-then-eq-clause-near g c = λ pos a.
-    let d = (goal.at.returns-then-eq-clause-near g c).After-cell in
-    AddsIn-trans (cell_near g d pos (agrees_before c.is_taken_for_good.ensures.stays.grows a))
-    (rw c.cell.ensures.stays.moves at (c.is_taken_for_good.ensures.near pos a))
+returns-then-eq-clause-near g c = grind (arith, cell_near g)
 
 -- a target of the other colour is not looked around
 pub returns-else-eq-clause-near : goal.returns-else-eq-clause-near

@@ -1,20 +1,17 @@
 -- A stone beside the target that was found is one of its string.
 use Rattle.std.proofs.Common.{◌∙◌, sym, ap}
-use Rattle.go_base.specs.Facts.{agrees_before, same_size, AddsIn-mono}
 use Rattle.go_base.specs.Views.{alone}
 use Rattle.trial_board.specs.Trials.{after}
 use Rattle.trial_board.proofs.AfterLemmas.{size-after}
 use Rattle.read_rules.proofs.AreaLemmas.{target_on}
-use Rattle.read_tree.specs.Steps.{in_stated}
-use Rattle.std.proofs.Common.{◌≡◌, true}
+use Rattle.std.proofs.Common.{◌≡◌, true, arith}
 use Rattle.std.specs.FinSet as set
 use Rattle.read_tree.proofs.TakingLemmas.{when_some, stone_beside, near_sides}
 use Rattle.read_tree.proofs.outlook.is_taken_for_good.Goals as goal
 
 -- in the stated tree nothing is taken back
 pub returns-then-not-is_wider-clause-over : goal.returns-then-not-is_wider-clause-over
-returns-then-not-is_wider-clause-over g c = λ pos a yes.
-    in_stated (sym c.is_wider.ensures ∙ c.if-not-is_wider.true)
+returns-then-not-is_wider-clause-over g c = grind arith
 
 -- a stone of the defender is beside the target
 pub returns-clause-over : goal.returns-clause-over
@@ -28,9 +25,4 @@ returns-clause-over g c = λ pos a yes.
 
 -- the neighbours of the target lie in its neighbourhood
 pub returns-clause-near : goal.returns-clause-near
-returns-clause-near g c = λ pos a.
-    let on = target_on pos.size (g.L.Look.shows c.args.board.now.look).size c.args.turn.target
-    (same_size (g.met.L.Look.sized c.args.board.now.look) (agrees_before c.add_sides.ensures.stays.grows a))
-    c.requires in
-    AddsIn-mono (c.add_sides.ensures.near pos a)
-    (near_sides pos.size (after pos c.args.board.now.moves).cells c.args.turn.target on)
+returns-clause-near g c = grind (arith, target_on, near_sides)

@@ -2,7 +2,7 @@
 use Rattle.std.proofs.Common.{◌∙◌, sym}
 use Rattle.go_base.specs.Facts.{agrees_before}
 use Rattle.trial_board.specs.Trials.{after}
-use Rattle.std.proofs.Common.{◌≡◌}
+use Rattle.std.proofs.Common.{◌≡◌, arith}
 use Rattle.go_base.specs.Facts.{Agrees, AddsIn}
 use Rattle.go_base.specs.Views.{alone}
 use Rattle.go_rules.specs.Neighbourhood.{neighbourhood_of}
@@ -14,8 +14,7 @@ use Rattle.read_tree.proofs.outlook.outlook_of.Goals as goal
 
 -- a target that is safe has too many liberties on each position that agrees
 pub returns-then-has_too_many-clause-over : goal.returns-then-has_too_many-clause-over
-returns-then-has_too_many-clause-over g c = λ pos a.
-    sym (c.requires.liberties pos a).many ∙ sym c.has_too_many.ensures ∙ c.if-has_too_many.true
+returns-then-has_too_many-clause-over g c = grind arith
 
 -- The liberties that are known are not too many.
 module _ (g : Over) (c : After-can_take g) (pos : BoardState)
@@ -35,20 +34,15 @@ module _ (g : Over) (c : After-can_take g) (pos : BoardState)
 
 -- a target that is taken has not too many liberties
 pub returns-then-can_take-clause-over : goal.returns-then-can_take-clause-over
-returns-then-can_take-clause-over g c = λ pos a.
-    sym (c.requires.liberties pos (agrees_before c.can_take.ensures.stays.grows a)).many
-    ∙ sym c.has_too_many.ensures ∙ c.if-has_too_many.false
+returns-then-can_take-clause-over g c = grind arith
 
 -- a target whose node is to be read has not too many liberties
 pub returns-clause-over : goal.returns-clause-over
-returns-clause-over g c = λ pos a.
-    sym (c.requires.liberties pos (agrees_before c.can_take.ensures.stays.grows a)).many
-    ∙ sym c.has_too_many.ensures ∙ c.if-has_too_many.false
+returns-clause-over g c = grind arith
 
 -- a target that is taken has all of its liberties known
 pub returns-then-can_take-clause-all : goal.returns-then-can_take-clause-all
-returns-then-can_take-clause-all g c = λ pos a few.
-    all_known g (goal.at.returns-then-can_take-clause-all g c).After-can_take pos a
+returns-then-can_take-clause-all g c = grind arith
 
 -- and so has one whose node is to be read
 pub returns-clause-all : goal.returns-clause-all
@@ -56,14 +50,11 @@ returns-clause-all g c = λ pos a few. all_known g (goal.at.returns-clause-all g
 
 -- whoever takes it by its only liberty takes it on each position where these are all
 pub returns-then-can_take-clause-taken : goal.returns-then-can_take-clause-taken
-returns-then-can_take-clause-taken g c = λ pos a is.
-    c.can_take.ensures.over pos a (all_known g (goal.at.returns-then-can_take-clause-taken g c).After-can_take pos a)
-    c.if-can_take.true
+returns-then-can_take-clause-taken g c = grind arith
 
 -- where it is taken the looks lie in its neighbourhood
 pub returns-then-can_take-clause-near : goal.returns-then-can_take-clause-near
-returns-then-can_take-clause-near g c = λ pos a.
-    looks_near g (goal.at.returns-then-can_take-clause-near g c).After-can_take pos a
+returns-then-can_take-clause-near g c = grind arith
 
 -- at a node that is to be read the looks lie in the target's neighbourhood
 pub returns-clause-near : goal.returns-clause-near
@@ -71,8 +62,4 @@ returns-clause-near g c = λ pos a. looks_near g (goal.at.returns-clause-near g 
 
 -- the position shown is one that agrees
 pub can_take-requires : goal.can_take-requires
-can_take-requires g c = record {
-  target = c.requires.target;
-  liberties = (c.requires.liberties (g.L.Look.shows c.args.board.now.look)
-      (g.met.L.Look.holds c.args.board.now.look)).all (sym c.has_too_many.ensures ∙ c.if-has_too_many.false);
-}
+can_take-requires g c = grind arith

@@ -1,11 +1,8 @@
 -- The question is made from the stone at the target, and read.
-use Rattle.std.proofs.Common.{◌≡◌, ◌∙◌, true, ap, sym, subst}
-use Rattle.go_rules.specs.Strings.{cell_at}
+use Rattle.std.proofs.Common.{◌≡◌, ◌∙◌, true, ap, sym, subst, arith}
 use Rattle.go_rules.specs.Position.{BoardState, stone_of}
-use Rattle.go_base.specs.Facts.{AddsIn, AddsIn-trans, AddsIn-mono, CellIs, same_size}
-use Rattle.go_base.specs.Views.{alone}
+use Rattle.go_base.specs.Facts.{CellIs, same_size}
 use Rattle.go_base.proofs.PointNeighbourhoods.{close_alone}
-use Rattle.go_rules.specs.Neighbourhood.{neighbourhood_of}
 use Rattle.read_rules.specs.declared.question.ReadingQuestion.{ReadingQuestion}
 use Rattle.read_rules.specs.Answer.{is_about, asked_in}
 use Rattle.read_rules.specs.ActiveArea.{InActiveArea, AddsNear}
@@ -16,15 +13,7 @@ use Rattle.read_tree.proofs.reading.answered.Goals as goal
 
 -- the question is about the position shown
 pub read-requires : goal.read-requires
-read-requires g c = record {
-  size = ap (λ (q : ReadingQuestion). q.size) c.asked-question.ensures.question
-      ∙ ap (λ (p : BoardState). p.size) (sym c.asked-question.ensures.shown);
-  on_board = rw c.asked-question.ensures.question c.requires.on_board;
-  stone = rw (c.asked-question.ensures.shown, c.asked-question.ensures.question)
-      (stone-colour (cell_at (g.L.Look.shows c.args.look).cells c.args.target) c.requires.stone);
-  plies = rw c.asked-question.ensures.question c.args.depths.some_plies;
-  few = rw c.asked-question.ensures.question c.args.depths.few_plies;
-}
+read-requires g c = grind (arith, stone-colour)
 
 -- the look at the target's cell and those of the reading lie in the active area
 pub returns-clause-near : goal.returns-clause-near
@@ -45,14 +34,4 @@ returns-clause-near g c = λ pos a.
 
 -- with too many liberties no play is tried
 pub returns-clause-too_many : goal.returns-clause-too_many
-returns-clause-too_many g c = λ h.
-    let shown = g.L.Look.shows c.args.look in
-    let w = (rw (c.asked-question.ensures.question, c.asked-question.ensures.shown) at c.read.ensures.too_many) h in
-    let near : AddsIn (g.L.Look.seen c.args.look) (g.L.Look.seen c.asked-question.new.look)
-    (neighbourhood_of shown.size shown.cells (alone c.args.target)) =
-    AddsIn-mono c.asked-question.ensures.near
-    (λ p. close_alone shown.size shown.cells c.args.target p c.requires.on_board) in (
-      w.0,
-      w.1,
-      AddsIn-trans near w.2,
-    )
+returns-clause-too_many g c = grind (arith, close_alone)

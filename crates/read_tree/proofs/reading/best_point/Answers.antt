@@ -1,5 +1,5 @@
 -- The candidates in reading order, each asked only for the codes above the best so far.
-use Rattle.std.proofs.Common.{◌∙◌, ◌+◌, suc, sym, arith, rules, ◌&&◌, nat_lt}
+use Rattle.std.proofs.Common.{◌∙◌, ◌+◌, suc, sym, arith, ◌&&◌, nat_lt}
 use Rattle.std.specs.FinSet as set
 use Rattle.go_base.specs.Facts.{Agrees, agrees_before, Grows-refl, Grows-trans}
 use Rattle.go_rules.specs.Position.{BoardState}
@@ -8,7 +8,7 @@ use Rattle.read_rules.specs.Candidates.{is_candidate}
 use Rattle.read_tree.specs.Allowances.{neither_may}
 use Rattle.read_tree.proofs.AllowanceLemmas.{fewer_nodes, has_all}
 use Rattle.read_rules.proofs.AreaLemmas.{AddsNear-trans}
-use Rattle.read_tree.proofs.BestLemmas.{asks_some, better_on, best_start, best_point, best_all, best_three}
+use Rattle.read_tree.proofs.BestLemmas.{asks_some, better_on, best_start, best_point, best_three}
 use Rattle.read_tree.proofs.TableLemmas.{table_more}
 use Rattle.std.proofs.Common.{refl, IfSome}
 use Rattle.go_base.specs.Views.{nowhere}
@@ -17,7 +17,7 @@ use Rattle.read_rules.specs.GoodMoves.{IsOnBoard}
 use Rattle.read_tree.specs.Allowances.{all_three}
 use Rattle.read_tree.specs.Steps.{IsBest}
 use Rattle.read_tree.specs.Walk.{LooksNear}
-use Rattle.read_tree.proofs.ReadyLemmas.{candidate_inside, point_after, liberties_after}
+use Rattle.read_tree.proofs.ReadyLemmas.{candidate_inside}
 use Rattle.read_tree.proofs.StandingNodes.{standing_node, near_wide}
 use Rattle.read_tree.proofs.reading.best_point.Given.{Over}
 use Rattle.read_tree.proofs.reading.best_point.Goals.{After-better-best}
@@ -43,16 +43,7 @@ loop-p-init g c = record {
 
 -- a candidate is on the board, and above a code below 3 there is an allowance to ask for
 pub succeeds_by_depths-good-requires : goal.succeeds_by_depths-good-requires
-succeeds_by_depths-good-requires g c =
-    let i = c.loop-p.invariant in
-    let some = asks_some c.loop-p.best.code c.args.turn.attacker_to_play i.code in
-    let on = point_after i.stays c.in-Some.p
-    (candidate_inside c.args.turn (g.L.Look.shows c.args.board.now.look)
-    c.args.board.now.moves c.in-Some.p (sym (c.candidates-candidates.ensures.answer c.in-Some.p)
-    ∙ c.in-Some.ensures.some.2)) in
-    let target = point_after i.stays c.args.turn.target c.requires.target in
-    let liberties = liberties_after i.stays c.args.turn.target c.args.known.now c.requires.liberties in
-    search rules
+succeeds_by_depths-good-requires g c = grind (arith, asks_some, candidate_inside)
 
 -- One more candidate was read.
 module _ (g : Over) (c : After-better-best g) where
@@ -128,9 +119,4 @@ returns-then-best-eq3 g c =
 
 -- no candidate is left, and the best of those that were read is the best of all
 pub returns-clause-over : goal.returns-clause-over
-returns-clause-over g c = λ pos a start.
-    let i = c.loop-p.invariant in
-    let a0 = agrees_before i.grows a in
-    best_all c.args.plies c.args.turn (after pos c.args.board.now.moves)
-    (set.contains c.candidates-candidates.result) c.loop-p.next c.loop-p.best
-    (c.candidates-candidates.ensures.over pos a0) (i.best pos a start) c.in_default.ensures.none
+returns-clause-over g c = grind arith

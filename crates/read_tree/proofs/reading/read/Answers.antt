@@ -4,9 +4,9 @@ use Rattle.std.proofs.lemmas.Bool.{both_ways}
 use Rattle.std.specs.FinSet as set
 use Rattle.std.specs.Ordering.{nat_cmp}
 use Rattle.go_rules.specs.declared.Cell.{Cell}
-use Rattle.go_rules.specs.Strings.{cell_at, liberties, liberty_points}
+use Rattle.go_rules.specs.Strings.{cell_at, liberties}
 use Rattle.go_rules.specs.Position.{BoardState, stone_of}
-use Rattle.go_base.specs.Facts.{Agrees, AddsIn, AddsIn-trans, AddsIn-mono, CellIs, agrees_before, same_size}
+use Rattle.go_base.specs.Facts.{Agrees, AddsIn, CellIs, agrees_before, same_size}
 use Rattle.go_base.specs.Views.{alone}
 use Rattle.go_base.proofs.AddedFacts.{cell_near}
 use Rattle.go_base.proofs.PointNeighbourhoods.{close_alone}
@@ -31,17 +31,13 @@ many_at : (q : ReadingQuestion) (s : ℕ) (cells : List Cell) {turn : Turn} {kno
     → turn ≡ first_turn q → many ≡ outlasts_at turn q.plies (set.len known)
     → TellsLiberties turn q.plies s cells known
     → many ≡ outlasts_at (first_turn q) q.plies (liberties s cells q.target)
-many_at q s cells {turn} first many tells =
-    many ∙ tells.many
-    ∙ ap (λ (t : Turn). outlasts_at t q.plies (liberties s cells t.target)) first
+many_at q s cells {turn} first many tells = grind arith
 
 -- the target is on the board that is still shown
 still_on : (g : Over) (c : After-first_look-liberties g)
     → c.args.question.target < (g.L.Look.shows c.first_look-liberties.result.look).size
     * (g.L.Look.shows c.first_look-liberties.result.look).size
-still_on g c = target_on (g.L.Look.shows c.first_look-liberties.result.look).size c.args.question.size
-    c.args.question.target (ap (λ (p : BoardState). p.size)
-    (c.first_look-liberties.ensures.shown ∙ c.cell-stone.ensures.same) ∙ sym c.requires.size) c.requires.on_board
+still_on g c = grind (arith, target_on)
 
 -- A position that agrees with what is seen after the first look.
 module _ (g : Over) (c : After-first_look-liberties g) (pos : BoardState)
@@ -97,38 +93,21 @@ stone_near : (g : Over) (c : After-first_look-liberties g)
     → AddsIn (g.L.Look.seen c.args.look) (g.L.Look.seen c.cell-stone.new.self)
     (neighbourhood_of (g.L.Look.shows c.args.look).size (g.L.Look.shows c.args.look).cells
     (alone c.args.question.target))
-stone_near g c =
-    let q = c.args.question in
-    let shown = g.L.Look.shows c.args.look in
-    AddsIn-mono (cell_near c.cell-stone.ensures.only) (λ p. close_alone shown.size shown.cells q.target p
-    (target_on shown.size q.size q.target (sym c.requires.size) c.requires.on_board))
+stone_near g c = grind (arith, cell_near, close_alone, target_on)
 
 -- where the liberties that were found are too many, what is told without a reading is the answer to the question
 unread_told : (g : Over) (c : After-unread g) (pos : BoardState)
     → Agrees (g.L.Look.seen c.first_look-liberties.result.look) pos → is_about c.args.question pos ≡ true
     → c.args.question.target < pos.size * pos.size → c.unread.result ≡ answer_of c.args.question pos
-unread_told g c pos a about inside =
-    let q = c.args.question in
-    let many = sym (many_at q pos.size pos.cells c.first_turn-turn.ensures c.has_too_many.ensures
-    (c.first_look-liberties.ensures.over pos a)) ∙ c.if-has_too_many.true in
-    c.unread.ensures ∙ ap (λ (t : Turn). unread t.attacker_to_play) c.first_turn-turn.ensures
-    ∙ unread_answer q pos (omega (arith, c.requires.plies)) about inside many
+unread_told g c pos a about inside = grind (arith, many_at, unread_answer)
 
 -- it is so on each position that agrees
 pub returns-then-has_too_many-clause-over : goal.returns-then-has_too_many-clause-over
-returns-then-has_too_many-clause-over g c = λ pos a.
-    let at = goal.at.returns-then-has_too_many-clause-over g c in
-    let d = at.After-first_look-liberties in
-    unread_told g at.After-unread pos a (about g d pos a) (inside g d pos a)
+returns-then-has_too_many-clause-over g c = grind (arith, unread_told g)
 
 -- and on the one shown
 pub returns-then-has_too_many-clause-answer : goal.returns-then-has_too_many-clause-answer
-returns-then-has_too_many-clause-answer g c =
-    let at = goal.at.returns-then-has_too_many-clause-answer g c in
-    let d = at.After-first_look-liberties in
-    let shown = g.L.Look.shows c.args.look in
-    let a = shown_agrees g d in
-    unread_told g at.After-unread shown a (about g d shown a) (inside g d shown a)
+returns-then-has_too_many-clause-answer g c = grind (arith, shown_agrees g, unread_told g)
 
 -- only the target and its liberties were looked at
 pub returns-then-has_too_many-clause-near : goal.returns-then-has_too_many-clause-near
@@ -137,34 +116,18 @@ returns-then-has_too_many-clause-near g c = λ pos a.
 
 -- no play was tried, and the looks lie near the target
 pub returns-then-has_too_many-clause-too_many : goal.returns-then-has_too_many-clause-too_many
-returns-then-has_too_many-clause-too_many g c = λ h.
-    let d = (goal.at.returns-then-has_too_many-clause-too_many g c).After-first_look-liberties in (
-      c.unread.ensures ∙ ap (λ (t : Turn). unread t.attacker_to_play) c.first_turn-turn.ensures,
-      refl,
-      AddsIn-trans (stone_near g d)
-          (rw c.first_turn-turn.ensures at
-          (c.first_look-liberties.ensures.near (g.L.Look.shows c.args.look) (shown_agrees g d))),
-    )
+returns-then-has_too_many-clause-too_many g c = grind (arith, stone_near g, shown_agrees g)
 
 -- the liberties that were found are the target's, and they are not too many
 pub read_through-requires : goal.read_through-requires
-read_through-requires g c = record {
-  plies = c.requires.plies;
-  room = omega (arith, c.requires.few);
-  target = still_on g (goal.at.read_through-requires g c).After-first_look-liberties;
-  liberties = λ pos a. (c.first_look-liberties.ensures.over pos a).all
-      (sym c.has_too_many.ensures ∙ c.if-has_too_many.false)
-      ∙ ap (λ (t : Turn). liberty_points pos.size pos.cells t.target) c.first_turn-turn.ensures;
-  few = sym (c.has_too_many.ensures
-      ∙ ap (λ (t : Turn). outlasts_at t c.args.question.plies
-      (set.len c.first_look-liberties.result.liberties)) c.first_turn-turn.ensures) ∙ c.if-has_too_many.false;
-}
+read_through-requires g c =
+    grind (arith, still_on g (goal.at.read_through-requires g c).After-first_look-liberties, c.requires.plies,
+        c.requires.few, c.first_look-liberties.ensures.over, c.has_too_many.ensures, c.if-has_too_many.false,
+        c.first_turn-turn.ensures)
 
 -- the reading's answer is that of the question
 pub returns-clause-over : goal.returns-clause-over
-returns-clause-over g c = λ pos a.
-    let d = (goal.at.returns-clause-over g c).After-first_look-liberties in
-    c.read_through.ensures.over pos a (about g d pos (agrees_before c.read_through.ensures.stays.grows a))
+returns-clause-over g c = grind arith
 
 -- its looks lie in the active area too
 pub returns-clause-near : goal.returns-clause-near
@@ -175,8 +138,4 @@ returns-clause-near g c = λ pos a.
 
 -- plays are tried only where the liberties are not too many
 pub returns-clause-too_many : goal.returns-clause-too_many
-returns-clause-too_many g c = λ h.
-    let d = (goal.at.returns-clause-too_many g c).After-first_look-liberties in
-    absurd (both_ways _ (sym (many_at c.args.question _ _ c.first_turn-turn.ensures c.has_too_many.ensures
-    (c.first_look-liberties.ensures.over (g.L.Look.shows c.args.look) (shown_agrees g d)))
-    ∙ c.if-has_too_many.false) h)
+returns-clause-too_many g c = grind (arith, both_ways, many_at, shown_agrees)

@@ -36,9 +36,7 @@ few_at : (q : ReadingQuestion) (s : ℕ) (cells : List Cell) (known : set.FinSet
     → outlasts_at (first_turn q) q.plies (set.len known) ≡ false
     → known ≡ liberty_points s cells q.target
     → outlasts_at (first_turn q) q.plies (liberties s cells q.target) ≡ false
-few_at q s cells known few is =
-    sym (ap (outlasts_at (first_turn q) q.plies)
-    (ap set.len is ∙ len-liberty_points s cells q.target)) ∙ few
+few_at q s cells known few is = grind (arith, len-liberty_points)
 
 -- The attacker's moves were read.
 module _ (g : Over) (c : After-best_point g) where
@@ -150,10 +148,4 @@ best_point-requires-clause-liberties g c = λ pos a. rw c.first_turn-turn.ensure
 
 -- also where the pass is tried
 pub pass_saves-saved-requires-clause-ready : goal.pass_saves-saved-requires-clause-ready
-pass_saves-saved-requires-clause-ready g c = record {
-  room = search rules;
-  target = search rules;
-  some = search rules;
-  liberties = λ pos a. rw c.first_turn-turn.ensures (c.requires.ready.liberties pos a);
-  table = rw c.first_turn-turn.ensures c.requires.table;
-}
+pass_saves-saved-requires-clause-ready g c = grind arith

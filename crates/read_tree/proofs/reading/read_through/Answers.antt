@@ -1,5 +1,5 @@
 -- The reading begins with no trial moves, and what it told is so of the view that is handed back.
-use Rattle.std.proofs.Common.{◌≡◌, Bool, refl, subst}
+use Rattle.std.proofs.Common.{◌≡◌, Bool, arith}
 use Rattle.go_rules.specs.Position.{BoardState}
 use Rattle.go_base.specs.Facts.{Fact}
 use Rattle.trial_board.specs.Trials.{Trying}
@@ -12,16 +12,7 @@ use Rattle.read_tree.proofs.reading.read_through.Goals as goal
 of_views : {L : Type 0} {shows : L → BoardState} {seen : L → Fact → Bool} {old new : Trying L} {first last : L}
     {q : ReadingQuestion} {answer : Answer} → old ≡ untried first → last ≡ new.look
     → Answers shows seen old new q answer → Answers shows seen (untried first) (untried last) q answer
-of_views {L} {shows} {seen} {new} {q} {answer} begun ended told =
-    let its = subst (λ (t : Trying L). Answers shows seen t new q answer) begun told in
-    rw ended (record {
-      stays = record { moves = refl; shown = its.stays.shown; grows = its.stays.grows };
-      code = its.code;
-      none = its.none;
-      on_board = its.on_board;
-      over = its.over;
-      near = its.near;
-    })
+of_views {L} {shows} {seen} {new} {q} {answer} begun ended told = grind arith
 
 -- the liberties are known on the board without trial moves
 pub read_known-answer-requires : goal.read_known-answer-requires

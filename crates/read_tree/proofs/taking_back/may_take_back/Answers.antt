@@ -1,5 +1,5 @@
 -- The play at the point takes, or it is suicide.
-use Rattle.std.proofs.Common.{◌≡◌, ◌*◌, ◌<◌, ◌∙◌, ◌||◌, true, ap, sym, subst, refl}
+use Rattle.std.proofs.Common.{◌≡◌, ◌*◌, ◌<◌, ◌∙◌, ◌||◌, true, ap, sym, subst, refl, arith}
 use Rattle.go_rules.proofs.Paths.{same_cell-true}
 use Rattle.go_rules.specs.Position.{BoardState, IsPosition, other}
 use Rattle.go_base.specs.Facts.{Agrees, AddsIn, agrees_before, AddsIn-trans, AddsIn-mono}
@@ -21,9 +21,7 @@ use Rattle.read_tree.proofs.taking_back.may_take_back.Goals.{After-is_quiet, Aft
 -- the target's point after the moves
 inside : (g : Over) (c : After-is_quiet g) (pos : BoardState) → Agrees (g.L.Look.seen c.is_quiet.new.board.look) pos
     → c.args.turn.target < (after pos c.args.board.now.moves).size * (after pos c.args.board.now.moves).size
-inside g c pos a = subst (λ n. c.args.turn.target < n * n) (sym (size-after pos c.args.board.now.moves))
-    (on_agreed _ _ (g.met.L.Look.sized c.args.board.now.look) (agrees_before c.is_quiet.ensures.stays.grows a)
-    c.requires.target)
+inside g c pos a = grind (arith, size-after pos c.args.board.now.moves, on_agreed)
 
 -- a play that takes nothing is suicide
 pub returns-then-is_quiet-clause-over : goal.returns-then-is_quiet-clause-over
@@ -43,10 +41,7 @@ returns-then-is_quiet-clause-over g c = λ pos a sound taken walled.
 loud : (g : Over) (c : After-bans g) (pos : BoardState) → Agrees (g.L.Look.seen c.bans.new.self.look) pos
     → let here = after pos c.args.board.now.moves in
     AllLive here.size here.cells c.args.turn.defender c.args.turn.target → ⊥
-loud g c pos a live =
-    c.is_quiet.ensures.dies pos (agrees_before c.bans.ensures.stays.grows a) c.if-is_quiet.false
-    (subst (λ n. AllLive n (after pos c.args.board.now.moves).cells c.args.turn.defender c.args.turn.target)
-    (size-after pos c.args.board.now.moves) live)
+loud g c pos a live = grind (arith, size-after pos c.args.board.now.moves)
 
 -- a play that the ban forbids is made by the defender's own allowance
 pub returns-then-bans-clause-over : goal.returns-then-bans-clause-over

@@ -1,5 +1,5 @@
 -- The play at the point takes, or it is suicide.
-use Rattle.std.proofs.Common.{◌≡◌, ◌*◌, ◌<◌, ◌∙◌, true, ap, sym, subst}
+use Rattle.std.proofs.Common.{◌≡◌, ◌*◌, ◌<◌, ◌∙◌, true, ap, sym, subst, arith}
 use Rattle.go_rules.proofs.Paths.{same_cell-true}
 use Rattle.go_rules.specs.Position.{BoardState, IsPosition, other}
 use Rattle.go_base.specs.Facts.{Agrees, agrees_before}
@@ -16,9 +16,7 @@ use Rattle.read_tree.proofs.taking_back.may_take_back_at.Goals.{After-is_quiet, 
 -- the target's point after the moves
 inside : (g : Over) (c : After-is_quiet g) (pos : BoardState) → Agrees (g.L.Look.seen c.is_quiet.new.board.look) pos
     → c.args.node.turn.target < (after pos c.args.board.now.moves).size * (after pos c.args.board.now.moves).size
-inside g c pos a = subst (λ n. c.args.node.turn.target < n * n) (sym (size-after pos c.args.board.now.moves))
-    (on_agreed _ _ (g.met.L.Look.sized c.args.board.now.look) (agrees_before c.is_quiet.ensures.stays.grows a)
-    c.requires.target)
+inside g c pos a = grind (arith, size-after pos c.args.board.now.moves, on_agreed)
 
 -- a play that takes nothing is suicide
 pub returns-then-is_quiet-clause-over : goal.returns-then-is_quiet-clause-over
@@ -37,10 +35,7 @@ returns-then-is_quiet-clause-over g c = λ pos a sound taken walled.
 loud : (g : Over) (c : After-bans g) (pos : BoardState) → Agrees (g.L.Look.seen c.bans.new.self.look) pos
     → let here = after pos c.args.board.now.moves in
     AllLive here.size here.cells c.args.node.turn.defender c.args.node.turn.target → ⊥
-loud g c pos a live =
-    c.is_quiet.ensures.dies pos (agrees_before c.bans.ensures.stays.grows a) c.if-is_quiet.false
-    (subst (λ n. AllLive n (after pos c.args.board.now.moves).cells c.args.node.turn.defender c.args.node.turn.target)
-    (size-after pos c.args.board.now.moves) live)
+loud g c pos a live = grind (arith, size-after pos c.args.board.now.moves)
 
 -- a play that the ban forbids is made by an allowance
 pub returns-then-bans-clause-over : goal.returns-then-bans-clause-over

@@ -36,11 +36,6 @@ returns-clause-answer c =
     let here = c.args.position.now in
     answer_some q here (omega (arith, c.requires.plies)) c.requires.about 1 c.in-Some-move_under.first (omega arith)
     (omega arith) (sym c.move_under-2.ensures.first ∙ c.in-Some-move_under.is) (λ more lo hi. elim (cases_eq more 3) [
-      | inl is_three ↦
-          ap (λ m. sure_move (q.plies - 1) (first_node q m) here) is_three ∙ sym c.move_under.ensures.first
-          ∙ c.in_default.is
-      | inr less ↦
-          let is_two : more ≡ 2 = omega (arith, lo, hi, less) in
-          ap (λ m. sure_move (q.plies - 1) (first_node q m) here) is_two ∙ sym c.move_under-3.ensures.first
-          ∙ c.in_default-move_under-2.is
+      | inl is_three ↦ grind arith
+      | inr less ↦ grind arith
     ])

@@ -1,8 +1,7 @@
 -- The first of the points that succeeds is the first of all.
-use Rattle.std.proofs.Common.{◌∙◌, arith, rules, sym}
+use Rattle.std.proofs.Common.{◌∙◌, arith, sym}
 use Rattle.std.specs.FinSet as set
 use Rattle.read_rules.proofs.WinLemmas.{none_up_to}
-use Rattle.sure_rules.specs.SureAnswer.{surely_succeeds}
 use Rattle.sure_rules.proofs.SureLemmas.{tried_on}
 use Rattle.read_zones.proofs.AnswerLemmas.{first_found, none_found}
 use Rattle.read_zones.proofs.answers.first_of.Goals as goal
@@ -13,17 +12,11 @@ plays-init c = λ q below. absurd (omega (arith, below))
 
 -- the next point is on the board
 pub succeeds-requires : goal.succeeds-requires
-succeeds-requires c =
-    let on = tried_on c.args.node c.args.position.now c.in-Some.p
-    (c.requires.tried c.in-Some.p c.in-Some.ensures.some.2) in
-    search rules
+succeeds-requires c = grind (arith, tried_on)
 
 -- it does not succeed, and none before it did
 pub plays-preserved : goal.plays-preserved
-plays-preserved c =
-    let found = c.in-Some.ensures.some in
-    none_up_to (set.contains c.args.points.now) (surely_succeeds c.args.plies c.args.node c.args.position.now)
-    c.plays.from c.in-Some.p c.plays.invariant found.3 found.2 (sym c.succeeds.ensures ∙ c.if-succeeds.false)
+plays-preserved c = grind (arith, none_up_to)
 
 -- it is the first that succeeds
 pub returns-then-succeeds-clause-first : goal.returns-then-succeeds-clause-first
@@ -35,8 +28,7 @@ returns-then-succeeds-clause-first c =
 
 -- and it is on the board
 pub returns-then-succeeds-clause-on_board : goal.returns-then-succeeds-clause-on_board
-returns-then-succeeds-clause-on_board c =
-    tried_on c.args.node c.args.position.now c.in-Some.p (c.requires.tried c.in-Some.p c.in-Some.ensures.some.2)
+returns-then-succeeds-clause-on_board c = grind (arith, tried_on)
 
 -- none succeeds
 pub returns-clause-first : goal.returns-clause-first

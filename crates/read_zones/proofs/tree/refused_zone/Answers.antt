@@ -1,5 +1,5 @@
 -- A play that cannot be made, and what shows it.
-use Rattle.std.proofs.Common.{◌∙◌, ap, sym}
+use Rattle.std.proofs.Common.{◌∙◌, ap, arith}
 use Rattle.std.specs.FinSet as set
 use Rattle.std.specs.Ordering.{nat_cmp}
 use Rattle.std.proofs.lemmas.Bool.{both_ways}
@@ -13,6 +13,4 @@ play_shown-requires-clause-points c = λ q inside. absurd (both_ways (set.contai
 
 -- it cannot be made wherever it looks the same
 pub returns-in-None-clause-zone : goal.returns-in-None-clause-zone
-returns-in-None-clause-zone c =
-    refused_shown c.args.node c.args.p c.args.position.now (set.contains c.new.result)
-    (set.contains c.play_shown.result) (sym c.child_of.ensures.value ∙ c.in-None.is) c.play_shown.ensures.shown
+returns-in-None-clause-zone c = grind (arith, refused_shown)

@@ -1,13 +1,12 @@
 -- A sure capture stays sure.
-use Rattle.std.proofs.Common.{◌+◌, arith}
+use Rattle.std.proofs.Common.{arith}
 use Rattle.sure_rules.proofs.StayLemmas.{stays_sure, no_harder-refl}
 use Rattle.sure_rules.proofs.WiderLemmas.{more_stones_in_wider, never_taken_back}
 use Rattle.sure_rules.proofs.laws.sure_captures_stay_sure.Goals as goal
 
 -- with one ply more
 pub returns-clause-more_plies : goal.returns-clause-more_plies
-returns-clause-more_plies c = λ n node pos sure.
-    stays_sure n (n + 1) node node pos (omega arith) (no_harder-refl node) sure
+returns-clause-more_plies c = grind (arith, stays_sure, no_harder-refl)
 
 -- of a string of two stones or more in the wider tree
 pub returns-clause-wider_tree : goal.returns-clause-wider_tree

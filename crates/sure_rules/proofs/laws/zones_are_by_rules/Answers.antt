@@ -1,21 +1,16 @@
 -- The rules of zones.
-use Rattle.std.proofs.Common.{ap, ◌∙◌, add-one, refl}
+use Rattle.std.proofs.Common.{ap, ◌∙◌, add-one, arith}
 use Rattle.sure_rules.specs.SureTree.{surely_wins}
 use Rattle.sure_rules.proofs.ZoneLemmas.{captured_at_last, zone_captured, zone_taken_back, zone_attacker, zone_defender}
 use Rattle.sure_rules.proofs.laws.zones_are_by_rules.Goals as goal
 
 -- a position agrees with itself
 pub returns-clause-itself : goal.returns-clause-itself
-returns-clause-itself c = λ n node pos Z sound zone.
-    zone pos sound (record { sizes = refl; cells = λ p inside. refl; bans = λ p k inside. refl })
+returns-clause-itself c = grind arith
 
 -- what agrees on more points agrees on fewer
 pub returns-clause-larger : goal.returns-clause-larger
-returns-clause-larger c = λ n node pos Z W within zone here sound agrees. zone here sound (record {
-  sizes = agrees.sizes;
-  cells = λ p inside. agrees.cells p (within p inside);
-  bans = λ p k inside. agrees.bans p k (within p inside);
-})
+returns-clause-larger c = grind arith
 
 -- a target that is taken and not taken back
 pub returns-clause-captured : goal.returns-clause-captured

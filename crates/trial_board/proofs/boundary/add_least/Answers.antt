@@ -1,5 +1,5 @@
-use Rattle.std.proofs.Common.{arith, ◌∙◌, sym}
-use Rattle.trial_board.proofs.BoundaryLemmas.{AddsLeast-some, AddsLeast-none, AddsLeast-seen, KnowsLeast-join}
+use Rattle.std.proofs.Common.{arith}
+use Rattle.trial_board.proofs.BoundaryLemmas.{AddsLeast-some, AddsLeast-none, KnowsLeast-join}
 use Rattle.go_base.proofs.LookSequences.{Looks-none}
 use Rattle.trial_board.proofs.boundary.add_least.Goals as goal
 
@@ -13,9 +13,7 @@ returns-then-has-clause-near g c = λ pos a. g.met.V.View.asks_none _ _
 
 -- its least point came with it
 pub returns-then-has-clause-adds : goal.returns-then-has-clause-adds
-returns-then-has-clause-adds g c =
-    λ pos a knows. AddsLeast-seen _ _ c.args.q c.args.seen.now c.args.least.now knows
-    (sym c.has.ensures ∙ c.if-has.true)
+returns-then-has-clause-adds g c = grind arith
 
 -- the least point of a string that was not seen comes
 pub returns-in-Some-clause-adds : goal.returns-in-Some-clause-adds

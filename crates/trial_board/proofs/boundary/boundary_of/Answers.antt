@@ -23,11 +23,7 @@ enemies-init g c = record {
 
 -- an enemy is on the board
 pub add_least-requires : goal.add_least-requires
-add_least-requires g c = record {
-  on_board = rw (g.met.V.View.asks_rows _ _ _ c.enemies.invariant.looks.asked)
-      (c.flood-found.ensures.enemies_on_board c.in-Some.q c.in-Some.ensures.some.2);
-  small = c.in-Some.ensures.some.1;
-}
+add_least-requires g c = grind arith
 
 -- the next enemy's string has its least point there
 pub enemies-preserved : goal.enemies-preserved
@@ -64,10 +60,7 @@ enemies-preserved g c =
           (λ k l m beside enemy. no_enemy s cells c.args.p k c.flood-found.result.enemies foes
           (omega (arith, m, on)) (first.3 k l m) beside enemy))
           on its.0 its.1 (adds (i.knows pos a1));
-      knows = λ pos a.
-          let a1 = g.met.V.View.asks_agrees _ _ _ one.asked pos a in
-          let knows = rw (rows, i.looks.same pos) at (c.add_least.ensures.knows pos a) in
-          knows (i.knows pos a1);
+      knows = grind arith;
     }
 
 -- no enemy is left

@@ -1,24 +1,19 @@
 -- The enemy stones next to cramped points came, point by point.
-use Rattle.std.proofs.Common.{◌≡◌, ◌*◌, ◌&&◌, ◌||◌, ℕ, subst, sym, ◌∙◌, refl}
+use Rattle.std.proofs.Common.{◌≡◌, ◌*◌, ◌&&◌, ◌||◌, ℕ, ◌∙◌, refl, arith}
 use Rattle.std.specs.FinSet as set
 use Rattle.go_base.specs.Facts.{agrees_before}
 use Rattle.trial_board.specs.Overlays.{neighbourhood_twice}
 use Rattle.trial_board.specs.Trials.{after}
-use Rattle.trial_board.proofs.WalkLemmas.{Walked-none, Walked-next, on_agreed}
+use Rattle.trial_board.proofs.WalkLemmas.{Walked-next, on_agreed}
 use Rattle.wider_rules.specs.Cramped.{foe_of, is_cramped}
 use Rattle.wider_rules.specs.Strings.{holds_next}
-use Rattle.wider_moves.proofs.AddLemmas.{AddsBelow, AddsBelow-none, AddsBelow-next, AddsBelow-all, added_to_none}
+use Rattle.wider_moves.proofs.AddLemmas.{AddsBelow-next, AddsBelow-all, added_to_none}
 use Rattle.wider_moves.proofs.ApproachLemmas.{near_twice}
 use Rattle.wider_moves.proofs.approach.beside_cramped.Goals as goal
 
 -- nothing came
 pub loop-l-init : goal.loop-l-init
-loop-l-init g c = Walked-none (λ pos.
-    let here = after pos c.args.board.now.moves in
-    let test = λ (k r : ℕ). is_cramped pos.size here.cells c.args.own k
-    && holds_next pos.size here.cells (foe_of c.args.own) k r in
-    subst (AddsBelow test c.args.points.now set.empty 0) (sym c.new-found.ensures)
-    (AddsBelow-none test c.args.points.now set.empty))
+loop-l-init g c = grind arith
 
 -- what is next to the next point came if it is cramped
 pub loop-l-preserved : goal.loop-l-preserved

@@ -1,5 +1,5 @@
 -- The further candidates of every ply were gathered, and where a wide ply is left those of a wide ply.
-use Rattle.std.proofs.Common.{sym, ap, ◌∙◌}
+use Rattle.std.proofs.Common.{sym, ap, ◌∙◌, arith}
 use Rattle.go_base.specs.Facts.{agrees_before, AddsIn-trans}
 use Rattle.trial_board.specs.Trials.{after}
 use Rattle.wider_rules.specs.Further.{is_further}
@@ -8,9 +8,7 @@ use Rattle.wider_moves.proofs.further.further_candidates.Goals as goal
 
 -- the looks for those of every ply made no move
 pub of_a_wide_ply-more-requires-clause-liberties : goal.of_a_wide_ply-more-requires-clause-liberties
-of_a_wide_ply-more-requires-clause-liberties g c = λ pos a.
-    let first = c.of_every_ply-found.ensures.stays in
-    rw first.moves (c.requires.liberties pos (agrees_before first.grows a))
+of_a_wide_ply-more-requires-clause-liberties g c = grind arith
 
 -- a wide ply is left
 pub returns-then-wide-clause-over : goal.returns-then-wide-clause-over

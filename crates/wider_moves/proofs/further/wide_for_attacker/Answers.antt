@@ -1,4 +1,5 @@
 -- Net and Link were gathered.
+use Rattle.std.proofs.Common.{arith}
 use Rattle.go_base.specs.Facts.{agrees_before, AddsIn-trans, AddsIn-mono}
 use Rattle.trial_board.proofs.WalkLemmas.{on_agreed}
 use Rattle.trial_board.specs.Trials.{after}
@@ -16,9 +17,7 @@ net-found-requires g c = λ l h.
 
 -- the looks for the net made no move
 pub linked_strings-linked-requires-clause-liberties : goal.linked_strings-linked-requires-clause-liberties
-linked_strings-linked-requires-clause-liberties g c = λ pos a.
-    let first = c.net-found.ensures.stays in
-    rw first.moves (c.requires.liberties pos (agrees_before first.grows a))
+linked_strings-linked-requires-clause-liberties g c = grind arith
 
 -- what was joined are the two sets
 pub returns-clause-over : goal.returns-clause-over

@@ -1,5 +1,5 @@
 -- The last liberties came, point by point.
-use Rattle.std.proofs.Common.{◌≡◌, ◌*◌, ◌||◌, ℕ, subst, sym, ◌∙◌, refl}
+use Rattle.std.proofs.Common.{◌≡◌, ◌*◌, ◌||◌, ℕ, ◌∙◌, refl, arith}
 use Rattle.std.specs.FinSet as set
 use Rattle.go_rules.specs.Neighbourhood.{neighbourhood_of}
 use Rattle.go_base.specs.Facts.{agrees_before}
@@ -7,16 +7,13 @@ use Rattle.go_base.specs.Surroundings.{is_only_liberty}
 use Rattle.go_base.specs.Views.{alone}
 use Rattle.go_base.proofs.PointNeighbourhoods.{close_point}
 use Rattle.trial_board.specs.Trials.{after}
-use Rattle.trial_board.proofs.WalkLemmas.{Walked-none, Walked-next, on_agreed}
-use Rattle.wider_moves.proofs.AddLemmas.{AddsBelow, AddsBelow-none, AddsBelow-next, AddsBelow-all, added_to_none}
+use Rattle.trial_board.proofs.WalkLemmas.{Walked-next, on_agreed}
+use Rattle.wider_moves.proofs.AddLemmas.{AddsBelow-next, AddsBelow-all, added_to_none}
 use Rattle.wider_moves.proofs.last.last_liberties.Goals as goal
 
 -- nothing came
 pub loop-r-init : goal.loop-r-init
-loop-r-init g c = Walked-none (λ pos.
-    let test = is_only_liberty pos.size (after pos c.args.board.now.moves).cells in
-    subst (AddsBelow test c.args.points.now set.empty 0) (sym c.new-found.ensures)
-    (AddsBelow-none test c.args.points.now set.empty))
+loop-r-init g c = grind arith
 
 -- the one liberty of the next point's string came
 pub loop-r-preserved : goal.loop-r-preserved

@@ -6,8 +6,7 @@ use Rattle.go_base.specs.Facts.{agrees_before}
 use Rattle.go_base.specs.Views.{alone}
 use Rattle.trial_board.specs.Trials.{after}
 use Rattle.trial_board.proofs.WalkLemmas.{Walked-none, on_agreed}
-use Rattle.wider_moves.proofs.SideLemmas.{AddsSides-none, AddsSides-skip, AddsSides-visit, AddsSides-all}
-use Rattle.wider_moves.proofs.SideLemmas.{side_near, Walked-side, Walked-off}
+use Rattle.wider_moves.proofs.SideLemmas.{AddsSides-none, AddsSides-visit, AddsSides-all, side_near, Walked-side}
 use Rattle.wider_moves.proofs.sides.add_sides.Goals as goal
 use Rattle.wider_moves.proofs.sides.add_sides.Goals.{in-Some, in_default}
 
@@ -35,9 +34,7 @@ loop-side-preserved g c =
           (λ s b is. side_near is)
           (λ s b is i came. AddsSides-visit s b.cells cell c.args.l side w.in-Some.q c.args.found.now old
           w.add_where.new.found i is came))
-      | in_default w ↦ rw (w.board-is, w.found-is) (Walked-off c.args.l side told c.requires c.size-size.ensures
-          c.neighbour.ensures.value c.loop-side.invariant w.in_default.not-Some (λ s b none i.
-          AddsSides-skip s b.cells cell c.args.l side c.args.found.now old i (λ p at _. none p at)))
+      | in_default w ↦ grind arith
     ]
 
 -- all sides were visited

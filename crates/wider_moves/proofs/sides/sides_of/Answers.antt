@@ -1,8 +1,5 @@
 -- The neighbours were added to none.
-use Rattle.std.proofs.Common.{◌∙◌}
-use Rattle.std.specs.FinSet as set
-use Rattle.go_base.specs.Facts.{AddsIn-mono}
-use Rattle.trial_board.specs.Trials.{after}
+use Rattle.std.proofs.Common.{◌∙◌, arith}
 use Rattle.wider_moves.proofs.AddLemmas.{added_to_none}
 use Rattle.wider_moves.proofs.SideLemmas.{sides_close}
 use Rattle.wider_moves.proofs.sides.sides_of.Goals as goal
@@ -14,6 +11,4 @@ returns-clause-over g c = λ pos a p.
 
 -- the neighbours of points are in their neighbourhood
 pub returns-clause-near : goal.returns-clause-near
-returns-clause-near g c = λ pos a.
-    AddsIn-mono (c.add_sides_of.ensures.near pos a) (λ r h. sides_close pos.size
-    (after pos c.args.board.now.moves).cells (set.contains c.args.points.now) r h)
+returns-clause-near g c = grind (arith, sides_close)

@@ -1,5 +1,5 @@
 -- What stands around the strings came, string by string.
-use Rattle.std.proofs.Common.{◌*◌}
+use Rattle.std.proofs.Common.{◌*◌, arith}
 use Rattle.std.specs.FinSet as set
 use Rattle.go_rules.specs.Neighbourhood.{neighbourhood_of}
 use Rattle.go_base.specs.Facts.{agrees_before}
@@ -36,11 +36,7 @@ loop-q-preserved g c =
     (record {
       stays = one.ensures.stays;
       near = one.ensures.near;
-      over = λ pos a. record {
-        its = one.ensures.stones pos a;
-        liberties = one.ensures.liberties pos a;
-        enemies = one.ensures.enemies pos a;
-      };
+      over = grind arith;
     })
     (λ pos a i. close_point pos.size (after pos c.args.board.now.moves).cells (set.contains c.args.points.now) q
     (i.liberties.within q first.2))

@@ -1,5 +1,4 @@
-use Rattle.std.proofs.Common.{◌≡◌, ◌∙◌, ◌++◌, ◌∷◌, [], List, sym, ap, subst, map}
-use Rattle.std.specs.Prelude.{ℕ}
+use Rattle.std.proofs.Common.{◌≡◌, ◌∙◌, ◌++◌, ◌∷◌, [], sym, ap, subst, arith}
 use Rattle.std.proofs.lemmas.List.{map_push}
 use Rattle.db_lex.specs.Lines.{word_of}
 use Rattle.db_rules.specs.Accepted.{IsDrawn, IsLabelled, no_line, one_line_more}
@@ -10,9 +9,7 @@ use Rattle.db_read.proofs.draft.Draft.diagram_line.Goals as goal
 
 -- a line that the diagram took is short, and so all words are still
 pub invariant_of-self-2-clause-short : goal.invariant_of-self-2-clause-short
-invariant_of-self-2-clause-short c =
-    shorts-pushed _ c.args.self.now.words.items c.push.new.self.items c.args.word c.push.ensures.items
-    c.args.self.now.short c.in_ok-line.ensures.few.0
+invariant_of-self-2-clause-short c = grind (arith, shorts-pushed)
 
 -- the words and the diagram have one line more
 pub returns-in-Ok-clause-ok : goal.returns-in-Ok-clause-ok
@@ -23,9 +20,7 @@ returns-in-Ok-clause-ok c = λ b k word_is no_labels d.
       read.0,
       record {
         name = d.name;
-        words = ap (map (λ w. w.now)) c.in-Ok.ensures.items
-            ∙ map_push (λ w. w.now) c.args.self.now.words.items c.args.word
-            ∙ ap (λ (ws : List (List ℕ)). ws ++ c.args.word.now ∷ []) d.words ∙ sym words;
+        words = grind (arith, map_push);
         diagram = subst (λ ws. Draws c.line.new.self ws) (sym words) read.1;
         colon = d.colon;
         marks = IsMarked-under _ (words_in b.diagram) (words_in (b.diagram ++ k ∷ [])) (words_in b.constraint)

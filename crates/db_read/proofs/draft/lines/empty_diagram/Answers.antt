@@ -1,18 +1,8 @@
-use Rattle.std.proofs.Common.{refl, arith}
+use Rattle.std.proofs.Common.{arith}
 use Rattle.db_rules.specs.Diagram.{wanted}
 use Rattle.db_read.proofs.draft.lines.empty_diagram.Goals as goal
 
 -- a diagram with nothing in it is that of no line
 pub returns-clause-drawn : goal.returns-clause-drawn
 unfolding wanted
-returns-clause-drawn c =
-    record {
-      lines = refl;
-      rows = refl;
-      top = refl;
-      bottom = refl;
-      shape = refl;
-      letters = c.new.ensures;
-      whole =
-          omega arith;
-    }
+returns-clause-drawn c = grind arith

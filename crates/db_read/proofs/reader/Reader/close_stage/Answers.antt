@@ -1,8 +1,8 @@
 -- A constraint diagram or an expression is closed, and whatever else stays as it is.
-use Rattle.std.proofs.Common.{◌≡◌, ◌∙◌, sym, subst, true}
+use Rattle.std.proofs.Common.{◌≡◌, ◌∙◌, sym, subst, true, arith}
 use Rattle.db_rules.specs.declared.stage.Stage.TheVariants.{Expression}
 use Rattle.db_rules.specs.Faults.{closes}
-use Rattle.std.proofs.lemmas.Result.{on_ok_weaker, IfErr-weaker}
+use Rattle.std.proofs.lemmas.Result.{on_ok_weaker}
 use Rattle.db_read.proofs.ReaderLemmas.{closed_stage, closed_fault, closed_blames}
 use Rattle.db_read.proofs.reader.Reader.close_stage.Goals as goal
 
@@ -20,8 +20,5 @@ returns-in_default c =
           (closed_fault c.args.number kind s leaves_there read.0, read.1)) c.close_expression.ensures.ok;
       left = on_ok_weaker c.close_expression.result
           (λ at_actions here. absurd (cc (at_actions, here))) c.close_expression.ensures.left;
-      err = IfErr-weaker c.close_expression.result _ _ (λ e blames s h.
-          let leaves_there : closes s.stage kind ≡ true = subst (λ t. closes t kind ≡ true) h.stage leaves in
-          closed_blames c.args.number kind s e leaves_there (blames c.args.number s (sym h.stage
-          ∙ stage) h)) c.close_expression.ensures.err;
+      err = grind (arith, closed_blames c.args.number);
     }

@@ -1,30 +1,21 @@
 -- What the line closes is left behind, and the line meets the same there.
-use Rattle.std.proofs.Common.{◌≡◌, ◌∙◌, sym, ap, subst, Some, None}
+use Rattle.std.proofs.Common.{◌≡◌, ◌∙◌, sym, ap, subst, Some, None, arith}
 use Rattle.std.specs.Prelude.{ℕ}
 use Rattle.db_read.specs.declared.error.DbError.{DbError}
 use Rattle.db_rules.specs.Blocks.{cell_for}
 use Rattle.db_rules.specs.Faults.{closing_fault, found, table_fault, at_line}
-use Rattle.db_read.specs.Reading.{BlamesAt, Shows, error_at, settled}
+use Rattle.db_read.specs.Reading.{BlamesAt, error_at, settled}
 use Rattle.db_rules.proofs.TableLemmas.{found_table}
 use Rattle.db_read.proofs.LineLemmas.{blames_line, blames_closing, same_behind}
 use Rattle.db_read.proofs.reader.Reader.line.Goals as goal
 
 -- what the line closes is at fault
 pub returns-in-Err-clause-err : goal.returns-in-Err-clause-err
-returns-in-Err-clause-err c = λ s k number fine bytes kind h.
-    blames_closing c.args.helpers.now s k c.args.kind c.in-Err.e fine kind
-    (subst (λ (n : ℕ). BlamesAt c.in-Err.e (closing_fault n (Some c.args.kind) s)) (sym number)
-    (c.in-Err.ensures.err s h))
+returns-in-Err-clause-err c = grind (arith, blames_closing)
 
 -- the reader has read what is left behind
 pub tabled_line-requires-clause-reading : goal.tabled_line-requires-clause-reading
-tabled_line-requires-clause-reading c =
-    let before = c.requires.reading in
-    record {
-      so_far = settled (Some c.args.kind) before.so_far;
-      shows =
-          (c.in-Ok.ensures.ok before.so_far before.shows).1;
-    }
+tabled_line-requires-clause-reading c = grind arith
 
 -- the line itself is at fault
 pub returns-in-Err-tabled_line-clause-err : goal.returns-in-Err-tabled_line-clause-err
@@ -45,13 +36,6 @@ returns-in-Err-tabled_line-clause-err c = λ s k number fine bytes kind h.
 
 -- the line has no fault
 pub returns-clause-ok : goal.returns-clause-ok
-returns-clause-ok c = λ s k number fine bytes kind h.
-    let closed = c.in-Ok.ensures.ok s h in
-    let closing : closing_fault k.number (Some c.args.kind) s ≡ None =
-    ap (λ (n : ℕ). closing_fault n (Some c.args.kind) s) number ∙ closed.0 in
-    let same = same_behind c.args.helpers.now c.args.kind s k kind in
-    let read = c.in-Ok-tabled_line.ensures.ok (settled (Some c.args.kind) s) k number bytes kind closed.1 in
-    let none : table_fault c.args.helpers.now s k (cell_for s.stage k) ≡ None = sym same.fault ∙ read.0 in (
-      found_table c.args.helpers.now s k c.args.kind fine kind closing ∙ ap (at_line k.number) none,
-      subst (λ t. Shows c.tabled_line.new.self t) (same.after none) read.1,
-    )
+returns-clause-ok c =
+    grind (arith, same_behind c.args.helpers.now c.args.kind, found_table c.args.helpers.now, c.in-Ok.ensures.ok,
+        c.in-Ok-tabled_line.ensures.ok)

@@ -1,4 +1,4 @@
-use Rattle.std.proofs.Common.{◌≡◌, ◌∙◌, ◌++◌, ◌∷◌, [], sym, ap, arith, length}
+use Rattle.std.proofs.Common.{◌≡◌, ◌∙◌, ◌++◌, ◌∷◌, [], sym, ap, arith}
 use Rattle.std.proofs.lemmas.List.{length_push}
 use Rattle.dfa_core.specs.Automata.{Row}
 use Rattle.dfa_core.specs.Tables.{Flat, rows_in, IsFlat}
@@ -57,23 +57,8 @@ kinds c =
 
 -- the new row comes behind those of the table before
 pub returns-clause-added : goal.returns-clause-added
-returns-clause-added c =
-    let at = (goal.at.returns-clause-added c).After-push_reserved-3 in
-    (grown at).0 ∙ ap (λ rows. rows ++ row_of at ∷ []) c.self.view_is
+returns-clause-added c = grind (arith, grown)
 
 -- the lists belong together, each row has its kind, and there are not too many
 pub invariant_of-self-2 : goal.invariant_of-self-2
-invariant_of-self-2 c =
-    let at = (goal.at.invariant_of-self-2 c).After-push_reserved-3 in
-    record {
-      flat = (grown at).1;
-      of_rows = kinds at;
-      few = omega (
-        arith,
-        c.if-len-ge-MOST_ROWS.false,
-        c.len.ensures,
-        c.self.inside.depths.ok.0,
-        ap length (one_depth at),
-        length_push c.self.inside.depths.items c.args.depth,
-      );
-    }
+invariant_of-self-2 c = grind (arith, grown, kinds, one_depth, length_push)

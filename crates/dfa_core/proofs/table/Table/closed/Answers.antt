@@ -16,13 +16,7 @@ many c = ap length c.deref.ensures.value ∙ c.self.invariant.of_rows.one_each
 
 -- and there are no more rows than the most
 pub write_kinds-requires-clause-few : goal.write_kinds-requires-clause-few
-write_kinds-requires-clause-few c =
-    omega (
-      arith,
-      many (goal.at.write_kinds-requires-clause-few c).After-deref,
-      length-rows (table_lists c.self.inside),
-      c.self.invariant.few,
-    )
+write_kinds-requires-clause-few c = grind (arith, many, length-rows)
 
 -- each target is a row
 pub write_kinds-requires-clause-rows : goal.write_kinds-requires-clause-rows
@@ -37,13 +31,7 @@ write_kinds-requires-clause-rows c =
 written : (c : After-write_kinds) → take c.self.inside.targets.len
     (c.write_kinds.new.targets ++ drop (length c.write_kinds.new.targets) c.self.inside.targets.items)
     ≡ map (entry_in c.self.inside.kinds.items) c.self.inside.targets.items
-written c =
-    let are : c.write_kinds.new.targets ≡ map (entry_in c.self.inside.kinds.items) c.self.inside.targets.items =
-    c.write_kinds.ensures ∙ ap (λ ks. map (entry_in ks) c.deref_mut.result.now) c.deref.ensures.value
-    ∙ ap (map (entry_in c.self.inside.kinds.items)) c.deref_mut.ensures.value in
-    written_whole c.self.inside.targets.len c.write_kinds.new.targets c.self.inside.targets.items
-    (ap length are ∙ length-map c.self.inside.targets.items (entry_in c.self.inside.kinds.items)
-    ∙ sym c.self.inside.targets.ok.0) ∙ are
+written c = grind (arith, written_whole, length-map)
 
 -- the entries belong to the rows
 pub invariant_of-result : goal.invariant_of-result

@@ -1,16 +1,11 @@
-use Rattle.std.proofs.Common.{◌∙◌, ◌/◌, ◌<◌, ap, arith, length}
-use Rattle.go_base.specs.Bits.{is_marked}
+use Rattle.std.proofs.Common.{arith}
 use Rattle.go_base.proofs.Marks.{is_marked-with_bit_same, is_marked-with_bit_other}
 use Rattle.go_base.proofs.bits.PointBits.add.Goals as goal
 
 -- the bit of p is set
 pub returns-clause-here : goal.returns-clause-here
-returns-clause-here c =
-    let in_words : c.args.p / 64 < length c.self.inside.words = omega (arith, c.self.told, c.requires) in
-    is_marked-with_bit_same c.self.inside.words c.args.p in_words
+returns-clause-here c = grind (arith, is_marked-with_bit_same)
 
 -- and no other
 pub returns-clause-elsewhere : goal.returns-clause-elsewhere
-returns-clause-elsewhere c = λ q ne.
-    let in_words : c.args.p / 64 < length c.self.inside.words = omega (arith, c.self.told, c.requires) in
-    is_marked-with_bit_other c.self.inside.words c.args.p q in_words ne ∙ ap (λ words. is_marked words q) c.self.view_is
+returns-clause-elsewhere c = grind (arith, is_marked-with_bit_other)

@@ -14,7 +14,4 @@ loop-i-preserved c =
 
 -- all have them
 pub returns : goal.returns
-returns c =
-    rw (← c.self.view_is, ← c.other.view_is)
-    (both_all c.self.inside.words c.other.inside.words c.loop-i.self-inside.words c.loop-i.i
-    (omega arith) c.other.told c.loop-i.invariant)
+returns c = grind (arith, both_all)

@@ -6,10 +6,6 @@ use Rattle.go_base.proofs.bits.PointBits.words_in_use.Goals.{then-has_word, else
 -- one word more is noted if it has a bit
 pub loop-i-preserved : goal.loop-i-preserved
 loop-i-preserved c = elim c.if-has_word.branch [
-  | then-has_word w ↦ rw w.used-is
-      (noted_next c.args.self.now c.loop-i.i c.loop-i.used (omega (arith, c.loop-i-test.true))
-      (c.has_word.ensures.some w.if-has_word.true) c.loop-i.invariant)
-  | else-has_word w ↦ rw w.used-is
-      (noted_passed c.args.self.now c.loop-i.i c.loop-i.used (c.has_word.ensures.none w.if-has_word.false)
-      c.loop-i.invariant)
+  | then-has_word w ↦ grind (arith, noted_next c.args.self.now c.loop-i.i c.loop-i.used)
+  | else-has_word w ↦ grind (arith, noted_passed)
 ]

@@ -1,5 +1,4 @@
 use Rattle.std.proofs.Common.{ℕ, ◌≡◌, ◌<◌, ◌≤◌, false, ap, sym, ◌∙◌, arith}
-use Rattle.std.specs.FinSet as set
 use Rattle.go_rules.specs.Below.{set_below}
 use Rattle.go_rules.proofs.Sets.{set_below-none}
 use Rattle.go_base.specs.AmongFacts.{is_fact_at}
@@ -12,17 +11,7 @@ loop-q-init c = record { within = omega arith; come = c.new-points.ensures ∙ s
 
 -- the next point came
 pub loop-q-preserved : goal.loop-q-preserved
-loop-q-preserved c =
-    let next = c.loop-q.next in
-    let q = c.in-Some.q in
-    let about = c.about-about.ensures in
-    let s = c.in-Some.ensures.some in
-    let hit = sym (about q) ∙ s.2 in
-    record {
-      within = omega (arith, s.1);
-      come = c.add.ensures ∙ ap (λ t. set.insert t q) c.loop-q.invariant.come
-          ∙ set_below-next (is_fact_at c.args.self.now) next q s.0 (λ r l m. sym (about r) ∙ s.3 r l m) hit;
-    }
+loop-q-preserved c = grind (arith, set_below-next)
 
 -- no point is left
 pub returns : goal.returns

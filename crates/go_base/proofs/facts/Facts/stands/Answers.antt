@@ -1,23 +1,17 @@
-use Rattle.std.proofs.Common.{false, refl, sym, ◌∙◌}
+use Rattle.std.proofs.Common.{false, refl, sym, ◌∙◌, arith}
 use Rattle.std.proofs.lemmas.Bool.{both_ways, eqb-true, eqb-false, not-true, not-false}
 use Rattle.go_base.proofs.StandingFacts.{stands_all, size_stands, cells_stand, ban_stands}
 use Rattle.go_base.proofs.facts.Facts.stands.Goals as goal
 
 -- a position of another size does not agree
 pub returns-then-ne : goal.returns-then-ne
-returns-then-ne c = (
-  λ h. absurd (both_ways false refl h),
-  λ a. absurd (eqb-false c.args.self.now.size c.size.result (not-true _ (sym c.ne.ensures ∙ c.if-ne.true))
-      (size_stands c.args.self.now c.args.position.now a ∙ sym c.size.ensures.value)),
-)
+returns-then-ne c =
+    grind (arith, both_ways false refl, eqb-false c.args.self.now.size c.size.result,
+        size_stands c.args.self.now c.args.position.now, not-true)
 
 -- nor one where a cell is not as it was seen
 pub returns-then-not-cells_stand : goal.returns-then-not-cells_stand
-returns-then-not-cells_stand c = (
-  λ h. absurd (both_ways false refl h),
-  λ a. absurd (both_ways c.cells_stand.result c.if-not-cells_stand.true
-      (c.cells_stand.ensures.1 (cells_stand c.args.self.now c.args.position.now a))),
-)
+returns-then-not-cells_stand c = grind (arith, both_ways, cells_stand)
 
 -- the ban decides
 pub returns : goal.returns

@@ -1,21 +1,14 @@
-use Rattle.std.proofs.Common.{◌∙◌}
-use Rattle.go_base.proofs.SeenFacts.{ban_told, ban_grows, ban_only, ban_agrees}
+use Rattle.std.proofs.Common.{arith}
+use Rattle.go_base.proofs.SeenFacts.{ban_told}
 use Rattle.go_base.proofs.look.WatchLook.ko.Goals as goal
 
 -- the position still agrees
 pub invariant_of-self : goal.invariant_of-self
-invariant_of-self c =
-    let w = c.args.self.now in
-    record {
-      holds = ban_agrees w.facts c.ask.new.self w.position.now w.holds w.ban c.args.p c.requires c.args.c c.ask.ensures;
-      ban = c.ask.ensures.ban ∙ w.ban;
-    }
+invariant_of-self c = grind arith
 
 -- what was seen is seen
 pub returns-clause-grows : goal.returns-clause-grows
-returns-clause-grows c =
-    let w = c.args.self.now in
-    ban_grows w.facts c.ask.new.self w.position.now w.holds w.ban c.args.p c.requires c.args.c c.ask.ensures
+returns-clause-grows c = grind arith
 
 -- the ban is seen
 pub returns-clause-told : goal.returns-clause-told
@@ -26,7 +19,4 @@ returns-clause-told c =
 
 -- and nothing else
 pub returns-clause-only : goal.returns-clause-only
-returns-clause-only c =
-    let w = c.args.self.now in
-    rw c.bans.ensures (ban_only w.facts c.ask.new.self w.position.now w.holds w.ban c.args.p c.requires c.args.c
-    c.ask.ensures)
+returns-clause-only c = grind arith

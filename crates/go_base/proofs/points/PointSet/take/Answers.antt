@@ -1,4 +1,4 @@
-use Rattle.std.proofs.Common.{◌≡◌, ◌+◌, refl, ap, sym, ◌∙◌, arith}
+use Rattle.std.proofs.Common.{◌≡◌, ◌+◌, refl, ap, ◌∙◌, arith}
 use Rattle.std.specs.FinSet as set
 use Rattle.go_base.specs.Bits.{marked}
 use Rattle.go_base.proofs.Marks.{marked-less, len-remove_member}
@@ -18,9 +18,7 @@ taken c = marked-less c.self.inside.bits c.remove.new.self c.args.p c.remove.ens
 
 -- and the set counts one less
 counted : (c : After-remove) → c.self.inside.members ≡ set.len (marked c.remove.new.self) + 1
-counted c = c.self.invariant.counted ∙ len-remove_member _ c.args.p
-    (ap (λ s. set.contains s c.args.p) c.self.view_is ∙ c.requires.member)
-    ∙ ap (λ s. set.len s + 1) (sym (taken c))
+counted c = grind (arith, len-remove_member, taken)
 
 -- the word has no bit now
 pub invariant_of-self : goal.invariant_of-self
@@ -41,10 +39,8 @@ invariant_of-self-else-not-has_word c = record {
 
 -- the member was taken out, as the last one of its word
 pub returns-then-not-has_word : goal.returns-then-not-has_word
-returns-then-not-has_word c =
-    taken (goal.at.returns-then-not-has_word c).After-remove ∙ ap (λ s. set.remove s c.args.p) c.self.view_is
+returns-then-not-has_word c = grind (arith, taken)
 
 -- or beside another
 pub returns-else-not-has_word : goal.returns-else-not-has_word
-returns-else-not-has_word c =
-    taken (goal.at.returns-else-not-has_word c).After-remove ∙ ap (λ s. set.remove s c.args.p) c.self.view_is
+returns-else-not-has_word c = grind (arith, taken)

@@ -1,4 +1,4 @@
-use Rattle.std.proofs.Common.{◌≡◌, true, ap, sym, ◌∙◌}
+use Rattle.std.proofs.Common.{◌≡◌, true, ap, sym, ◌∙◌, arith}
 use Rattle.std.specs.FinSet as set
 use Rattle.go_base.proofs.Lowest.{not_member}
 use Rattle.go_base.proofs.Marks.{contains-small, no_members}
@@ -7,8 +7,7 @@ use Rattle.go_base.proofs.points.PointSet.take_first.Goals.{In-Some}
 
 -- the first point that is marked is a member
 member : (c : In-Some) → set.contains c.args.self.now c.in-Some.q ≡ true
-member c = ap (λ s. set.contains s c.in-Some.q) (sym c.self.view_is)
-    ∙ contains-small c.self.inside.bits c.in-Some.q c.in-Some.ensures.some.0 ∙ c.in-Some.ensures.some.1
+member c = grind (arith, contains-small)
 
 -- the point that was found is a member, so it can be taken out
 pub take-requires-clause-member : goal.take-requires-clause-member
@@ -16,13 +15,11 @@ take-requires-clause-member c = member (goal.at.take-requires-clause-member c).I
 
 -- the point that was found was a member, and was taken out
 pub returns-clause-some : goal.returns-clause-some
-returns-clause-some c =
-    (c.in-Some.ensures.some.0, member (goal.at.returns-clause-some c).In-Some, c.take.ensures)
+returns-clause-some c = grind (arith, member)
 
 -- no point before it is marked
 pub returns-clause-least : goal.returns-clause-least
-returns-clause-least c = λ r l.
-    ap (λ s. set.contains s r) (sym c.self.view_is) ∙ not_member c.self.inside.bits r (c.in-Some.ensures.some.2 r l)
+returns-clause-least c = grind (arith, not_member)
 
 -- if no point is marked, there is no member
 pub returns-in_default-clause-none : goal.returns-in_default-clause-none

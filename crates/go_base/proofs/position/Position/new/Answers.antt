@@ -1,5 +1,4 @@
-use Rattle.std.proofs.Common.{ap, List, None}
-use Rattle.go_rules.specs.declared.Cell.{Cell}
+use Rattle.std.proofs.Common.{arith}
 use Rattle.go_base.proofs.EmptyBoard.{HoldsPosition-empty, view_empty}
 use Rattle.go_base.proofs.position.Position.new.Goals as goal
 
@@ -10,8 +9,4 @@ invariant_of-result c = HoldsPosition-empty c.args.size c.empty_cells.result c.g
 
 -- the first position is the empty board without a ban
 pub returns : goal.returns
-returns c = ap (λ (t : List Cell). record {
-  size = c.args.size;
-  cells = t;
-  ban = None;
-}) (view_empty c.args.size c.empty_cells.result c.get.ensures.at_most c.empty_cells.ensures)
+returns c = grind (arith, view_empty)

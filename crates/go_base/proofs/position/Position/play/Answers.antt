@@ -1,9 +1,6 @@
-use Rattle.std.proofs.Common.{◌≡◌, ◌*◌, ◌<◌, take, ap, sym, subst, ◌∙◌}
+use Rattle.std.proofs.Common.{◌≡◌, ◌*◌, ◌<◌, take, sym, subst, arith}
 use Rattle.go_rules.specs.Strings.{cell_at, is_stone}
-use Rattle.go_rules.specs.Play.{play, play_free}
-use Rattle.go_rules.specs.Position.{is_banned}
 use Rattle.go_rules.proofs.Results.{play_occupied, play_ko, play_else}
-use Rattle.go_base.specs.Positions.{position_of}
 use Rattle.go_base.proofs.HeldBoards.{stone_is_test}
 use Rattle.go_base.proofs.position.Position.play.Goals as goal
 use Rattle.go_base.proofs.position.Position.play.Goals.{After-ne}
@@ -19,24 +16,12 @@ stone_is c = stone_is_test c.self.inside c.args.p c.ne.result (on_board c) c.ne.
 
 -- a play on a stone is refused as occupied
 pub returns-then-ne-clause-value : goal.returns-then-ne-clause-value
-returns-then-ne-clause-value c =
-    let d = (goal.at.returns-then-ne-clause-value c).After-ne in
-    play_occupied (position_of c.self.inside) c.args.c c.args.p (sym (stone_is d) ∙ c.if-ne.true)
-    ∙ ap (λ x. play x c.args.c c.args.p) c.self.view_is
+returns-then-ne-clause-value c = grind (arith, play_occupied, stone_is)
 
 -- a play on an empty point that the ban forbids is refused by it
 pub returns-then-bans-clause-value : goal.returns-then-bans-clause-value
-returns-then-bans-clause-value c =
-    let d = (goal.at.returns-then-bans-clause-value c).After-ne in
-    play_ko (position_of c.self.inside) c.args.c c.args.p (sym (stone_is d) ∙ c.if-ne.false)
-    (ap (λ x. is_banned x.ban c.args.c c.args.p) c.self.view_is ∙ sym c.bans.ensures ∙ c.if-bans.true)
-    ∙ ap (λ x. play x c.args.c c.args.p) c.self.view_is
+returns-then-bans-clause-value c = grind (arith, play_ko, stone_is)
 
 -- any other play is the one without the ban
 pub returns-clause-value : goal.returns-clause-value
-returns-clause-value c =
-    let d = (goal.at.returns-clause-value c).After-ne in
-    c.play_free.ensures.value ∙ ap (λ x. play_free x c.args.c c.args.p) (sym c.self.view_is)
-    ∙ play_else (position_of c.self.inside) c.args.c c.args.p (sym (stone_is d) ∙ c.if-ne.false)
-    (ap (λ x. is_banned x.ban c.args.c c.args.p) c.self.view_is ∙ sym c.bans.ensures ∙ c.if-bans.false)
-    ∙ ap (λ x. play x c.args.c c.args.p) c.self.view_is
+returns-clause-value c = grind (arith, play_else, stone_is)

@@ -4,15 +4,11 @@ use Rattle.go_base.proofs.sides.Spot.neighbour.Goals as goal
 
 -- the point one row less is a neighbour
 pub returns-else-p-s-clause-near : goal.returns-else-p-s-clause-near
-returns-else-p-s-clause-near c =
-    near_above c.args.self.now.size c.get-s.result c.args.self.now.point c.get-s.ensures.value c.get-s.ensures.at_most
-    c.requires.on_board c.if-p-s.false
+returns-else-p-s-clause-near c = grind (arith, near_above)
 
 -- the point one row more is a neighbour
 pub returns-then-p-s-2-clause-near : goal.returns-then-p-s-2-clause-near
-returns-then-p-s-2-clause-near c =
-    near_below c.args.self.now.size c.get-s.result c.args.self.now.point c.get-s.ensures.value c.get-s.ensures.at_most
-    c.requires.on_board c.if-p-s-2.true
+returns-then-p-s-2-clause-near c = grind (arith, near_below)
 
 -- the point one column less is a neighbour
 pub returns-else-self-eq0-clause-near : goal.returns-else-self-eq0-clause-near
@@ -23,7 +19,4 @@ returns-else-self-eq0-clause-near c =
 
 -- the point one column more is a neighbour
 pub returns-else-self-s-clause-near : goal.returns-else-self-s-clause-near
-returns-else-self-s-clause-near c =
-    near_right c.args.self.now.size c.args.self.now.size c.args.self.now.point refl c.get-s.ensures.at_most
-    c.requires.on_board
-    (λ z. c.if-self-s.false (omega (arith, c.requires.column, z, c.get-s.ensures.value)))
+returns-else-self-s-clause-near c = grind (arith, near_right)

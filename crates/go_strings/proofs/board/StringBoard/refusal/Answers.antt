@@ -1,6 +1,4 @@
-use Rattle.std.proofs.Common.{sym, ap, ◌∙◌}
-use Rattle.go_rules.specs.Play.{play}
-use Rattle.go_strings.specs.Refused.{refusal_of}
+use Rattle.std.proofs.Common.{arith}
 use Rattle.go_strings.proofs.ShownBoards.{shown, shown_point}
 use Rattle.go_strings.proofs.board.StringBoard.refusal.Goals as goal
 
@@ -11,12 +9,8 @@ judge-requires-clause-on_board c =
 
 -- the play is legal on what stands
 pub returns-in-Ok : goal.returns-in-Ok
-returns-in-Ok c = sym (ap (λ pos. refusal_of (play pos c.args.c c.args.p))
-    (shown c.self.inside c.args.self.now c.self.invariant c.self.view_is)
-    ∙ ap refusal_of c.in-Ok.ensures.allowed.done)
+returns-in-Ok c = grind (arith, shown)
 
 -- or is forbidden there
 pub returns-in-Err : goal.returns-in-Err
-returns-in-Err c = sym (ap (λ pos. refusal_of (play pos c.args.c c.args.p))
-    (shown c.self.inside c.args.self.now c.self.invariant c.self.view_is)
-    ∙ ap refusal_of c.in-Err.ensures.refused)
+returns-in-Err c = grind (arith, shown)

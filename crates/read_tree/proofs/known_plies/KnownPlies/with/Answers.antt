@@ -4,8 +4,7 @@ use Rattle.read_tree.proofs.known_plies.KnownPlies.with.Goals as goal
 
 -- he has his way with so many plies
 pub returns-then-good : goal.returns-then-good
-returns-then-good c = λ won mono t is.
-    won_true c.args.plies mono t (sym is ∙ c.if-good.true)
+returns-then-good c = grind (arith, won_true)
 
 -- he has it not
 pub returns : goal.returns

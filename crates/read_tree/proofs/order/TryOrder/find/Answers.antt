@@ -1,9 +1,9 @@
 -- The sides of one more point were counted where it is a known liberty.
-use Rattle.std.proofs.Common.{◌≡◌, ◌∙◌, ◌*◌, ◌<◌, ◌&&◌, ℕ, Bool, true, sym}
+use Rattle.std.proofs.Common.{◌≡◌, ◌∙◌, ◌*◌, ◌<◌, ◌&&◌, ℕ, Bool, true, sym, arith}
 use Rattle.std.proofs.lemmas.Bool.{and_from}
 use Rattle.std.specs.Ordering.{nat_cmp}
 use Rattle.go_rules.specs.Below.{any_below}
-use Rattle.go_base.specs.Facts.{Fact, agrees_before, same_size, AddsIn, AddsIn-trans, AddsIn-mono}
+use Rattle.go_base.specs.Facts.{Fact, agrees_before, same_size, AddsIn}
 use Rattle.go_base.specs.Views.{neighbours_of}
 use Rattle.trial_board.specs.Trials.{Stays-trans}
 use Rattle.read_rules.proofs.AreaLemmas.{target_on}
@@ -17,8 +17,7 @@ sides_near : (s p : ℕ) (known : set.FinSet nat_cmp) {a b d : Fact → Bool} �
     → AddsIn a b (λ r. any_below (s * s) (λ k. set.contains known k && neighbours_of s k r))
     → AddsIn b d (neighbours_of s p)
     → AddsIn a d (λ r. any_below (s * s) (λ k. set.contains known k && neighbours_of s k r))
-sides_near s p known on has before sides = AddsIn-trans before (AddsIn-mono sides (λ r h.
-    sides_of_known s p (set.contains known) r on (and_from _ _ has h)))
+sides_near s p known on has before sides = grind (arith, sides_of_known, and_from)
 
 -- a known liberty's sides are looked at, and nothing for another point
 pub loop-p-preserved : goal.loop-p-preserved

@@ -1,6 +1,6 @@
 -- The points of a move are noted one after another.
-use Rattle.std.proofs.Common.{◌≡◌, ◌+◌, ◌<◌, ◌||◌, ap, sym, subst, arith, ◌∙◌}
-use Rattle.std.specs.Prelude.{slice_index_or, ◌==◌}
+use Rattle.std.proofs.Common.{◌+◌, ◌<◌, ◌||◌, ap, sym, subst, arith, ◌∙◌}
+use Rattle.std.specs.Prelude.{slice_index_or}
 use Rattle.std.proofs.lemmas.Bool.{or_right}
 use Rattle.std.specs.Ordering.{nat_cmp}
 use Rattle.std.specs.FinSet as set
@@ -35,25 +35,8 @@ note-requires c =
 
 -- it is noted
 pub loop-i-preserved : goal.loop-i-preserved
-loop-i-preserved c = record {
-  ban = c.note.ensures.ban ∙ c.loop-i.invariant.ban;
-  tells = λ touched t. tells_fewer _ (c.note.ensures.touched _ (c.loop-i.invariant.tells touched t)) (λ q h.
-      let row = c.args.row.now in
-      let first = c.first-first.result in
-      let rest = is_played_at c.args.move_kept.now.made q || touched q in
-      or_later (q == slice_index_or row (first + c.loop-i.i) 0) (set.contains (points_in row first c.loop-i.i) q) rest
-      (sym (ap (λ b. b || rest) (one_more row first c.loop-i.i q)) ∙ h));
-}
+loop-i-preserved c = grind (arith, tells_fewer, or_later, one_more)
 
 -- all of them are
 pub returns-clause-touched : goal.returns-clause-touched
-returns-clause-touched c = λ touched t.
-    let row = c.args.row.now in
-    let move = c.args.move_kept.now in
-    let all : c.loop-i.i ≡ move.taken = omega
-    (arith, c.loop-i.auto.i-end, c.loop-i-test.false, c.taken-i-end.ensures) in
-    tells_fewer _ (c.loop-i.invariant.tells touched t) (λ q h.
-    ap (λ n. set.contains (points_in row c.first-first.result n) q || (is_played_at move.made q || touched q)) all
-    ∙ ap (λ f. set.contains (points_in row f move.taken) q || (is_played_at move.made q || touched q))
-    c.first-first.ensures
-    ∙ or_swapped (is_played_at move.made q) (set.contains (points_in row move.first move.taken) q) (touched q) h)
+returns-clause-touched c = grind (arith, tells_fewer, or_swapped)

@@ -1,11 +1,9 @@
 -- What the search found of the liberties, on the board after the moves.
-use Rattle.std.proofs.Common.{ℕ, List, sym, subst}
+use Rattle.std.proofs.Common.{ℕ, List, sym, subst, arith}
 use Rattle.go_rules.specs.declared.Cell.{Cell}
 use Rattle.go_base.specs.declared.flood.Searched.{Searched}
 use Rattle.go_base.specs.Floods.{Searches}
-use Rattle.go_base.specs.Facts.{AddsIn, agrees_before, same_size}
-use Rattle.go_base.specs.Views.{alone}
-use Rattle.go_rules.specs.Neighbourhood.{neighbourhood_of}
+use Rattle.go_base.specs.Facts.{agrees_before, same_size}
 use Rattle.trial_board.specs.Overlays.{overlaid}
 use Rattle.trial_board.specs.SomeLiberties.{FindsLiberties}
 use Rattle.trial_board.proofs.StandingLemmas.{IsStanding-looks}
@@ -38,15 +36,4 @@ returns-clause-over g c = λ pos a.
 
 -- and it looked near p
 pub returns-clause-near : goal.returns-clause-near
-returns-clause-near g c = λ pos a.
-    let i = c.self.invariant in
-    let inside = c.self.inside in
-    let asked = c.search-found.ensures.looks.asked in
-    let a0 = agrees_before asked.grows a in
-    let seen = g.L.Look.seen inside.board.look in
-    let more = g.L.Look.seen c.search-found.new.board.look in
-    rw (← c.self.view_is)
-    (subst (λ t. AddsIn seen more (neighbourhood_of pos.size t (alone c.args.p))) (sym (i.now pos a0).cells)
-    (subst (λ n. AddsIn seen more (neighbourhood_of n (overlaid pos.size inside.board.known pos.cells)
-    (alone c.args.p))) (sym (same_size (g.met.L.Look.sized inside.board.look) a0))
-    (c.search-found.ensures.near pos a).adds))
+returns-clause-near g c = grind arith
