@@ -6,13 +6,13 @@
 //! command line is faulty or names no record, a folder cannot be listed, or memory runs out.
 #![tactic(auto)]
 
-mod names;
 mod options;
 mod progress;
+mod record_names;
 
-use crate::names::records_of;
 use crate::options::{Options, options_of};
 use crate::progress::Progress;
+use crate::record_names::records_of;
 use go_base::NoMemory;
 use problem_rows::{Counts, Row, print_object, print_row, row_of};
 use std::fs::Files;

@@ -1,6 +1,6 @@
 -- Calls change counts alone, and lower none.
 use Rattle.std.proofs.Common.{ℕ, List, [], ◌∷◌, refl, ◌∙◌, arith}
-use Rattle.cons_eval.specs.Meanings.{EnvView, NoneLower, Stays}
+use Rattle.cons_eval.specs.Meanings.{EnvView, NoneLower, KeepsMeanings}
 
 -- counts that are as before are not lower
 pub none_lower_same : (counts : List ℕ) → NoneLower counts counts
@@ -17,11 +17,11 @@ none_lower_on (x ∷ a) (y ∷ b) [] h k = k
 none_lower_on (x ∷ a) (y ∷ b) (z ∷ c) h k = let p = h.0 in let q = k.0 in (omega arith, none_lower_on a b c h.1 k.1)
 
 -- nothing need change
-pub stays_same : (v : EnvView) → Stays v v
+pub stays_same : (v : EnvView) → KeepsMeanings v v
 stays_same v = record { meanings = refl; fixed = refl; counts = none_lower_same v.counts }
 
 -- one call after another changes counts alone
-pub stays_on : (a b c : EnvView) → Stays a b → Stays b c → Stays a c
+pub stays_on : (a b c : EnvView) → KeepsMeanings a b → KeepsMeanings b c → KeepsMeanings a c
 stays_on a b c h k = record {
   meanings = k.meanings ∙ h.meanings;
   fixed = k.fixed ∙ h.fixed;

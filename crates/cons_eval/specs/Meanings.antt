@@ -52,7 +52,7 @@ pub record EnvView : Type 0 where
   pub counts : List ℕ
 
 -- a call may lead from old to new: only the readings asked for and the counts may differ, and no count is lower
-pub record Stays (old new : EnvView) : Type 0 where
+pub record KeepsMeanings (old new : EnvView) : Type 0 where
   pub meanings : new.meanings ≡ old.meanings
   pub fixed : new.fixed ≡ old.fixed
   pub counts : NoneLower old.counts new.counts

@@ -3,7 +3,7 @@
 ghost use Rattle.std.specs.Prelude.{◌≡◌, ◌*◌, ◌<◌, true, false, map};
 ghost use Rattle.std.specs.List.{list_any};
 ghost use Rattle.cons_eval.specs.Bounds.{IsWithin, most};
-ghost use Rattle.cons_eval.specs.Meanings.{Stays, is_on_board, are_on_board};
+ghost use Rattle.cons_eval.specs.Meanings.{KeepsMeanings, is_on_board, are_on_board};
 ghost use Rattle.cons_eval.specs.Readings.{code_at as code_there};
 ghost use Rattle.cons_eval.specs.Functions.{holds_stone as holds, after_moves as moves_then};
 ghost use Rattle.cons_eval.specs.Values.{worth, only_point as only, two_points as two, point_value, pair_value};
@@ -58,7 +58,7 @@ fn value_at<E: Env>(env: &mut E, function: PointFunction, a: Point) -> i64
     ensures small { IsWithin most result }
     ensures asked { (E.view env.new).asked ≡ counted (point_readings (E.view env.old).meanings function a)
         (E.view env.old).asked }
-    ensures stays { Stays (E.view env.old) (E.view env.new) }
+    ensures stays { KeepsMeanings (E.view env.old) (E.view env.new) }
     ensures quiet { is_point_reading function ≡ false → (E.view env.new).counts ≡ (E.view env.old).counts }
 {
     let position = env.position();
@@ -87,7 +87,7 @@ fn of_point<E: Env>(env: &mut E, function: PointFunction, args: &[Arg]) -> i64
     ensures small { IsWithin most result }
     ensures asked { (E.view env.new).asked ≡ counted (many_there (point_readings (E.view env.old).meanings function)
         (only (map (E.view env.old).meanings.point args.now))) (E.view env.old).asked }
-    ensures stays { Stays (E.view env.old) (E.view env.new) }
+    ensures stays { KeepsMeanings (E.view env.old) (E.view env.new) }
     ensures quiet { is_point_reading function ≡ false → (E.view env.new).counts ≡ (E.view env.old).counts }
 {
     match only_point(env, args) {
@@ -105,7 +105,7 @@ fn value_at_pair<E: Env>(env: &mut E, function: PairFunction, a: Point, b: Point
     ensures small { IsWithin most result }
     ensures asked { (E.view env.new).asked ≡ counted (pair_readings (E.view env.old).meanings function (a, b))
         (E.view env.old).asked }
-    ensures stays { Stays (E.view env.old) (E.view env.new) }
+    ensures stays { KeepsMeanings (E.view env.old) (E.view env.new) }
     ensures quiet { is_pair_reading function ≡ false → (E.view env.new).counts ≡ (E.view env.old).counts }
 {
     let position = env.position();
@@ -129,7 +129,7 @@ fn of_pair<E: Env>(env: &mut E, function: PairFunction, args: &[Arg]) -> i64
     ensures small { IsWithin most result }
     ensures asked { (E.view env.new).asked ≡ counted (many_there (pair_readings (E.view env.old).meanings function)
         (two (map (E.view env.old).meanings.point args.now))) (E.view env.old).asked }
-    ensures stays { Stays (E.view env.old) (E.view env.new) }
+    ensures stays { KeepsMeanings (E.view env.old) (E.view env.new) }
     ensures quiet { is_pair_reading function ≡ false → (E.view env.new).counts ≡ (E.view env.old).counts }
 {
     match two_points(env, args) {
@@ -203,7 +203,7 @@ fn code_after<E: Env>(env: &mut E, kind: Kind, first: Colour, moves: &[Arg], at:
     ensures asked { (E.view env.new).asked ≡ counted (readings_there
         (moves_then (E.view env.old).meanings.position first (map (E.view env.old).meanings.point moves.now)) at)
         (E.view env.old).asked }
-    ensures stays { Stays (E.view env.old) (E.view env.new) }
+    ensures stays { KeepsMeanings (E.view env.old) (E.view env.new) }
 {
     let position = env.position();
     let after = after_moves(env, &position, first, moves);
@@ -221,7 +221,7 @@ fn value_after<E: Env>(env: &mut E, function: MovesFunction, moves: &[Arg], at: 
     ensures small { IsWithin most result }
     ensures asked { (E.view env.new).asked ≡ counted (moves_readings (E.view env.old).meanings function
         (map (E.view env.old).meanings.point moves.now, at)) (E.view env.old).asked }
-    ensures stays { Stays (E.view env.old) (E.view env.new) }
+    ensures stays { KeepsMeanings (E.view env.old) (E.view env.new) }
 {
     let friend = env.friend();
     let enemy = friend.other();
@@ -242,7 +242,7 @@ fn of_moves<E: Env>(env: &mut E, function: MovesFunction, args: &[Arg]) -> i64
     ensures small { IsWithin most result }
     ensures asked { (E.view env.new).asked ≡ counted (many_there (moves_readings (E.view env.old).meanings function)
         (moves_and_point (map (E.view env.old).meanings.point args.now))) (E.view env.old).asked }
-    ensures stays { Stays (E.view env.old) (E.view env.new) }
+    ensures stays { KeepsMeanings (E.view env.old) (E.view env.new) }
 {
     match args {
         [moves @ .., last] => match env.point(*last) {
@@ -263,7 +263,7 @@ pub fn call<E: Env>(env: &mut E, function: Function, args: &[Arg]) -> i64
     ensures small { IsWithin most result }
     ensures asked { (E.view env.new).asked ≡ counted (call_readings (E.view env.old).meanings function
         (map (E.view env.old).meanings.point args.now)) (E.view env.old).asked }
-    ensures stays { Stays (E.view env.old) (E.view env.new) }
+    ensures stays { KeepsMeanings (E.view env.old) (E.view env.new) }
     ensures quiet { is_reading function ≡ false → (E.view env.new).counts ≡ (E.view env.old).counts }
 {
     match function {

@@ -2,7 +2,7 @@
 
 ghost use Rattle.std.specs.Prelude.{◌≡◌, ◌*◌, ◌<◌, IsTrue, IsSome, None};
 ghost use Rattle.go_rules.specs.Strings.{cell_at, is_stone};
-ghost use Rattle.cons_eval.specs.Meanings.{EnvView, Stays};
+ghost use Rattle.cons_eval.specs.Meanings.{EnvView, KeepsMeanings};
 ghost use Rattle.cons_eval.specs.Questions.{one_more};
 
 use go_base::{Point, Position};
@@ -38,7 +38,7 @@ pub trait Env {
         requires stone { IsTrue (is_stone (cell_at on.now.cells target)) }
         ensures value { result ≡ (view self.old).meanings.code kind on.now target }
         ensures asked { (view self.new).asked ≡ one_more (view self.old).asked }
-        ensures stays { Stays (view self.old) (view self.new) };
+        ensures stays { KeepsMeanings (view self.old) (view self.new) };
 
     /// A pass is no point.
     ghost nowhere: { (env : Self) → (view env).meanings.point Nowhere ≡ None };

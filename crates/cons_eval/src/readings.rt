@@ -1,7 +1,7 @@
 //! The functions whose values rest on readings.
 
 ghost use Rattle.std.specs.Prelude.{◌≡◌, ◌*◌, ◌<◌};
-ghost use Rattle.cons_eval.specs.Meanings.{Stays};
+ghost use Rattle.cons_eval.specs.Meanings.{KeepsMeanings};
 ghost use Rattle.cons_eval.specs.Readings.{code_at as code_there};
 ghost use Rattle.go_rules.specs.Strings.{cell_at};
 ghost use Rattle.cons_eval.specs.Bounds.{IsWithin};
@@ -23,7 +23,7 @@ pub fn code_at<E: Env>(env: &mut E, kind: Kind, on: &Position, at: Point) -> u8
     requires { at < on.now.size * on.now.size }
     ensures value { result ≡ code_there (E.view env.old).meanings.code kind on.now at }
     ensures asked { (E.view env.new).asked ≡ counted (readings_there on.now at) (E.view env.old).asked }
-    ensures stays { Stays (E.view env.old) (E.view env.new) }
+    ensures stays { KeepsMeanings (E.view env.old) (E.view env.new) }
 {
     match on.cell(at) {
         Cell::Empty => 0,
@@ -37,7 +37,7 @@ pub fn is_safe_move<E: Env>(env: &mut E, position: &Position, colour: Colour, at
     requires { at < position.now.size * position.now.size }
     ensures value { result ≡ safe_move (E.view env.old).meanings.code position.now colour at }
     ensures asked { (E.view env.new).asked ≡ counted (readings_then position.now colour at at) (E.view env.old).asked }
-    ensures stays { Stays (E.view env.old) (E.view env.new) }
+    ensures stays { KeepsMeanings (E.view env.old) (E.view env.new) }
 {
     match position.play(colour, at) {
         Ok(next) => code_at(env, Kind::Attack, &next, at) == 0,
@@ -73,7 +73,7 @@ fn lack_after<E: Env>(
     ensures small { IsWithin 255 result }
     ensures asked { (E.view env.new).asked
         ≡ counted (readings_then position.now colour at target) (E.view env.old).asked }
-    ensures stays { Stays (E.view env.old) (E.view env.new) }
+    ensures stays { KeepsMeanings (E.view env.old) (E.view env.new) }
 {
     match position.play(colour, at) {
         Ok(next) => 3 - i64::from(code_at(env, kind, &next, target)),
@@ -89,7 +89,7 @@ pub fn does_attack<E: Env>(env: &mut E, position: &Position, at: Point, target: 
     ensures value { result ≡ attacks (E.view env.old).meanings.code position.now at target }
     ensures small { IsWithin 255 result }
     ensures asked { (E.view env.new).asked ≡ counted (attack_readings position.now at target) (E.view env.old).asked }
-    ensures stays { Stays (E.view env.old) (E.view env.new) }
+    ensures stays { KeepsMeanings (E.view env.old) (E.view env.new) }
 {
     match colour_at(position, target) {
         Some(colour) => lack_after(env, Kind::Defend, position, colour.other(), at, target),
@@ -105,7 +105,7 @@ pub fn does_defend<E: Env>(env: &mut E, position: &Position, at: Point, target: 
     ensures value { result ≡ defends (E.view env.old).meanings.code position.now at target }
     ensures small { IsWithin 255 result }
     ensures asked { (E.view env.new).asked ≡ counted (defence_readings position.now at target) (E.view env.old).asked }
-    ensures stays { Stays (E.view env.old) (E.view env.new) }
+    ensures stays { KeepsMeanings (E.view env.old) (E.view env.new) }
 {
     match colour_at(position, target) {
         Some(colour) => lack_after(env, Kind::Attack, position, colour, at, target),
@@ -127,7 +127,7 @@ pub fn is_defended_against<E: Env>(
     ensures value { result ≡ defended (E.view env.old).meanings.code position.now colour at against }
     ensures asked { (E.view env.new).asked
         ≡ counted (readings_then_against position.now colour at against) (E.view env.old).asked }
-    ensures stays { Stays (E.view env.old) (E.view env.new) }
+    ensures stays { KeepsMeanings (E.view env.old) (E.view env.new) }
 {
     match position.play(colour, at) {
         Ok(next) => is_refuted(env, &next, colour.other(), against),
@@ -141,7 +141,7 @@ fn is_refuted<E: Env>(env: &mut E, position: &Position, colour: Colour, at: Poin
     requires { at < position.now.size * position.now.size }
     ensures value { result ≡ refuted (E.view env.old).meanings.code position.now colour at }
     ensures asked { (E.view env.new).asked ≡ counted (readings_then position.now colour at at) (E.view env.old).asked }
-    ensures stays { Stays (E.view env.old) (E.view env.new) }
+    ensures stays { KeepsMeanings (E.view env.old) (E.view env.new) }
 {
     match position.play(colour, at) {
         Ok(next) => code_at(env, Kind::Attack, &next, at) > 0,

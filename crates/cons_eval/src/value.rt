@@ -4,7 +4,7 @@ ghost use Rattle.std.specs.Prelude.{◌≡◌, ◌*◌, false, true};
 ghost use Rattle.pat_types.specs.Labels.{leaf_count};
 ghost use Rattle.cons_eval.specs.Asking.{asks, needs_right as right_is_needed};
 ghost use Rattle.cons_eval.specs.Bounds.{IsConstraint, IsWithin, most, most_leaves};
-ghost use Rattle.cons_eval.specs.Meanings.{Stays, are_placed};
+ghost use Rattle.cons_eval.specs.Meanings.{KeepsMeanings, are_placed};
 ghost use Rattle.cons_eval.specs.Questions.{counted, readings_of};
 ghost use Rattle.cons_eval.specs.Values.{is_so, joined_value, value_of};
 
@@ -66,7 +66,7 @@ pub fn eval<E: Env>(expr: &Expr, env: &mut E) -> i64
     ensures asked { (E.view env.new).asked
         ≡ counted (readings_of (E.view env.old).meanings expr.now) (E.view env.old).asked }
     // Only the number of readings asked for and the counts may change, and no count gets lower.
-    ensures stays { Stays (E.view env.old) (E.view env.new) }
+    ensures stays { KeepsMeanings (E.view env.old) (E.view env.new) }
     // If no part that is needed may ask for a reading, the counts do not change either.
     ensures quiet { asks (E.view env.old).meanings expr.now ≡ false
         → (E.view env.new).counts ≡ (E.view env.old).counts }

@@ -47,5 +47,15 @@ both_true false b h k = cc
 pub kept : (labels : List LabelAt) (text : List ℕ) (e : Expr) → Spells labels text e
     → IsTrue (is_constraint labels (Some e))
 kept labels text e s =
-    grind (arith, text_few text, meaning_leaves s.written, tests, can_tree, meaning_can, leaf_tree, both_true, nat_le,
-        le-leb)
+    grind (
+      arith,
+      text_few text,
+      meaning_leaves s.written,
+      tests,
+      can_tree,
+      meaning_can,
+      leaf_tree,
+      both_true,
+      nat_le,
+      le-leb,
+    )

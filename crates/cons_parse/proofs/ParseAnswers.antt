@@ -20,7 +20,7 @@ use Rattle.cons_parse.specs.Faults.{is_too_deep, calls, some_call, first_of, fau
 use Rattle.cons_parse.specs.Scan.{scanned}
 use Rattle.cons_parse.specs.Trees.{tree_of}
 use Rattle.cons_parse.specs.Building.{trees, built}
-use Rattle.cons_parse.specs.Parsing.{items_within, Tells, Spells, Refuses}
+use Rattle.cons_parse.specs.Parsing.{items_within, HasFirstFault, Spells, Refuses}
 use Rattle.cons_parse.proofs.SpellingScans.{scanned_spelling}
 use Rattle.cons_parse.proofs.ScanSoundness.{scanned_is_spelled}
 use Rattle.cons_parse.proofs.Spellings.{built_spelling, tree_is_meaning}
@@ -64,7 +64,7 @@ told text items deep h s = grind (arith, within_if, nat_lt, scanned_is_spelled, 
 
 -- where a leaf stands too deep, TooDeep is the first fault
 pub too_deep : (labels : List LabelAt) (text : List ℕ) (items : List Item) → IsScanned text items true
-    → Tells labels text (Some TooDeep)
+    → HasFirstFault labels text (Some TooDeep)
 unfolding fault_of
 too_deep labels text items t = record { written = t.w; writes = t.writes; first = rw t.depth refl }
 
@@ -76,7 +76,7 @@ shallow labels w h = grind (arith, some_call_spelled)
 
 -- if none stands too deep, the first fault of the calls is the first fault
 pub call_told : (labels : List LabelAt) (text : List ℕ) (items : List Item) (fault : Option ConsError)
-    → IsScanned text items false → call_fault labels items ≡ fault → Tells labels text fault
+    → IsScanned text items false → call_fault labels items ≡ fault → HasFirstFault labels text fault
 call_told labels text items fault t h = grind (arith, shallow)
 
 -- no fault of the calls is Syntax

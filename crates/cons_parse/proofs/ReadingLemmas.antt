@@ -12,7 +12,7 @@ use Rattle.cons_parse.specs.Grammar.{Written, Num, Call, Parens, Not, Neg, Bin, 
 use Rattle.cons_parse.specs.Scan.{scanned}
 use Rattle.cons_parse.specs.Trees.{tree_of, meaning_of}
 use Rattle.cons_parse.specs.Building.{built, valued}
-use Rattle.cons_parse.specs.Parsing.{items_within, Tells, Spells, Refuses}
+use Rattle.cons_parse.specs.Parsing.{items_within, HasFirstFault, Spells, Refuses}
 use Rattle.cons_parse.specs.Reading.{as_written, written_of, expression_in, fault_of_reading, fault_in, Blames}
 use Rattle.cons_parse.proofs.SpellingScans.{scanned_spelling}
 use Rattle.cons_parse.proofs.Spellings.{built_spelling}
@@ -70,7 +70,7 @@ pub spells_tree : (labels : List LabelAt) (text : List ℕ) (e : Expr) → Spell
 spells_tree labels text e s = grind (arith, is_found)
 
 -- the first fault of what a text spells is the computed one
-tells_fault : (labels : List LabelAt) (text : List ℕ) (f : Option ConsError) → Tells labels text f
+tells_fault : (labels : List LabelAt) (text : List ℕ) (f : Option ConsError) → HasFirstFault labels text f
     → fault_in labels text ≡ f
 unfolding fault_in
 tells_fault labels text f t = ap (fault_of_reading labels) (is_found text t.written t.writes) ∙ t.first

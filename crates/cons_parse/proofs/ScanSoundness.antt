@@ -142,9 +142,14 @@ sign_closed ps sign e = grind (arith, with_read, append_assoc)
 left_joined : (ps : List (Pending Written)) (op : Op) (a e : Written) → IsGood (OpenLeft op a ∷ ps) → IsWell e
     → 5 ≤ level_of e → Settled (openers_of (OpenLeft op a ∷ ps)) (read_by (OpenLeft op a ∷ ps) ++ spelling e)
 left_joined ps op a e g v l =
-    grind (arith, extended_well a op e g.0 v l, base_settled ps g.1, extended_spelling a op e,
-        append_assoc (spelling a) (item.Operator op ∷ []) (spelling e),
-        append_assoc (read_by ps) (spelling a ++ item.Operator op ∷ []) (spelling e))
+    grind (
+      arith,
+      extended_well a op e g.0 v l,
+      base_settled ps g.1,
+      extended_spelling a op e,
+      append_assoc (spelling a) (item.Operator op ∷ []) (spelling e),
+      append_assoc (read_by ps) (spelling a ++ item.Operator op ∷ []) (spelling e),
+    )
 
 -- an operand closes the signs before it and joins the left side
 settle : (ps : List (Pending Written)) (e : Written) → IsGood ps → IsWell e → 5 ≤ level_of e

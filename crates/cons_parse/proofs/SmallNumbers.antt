@@ -48,8 +48,13 @@ value_small : (ds : List ℕ) (i n : ℕ) → i + length ds ≤ 6 → n < 10 ^ i
     → value_after n ds < 1000000
 value_small [] i n l h d = below_million i n (omega arith) h
 value_small (d ∷ ds) i n l h a =
-    grind (arith, and_parts (is_digit d) (list_all is_digit ds) a, value_small ds (i + 1) (n * 10 + (d - 48)),
-        digit_step i n (d - 48), digit_range d)
+    grind (
+      arith,
+      and_parts (is_digit d) (list_all is_digit ds) a,
+      value_small ds (i + 1) (n * 10 + (d - 48)),
+      digit_step i n (d - 48),
+      digit_range d,
+    )
 
 -- the digits at the front of a list, by its first byte
 front_if : (v : Bool) (b : ℕ) (bs : List ℕ) → is_digit b ≡ v

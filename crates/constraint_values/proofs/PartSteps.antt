@@ -51,8 +51,16 @@ module _ (m : Meanings) (e : Expr) where
     pub not_step : (w : ℤ) (t : Bool) → e ≡ Not b → SFits w64 w → t ≡ is_so (to_z w64 (of_z w64 x))
         → w ≡ worth (not t) → IsValue m e (to_z w64 (of_z w64 w))
     not_step w t p fits is_t is_w =
-        grind (arith, to_z-of_z w64 x, value_fits inner x con, to_z-of_z w64 w fits, value_of_not m e inner b x q p h,
-            to_z w64 (of_z w64 w), of_z w64 w, test_small e (not t))
+        grind (
+          arith,
+          to_z-of_z w64 x,
+          value_fits inner x con,
+          to_z-of_z w64 w fits,
+          value_of_not m e inner b x q p h,
+          to_z w64 (of_z w64 w),
+          of_z w64 w,
+          test_small e (not t),
+        )
 
     -- the value behind a `-`
     pub neg_step : e ≡ Neg b → IsValue m e (to_z w64 (of_z w64 (pos 0 -ℤ to_z w64 (of_z w64 x))))
@@ -73,15 +81,32 @@ module _ (m : Meanings) (e : Expr) where
         → IsWithin (leaf_count right * most) y → SFits w64 w
         → w ≡ joined_value op (to_z w64 (of_z w64 x)) (to_z w64 (of_z w64 y)) → IsValue m e (to_z w64 (of_z w64 w))
     sides_step right y w r con_right k small_right fits is_w =
-        grind (arith, to_z-of_z w64 x, value_fits left x con,
-            to_z-of_z w64 y (value_fits right y con_right small_right), value_fits right y con_right small_right,
-            to_z-of_z w64 w fits, to_z w64 (of_z w64 y), of_z w64 y,
-            value_of_sides m e left right op a b x y q r p h k, to_z w64 (of_z w64 w), of_z w64 w,
-            sides_small e left right op a b x y q r p)
+        grind (
+          arith,
+          to_z-of_z w64 x,
+          value_fits left x con,
+          to_z-of_z w64 y (value_fits right y con_right small_right),
+          value_fits right y con_right small_right,
+          to_z-of_z w64 w fits,
+          to_z w64 (of_z w64 y),
+          of_z w64 y,
+          value_of_sides m e left right op a b x y q r p h k,
+          to_z w64 (of_z w64 w),
+          of_z w64 w,
+          sides_small e left right op a b x y q r p,
+        )
 
     -- the value of the left side alone
     pub left_step : (w : ℤ) (t : Bool) → SFits w64 w → t ≡ is_so (to_z w64 (of_z w64 x)) → w ≡ worth t
         → needs_right op (to_z w64 (of_z w64 x)) ≡ false → IsValue m e (to_z w64 (of_z w64 w))
     left_step w t fits is_t is_w needless =
-        grind (arith, to_z-of_z w64 x, value_fits left x con, to_z-of_z w64 w fits,
-            value_of_left m e left op a b x q p h, to_z w64 (of_z w64 w), of_z w64 w, test_small e t)
+        grind (
+          arith,
+          to_z-of_z w64 x,
+          value_fits left x con,
+          to_z-of_z w64 w fits,
+          value_of_left m e left op a b x q p h,
+          to_z w64 (of_z w64 w),
+          of_z w64 w,
+          test_small e t,
+        )

@@ -2,7 +2,7 @@
 ghost use Rattle.std.specs.Prelude.{◌≡◌, ◌*◌, [], ◌∷◌, ◌++◌, true, Some, IfOk, OnOk};
 ghost use Rattle.pat_types.specs.Labels.{leaf_count};
 ghost use Rattle.cons_eval.specs.Bounds.{IsConstraint, IsWithin, most};
-ghost use Rattle.cons_eval.specs.Meanings.{Stays, are_placed};
+ghost use Rattle.cons_eval.specs.Meanings.{KeepsMeanings, are_placed};
 ghost use Rattle.cons_eval.specs.Values.{value_of};
 ghost use Rattle.constraint_values.specs.Parts.{values_in, no_values};
 
@@ -33,7 +33,7 @@ fn put_leaf<E: Env>(
     ensures small { IfOk result (λ v. IsWithin (leaf_count expr.now * most) v) }
     ensures put { OnOk result
         (values.new.items ≡ values.old.items ++ Some (value_of (E.view env.old).meanings expr.now) ∷ []) }
-    ensures stays { Stays (E.view env.old) (E.view env.new) }
+    ensures stays { KeepsMeanings (E.view env.old) (E.view env.new) }
 {
     put(eval(expr, env), values)
 }
@@ -74,7 +74,7 @@ fn put_values<E: Env>(
     ensures small { IfOk result (λ v. IsWithin (leaf_count expr.now * most) v) }
     ensures put { OnOk result
         (values.new.items ≡ values.old.items ++ values_in (E.view env.old).meanings expr.now) }
-    ensures stays { Stays (E.view env.old) (E.view env.new) }
+    ensures stays { KeepsMeanings (E.view env.old) (E.view env.new) }
 {
     match expr {
         Expr::Num(_) => put_leaf(expr, env, values),
@@ -108,7 +108,7 @@ pub fn values<E: Env>(alloc: Global, expr: &Expr, env: &mut E) -> Result<Vec<Opt
     requires constraint { IsConstraint expr.now }
     requires placed { are_placed (E.view env.old).meanings expr.now ≡ true }
     ensures values { IfOk result (λ v. v.items ≡ values_in (E.view env.old).meanings expr.now) }
-    ensures stays { Stays (E.view env.old) (E.view env.new) }
+    ensures stays { KeepsMeanings (E.view env.old) (E.view env.new) }
 {
     let mut values = Vec::new(alloc);
     put_values(expr, env, &mut values)?;

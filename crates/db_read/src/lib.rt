@@ -8,7 +8,7 @@
 
 mod draft;
 mod error;
-mod names;
+mod pattern_names;
 mod reader;
 mod stages;
 

@@ -19,7 +19,7 @@ ghost use Rattle.db_rules.specs.Faults.{Blames};
 
 use crate::draft::{Draft, begin, nameless};
 use crate::error::DbError;
-use crate::names::pattern_fault;
+use crate::pattern_names::pattern_fault;
 use crate::stages::{at, closes, end_kind, fault_at, finish, labels_fault, table};
 use db_lex::{LineKind, line_count, lines, word_len};
 use db_rules::{FaultKind, LineError, Stage, TableCell};

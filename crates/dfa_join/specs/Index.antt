@@ -24,12 +24,12 @@ number_at numbers row =
     if slice_index_or numbers row no_number == no_number then None else Some (slice_index_or numbers row no_number)
 
 -- the number that the index has for the pair p, or None if it has none
-abbrev pub told_by : Index → Pair → Option ℕ
-told_by index p =
+abbrev pub indexed_number : Index → Pair → Option ℕ
+indexed_number index p =
     if has_place index.left p.0 p.1 then number_at index.left.numbers.items p.0
     else if has_place index.right p.1 p.0 then number_at index.right.numbers.items p.1
     else get same_pair index.others p
 
 -- told is the number of the pair p in the list, or None if the list does not have p
-abbrev pub Tells : List Pair → Pair → Option ℕ → Type 0
-Tells pairs p told = IfSome told (IsNumberOf pairs p) × IfNone told (IsNew pairs p)
+abbrev pub IsLookup : List Pair → Pair → Option ℕ → Type 0
+IsLookup pairs p told = IfSome told (IsNumberOf pairs p) × IfNone told (IsNew pairs p)

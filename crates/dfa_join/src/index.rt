@@ -1,7 +1,7 @@
 //! The numbers of pairs of rows, found by the pair.
 ghost use Rattle.std.specs.Prelude.{◌≡◌, ◌≢◌, ℕ, ◌<◌, length, slice_set, Some, None, IfOk, IfErr, OnOk, OnErr};
 ghost use Rattle.dfa_join.specs.Pairs.{Pair};
-ghost use Rattle.dfa_join.specs.Index.{no_number, has_place, number_at, told_by};
+ghost use Rattle.dfa_join.specs.Index.{no_number, has_place, number_at, indexed_number};
 
 use crate::error::JoinError;
 use crate::row_pair::RowPair;
@@ -88,7 +88,7 @@ pub struct Index {
 impl Index {
     /// The index for rows of `a` and `b` in which no pair has a number. Takes memory.
     pub fn new(alloc: Global, a: &Automaton, b: &Automaton) -> Result<Index, JoinError>
-        ensures none { IfOk result (λ index. (pair : Pair) → told_by index pair ≡ None) }
+        ensures none { IfOk result (λ index. (pair : Pair) → indexed_number index pair ≡ None) }
         ensures no_limit { IfErr result (λ e. e ≡ JoinError.NoMemory) }
     {
         let room = a.rows().min(b.rows());
@@ -102,7 +102,7 @@ impl Index {
     /// The number of `pair`, or `None` if it has no number.
     #[inline(always)]
     pub fn number(&self, pair: (u32, u32)) -> Option<u32>
-        ensures { result ≡ told_by self.now pair }
+        ensures { result ≡ indexed_number self.now pair }
     {
         if self.left.has_place(pair.0, pair.1) {
             return self.left.number(pair.0);
@@ -119,9 +119,10 @@ impl Index {
     /// Gives `pair` the number `number`. If there is no memory, no number changes.
     pub fn put(&mut self, pair: (u32, u32), number: u32) -> Result<(), JoinError>
         requires { number ≢ no_number }
-        ensures here { OnOk result (told_by self.new pair ≡ Some number) }
-        ensures elsewhere { OnOk result ((q : Pair) → q ≢ pair → told_by self.new q ≡ told_by self.old q) }
-        ensures unchanged { OnErr result ((q : Pair) → told_by self.new q ≡ told_by self.old q) }
+        ensures here { OnOk result (indexed_number self.new pair ≡ Some number) }
+        ensures elsewhere { OnOk result ((q : Pair) → q ≢ pair
+            → indexed_number self.new q ≡ indexed_number self.old q) }
+        ensures unchanged { OnErr result ((q : Pair) → indexed_number self.new q ≡ indexed_number self.old q) }
         ensures no_limit { IfErr result (λ e. e ≡ JoinError.NoMemory) }
     {
         if self.left.has_place(pair.0, pair.1) {

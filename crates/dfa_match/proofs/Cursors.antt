@@ -4,7 +4,7 @@ use Rattle.std.proofs.lemmas.Nat.{div-mul-add, mod-mul-add, div-add-mod', div_be
 use Rattle.go_rules.specs.Board.{largest_size}
 use Rattle.go_rules.specs.Transform.{largest_offset}
 use Rattle.dfa_match.specs.declared.cursor.Cursor.{Cursor}
-use Rattle.dfa_match.specs.Sights.{padded_side}
+use Rattle.dfa_match.specs.SeenLetters.{padded_side}
 use Rattle.dfa_match.specs.Steps.{corner_at, anchor_at_corner, cursor_at, last_corner}
 
 -- a board that has a point has a row

@@ -12,7 +12,7 @@ use Rattle.dfa_core.specs.Fits.{pattern_length, is_refuted}
 use Rattle.dfa_core.specs.States.{is_matched, matched_from, IsAutomatonOf}
 use Rattle.dfa_core.proofs.Lengths.{pattern_length-most}
 use Rattle.dfa_match.specs.declared.Hit.{Hit}
-use Rattle.dfa_match.specs.Sights.{seen_at, word_at}
+use Rattle.dfa_match.specs.SeenLetters.{seen_at, word_at}
 use Rattle.dfa_match.specs.Hits.{IsHit}
 use Rattle.dfa_match.specs.Fitting.{IsFit}
 use Rattle.dfa_match.proofs.SeenWords.{word_length}

@@ -17,7 +17,7 @@ use Rattle.dfa_core.specs.Entries.{row_of}
 use Rattle.dfa_core.proofs.Distinct.{AreDistinct-append}
 use Rattle.dfa_match.specs.declared.Hit.{Hit}
 use Rattle.dfa_match.specs.declared.walks.Walk.{Walk}
-use Rattle.dfa_match.specs.Sights.{seen_at, word_from, word_at}
+use Rattle.dfa_match.specs.SeenLetters.{seen_at, word_from, word_at}
 use Rattle.dfa_match.specs.Hits.{hits_at, IsHit, IsHitBefore, AreHitsBefore}
 use Rattle.dfa_match.specs.Walks.{anchor_of, given_at, hits_of, IsWalk, AreWalks}
 use Rattle.dfa_match.proofs.SeenWords.{word_length}

@@ -9,7 +9,7 @@ use Rattle.dfa_core.specs.Words.{Word, letter_number}
 use Rattle.dfa_core.proofs.Entries.{letter_below}
 use Rattle.dfa_shortcuts.specs.Openings.{number_from, word_number}
 use Rattle.dfa_match.specs.Rings.{ring_letters}
-use Rattle.dfa_match.specs.Sights.{word_from}
+use Rattle.dfa_match.specs.SeenLetters.{word_from}
 use Rattle.dfa_match.proofs.SeenWords.{word_from-suc, word_from-zero, word_split}
 
 -- a letter more is a digit more

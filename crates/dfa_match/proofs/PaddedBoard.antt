@@ -16,8 +16,8 @@ use Rattle.spiral.specs.Spiral.{offset_at, place_at, strip_of, point_of}
 use Rattle.dfa_core.specs.declared.automaton.Seen.{Seen}
 use Rattle.dfa_core.specs.declared.automaton.Seen.TheVariants.{Off}
 use Rattle.dfa_match.specs.Steps.{corner_at, strip_by, step_by}
-use Rattle.dfa_match.specs.Sights.{seen_of, seen_at, seen_at_place, padded_side, padded_point, seen_below}
-use Rattle.dfa_match.specs.Sights.{AreSightsBelow, AreSights}
+use Rattle.dfa_match.specs.SeenLetters.{seen_of, seen_at, seen_at_place, padded_side, padded_point, seen_below}
+use Rattle.dfa_match.specs.SeenLetters.{IsPaddedBoardBelow, IsPaddedBoard}
 
 -- a strip of the board is its number
 strip_from : (s : ℕ) (z : ℤ) (k : ℕ) → strip_of s z ≡ Some k → (z ≡ pos k) × (k < s)
@@ -114,9 +114,9 @@ module _ (at : BoardState) (friend : Colour) where
   below_all n (Some q) low = ap (λ b. cond b (seen_of friend (cell_at at.cells q)) Off) (lt-ltb q n (low q refl))
 
   -- at first nothing is seen
-  pub sights_none : (letters : List Seen) → letters ≡ replicate (padded_side * padded_side) Off
-      → AreSightsBelow 0 at friend letters
-  sights_none letters e = record {
+  pub padded_none : (letters : List Seen) → letters ≡ replicate (padded_side * padded_side) Off
+      → IsPaddedBoardBelow 0 at friend letters
+  padded_none letters e = record {
     length = ap length e ∙ length-replicate (padded_side * padded_side) Off;
     each = λ r c low low'. ap (λ xs. get_or xs (r * padded_side + c) Off) e
         ∙ get_or-replicate (padded_side * padded_side) (r * padded_side + c) Off Off
@@ -124,13 +124,13 @@ module _ (at : BoardState) (friend : Colour) where
   }
 
   -- one point more is seen
-  pub sights_more : (n w : ℕ) (letters : List Seen) (x : Seen) → AreSightsBelow n at friend letters → 0 < at.size
+  pub padded_more : (n w : ℕ) (letters : List Seen) (x : Seen) → IsPaddedBoardBelow n at friend letters → 0 < at.size
       → n < at.size * at.size
       → w ≡ (n / at.size + largest_offset) * padded_side + (n % at.size + largest_offset)
       → w < padded_side * padded_side → n / at.size + largest_offset < padded_side
       → n % at.size + largest_offset < padded_side
-      → x ≡ seen_of friend (cell_at at.cells n) → AreSightsBelow (n + 1) at friend (set letters w x)
-  sights_more n w letters x before some low place within row_low column_low is = record {
+      → x ≡ seen_of friend (cell_at at.cells n) → IsPaddedBoardBelow (n + 1) at friend (set letters w x)
+  padded_more n w letters x before some low place within row_low column_low is = record {
     length = length-set letters w x ∙ before.length;
     each = λ r c lr lc. elim (cases_eq (r * padded_side + c) w) [
       | inl same ↦
@@ -156,13 +156,14 @@ module _ (at : BoardState) (friend : Colour) where
   }
 
   -- what a walk reads behind its corner is what is seen along the spiral
-  pub letter_seen : (size : ℕ) (letters : List Seen) (t m i step : ℕ) (by : Offset) → AreSights at friend size letters
+  pub letter_seen : (size : ℕ) (letters : List Seen) (t m i step : ℕ) (by : Offset)
+      → IsPaddedBoard at friend size letters
       → m < at.size * at.size → IsNear by → by ≡ transformed t (offset_at i) → step ≡ step_by by
       → get_or letters (corner_at at.size m + step) Off ≡ seen_at at friend t m i
   unfolding seen_at place_at
-  letter_seen size letters t m i step by sights on near moved is =
+  letter_seen size letters t m i step by padded on near moved is =
       let some : 0 < at.size = some_size at.size m on in
-      let few : at.size ≤ largest_size = omega (arith, sights.same_size, sights.few) in
+      let few : at.size ≤ largest_size = omega (arith, padded.same_size, padded.few) in
       let in_row = strip_by-is by.0 near.row_low in
       let in_column = strip_by-is by.1 near.column_low in
       let row : m / at.size < at.size = div_below m at.size at.size some on in
@@ -174,7 +175,7 @@ module _ (at : BoardState) (friend : Colour) where
       let column_is : pos (m % at.size + strip_by by.1) -ℤ pos largest_offset ≡ pos (m % at.size) +ℤ
       (transformed t (offset_at i)).1 = omega (arith, ints, in_column, ap (λ (d : Offset). d.1) moved) in
       ap (λ k. get_or letters k Off) place
-      ∙ sights.all.each (m / at.size + strip_by by.0) (m % at.size + strip_by by.1)
+      ∙ padded.all.each (m / at.size + strip_by by.0) (m % at.size + strip_by by.1)
       (omega (arith, ints, in_row, near.row_high)) (omega (arith, ints, in_column, near.column_high))
       ∙ below_all (at.size * at.size) (padded_point at.size (m / at.size + strip_by by.0) (m % at.size + strip_by by.1))
       (λ q here. (point_from at.size (m / at.size + strip_by by.0) (m % at.size + strip_by by.1) q here).below)

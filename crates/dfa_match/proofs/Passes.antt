@@ -15,7 +15,7 @@ use Rattle.dfa_shortcuts.specs.Shortcuts.{AreShortcuts}
 use Rattle.dfa_shortcuts.specs.Openings.{AreOpenings}
 use Rattle.dfa_match.specs.declared.Hit.{Hit}
 use Rattle.dfa_match.specs.declared.walks.Walk.{Walk}
-use Rattle.dfa_match.specs.Sights.{word_at, AreSights}
+use Rattle.dfa_match.specs.SeenLetters.{word_at, IsPaddedBoard}
 use Rattle.dfa_match.specs.Hits.{AreHitsBefore, nothing_read}
 use Rattle.dfa_match.specs.Steps.{AreSteps}
 use Rattle.go_rules.specs.Board.{largest_size}
@@ -77,7 +77,7 @@ module _ (automaton : List Row) (good : IsAutomaton automaton) (pos : BoardState
       (All-contains (IsStanding automaton) walks w standing there) ends (omega (arith, more)) few
       (λ past. omega (arith, past, few, more)))
 
-  module _ (size : ℕ) (letters : List Seen) (sights : AreSights pos friend size letters) where
+  module _ (size : ℕ) (letters : List Seen) (padded : IsPaddedBoard pos friend size letters) where
     -- the hits of the start and of the anchors' letters
     pub hits_second : (old begun new : List Hit)
         → All (IsStanding automaton) (map (after_anchor automaton letters) (first_walks_of automaton pos.size))
@@ -89,10 +89,10 @@ module _ (automaton : List Row) (good : IsAutomaton automaton) (pos : BoardState
     hits_second old begun new standing before add_first add_second =
         let first : List Walk = first_walks_of automaton pos.size in
         let read : List Walk = map (after_anchor automaton letters) first in
-        let are_first = small_walks automaton pos friend t size letters sights in
-        let are_read = walks_begun automaton pos friend t size letters sights in
+        let are_first = small_walks automaton pos friend t size letters padded in
+        let are_read = walks_begun automaton pos friend t size letters padded in
         let from_start = hits_more automaton pos friend t first are_first good old begun low
-        (hits_begun automaton pos friend t old (subst (λ s. s ≤ largest_size) sights.same_size sights.few) before)
+        (hits_begun automaton pos friend t old (subst (λ s. s ≤ largest_size) padded.same_size padded.few) before)
         add_first in
         let from_anchors = hits_changed automaton pos friend t first are_first (after_anchor automaton letters)
         after_giving before_giving begun (λ w. refl) from_start
@@ -113,10 +113,10 @@ module _ (automaton : List Row) (good : IsAutomaton automaton) (pos : BoardState
       walks_opened openings are =
           let read : List Walk = map (after_anchor automaton letters) (first_walks_of automaton pos.size) in
           let second = walks_kept automaton pos friend t goes_on read
-          (walks_begun automaton pos friend t size letters sights) in
+          (walks_begun automaton pos friend t size letters padded) in
           walks_changed automaton pos friend t (after_opening openings steps letters) (filter goes_on read) second
           (opening_corner openings steps letters)
-          (λ w there. walk_opened automaton pos friend t size letters sights low steps are_steps openings w are
+          (λ w there. walk_opened automaton pos friend t size letters padded low steps are_steps openings w are
           (second.each w there))
 
       -- the walks behind their openings that go on
@@ -138,7 +138,7 @@ module _ (automaton : List Row) (good : IsAutomaton automaton) (pos : BoardState
           let read : List Walk = map (after_anchor automaton letters) (first_walks_of automaton pos.size) in
           let second : List Walk = filter goes_on read in
           let are_second = walks_kept automaton pos friend t goes_on read
-          (walks_begun automaton pos friend t size letters sights) in
+          (walks_begun automaton pos friend t size letters padded) in
           hits_dropped (map (after_opening openings steps letters) second) hits (walks_opened openings are)
           (opened_standing automaton good openings steps letters second are standing)
           (hits_changed automaton pos friend t second are_second (after_opening openings steps letters)
@@ -148,7 +148,7 @@ module _ (automaton : List Row) (good : IsAutomaton automaton) (pos : BoardState
           omega (arith, one, opening_more openings steps letters w one))
           (λ w n there few more less.
           let one = second_letters automaton letters pos.size w there in
-          opening_silent automaton pos friend t size letters sights low steps are_steps openings w n are
+          opening_silent automaton pos friend t size letters padded low steps are_steps openings w n are
           (are_second.each w there) one (omega (arith, one, more)) (omega (arith, less))))
 
       module _ (entries passed : List ℕ) (are : AreShortcuts automaton entries passed) (walks : List Walk)
@@ -161,7 +161,7 @@ module _ (automaton : List Row) (good : IsAutomaton automaton) (pos : BoardState
         pub walks_read : AreWalks automaton pos friend t (map (after_letters entries passed steps letters) walks)
         walks_read = walks_changed automaton pos friend t (after_letters entries passed steps letters) walks are_walks
             (λ w. refl)
-            (λ w there. walk_passed automaton pos friend t size letters sights low steps are_steps entries passed are w
+            (λ w there. walk_passed automaton pos friend t size letters padded low steps are_steps entries passed are w
             (are_walks.each w there) (stands_on w there))
 
         -- the hits of the rows where they come to join those before
@@ -177,6 +177,6 @@ module _ (automaton : List Row) (good : IsAutomaton automaton) (pos : BoardState
             after_giving before_giving old (λ w. refl) before
             (λ w there. omega arith)
             (λ w n there few more less.
-            letters_silent automaton pos friend t size letters sights low steps are_steps entries passed are w
+            letters_silent automaton pos friend t size letters padded low steps are_steps entries passed are w
             (are_walks.each w there) (stands_on w there) n few (omega (arith, more)) less))
             add

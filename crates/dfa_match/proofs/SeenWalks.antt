@@ -24,7 +24,7 @@ use Rattle.dfa_core.proofs.Entries.{row_of-entry}
 use Rattle.dfa_shortcuts.specs.Shortcuts.{AreShortcuts}
 use Rattle.dfa_shortcuts.specs.Openings.{opening_letters, AreOpenings}
 use Rattle.dfa_match.specs.declared.walks.Walk.{Walk}
-use Rattle.dfa_match.specs.Sights.{seen_at, word_from, word_at, AreSights}
+use Rattle.dfa_match.specs.SeenLetters.{seen_at, word_from, word_at, IsPaddedBoard}
 use Rattle.dfa_match.specs.Steps.{corner_at, anchor_at_corner, no_step, AreSteps}
 use Rattle.dfa_match.specs.Walks.{anchor_of, first_walks_of, after_anchor, word_behind}
 use Rattle.dfa_match.specs.Walks.{after_opening, after_letters, row_after, IsWalk, AreWalks}
@@ -95,12 +95,12 @@ module _ (automaton : List Row) (pos : BoardState) (friend : Colour) (t : ℕ) w
           omega (arith, get_or-range_with_len 0 (pos.size * pos.size) k d on) in
           ap (λ m. anchor_of pos.size (first_walk automaton pos.size m)) is ∙ anchor_of_corner pos.size k small on
 
-  module _ (size : ℕ) (letters : List Seen) (sights : AreSights pos friend size letters) where
+  module _ (size : ℕ) (letters : List Seen) (padded : IsPaddedBoard pos friend size letters) where
     -- the letter of its anchor is what is seen there
     anchor_seen : (w : Walk) → IsWalk automaton pos friend t w
         → get_or letters (w.corner + no_step) Off ≡ seen_at pos friend t (anchor_of pos.size w) 0
     anchor_seen w is = ap (λ k. get_or letters (k + no_step) Off) is.corner
-        ∙ letter_seen pos friend size letters t (anchor_of pos.size w) 0 no_step (plus 0, plus 0) sights is.anchor
+        ∙ letter_seen pos friend size letters t (anchor_of pos.size w) 0 no_step (plus 0, plus 0) padded is.anchor
         (subst IsNear offset_at-zero (offsets_near 0 (omega arith)))
         (sym (ap (transformed t) offset_at-zero ∙ still t)) refl
 
@@ -122,7 +122,7 @@ module _ (automaton : List Row) (pos : BoardState) (friend : Colour) (t : ℕ) w
 
     -- before the first letter there is a walk from each point of the board
     pub small_walks : AreWalks automaton pos friend t (first_walks_of automaton pos.size)
-    small_walks = walks_first (subst (λ s. s ≤ largest_size) sights.same_size sights.few)
+    small_walks = walks_first (subst (λ s. s ≤ largest_size) padded.same_size padded.few)
 
     -- each walk has read the anchor's own letter
     pub walks_begun : AreWalks automaton pos friend t
@@ -136,7 +136,7 @@ module _ (automaton : List Row) (pos : BoardState) (friend : Colour) (t : ℕ) w
       step_seen : (m i : ℕ) → m < pos.size * pos.size → i < offset_count
           → get_or letters (corner_at pos.size m + get_or steps i 0) Off ≡ seen_at pos friend t m i
       step_seen m i on few = letter_seen pos friend size letters t m i (get_or steps i 0) (transformed t (offset_at i))
-          sights on (keeps_near t low (offset_at i) (offsets_near i few)) refl (are_steps.each i few)
+          padded on (keeps_near t low (offset_at i) (offsets_near i few)) refl (are_steps.each i few)
 
       -- so is the word that is read behind the corner of a walk
       word_seen : (w : Walk) (n : ℕ) → IsWalk automaton pos friend t w → n ≤ offset_count

@@ -1,7 +1,7 @@
 -- What is seen along the spiral, letter by letter.
 use Rattle.std.proofs.Common.{◌≡◌, ℕ, zero, suc, ◌+◌, ◌<◌, ◌≤◌, [], ◌∷◌, ◌++◌, length, refl, sym, ap, ◌∙◌, arith}
 use Rattle.dfa_core.specs.declared.automaton.Seen.{Seen}
-use Rattle.dfa_match.specs.Sights.{word_from}
+use Rattle.dfa_match.specs.SeenLetters.{word_from}
 
 module _ (seen : ℕ → Seen) where
   -- a word begins with what is seen at its first index

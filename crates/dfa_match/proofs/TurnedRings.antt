@@ -10,7 +10,7 @@ use Rattle.dfa_shortcuts.specs.Openings.{opening_letters, word_number}
 use Rattle.dfa_match.specs.declared.rings.Ring.{Ring}
 use Rattle.dfa_match.specs.declared.walks.Walk.{Walk}
 use Rattle.dfa_match.specs.Rings.{ring_letters, letters_around, ring_of, ring_under, turned_number}
-use Rattle.dfa_match.specs.Sights.{word_from}
+use Rattle.dfa_match.specs.SeenLetters.{word_from}
 use Rattle.dfa_match.specs.Steps.{step_by, no_step, AreSteps}
 use Rattle.dfa_match.specs.Walks.{word_behind}
 use Rattle.dfa_match.proofs.SeenWords.{word_from-suc, word_from-same}

@@ -12,7 +12,7 @@ use Rattle.match_rules.proofs.Lists.{Contains-filter_from, Contains-below_from}
 use Rattle.dfa_core.specs.Automata.{Row, accepted}
 use Rattle.dfa_match.specs.declared.Hit.{Hit}
 use Rattle.dfa_match.specs.declared.walks.Walk.{Walk}
-use Rattle.dfa_match.specs.Sights.{word_at}
+use Rattle.dfa_match.specs.SeenLetters.{word_at}
 use Rattle.dfa_match.specs.Hits.{IsHit, AreHits, AreHitsBefore, nothing_read}
 use Rattle.dfa_match.specs.Walks.{first_walks_of, AreWalks}
 use Rattle.dfa_match.proofs.SeenWalks.{first_letters}

@@ -16,10 +16,10 @@ use Rattle.dfa_core.specs.declared.automaton.Seen.{Seen}
 use Rattle.dfa_core.specs.Fits.{drawn_admits, drawn_along, admits, is_drawn, refuted_from, length_below, pattern_length}
 use Rattle.dfa_core.specs.States.{is_matched}
 use Rattle.dfa_core.proofs.Lengths.{length_below-drawn, length_below-blank}
-use Rattle.dfa_match.specs.Sights.{seen_at, seen_at_place, word_from, word_at}
+use Rattle.dfa_match.specs.SeenLetters.{seen_at, seen_at_place, word_from, word_at}
 use Rattle.dfa_match.specs.Fitting.{FitsAt}
 use Rattle.dfa_match.proofs.SeenWords.{word_from-suc, word_from-zero, word_length}
-use Rattle.dfa_match.proofs.AdmittedSights.{fits_seen}
+use Rattle.dfa_match.proofs.AdmittedLetters.{fits_seen}
 use Rattle.dfa_core.proofs.Bounds.{drawn_near}
 
 module _ (p : Pattern) (seen : ℕ → Seen) where

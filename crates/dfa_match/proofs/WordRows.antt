@@ -8,7 +8,7 @@ use Rattle.dfa_core.specs.declared.automaton.Seen.{Seen}
 use Rattle.dfa_core.specs.Automata.{Row, row_at, step_at, reach, reach_from, accepted, IsDead}
 use Rattle.dfa_core.specs.Words.{Word}
 use Rattle.dfa_core.proofs.Walks.{reach_from-push, reach_from-append, reach_from-dead}
-use Rattle.dfa_match.specs.Sights.{seen_at, word_from, word_at}
+use Rattle.dfa_match.specs.SeenLetters.{seen_at, word_from, word_at}
 use Rattle.dfa_match.specs.Walks.{row_after}
 use Rattle.dfa_match.proofs.SeenWords.{word_split, word_from-zero, word_from-suc}
 

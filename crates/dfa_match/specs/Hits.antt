@@ -6,7 +6,7 @@ use Rattle.go_rules.specs.Position.{BoardState}
 use Rattle.go_rules.specs.Transform.{transformations}
 use Rattle.dfa_core.specs.Automata.{Row, accepted, AreDistinct}
 use Rattle.dfa_match.specs.declared.Hit.{Hit}
-use Rattle.dfa_match.specs.Sights.{word_at}
+use Rattle.dfa_match.specs.SeenLetters.{word_at}
 
 -- the hits of the patterns with these numbers, at the anchor m under t
 abbrev pub hits_at : ℕ → ℕ → List ℕ → List Hit

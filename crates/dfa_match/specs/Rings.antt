@@ -8,7 +8,7 @@ use Rattle.dfa_core.specs.Words.{Word}
 use Rattle.dfa_shortcuts.specs.Openings.{word_number}
 use Rattle.dfa_match.specs.declared.rings.Ring.{Ring}
 use Rattle.dfa_match.specs.declared.walks.Walk.{Walk}
-use Rattle.dfa_match.specs.Sights.{word_from}
+use Rattle.dfa_match.specs.SeenLetters.{word_from}
 use Rattle.dfa_match.specs.Steps.{step_by}
 
 -- how many letters stand around an anchor, in the first ring of the spiral

@@ -4,7 +4,7 @@ use Rattle.std.specs.Prelude.{slice_index_or}
 use Rattle.go_rules.specs.Board.{largest_size}
 use Rattle.go_rules.specs.Transform.{Offset, largest_offset, transformations, transformed}
 use Rattle.spiral.specs.Spiral.{offset_count, offset_at}
-use Rattle.dfa_match.specs.Sights.{padded_side}
+use Rattle.dfa_match.specs.SeenLetters.{padded_side}
 use Rattle.dfa_match.specs.declared.cursor.Cursor.{Cursor}
 
 -- the index at which the square of all offsets around the point m of a board of size s begins

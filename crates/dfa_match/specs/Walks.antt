@@ -16,7 +16,7 @@ use Rattle.dfa_shortcuts.specs.Openings.{opening_letters, unknown, word_number}
 use Rattle.dfa_match.specs.declared.Hit.{Hit}
 use Rattle.dfa_match.specs.declared.walks.Walk.{Walk}
 use Rattle.dfa_match.specs.Hits.{hits_at}
-use Rattle.dfa_match.specs.Sights.{word_at, word_from}
+use Rattle.dfa_match.specs.SeenLetters.{word_at, word_from}
 use Rattle.dfa_match.specs.Steps.{corner_at, anchor_at_corner, last_corner, no_step}
 
 -- the point from which a walk on a board of size s began

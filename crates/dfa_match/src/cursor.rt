@@ -2,7 +2,7 @@
 ghost use Rattle.std.specs.Prelude.{◌≡◌, ℕ, ◌+◌, ◌<◌, ◌≤◌};
 ghost use Rattle.dfa_match.specs.Steps.{anchor_at_corner, cursor_at, last_corner};
 
-use crate::sights::SIDE;
+use crate::padded_board::SIDE;
 use go_base::{Point, Size};
 
 /// Where a point of a board stands. The cursor at the next point is found without a division.

@@ -3,7 +3,7 @@
 ghost use Rattle.std.specs.Prelude.{◌≡◌, ◌↔◌, true, List, ℕ};
 ghost use Rattle.go_rules.specs.Position.{BoardState};
 ghost use Rattle.dfa_core.specs.Automata.{Row};
-ghost use Rattle.dfa_match.specs.Sights.{word_at};
+ghost use Rattle.dfa_match.specs.SeenLetters.{word_at};
 ghost use Rattle.go_rules.specs.declared.Colour.{Colour as ColourSeen};
 ghost use Rattle.pat_types.specs.declared.pattern.Pattern.{Pattern};
 ghost use Rattle.dfa_core.specs.Fits.{pattern_length};

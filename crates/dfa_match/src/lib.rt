@@ -13,7 +13,7 @@
 ghost use Rattle.std.specs.Prelude.{◌≡◌, ◌+◌, ◌<◌, ◌++◌, [], map, All, IfOk, OnOk};
 ghost use Rattle.go_rules.specs.Position.{BoardState};
 ghost use Rattle.go_rules.specs.Transform.{transformations};
-ghost use Rattle.dfa_match.specs.Sights.{AreSights};
+ghost use Rattle.dfa_match.specs.SeenLetters.{IsPaddedBoard};
 ghost use Rattle.go_rules.specs.declared.Colour.{Colour as ColourSeen};
 ghost use Rattle.dfa_shortcuts.specs.Openings.{AreOpenings};
 ghost use Rattle.dfa_shortcuts.specs.Shortcuts.{AreShortcuts};
@@ -24,14 +24,14 @@ ghost use Rattle.dfa_match.specs.Walks.{IsStanding, first_walks_of, second_walks
 
 mod cursor;
 pub mod laws;
+mod padded_board;
 mod rings;
 mod scanner;
-mod sights;
 mod steps;
 mod walks;
 
+use crate::padded_board::PaddedBoard;
 use crate::rings::{Ring, rings};
-use crate::sights::Sights;
 use crate::steps::steps_under;
 use crate::walks::{
     Walk, drop_ended, first_walks, give_all, give_start, opened_walks, read_letters, second_walks,
@@ -77,7 +77,7 @@ const PASSES: u16 = 4;
 fn sweep(
     automaton: &Automaton,
     shortcuts: &Shortcuts,
-    sights: &Sights,
+    padded: &PaddedBoard,
     steps: &[u16],
     t: Transform,
     first: &[Walk],
@@ -89,23 +89,23 @@ fn sweep(
     requires openings { AreOpenings automaton.now shortcuts.now.openings.items }
     requires steps { AreSteps t steps.now }
     requires transform { t < transformations }
-    requires first { first.now ≡ first_walks_of automaton.now sights.now.size }
-    requires second { second.now ≡ second_walks_of automaton.now sights.now.letters sights.now.size }
-    requires rings { rings.now ≡ map (ring_of sights.now.letters) second.now }
+    requires first { first.now ≡ first_walks_of automaton.now padded.now.size }
+    requires second { second.now ≡ second_walks_of automaton.now padded.now.letters padded.now.size }
+    requires rings { rings.now ≡ map (ring_of padded.now.letters) second.now }
     requires standing { All (IsStanding automaton.now) first.now }
-    ensures ok { (at : BoardState) (friend : ColourSeen) → AreSights at friend sights.now.size sights.now.letters
+    ensures ok { (at : BoardState) (friend : ColourSeen) → IsPaddedBoard at friend padded.now.size padded.now.letters
         → AreHitsBefore automaton.now at friend t nothing_read out.old.items
         → OnOk result (AreHitsBefore automaton.now at friend (t + 1) nothing_read out.new.items) }
 {
     let _ = automaton.rows();
-    give_start(automaton, sights.size, t, first, out)?;
-    give_all(automaton, sights.size, t, second, out)?;
-    let mut walks = opened_walks(*out.allocator(), shortcuts, sights, t, second, rings)?;
+    give_start(automaton, padded.size, t, first, out)?;
+    give_all(automaton, padded.size, t, second, out)?;
+    let mut walks = opened_walks(*out.allocator(), shortcuts, padded, t, second, rings)?;
     'letters: for pass in 0..OFFSETS {
         if walks.is_empty() {
             return Ok(());
         }
-        read_letters(automaton, shortcuts, sights, steps, t, &mut walks, out)?;
+        read_letters(automaton, shortcuts, padded, steps, t, &mut walks, out)?;
         if pass % PASSES == PASSES - 1 {
             drop_ended(&mut walks);
         }
@@ -132,17 +132,17 @@ pub fn scan<L: Look>(
     } = scanner;
     let _ = automaton.rows();
     let mut out = out;
-    let sights = Sights::of(look, friend);
-    let first = first_walks(*out.allocator(), automaton, sights.size)?;
-    let second = second_walks(*out.allocator(), automaton, &sights, &first)?;
+    let padded = PaddedBoard::of(look, friend);
+    let first = first_walks(*out.allocator(), automaton, padded.size)?;
+    let second = second_walks(*out.allocator(), automaton, &padded, &first)?;
     let plain = steps_under(steps, Transform::new(0).unwrap());
     let mirrored = steps_under(steps, Transform::new(4).unwrap());
-    let rings = rings(*out.allocator(), &sights, plain, mirrored, &second)?;
+    let rings = rings(*out.allocator(), &padded, plain, mirrored, &second)?;
     'transforms: for n in 0..TRANSFORMATIONS {
         if let Some(t) = Transform::new(n) {
             let under = steps_under(steps, t);
             sweep(
-                automaton, shortcuts, &sights, under, t, &first, &second, &rings, &mut out,
+                automaton, shortcuts, &padded, under, t, &first, &second, &rings, &mut out,
             )?;
         }
     }

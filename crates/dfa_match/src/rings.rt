@@ -12,7 +12,7 @@ ghost use Rattle.dfa_match.specs.Steps.{last_corner, no_step, AreSteps};
 ghost use Rattle.dfa_match.specs.Walks.{word_behind};
 ghost use Rattle.dfa_match.specs.declared.walks.Walk.{Walk as WalkThere};
 
-use crate::sights::Sights;
+use crate::padded_board::PaddedBoard;
 use crate::walks::Walk;
 use dfa_core::Seen;
 use dfa_shortcuts::OPENING_LETTERS;
@@ -62,14 +62,14 @@ impl Ring {
 }
 
 /// The number of the ring that is read by `steps` around the anchor whose square begins at `corner`.
-fn ring_number(sights: &Sights, steps: &[u16], corner: u16) -> u16
+fn ring_number(padded: &PaddedBoard, steps: &[u16], corner: u16) -> u16
     requires corner { corner ≤ last_corner }
     requires steps { (t : ℕ) × AreSteps t steps.now }
-    ensures { (t : ℕ) → AreSteps t steps.now → result ≡ word_number (letters_around sights.now.letters t corner) }
+    ensures { (t : ℕ) → AreSteps t steps.now → result ≡ word_number (letters_around padded.now.letters t corner) }
 {
     let mut number = 0;
     'letters: for place in 0..RING_LETTERS {
-        number = 4 * number + sights.letter(corner, steps[1 + place]) as u16;
+        number = 4 * number + padded.letter(corner, steps[1 + place]) as u16;
     }
     number
 }
@@ -78,7 +78,7 @@ fn ring_number(sights: &Sights, steps: &[u16], corner: u16) -> u16
 /// transformations 0 and 4. Takes memory.
 pub fn rings(
     alloc: Global,
-    sights: &Sights,
+    padded: &PaddedBoard,
     plain: &[u16],
     mirrored: &[u16],
     walks: &[Walk],
@@ -86,13 +86,13 @@ pub fn rings(
     requires corners { All (λ w. w.corner ≤ last_corner) walks.now }
     requires plain { AreSteps 0 plain.now }
     requires mirrored { AreSteps 4 mirrored.now }
-    ensures { IfOk result (λ rings. rings.items ≡ map (ring_of sights.now.letters) walks.now) }
+    ensures { IfOk result (λ rings. rings.items ≡ map (ring_of padded.now.letters) walks.now) }
 {
     let mut rings = Vec::with_capacity(alloc, walks.len())?;
     'walks: for walk in walks {
         rings.push(Ring {
-            plain: ring_number(sights, plain, walk.corner),
-            mirrored: ring_number(sights, mirrored, walk.corner),
+            plain: ring_number(padded, plain, walk.corner),
+            mirrored: ring_number(padded, mirrored, walk.corner),
         })?;
     }
     Ok(rings)

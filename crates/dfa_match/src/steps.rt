@@ -2,7 +2,7 @@
 ghost use Rattle.std.specs.Prelude.{IfOk, OnOk};
 ghost use Rattle.dfa_match.specs.Steps.{step_count, AreSteps, AreAllSteps, AreStepsBehind};
 
-use crate::sights::step_of;
+use crate::padded_board::step_of;
 use go_base::transform::TRANSFORMATIONS;
 use go_base::{NoMemory, Transform};
 use spiral::{OFFSETS, following};

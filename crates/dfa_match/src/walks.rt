@@ -10,8 +10,8 @@ ghost use Rattle.dfa_match.specs.Walks.{first_walks_of, after_anchor, after_open
 ghost use Rattle.dfa_match.specs.Walks.{anchor_of, given_at, hits_of, IsStanding};
 
 use crate::cursor::{Cursor, anchor_at};
+use crate::padded_board::PaddedBoard;
 use crate::rings::{Ring, opening_number};
-use crate::sights::Sights;
 use crate::{Hit, add};
 use dfa_core::{Automaton, RowKind, entry_at, row_in};
 use dfa_shortcuts::{OPENING_LETTERS, Shortcuts, is_accepting, is_dead, shortcut};
@@ -72,12 +72,12 @@ pub fn first_walks(alloc: Global, automaton: &Automaton, size: Size) -> Result<V
 }
 
 /// The walk after the letter of its anchor.
-fn behind_anchor(automaton: &Automaton, sights: &Sights, walk: Walk) -> Walk
+fn behind_anchor(automaton: &Automaton, padded: &PaddedBoard, walk: Walk) -> Walk
     requires standing { IsStanding automaton.now walk }
-    ensures { result ≡ after_anchor automaton.now sights.now.letters walk }
+    ensures { result ≡ after_anchor automaton.now padded.now.letters walk }
 {
     let _ = automaton.rows();
-    let letter = sights.anchor(walk.corner);
+    let letter = padded.anchor(walk.corner);
     Walk {
         entry: entry_at(automaton.entries(), row_in(walk.entry), letter),
         letters: 1,
@@ -90,16 +90,16 @@ fn behind_anchor(automaton: &Automaton, sights: &Sights, walk: Walk) -> Walk
 pub fn second_walks(
     alloc: Global,
     automaton: &Automaton,
-    sights: &Sights,
+    padded: &PaddedBoard,
     first: &[Walk],
 ) -> Result<Vec<Walk>, NoMemory>
     requires { All (IsStanding automaton.now) first.now }
     ensures { IfOk result (λ walks. walks.items
-        ≡ filter goes_on (map (after_anchor automaton.now sights.now.letters) first.now)) }
+        ≡ filter goes_on (map (after_anchor automaton.now padded.now.letters) first.now)) }
 {
     let mut walks = Vec::with_capacity(alloc, first.len())?;
     'walks: for walk in first {
-        let next = behind_anchor(automaton, sights, *walk);
+        let next = behind_anchor(automaton, padded, *walk);
         if next.goes_on() {
             walks.push(next)?;
         }
@@ -111,17 +111,17 @@ pub fn second_walks(
 #[inline(always)]
 fn behind_opening(
     shortcuts: &Shortcuts,
-    sights: &Sights,
+    padded: &PaddedBoard,
     ring: Ring,
     t: Transform,
     walk: Walk,
 ) -> Walk
     requires corner { walk.corner ≤ last_corner }
-    requires ring { ring ≡ ring_of sights.now.letters walk }
+    requires ring { ring ≡ ring_of padded.now.letters walk }
     ensures { (steps : List ℕ) → AreSteps t steps
-        → result ≡ after_opening shortcuts.now.openings.items steps sights.now.letters walk }
+        → result ≡ after_opening shortcuts.now.openings.items steps padded.now.letters walk }
 {
-    match shortcuts.opening(opening_number(sights.anchor(walk.corner), ring, t)) {
+    match shortcuts.opening(opening_number(padded.anchor(walk.corner), ring, t)) {
         Some(entry) => Walk {
             entry,
             letters: OPENING_LETTERS as u16,
@@ -136,20 +136,20 @@ fn behind_opening(
 #[inline(never)]
 fn open_all(
     shortcuts: &Shortcuts,
-    sights: &Sights,
+    padded: &PaddedBoard,
     t: Transform,
     rings: &[Ring],
     walks: &mut [Walk],
 ) -> usize
     requires corners { All (λ w. w.corner ≤ last_corner) walks.old }
-    requires rings { rings.now ≡ map (ring_of sights.now.letters) walks.old }
+    requires rings { rings.now ≡ map (ring_of padded.now.letters) walks.old }
     ensures left { (steps : List ℕ) → AreSteps t steps → take result walks.new ≡ filter goes_on
-        (map (after_opening shortcuts.now.openings.items steps sights.now.letters) walks.old) }
+        (map (after_opening shortcuts.now.openings.items steps padded.now.letters) walks.old) }
     ensures few { result ≤ length walks.new }
 {
     let mut left = 0;
     'walks: for index in 0..walks.len() {
-        let next = behind_opening(shortcuts, sights, rings[index], t, walks[index]);
+        let next = behind_opening(shortcuts, padded, rings[index], t, walks[index]);
         walks[left].set(next);
         left += next.goes_on() as usize;
     }
@@ -161,19 +161,19 @@ fn open_all(
 pub fn opened_walks(
     alloc: Global,
     shortcuts: &Shortcuts,
-    sights: &Sights,
+    padded: &PaddedBoard,
     t: Transform,
     second: &[Walk],
     rings: &[Ring],
 ) -> Result<Vec<Walk>, NoMemory>
     requires corners { All (λ w. w.corner ≤ last_corner) second.now }
-    requires rings { rings.now ≡ map (ring_of sights.now.letters) second.now }
+    requires rings { rings.now ≡ map (ring_of padded.now.letters) second.now }
     ensures { (steps : List ℕ) → AreSteps t steps → IfOk result (λ walks. walks.items ≡ filter goes_on
-        (map (after_opening shortcuts.now.openings.items steps sights.now.letters) second.now)) }
+        (map (after_opening shortcuts.now.openings.items steps padded.now.letters) second.now)) }
 {
     let mut walks = Vec::new(alloc);
     walks.extend_from_slice(second)?;
-    let left = open_all(shortcuts, sights, t, rings, &mut walks);
+    let left = open_all(shortcuts, padded, t, rings, &mut walks);
     walks.truncate(left);
     Ok(walks)
 }
@@ -262,7 +262,7 @@ pub fn give_start(
 fn read_on(
     entries: &[u32],
     passed: &[u8],
-    sights: &Sights,
+    padded: &PaddedBoard,
     steps: &[u16],
     walks: &mut [Walk],
 ) -> u32
@@ -271,13 +271,13 @@ fn read_on(
     requires corners { All (λ w. w.corner ≤ last_corner) walks.old }
     requires letters { All (λ w. w.letters < step_count) walks.old }
     requires steps { (t : ℕ) × AreSteps t steps.now }
-    ensures value { walks.new ≡ map (after_letters entries.now passed.now steps.now sights.now.letters) walks.old }
+    ensures value { walks.new ≡ map (after_letters entries.now passed.now steps.now padded.now.letters) walks.old }
     ensures few { (n : ℕ) → All (λ w. w.letters < n) walks.old → All (λ w. w.letters < n + 256) walks.new }
     ensures silent { result % 2 ≡ 0 → All (λ w. is_accepting_entry w.entry ≡ false) walks.new }
 {
     let mut met = 0;
     'walks: for walk in walks.iter_mut() {
-        let letter = sights.letter(walk.corner, steps[walk.letters as usize]);
+        let letter = padded.letter(walk.corner, steps[walk.letters as usize]);
         let (entry, more) = shortcut(entries, passed, row_in(walk.entry), letter);
         walk.entry = entry;
         walk.letters += 1 + more as u16;
@@ -291,7 +291,7 @@ fn read_on(
 pub fn read_letters(
     automaton: &Automaton,
     shortcuts: &Shortcuts,
-    sights: &Sights,
+    padded: &PaddedBoard,
     steps: &[u16],
     t: Transform,
     walks: &mut Vec<Walk>,
@@ -302,16 +302,16 @@ pub fn read_letters(
     requires standing { All (IsStanding automaton.now) walks.old.items }
     requires letters { All (λ w. w.letters < step_count) walks.old.items }
     ensures walks { walks.new.items ≡ map (after_letters shortcuts.now.entries.items shortcuts.now.passed.items
-        steps.now sights.now.letters) walks.old.items }
+        steps.now padded.now.letters) walks.old.items }
     ensures few { (n : ℕ) → All (λ w. w.letters < n) walks.old.items → All (λ w. w.letters < n + 256) walks.new.items }
-    ensures hits { OnOk result (out.new.items ≡ out.old.items ++ hits_of automaton.now sights.now.size t
-        (map (after_letters shortcuts.now.entries.items shortcuts.now.passed.items steps.now sights.now.letters)
+    ensures hits { OnOk result (out.new.items ≡ out.old.items ++ hits_of automaton.now padded.now.size t
+        (map (after_letters shortcuts.now.entries.items shortcuts.now.passed.items steps.now padded.now.letters)
         walks.old.items)) }
 {
     let _ = automaton.rows();
-    let met = read_on(&shortcuts.entries, &shortcuts.passed, sights, steps, walks);
+    let met = read_on(&shortcuts.entries, &shortcuts.passed, padded, steps, walks);
     if met % 2 != 0 {
-        return give_all(automaton, sights.size, t, walks, out);
+        return give_all(automaton, padded.size, t, walks, out);
     }
     Ok(())
 }

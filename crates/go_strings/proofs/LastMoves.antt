@@ -4,14 +4,14 @@ use Rattle.std.proofs.lemmas.List.{same_from_push}
 use Rattle.go_rules.specs.declared.Move.{Move}
 use Rattle.go_rules.specs.Replay.{taken_by, replay_from}
 use Rattle.go_strings.specs.declared.board.StringBoard.TheInside.{Inside}
-use Rattle.go_strings.specs.declared.standing.Past.{Past}
+use Rattle.go_strings.specs.declared.standing.KeptMove.{KeptMove}
 use Rattle.go_strings.specs.Games.{BoardGame, game_of, moves_of, moment_of, IsStringBoard}
 use Rattle.go_strings.proofs.NoteTrails.{last_split}
 use Rattle.go_strings.proofs.LeadingMoves.{trail_taken, moves_push}
 
 -- the last move of the trail is the last of the game, and took as many stones as it says
-pub last_taken_is : (a : Inside) (game : BoardGame) (n : ℕ) (v : Past) (moves : List Move) (m : Move) → IsStringBoard a
-    → game_of a ≡ game → n ≡ length a.past.items → (n ≡ 0 → ⊥) → v ≡ get_or a.past.items (n - 1) v
+pub last_taken_is : (a : Inside) (game : BoardGame) (n : ℕ) (v : KeptMove) (moves : List Move) (m : Move)
+    → IsStringBoard a → game_of a ≡ game → n ≡ length a.past.items → (n ≡ 0 → ⊥) → v ≡ get_or a.past.items (n - 1) v
     → game.moves ≡ moves ++ m ∷ [] → v.taken ≡ taken_by (replay_from game.base moves) m.colour m.at
 last_taken_is a game n v moves m kept view long some read is =
     let vs = take (n - 1) a.past.items in

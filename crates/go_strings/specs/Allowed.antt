@@ -3,7 +3,7 @@ use Rattle.std.specs.Prelude.{◌≡◌, ℕ, slice_set, Ok}
 use Rattle.go_rules.specs.declared.Colour.{Colour}
 use Rattle.go_rules.specs.Play.{play, taken_at, cells_after, ban_after}
 use Rattle.go_rules.specs.Position.{stone_of}
-use Rattle.go_strings.specs.declared.gather.Met.{Met}
+use Rattle.go_strings.specs.declared.gather.MetStrings.{MetStrings}
 use Rattle.go_strings.specs.declared.standing.Standing.{Standing}
 use Rattle.go_strings.specs.Changes.{IsOf}
 use Rattle.go_strings.specs.Puts.{Puts}
@@ -12,7 +12,7 @@ use Rattle.go_strings.specs.Trails.{position_in}
 
 -- c may play at the empty point p: met.own is the string of its stone once it is put, with the liberties before any
 -- stone is taken, and met.taken are the stones that it takes
-pub record IsAllowed (now : Standing) (c : Colour) (p : ℕ) (met : Met) : Type 0 where
+pub record IsAllowed (now : Standing) (c : Colour) (p : ℕ) (met : MetStrings) : Type 0 where
   pub put : Puts now.board.size (cells_of now.board) c p
   pub own : IsOf now.board.size (slice_set (cells_of now.board) p (stone_of c)) p met.own
   pub taken : met.taken ≡ taken_at now.board.size (slice_set (cells_of now.board) p (stone_of c)) c

@@ -9,14 +9,19 @@ ghost use Rattle.go_strings.specs.Trails.{position_in};
 ghost use Rattle.go_strings.specs.Allowed.{IsAllowed};
 
 use crate::bit_set::BitSet;
-use crate::gather::{Met, cell_on, gather};
+use crate::gather::{MetStrings, cell_on, gather};
 use crate::standing::Standing;
 use crate::strings::KeptString;
 use go_base::ban::is_banned;
 use go_base::{Cell, Colour, Illegal, Point};
 
 /// What a play of `c` at `p` meets, or the first of `Occupied`, `Ko` and `Suicide` that forbids the play.
-pub fn judge(now: &Standing, strings: &[KeptString], c: Colour, p: Point) -> Result<Met, Illegal>
+pub fn judge(
+    now: &Standing,
+    strings: &[KeptString],
+    c: Colour,
+    p: Point,
+) -> Result<MetStrings, Illegal>
     requires stands { Stands now.now.board now.now.names strings.now }
     requires holds { HoldsWith now.now.board now.now.ban }
     requires on_board { p < now.now.board.size * now.now.board.size }

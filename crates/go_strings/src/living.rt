@@ -11,7 +11,7 @@ ghost use Rattle.go_strings.specs.Trails.{position_in};
 
 use crate::gather::{cell_on, is_only};
 use crate::standing::Standing;
-use crate::strings::{KeptString, Names};
+use crate::strings::{KeptString, StringNames};
 use go_base::ban::is_banned;
 use go_base::sides::neighbour;
 use go_base::view::Flat;
@@ -22,7 +22,7 @@ use go_base::{Cell, Colour, Point};
 #[inline(always)]
 fn gives_life(
     board: &Flat,
-    names: &Names,
+    names: &StringNames,
     strings: &[KeptString],
     c: Colour,
     p: Point,
@@ -49,7 +49,7 @@ fn gives_life(
 }
 
 /// Whether a stone of `c` at the empty point `p` would have a liberty or take a stone.
-fn is_alive(board: &Flat, names: &Names, strings: &[KeptString], c: Colour, p: Point) -> bool
+fn is_alive(board: &Flat, names: &StringNames, strings: &[KeptString], c: Colour, p: Point) -> bool
     requires stands { Stands board.now names.now strings.now }
     requires put { Puts board.now.size (cells_of board.now) c p }
     ensures yes { result ≡ true → IsAlive board.now.size (cells_of board.now) c p }

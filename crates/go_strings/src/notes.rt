@@ -11,7 +11,7 @@ ghost use Rattle.go_strings.specs.Notes.{cells_before, names_before, IsNoted};
 ghost use Rattle.go_strings.specs.Stands.{cells_of, IsBoard};
 
 use crate::bit_set::BitSet;
-use crate::strings::Names;
+use crate::strings::StringNames;
 use go_base::size::MAX_POINTS;
 use go_base::view::Flat;
 use go_base::{Cell, NoMemory, Point};
@@ -31,7 +31,12 @@ pub struct Note {
 }
 
 /// Notes the cell and the name that `p` has.
-fn keep_note(board: &Flat, names: &Names, notes: &mut Vec<Note>, p: Point) -> Result<(), NoMemory>
+fn keep_note(
+    board: &Flat,
+    names: &StringNames,
+    notes: &mut Vec<Note>,
+    p: Point,
+) -> Result<(), NoMemory>
     requires { p < largest_points }
     ensures ok { OnOk result (notes.new.items ≡ notes.old.items ++ record {
       at = p;
@@ -54,7 +59,7 @@ fn keep_note(board: &Flat, names: &Names, notes: &mut Vec<Note>, p: Point) -> Re
 /// Puts `cell` on `p`, and notes what `p` had before.
 pub fn put_cell(
     board: &mut Flat,
-    names: &Names,
+    names: &StringNames,
     notes: &mut Vec<Note>,
     p: Point,
     cell: Cell,
@@ -74,7 +79,7 @@ pub fn put_cell(
 /// Gives each point of `stones` the name `name`, and notes what it had before.
 pub fn rename_noted(
     board: &Flat,
-    names: &mut Names,
+    names: &mut StringNames,
     notes: &mut Vec<Note>,
     stones: &BitSet,
     name: u32,
@@ -92,7 +97,7 @@ pub fn rename_noted(
 }
 
 /// Gives the point of `note` its noted cell and name back.
-fn put_back(cells: &mut Cells, names: &mut Names, note: Note)
+fn put_back(cells: &mut Cells, names: &mut StringNames, note: Note)
     ensures cells { cells.new ≡ slice_set cells.old note.at note.cell }
     ensures names { names.new ≡ slice_set names.old note.at note.name }
 {
@@ -103,7 +108,7 @@ fn put_back(cells: &mut Cells, names: &mut Names, note: Note)
 }
 
 /// Takes back all notes but the first `mark`, the last one first.
-pub fn unwind(board: &mut Flat, names: &mut Names, notes: &mut Vec<Note>, mark: usize)
+pub fn unwind(board: &mut Flat, names: &mut StringNames, notes: &mut Vec<Note>, mark: usize)
     ensures board { board.new
         ≡ record { size = board.old.size; cells = cells_before (drop mark notes.old.items) board.old.cells } }
     ensures names { names.new ≡ names_before (drop mark notes.old.items) names.old }

@@ -8,7 +8,7 @@
 #![tactic(auto)]
 
 ghost use Rattle.std.specs.Prelude.{◌≡◌, None, IfSome};
-ghost use Rattle.match_doors.specs.Matching.{matching_of, closed_reply, Answers};
+ghost use Rattle.match_doors.specs.Matching.{matching_of, closed_reply, AnswersWithMatches};
 ghost use Rattle.gopat_matches_c.specs.Opened.{IsOpened};
 
 mod handle;
@@ -50,7 +50,7 @@ pub extern "C" fn gopat_matches(
     ensures closed { patterns.old.slot.held ≡ None → result ≡ closed_reply }
     ensures unwritten { patterns.old.slot.held ≡ None → found.new ≡ found.old }
     ensures answers { IfSome patterns.old.slot.held (λ list.
-        Answers (matching_of list board colour depths) found.old found.new result) }
+        AnswersWithMatches (matching_of list board colour depths) found.old found.new result) }
     ensures same { patterns.new.slot.held ≡ patterns.old.slot.held }
 {
     match patterns.take(alloc) {

@@ -1,3 +1,3 @@
 pub mod AsBox
-mod Told
+mod HeldAnswers
 mod Unopened

@@ -9,7 +9,7 @@ use Rattle.session_doors.specs.declared.lines.LineFault.{LineFault}
 use Rattle.session_doors.specs.declared.opening.OpenFault.{OpenFault}
 use Rattle.session_doors.specs.declared.options.SessionOptions.{SessionOptions}
 use Rattle.session_doors.specs.declared.replies.LineReply.{LineReply}
-use Rattle.session_doors.specs.Answered.{Answers, has_feed, IsFaultOf}
+use Rattle.session_doors.specs.Answered.{AnswersText, has_feed, IsFaultOf}
 use Rattle.session_doors.specs.Opened.{IsOpened, Refuses}
 use Rattle.session_doors.specs.Replies.{line_reply, fault_reply, refused_reply}
 
@@ -28,7 +28,7 @@ Opens text options reply None = (fault : OpenFault) × Refuses text options faul
 -- room for them; or the text is not one line, or memory ran out, and nothing changed.
 pub data HasAnswered (old : HeldSession) (text : List ℕ) (held : Option HeldSession) (before after : List ℕ)
     (reply : LineReply) : Type 0 where
-  answered : (new : HeldSession) → held ≡ Some new → Answers old text new → has_feed text ≡ false
+  answered : (new : HeldSession) → held ≡ Some new → AnswersText old text new → has_feed text ≡ false
       → reply ≡ line_reply new.reply (length before) → after ≡ printed_over (reply_bytes new.reply) before
       → HasAnswered old text held before after reply
   unanswered : (fault : LineFault) → held ≡ Some old → IsFaultOf text fault → reply ≡ fault_reply fault

@@ -2,7 +2,7 @@
 ghost use Rattle.std.specs.Prelude.{◌≡◌, Bool, List, Option, ℕ, is_err};
 ghost use Rattle.std.specs.Io.{ReadsAtMost};
 ghost use Rattle.std.specs.Io.KnownBytes.{ReadConsumes};
-ghost use Rattle.gtp_io.specs.Outside.{IsCounted, Gave};
+ghost use Rattle.gtp_io.specs.Outside.{IsCounted, GaveBytes};
 
 use crate::Failed;
 
@@ -26,7 +26,7 @@ pub trait Source {
     fn next(&mut self, buf: &mut [u8]) -> Result<usize, Failed>
         ensures bound { ReadsAtMost result buf.new }
         ensures bytes { ReadConsumes (left self.old) (left self.new) result buf.new }
-        ensures piece { Gave (piece self.new) result }
+        ensures piece { GaveBytes (piece self.new) result }
         ensures cause { IsCounted (faults self.old) (faults self.new) result }
         ensures last { failed self.new ≡ is_err result };
 }

@@ -3,7 +3,7 @@ use Rattle.std.proofs.Common.{◌≡◌, ℕ, ◌<◌, Bool, true, false, List, 
 use Rattle.std.proofs.Common.{◌∙◌, append_assoc, append-nil, inl, arith, length-append}
 use Rattle.gtp_rules.specs.Lines.{RawLine}
 use Rattle.gtp_rules.specs.Steps.{Step}
-use Rattle.gtp_rules.specs.Transcript.{Answers, IsTotal, IsRun, IsTranscript, Cut}
+use Rattle.gtp_rules.specs.Transcript.{MayAnswer, IsTotal, IsRun, IsTranscript, Cut}
 
 module _ (M : Type 0) (step : M → RawLine → Step M → Type 0) where
   -- a run that has not ended, and one that goes on from its machine, are a run
@@ -26,7 +26,7 @@ module _ (M : Type 0) (step : M → RawLine → Step M → Type 0) where
 
   -- a cut in the first of some lines
   abbrev pub Cut-one : (from : M) (line : RawLine) (more lines : List RawLine) (part missing : List ℕ) (next : M)
-      (ends : Bool) → lines ≡ line ∷ more → Answers step from line (part ++ missing) next ends → 0 < length missing
+      (ends : Bool) → lines ≡ line ∷ more → MayAnswer step from line (part ++ missing) next ends → 0 < length missing
       → Cut step from lines part
   Cut-one from line more lines part missing next ends place answers proper = record {
     before = [];
@@ -119,7 +119,7 @@ module _ (M : Type 0) (step : M → RawLine → Step M → Type 0) where
 
   -- the line and those after it, from its reply on
   goes-on : IsTotal step → (mid next : M) (line : RawLine) (after : List RawLine) (part missing : List ℕ) (ends : Bool)
-      → 0 < length missing → Answers step mid line (part ++ missing) next ends
+      → 0 < length missing → MayAnswer step mid line (part ++ missing) next ends
       → (more : List ℕ) × (0 < length more) × IsTranscript step mid (line ∷ after) (part ++ more)
   goes-on total mid next line after part missing true proper answers = (
     missing,

@@ -18,8 +18,8 @@ MayGive given out new ends =
     ⊎ (IsOneOf given.fallbacks out new × (ends ≡ false))
 
 -- the line may be answered with out, and new is the machine after it; ends says whether the line ends the session
-abbrev pub Answers : {M : Type 0} → (M → RawLine → Step M → Type 0) → M → RawLine → List ℕ → M → Bool → Type 0
-Answers {M} step old line out new ends = (given : Step M) × step old line given × MayGive given out new ends
+abbrev pub MayAnswer : {M : Type 0} → (M → RawLine → Step M → Type 0) → M → RawLine → List ℕ → M → Bool → Type 0
+MayAnswer {M} step old line out new ends = (given : Step M) × step old line given × MayGive given out new ends
 
 -- for each machine and line the step gives something
 abbrev pub IsTotal : {M : Type 0} → (M → RawLine → Step M → Type 0) → Type 0
@@ -30,7 +30,7 @@ IsTotal {M} step = (old : M) (line : RawLine) → (given : Step M) × step old l
 abbrev pub IsRun : {M : Type 0} → (M → RawLine → Step M → Type 0) → M → List RawLine → List ℕ → M → Bool → Type 0
 IsRun step old [] out new ended = (out ≡ []) × (new ≡ old) × (ended ≡ false)
 IsRun {M} step old (line ∷ lines) out new ended =
-    (first : List ℕ) × (rest : List ℕ) × (mid : M) × (ends : Bool) × Answers step old line first mid ends
+    (first : List ℕ) × (rest : List ℕ) × (mid : M) × (ends : Bool) × MayAnswer step old line first mid ends
     × (out ≡ first ++ rest)
     × MatchBool ends ((rest ≡ []) × (new ≡ mid) × (ended ≡ true)) (IsRun step mid lines rest new ended)
 
@@ -57,6 +57,6 @@ pub record Cut {M : Type 0} (step : M → RawLine → Step M → Type 0) (first 
   pub ends : Bool
   pub place : lines ≡ before ++ line ∷ after
   pub answered : IsRun step first before whole mid false
-  pub reply : Answers step mid line (part ++ missing) next ends
+  pub reply : MayAnswer step mid line (part ++ missing) next ends
   pub proper : 0 < length missing
   pub out : put ≡ whole ++ part

@@ -11,7 +11,7 @@ use Rattle.pat_types.specs.declared.pattern.Item.{Item}
 use Rattle.helpers.specs.HelperStates.{SlotState, says_yes, after_asking}
 use Rattle.helpers.specs.Fields.{names_helper, helper_names}
 use Rattle.helpers.specs.Agreement.{all_say_yes, asks_of, raised, IsAskedFor}
-use Rattle.helpers.proofs.Names.{helper_names-append, helper_names-named, helper_names-other}
+use Rattle.helpers.proofs.HelperNames.{helper_names-append, helper_names-named, helper_names-other}
 use Rattle.helpers.proofs.Steps.{asked_for-again, asked_for-new, asked_for-stop}
 
 module _ (slots : List SlotState) (board : BoardState) (at : ℕ) (friend : Colour) (before : List Item) (item : Item)

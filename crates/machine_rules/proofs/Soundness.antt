@@ -19,7 +19,7 @@ use Rattle.match_engine.specs.HelperCalls.{plays_of}
 use Rattle.machine_rules.specs.Machine.{Machine, position_of}
 use Rattle.machine_rules.specs.Matcher.{Matcher}
 use Rattle.machine_rules.specs.Calls.{AreSameButCalls}
-use Rattle.machine_rules.specs.Effects.{Excuse, Effect, refused, told, growing, fallback, replied}
+use Rattle.machine_rules.specs.Effects.{Excuse, Effect, refused, succeeded, growing, fallback, replied}
 use Rattle.machine_rules.specs.Files.{Contents, IsContents}
 use Rattle.machine_rules.specs.Heard.{heard, bytes_in, word_at}
 use Rattle.machine_rules.specs.HelperCommands.{of_helper}
@@ -74,8 +74,8 @@ module _ (old : Machine) where
   }
 
   -- a success
-  told-kind : (result : List ℕ) (next : Machine) → IsKind old (told result next)
-  told-kind result next = record {
+  succeeded-kind : (result : List ℕ) (next : Machine) → IsKind old (succeeded result next)
+  succeeded-kind result next = record {
     refused = λ text none. absurd (let same : None ≡ Some text = none in cc);
     excuses = tt;
     ended = λ ends. absurd (let same : false ≡ true = ends in cc);
@@ -93,8 +93,8 @@ module _ (old : Machine) where
   cond-kind false x y first second = second
 
   -- a growing success
-  grown-kind : (result : List ℕ) (next : Machine) → IsKind old (growing old (told result next))
-  grown-kind result next = growing-kind (told result next) old refl (told-kind result next)
+  grown-kind : (result : List ℕ) (next : Machine) → IsKind old (growing old (succeeded result next))
+  grown-kind result next = growing-kind (succeeded result next) old refl (succeeded-kind result next)
 
   -- what is told of a stone
   stone-kind : (p : ℕ) (effect : Effect) → IsKind old effect → IsKind old (of_stone old p effect)
@@ -105,12 +105,12 @@ module _ (old : Machine) where
   -- a new size
   resized-kind : (size : Option ℕ) → IsKind old (resized old size)
   resized-kind None = refused-kind _
-  resized-kind (Some n) = told-kind [] _
+  resized-kind (Some n) = succeeded-kind [] _
 
   -- a move taken back
   taken_back-kind : (moves : List Move) → IsKind old (taken_back old moves)
   taken_back-kind [] = refused-kind _
-  taken_back-kind (move ∷ moves) = told-kind [] _
+  taken_back-kind (move ∷ moves) = succeeded-kind [] _
 
   -- a move
   played-kind : (move : Move) → IsKind old (played old move)
@@ -119,7 +119,7 @@ module _ (old : Machine) where
 
   -- a game record, or its fault
   recorded-kind : (found : Result BoardState FaultKind) → IsKind old (recorded old found)
-  recorded-kind (Ok board) = told-kind [] _
+  recorded-kind (Ok board) = succeeded-kind [] _
   recorded-kind (Err kind) = refused-kind _
 
   -- a file that is loaded
@@ -132,12 +132,13 @@ module _ (old : Machine) where
 
   -- a printed proof
   proved-kind : (kind : Kind) (p : ℕ) → IsKind old (proved old kind p)
-  proved-kind kind p = stone-kind p _ (growing-kind _ old refl (cond-kind _ _ _ (told-kind _ old) (refused-kind _)))
+  proved-kind kind p = stone-kind p _ (growing-kind _ old refl
+      (cond-kind _ _ _ (succeeded-kind _ old) (refused-kind _)))
 
   -- a connection
   linked-kind : (kind : LinkKind) (a b : ℕ) → IsKind old (linked old kind a b)
   linked-kind kind a b =
-      stone-kind a _ (stone-kind b _ (cond-kind _ _ _ (told-kind _ old) (refused-kind _)))
+      stone-kind a _ (stone-kind b _ (cond-kind _ _ _ (succeeded-kind _ old) (refused-kind _)))
 
   -- what is done of a helper
   helper-kind : (name : List ℕ) (effect : Effect) → IsKind old effect → IsKind old (of_helper old name effect)
@@ -155,16 +156,16 @@ module _ (old : Machine) where
     advised-kind : (friend : Colour) (result : List ℕ) (next : Machine)
         → IsKind old (advised old (after_asking matcher old friend) result next)
     advised-kind friend result next =
-        growing-kind (growing (after_asking matcher old friend) (told result next)) old refl
-        (growing-kind (told result next) (after_asking matcher old friend) (asking-same friend)
-        (told-kind result next))
+        growing-kind (growing (after_asking matcher old friend) (succeeded result next)) old refl
+        (growing-kind (succeeded result next) (after_asking matcher old friend) (asking-same friend)
+        (succeeded-kind result next))
 
     -- each command
     effect-kind : (input : Input) (c : Command) → IsKind old (effect_of matcher old input c)
-    effect-kind input command.ProtocolVersion = told-kind _ old
-    effect-kind input command.Name = told-kind _ old
-    effect-kind input command.Version = told-kind _ old
-    effect-kind input (command.KnownCommand known) = told-kind _ old
+    effect-kind input command.ProtocolVersion = succeeded-kind _ old
+    effect-kind input command.Name = succeeded-kind _ old
+    effect-kind input command.Version = succeeded-kind _ old
+    effect-kind input (command.KnownCommand known) = succeeded-kind _ old
     effect-kind input command.ListCommands = grown-kind _ old
     effect-kind input command.Quit = record {
       refused = λ text none. absurd (let same : None ≡ Some text = none in cc);
@@ -172,39 +173,39 @@ module _ (old : Machine) where
       ended = λ _. (refl, refl);
     }
     effect-kind input (command.BoardSize size) = resized-kind size
-    effect-kind input command.ClearBoard = told-kind [] _
-    effect-kind input (command.Komi komi) = told-kind [] _
-    effect-kind input command.GetKomi = told-kind _ old
+    effect-kind input command.ClearBoard = succeeded-kind [] _
+    effect-kind input (command.Komi komi) = succeeded-kind [] _
+    effect-kind input command.GetKomi = succeeded-kind _ old
     effect-kind input (command.Play c at) = played-kind _
     effect-kind input command.Undo = taken_back-kind old.moves
     effect-kind input command.ShowBoard = grown-kind _ old
-    effect-kind input (command.IsLegal c at) = told-kind _ old
+    effect-kind input (command.IsLegal c at) = succeeded-kind _ old
     effect-kind input (command.AllLegal c) = grown-kind _ old
-    effect-kind input (command.CountLib p) = stone-kind p _ (told-kind _ old)
+    effect-kind input (command.CountLib p) = stone-kind p _ (succeeded-kind _ old)
     effect-kind input (command.FindLib p) = stone-kind p _ (grown-kind _ old)
-    effect-kind input (command.Captures c) = told-kind _ old
-    effect-kind input (command.Attack p) = stone-kind p _ (told-kind _ old)
-    effect-kind input (command.Defend p) = stone-kind p _ (told-kind _ old)
-    effect-kind input (command.Depths plies wide) = told-kind [] _
+    effect-kind input (command.Captures c) = succeeded-kind _ old
+    effect-kind input (command.Attack p) = stone-kind p _ (succeeded-kind _ old)
+    effect-kind input (command.Defend p) = stone-kind p _ (succeeded-kind _ old)
+    effect-kind input (command.Depths plies wide) = succeeded-kind [] _
     effect-kind input (command.MatchPatterns friend) = advised-kind friend _ _
     effect-kind input command.ListPatterns = grown-kind _ old
     effect-kind input (command.LoadSgf span) = loaded_by-kind (word_at input.line span) input.file
     effect-kind input (command.AttackProof p) = proved-kind Attack p
     effect-kind input (command.DefendProof p) = proved-kind Defend p
-    effect-kind input (command.CheckProof attack p code span) = stone-kind p _ (told-kind _ old)
+    effect-kind input (command.CheckProof attack p code span) = stone-kind p _ (succeeded-kind _ old)
     effect-kind input (command.Connect a b) = linked-kind Connect a b
     effect-kind input (command.Disconnect a b) = linked-kind Disconnect a b
     effect-kind input (command.GenMove friend) = cond-kind _ _ _ (refused-kind _) (advised-kind friend _ _)
     effect-kind input (command.RegGenMove friend) = advised-kind friend _ _
-    effect-kind input (command.HelperOff span) = helper-kind _ _ (told-kind [] _)
-    effect-kind input (command.HelperCalls span) = helper-kind _ _ (told-kind _ old)
-    effect-kind input (command.HelperDrop span) = helper-kind _ _ (told-kind [] _)
+    effect-kind input (command.HelperOff span) = helper-kind _ _ (succeeded-kind [] _)
+    effect-kind input (command.HelperCalls span) = helper-kind _ _ (succeeded-kind _ old)
+    effect-kind input (command.HelperDrop span) = helper-kind _ _ (succeeded-kind [] _)
 
 -- the excuses behind an id are refusals that keep the machine so
-excuses-told : (old : Machine) (id : Option ℕ) (excuses : List Excuse) → KeepMachine old excuses
+excuses-succeeded : (old : Machine) (id : Option ℕ) (excuses : List Excuse) → KeepMachine old excuses
     → AreExcuses old (map (fallback id) excuses)
-excuses-told old id [] kept = tt
-excuses-told old id (excuse ∷ excuses) kept = ((_, refl), kept.0, excuses-told old id excuses kept.1)
+excuses-succeeded old id [] kept = tt
+excuses-succeeded old id (excuse ∷ excuses) kept = ((_, refl), kept.0, excuses-succeeded old id excuses kept.1)
 
 -- a refusal behind an id keeps the machine
 refusal-kept : (old : Machine) (id : Option ℕ) (refusal : Option RefuseText) (effect : Effect) → IsKind old effect
@@ -219,7 +220,7 @@ replied-sound : (old : Machine) (id : Option ℕ) (effect : Effect) → IsKind o
     → IsSound old (replied id effect)
 replied-sound old id effect kind = record {
   refused = refusal-kept old id effect.refusal effect kind refl;
-  excuses = excuses-told old id effect.excuses kind.excuses;
+  excuses = excuses-succeeded old id effect.excuses kind.excuses;
   ended = λ ends. (
     subst (λ r. IsSuccess (replied id (record effect { refusal = r })).reply)
         (sym (kind.ended ends).0) (_, refl),
@@ -271,18 +272,18 @@ step-total matcher contents old line =
 
 -- a reading that is answered with a code tells something, which has no excuse
 read-effect : (matcher : Matcher) (old : Machine) (input : Input) (c : Command) → is_read old c ≡ true
-    → (text : List ℕ) × (effect_of matcher old input c ≡ told text old)
+    → (text : List ℕ) × (effect_of matcher old input c ≡ succeeded text old)
 read-effect matcher old input (command.Attack p) stone =
     let text = answer_text old.base.size (reading_of old Attack p) in
-    (text, ap (λ b. cond b (told text old) (refused old VertexEmpty)) stone)
+    (text, ap (λ b. cond b (succeeded text old) (refused old VertexEmpty)) stone)
 read-effect matcher old input (command.Defend p) stone =
     let text = answer_text old.base.size (reading_of old Defend p) in
-    (text, ap (λ b. cond b (told text old) (refused old VertexEmpty)) stone)
+    (text, ap (λ b. cond b (succeeded text old) (refused old VertexEmpty)) stone)
 read-effect matcher old input _ none = absurd (let same : false ≡ true = none in cc)
 
 -- so does what a line says that asks for it
 read-parsed : (matcher : Matcher) (old : Machine) (input : Input) (p : Parsed) → is_parsed_read old p ≡ true
-    → (id : Option ℕ) × (text : List ℕ) × (parsed_step matcher old input p ≡ replied id (told text old))
+    → (id : Option ℕ) × (text : List ℕ) × (parsed_step matcher old input p ≡ replied id (succeeded text old))
 read-parsed matcher old input (parsed.Command id c) reads =
     let said = read-effect matcher old input c reads in (id, said.0, ap (replied id) said.1)
 read-parsed matcher old input _ none = absurd (let same : false ≡ true = none in cc)
@@ -295,7 +296,7 @@ read-heard m (Line text) = refl
 
 -- the line on a text
 read-line_on : (matcher : Matcher) (old : Machine) (file : List ℕ) (line : RawLine) → is_read_line old line ≡ true
-    → (id : Option ℕ) × (text : List ℕ) × (step_on matcher old file line ≡ replied id (told text old))
+    → (id : Option ℕ) × (text : List ℕ) × (step_on matcher old file line ≡ replied id (succeeded text old))
 unfolding step_on
 read-line_on matcher old file line reads =
     read-parsed matcher old (record { line = bytes_in line; file = file }) (heard old line)
@@ -304,7 +305,7 @@ read-line_on matcher old file line reads =
 -- a line that asks for a reading and is answered with a code is told some text, and the machine stays
 pub read-line : (matcher : Matcher) (contents : Contents) (old : Machine) (line : RawLine) (given : Step Machine)
     → step matcher contents old line given → is_read_line old line ≡ true
-    → (id : Option ℕ) × (text : List ℕ) × (given ≡ replied id (told text old))
+    → (id : Option ℕ) × (text : List ℕ) × (given ≡ replied id (succeeded text old))
 read-line matcher contents old line given (file, of, is) reads =
     let said = read-line_on matcher old file line reads in (said.0, said.1, is ∙ said.2)
 
@@ -322,21 +323,21 @@ was-passed true x y is = refl
 was-passed false x y is = absurd (let none : None ≡ Some y = is in cc)
 
 -- a question about two stones of one colour is answered with a result, which has no excuse
-pub linked-told : (old : Machine) (kind : LinkKind) (a b : ℕ) → have_one_colour old a b ≡ true
-    → linked old kind a b ≡ told (linkage_text old.base.size (linkage_at old kind a b)) old
-linked-told old kind a b one = all-pass (has_stone old a) (has_stone old b)
+pub linked-succeeded : (old : Machine) (kind : LinkKind) (a b : ℕ) → have_one_colour old a b ≡ true
+    → linked old kind a b ≡ succeeded (linkage_text old.base.size (linkage_at old kind a b)) old
+linked-succeeded old kind a b one = all-pass (has_stone old a) (has_stone old b)
     (same_cell (cell_at (position_of old).cells a) (cell_at (position_of old).cells b))
-    (told (linkage_text old.base.size (linkage_at old kind a b)) old) (refused old VertexEmpty)
+    (succeeded (linkage_text old.base.size (linkage_at old kind a b)) old) (refused old VertexEmpty)
     (refused old VertexEmpty) (refused old ColoursDiffer) one
 
 -- a question about a connection that is asked is answered with some text, and the machine stays
 link-at : (old : Machine) (kind : LinkKind) (a b : ℕ) (q : LinkQuestion) → asks_link_at old kind a b ≡ Some q
-    → (text : List ℕ) × (linked old kind a b ≡ told text old)
-link-at old kind a b q asks = (_, linked-told old kind a b (was-passed (have_one_colour old a b) _ q asks))
+    → (text : List ℕ) × (linked old kind a b ≡ succeeded text old)
+link-at old kind a b q asks = (_, linked-succeeded old kind a b (was-passed (have_one_colour old a b) _ q asks))
 
 -- a command that asks about a connection tells something
 link-effect : (matcher : Matcher) (old : Machine) (input : Input) (c : Command) (q : LinkQuestion)
-    → asks_link_of old c ≡ Some q → (text : List ℕ) × (effect_of matcher old input c ≡ told text old)
+    → asks_link_of old c ≡ Some q → (text : List ℕ) × (effect_of matcher old input c ≡ succeeded text old)
 link-effect matcher old input (command.Connect a b) q asks = link-at old Connect a b q asks
 link-effect matcher old input (command.Disconnect a b) q asks = link-at old Disconnect a b q asks
 link-effect matcher old input _ q none = absurd (let same : None ≡ Some q = none in cc)
@@ -344,7 +345,7 @@ link-effect matcher old input _ q none = absurd (let same : None ≡ Some q = no
 -- so does what a line says that asks about one
 link-parsed : (matcher : Matcher) (old : Machine) (input : Input) (p : Parsed) (q : LinkQuestion)
     → asks_link_of_parsed old p ≡ Some q
-    → (id : Option ℕ) × (text : List ℕ) × (parsed_step matcher old input p ≡ replied id (told text old))
+    → (id : Option ℕ) × (text : List ℕ) × (parsed_step matcher old input p ≡ replied id (succeeded text old))
 link-parsed matcher old input (parsed.Command id c) q asks =
     let said = link-effect matcher old input c q asks in (id, said.0, ap (replied id) said.1)
 link-parsed matcher old input _ q none = absurd (let same : None ≡ Some q = none in cc)
@@ -358,7 +359,7 @@ link-heard m (Line text) = refl
 -- the line on a text
 link-line_on : (matcher : Matcher) (old : Machine) (file : List ℕ) (line : RawLine) (q : LinkQuestion)
     → asks_link_of_line old line ≡ Some q
-    → (id : Option ℕ) × (text : List ℕ) × (step_on matcher old file line ≡ replied id (told text old))
+    → (id : Option ℕ) × (text : List ℕ) × (step_on matcher old file line ≡ replied id (succeeded text old))
 unfolding step_on
 link-line_on matcher old file line q asks =
     link-parsed matcher old (record { line = bytes_in line; file = file }) (heard old line) q
@@ -367,6 +368,6 @@ link-line_on matcher old file line q asks =
 -- a line that asks about a connection is told some text, and the machine stays
 pub link-line : (matcher : Matcher) (contents : Contents) (old : Machine) (line : RawLine) (given : Step Machine)
     → step matcher contents old line given → (q : LinkQuestion) → asks_link_of_line old line ≡ Some q
-    → (id : Option ℕ) × (text : List ℕ) × (given ≡ replied id (told text old))
+    → (id : Option ℕ) × (text : List ℕ) × (given ≡ replied id (succeeded text old))
 link-line matcher contents old line given (file, of, is) q asks =
     let said = link-line_on matcher old file line q asks in (said.0, said.1, is ∙ said.2)

@@ -9,7 +9,7 @@ use Rattle.go_history.specs.Games.{most_moves}
 use Rattle.gtp_cmd.specs.declared.refusals.RefuseText.TheVariants.{UnacceptableSize, IllegalMove, HistoryFull}
 use Rattle.gtp_cmd.specs.declared.refusals.RefuseText.TheVariants.{CannotUndo, VertexEmpty}
 use Rattle.machine_rules.specs.Machine.{Machine, position_of}
-use Rattle.machine_rules.specs.Effects.{Effect, refused, told, grown}
+use Rattle.machine_rules.specs.Effects.{Effect, refused, succeeded, grown}
 use Rattle.machine_rules.specs.BoardText.{board_text}
 use Rattle.machine_rules.specs.PointLists.{legal_list, liberty_list, vertices_text}
 
@@ -17,15 +17,15 @@ use Rattle.machine_rules.specs.PointLists.{legal_list, liberty_list, vertices_te
 -- has the size
 abbrev pub resized : Machine → Option ℕ → Effect
 resized old None = refused old UnacceptableSize
-resized old (Some size) = told [] (record old { base = empty_board size; moves = [] })
+resized old (Some size) = succeeded [] (record old { base = empty_board size; moves = [] })
 
 -- the list of moves is emptied, and the base becomes the empty board of the same size
 abbrev pub cleared : Machine → Effect
-cleared old = told [] (record old { base = empty_board old.base.size; moves = [] })
+cleared old = succeeded [] (record old { base = empty_board old.base.size; moves = [] })
 
 -- the text of the komi is kept
 abbrev pub komi_kept : Machine → List ℕ → Effect
-komi_kept old komi = told [] (record old { komi = komi })
+komi_kept old komi = succeeded [] (record old { komi = komi })
 
 -- a move is added to the list if it is legal and the list is not full
 abbrev pub played : Machine → Move → Effect
@@ -38,7 +38,7 @@ played old move =
 -- the last move is taken from the list
 abbrev pub taken_back : Machine → List Move → Effect
 taken_back old [] = refused old CannotUndo
-taken_back old (move ∷ moves) = told [] (record old { moves = take (length old.moves - 1) old.moves })
+taken_back old (move ∷ moves) = succeeded [] (record old { moves = take (length old.moves - 1) old.moves })
 
 -- the board is shown
 abbrev pub shown : Machine → Effect
@@ -50,7 +50,7 @@ digit_of holds = if holds then codes "1" else codes "0"
 
 -- the reply is `1` if the rules allow the move, else `0`
 abbrev pub allowed : Machine → Move → Effect
-allowed old move = told (digit_of (is_ok (moved (position_of old) move))) old
+allowed old move = succeeded (digit_of (is_ok (moved (position_of old) move))) old
 
 -- the reply lists the points where the colour may play
 abbrev pub all_allowed : Machine → Colour → Effect
@@ -63,7 +63,7 @@ of_stone old p effect = if is_stone (cell_at (position_of old).cells p) then eff
 -- the reply is the number of liberties of the string of a point
 abbrev pub liberties_counted : Machine → ℕ → Effect
 liberties_counted old p = of_stone old p
-    (told (decimal (liberties (position_of old).size (position_of old).cells p)) old)
+    (succeeded (decimal (liberties (position_of old).size (position_of old).cells p)) old)
 
 -- the reply lists the liberties of the string of a point
 abbrev pub liberties_found : Machine → ℕ → Effect
@@ -71,4 +71,4 @@ liberties_found old p = of_stone old p (grown old (vertices_text old.base.size (
 
 -- the reply is the number of stones that the moves of a colour captured, played from the base
 abbrev pub captures_counted : Machine → Colour → Effect
-captures_counted old c = told (decimal (captures_from old.base c old.moves)) old
+captures_counted old c = succeeded (decimal (captures_from old.base c old.moves)) old

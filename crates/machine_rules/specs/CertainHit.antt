@@ -11,7 +11,7 @@ use Rattle.gtp_cmd.specs.Commands.{named}
 use Rattle.gtp_cmd.specs.declared.commands.CommandName.{CommandName}
 use Rattle.gtp_cmd.specs.declared.commands.CommandName.TheVariants as name
 use Rattle.machine_rules.specs.Machine.{Machine, position_of}
-use Rattle.machine_rules.specs.Turns.{Turn}
+use Rattle.machine_rules.specs.AnsweredLines.{AnsweredLine}
 use Rattle.machine_rules.specs.Questions.{One, asks_of_line}
 
 -- the command that the first of these words names
@@ -48,28 +48,28 @@ is_matching (Some name.RegGenMove) = true
 is_matching _ = false
 
 -- how many of the lines are `attack` or `defend` lines, answered or refused
-abbrev pub reading_lines : List (Turn Machine) → ℕ
+abbrev pub reading_lines : List (AnsweredLine Machine) → ℕ
 reading_lines turns = count_by (λ turn. is_reading (named_in turn.line)) turns
 
 -- how many of the lines are `match_patterns`, `genmove` or `reg_genmove` lines
-abbrev pub matching_lines : List (Turn Machine) → ℕ
+abbrev pub matching_lines : List (AnsweredLine Machine) → ℕ
 matching_lines turns = count_by (λ turn. is_matching (named_in turn.line)) turns
 
 -- the line asks this question, and is answered with a code
-abbrev pub AsksFor : Turn Machine → ReadingQuestion → Type 0
+abbrev pub AsksFor : AnsweredLine Machine → ReadingQuestion → Type 0
 AsksFor turn q = asks_of_line turn.machine turn.line ≡ One (record { question = q })
 
 -- the position at a line
-abbrev pub board_at : Turn Machine → BoardState
+abbrev pub board_at : AnsweredLine Machine → BoardState
 board_at turn = position_of turn.machine
 
 -- After the lines before it, a line is a certain hit: an earlier line asks the same question, both are answered with a
 -- code, their positions agree on the active area of the question at the earlier line, and between the two lines stand
 -- at most three `attack` and `defend` lines and no `match_patterns`, `genmove` or `reg_genmove` line.
-pub record IsCertainHit (before : List (Turn Machine)) (now : Turn Machine) : Type 0 where
-  pub first : List (Turn Machine)
-  pub earlier : Turn Machine
-  pub between : List (Turn Machine)
+pub record IsCertainHit (before : List (AnsweredLine Machine)) (now : AnsweredLine Machine) : Type 0 where
+  pub first : List (AnsweredLine Machine)
+  pub earlier : AnsweredLine Machine
+  pub between : List (AnsweredLine Machine)
   pub place : before ≡ first ++ earlier ∷ between
   pub question : ReadingQuestion
   pub asked : AsksFor earlier question
@@ -80,7 +80,7 @@ pub record IsCertainHit (before : List (Turn Machine)) (now : Turn Machine) : Ty
 
 -- n lines picked from the list are certain hits, each after the lines of `before` and after all lines of the list that
 -- precede it, picked or not
-abbrev pub HaveCertainHits : List (Turn Machine) → List (Turn Machine) → ℕ → Type 0
+abbrev pub HaveCertainHits : List (AnsweredLine Machine) → List (AnsweredLine Machine) → ℕ → Type 0
 HaveCertainHits before [] n = n ≡ 0
 HaveCertainHits before (turn ∷ turns) n = HaveCertainHits (before ++ turn ∷ []) turns n
     ⊎ ((m : ℕ) × (n ≡ suc m) × IsCertainHit before turn × HaveCertainHits (before ++ turn ∷ []) turns m)

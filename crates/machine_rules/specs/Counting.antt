@@ -8,7 +8,7 @@ use Rattle.gtp_cmd.specs.declared.commands.Command.TheVariants as command
 use Rattle.gtp_cmd.specs.declared.commands.Parsed.{Parsed}
 use Rattle.gtp_cmd.specs.declared.commands.Parsed.TheVariants as parsed
 use Rattle.machine_rules.specs.Machine.{Machine, position_of}
-use Rattle.machine_rules.specs.Turns.{Turn}
+use Rattle.machine_rules.specs.AnsweredLines.{AnsweredLine}
 
 -- a stone stands at the point, so that a question about it is answered with a code
 abbrev pub has_stone : Machine → ℕ → Bool
@@ -31,7 +31,7 @@ is_read_line machine TooLong = false
 is_read_line machine (Line text) = is_parsed_read machine (parsed_of text machine.base.size)
 
 -- how many of the lines ask for a reading and are answered with a code
-abbrev pub readings_in : List (Turn Machine) → ℕ
+abbrev pub readings_in : List (AnsweredLine Machine) → ℕ
 readings_in turns = count_by (λ turn. is_read_line turn.machine turn.line) turns
 
 -- the count plus one if there is one more, else the count; counting stops at the greatest value of a u64

@@ -29,8 +29,8 @@ abbrev pub refused : Machine → RefuseText → Effect
 refused old text = record { refusal = Some text; result = []; excuses = []; next = old; ends = false }
 
 -- the command succeeds with this result, and `next` is the machine after it
-abbrev pub told : List ℕ → Machine → Effect
-told result next = record { refusal = None; result = result; excuses = []; next = next; ends = false }
+abbrev pub succeeded : List ℕ → Machine → Effect
+succeeded result next = record { refusal = None; result = result; excuses = []; next = next; ends = false }
 
 -- the command succeeds and ends the session, and the machine stays
 abbrev pub ended : Machine → Effect
@@ -46,7 +46,7 @@ growing old effect = record effect { excuses = out_of_memory old ∷ effect.excu
 
 -- the command succeeds with this result in a growing reply, and `next` is the machine after it
 abbrev pub grown : Machine → List ℕ → Machine → Effect
-grown old result next = growing old (told result next)
+grown old result next = growing old (succeeded result next)
 
 -- the text of a reply with an id: the text of the refusal if there is one, else the text of the result
 abbrev pub reply_text : Option ℕ → Option RefuseText → List ℕ → List ℕ

@@ -3,7 +3,7 @@ use Rattle.std.specs.Prelude.{ℕ, List, [], Option, Some, None, is_some, if◌t
 use Rattle.helpers.specs.HelperStates.{SlotState, named, after_off, after_remove, calls_of}
 use Rattle.gtp_cmd.specs.declared.refusals.RefuseText.TheVariants.{NoSuchHelper}
 use Rattle.machine_rules.specs.Machine.{Machine}
-use Rattle.machine_rules.specs.Effects.{Effect, refused, told, growing}
+use Rattle.machine_rules.specs.Effects.{Effect, refused, succeeded, growing}
 
 -- the machine with these helpers
 abbrev pub with_helpers : Machine → List SlotState → Machine
@@ -15,11 +15,11 @@ of_helper old name effect = growing old (if is_some (named name old.helpers) the
 
 -- the first helper with the name is switched off
 abbrev pub switched_off : Machine → List ℕ → Effect
-switched_off old name = of_helper old name (told [] (with_helpers old (after_off name old.helpers)))
+switched_off old name = of_helper old name (succeeded [] (with_helpers old (after_off name old.helpers)))
 
 -- the first helper with the name is taken out and dropped
 abbrev pub dropped : Machine → List ℕ → Effect
-dropped old name = of_helper old name (told [] (with_helpers old (after_remove name old.helpers)))
+dropped old name = of_helper old name (succeeded [] (with_helpers old (after_remove name old.helpers)))
 
 -- a count in decimal; empty if there is none
 abbrev pub count_text : Option ℕ → List ℕ
@@ -28,4 +28,4 @@ count_text (Some n) = decimal n
 
 -- the reply says how often the first helper with the name was asked
 abbrev pub calls_told : Machine → List ℕ → Effect
-calls_told old name = of_helper old name (told (count_text (calls_of name old.helpers)) old)
+calls_told old name = of_helper old name (succeeded (count_text (calls_of name old.helpers)) old)

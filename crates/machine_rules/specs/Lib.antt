@@ -1,3 +1,4 @@
+pub mod AnsweredLines
 pub mod BoardCommands
 pub mod BoardText
 pub mod Calls
@@ -23,4 +24,3 @@ pub mod ReadingCommands
 pub mod RecordCommands
 pub mod Soundness
 pub mod Step
-pub mod Turns

@@ -6,7 +6,7 @@ use Rattle.connect_rules.specs.declared.question.Linkage.{Linkage}
 use Rattle.connect_rules.specs.Linkages.{linkage_of, asked_on}
 use Rattle.gtp_cmd.specs.declared.refusals.RefuseText.TheVariants.{ColoursDiffer}
 use Rattle.machine_rules.specs.Machine.{Machine, position_of}
-use Rattle.machine_rules.specs.Effects.{Effect, refused, told}
+use Rattle.machine_rules.specs.Effects.{Effect, refused, succeeded}
 use Rattle.machine_rules.specs.BoardCommands.{digit_of, of_stone}
 use Rattle.machine_rules.specs.ReadingCommands.{move_text}
 
@@ -28,4 +28,4 @@ of_one_colour old a b effect =
 -- the answer to a question about two stones of one colour is printed
 abbrev pub linked : Machine → LinkKind → ℕ → ℕ → Effect
 linked old kind a b = of_stone old a (of_stone old b (of_one_colour old a b
-    (told (linkage_text old.base.size (linkage_at old kind a b)) old)))
+    (succeeded (linkage_text old.base.size (linkage_at old kind a b)) old)))

@@ -13,7 +13,7 @@ use Rattle.connect_rules.specs.declared.question.LinkQuestion.{LinkQuestion}
 use Rattle.connect_rules.specs.Linkages.{asked_on}
 use Rattle.machine_rules.specs.Counting.{has_stone}
 use Rattle.machine_rules.specs.Machine.{Machine, position_of}
-use Rattle.machine_rules.specs.Turns.{Turn}
+use Rattle.machine_rules.specs.AnsweredLines.{AnsweredLine}
 
 -- stones of one colour stand at both points, so that a question about their strings is answered with a result
 abbrev pub have_one_colour : Machine → ℕ → ℕ → Bool
@@ -43,5 +43,5 @@ asks_link_of_line machine TooLong = None
 asks_link_of_line machine (Line text) = asks_link_of_parsed machine (parsed_of text machine.base.size)
 
 -- how many of the lines ask about a connection and are answered with a result
-abbrev pub connections_in : List (Turn Machine) → ℕ
+abbrev pub connections_in : List (AnsweredLine Machine) → ℕ
 connections_in turns = count_by (λ turn. is_some (asks_link_of_line turn.machine turn.line)) turns

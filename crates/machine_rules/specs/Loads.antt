@@ -12,7 +12,7 @@ use Rattle.machine_rules.specs.Files.{Contents, IsContents}
 use Rattle.machine_rules.specs.Heard.{heard, bytes_in, word_at}
 use Rattle.machine_rules.specs.Machine.{Machine}
 use Rattle.machine_rules.specs.RecordCommands.{is_utf8}
-use Rattle.machine_rules.specs.Turns.{Turn}
+use Rattle.machine_rules.specs.AnsweredLines.{AnsweredLine}
 
 -- the file that a line loads: its name, and the id of the line
 pub record Load : Type 0 where
@@ -53,5 +53,5 @@ missed_by (Some load) reply =
     if bytes_eq reply (refusal_text load.id CannotLoadFile) then load.name ∷ [] else []
 
 -- the names of the files that a line could not load
-abbrev pub missed_in : Turn Machine → List (List ℕ)
+abbrev pub missed_in : AnsweredLine Machine → List (List ℕ)
 missed_in turn = missed_by (load_in turn.machine turn.line) turn.reply

@@ -7,7 +7,7 @@ use Rattle.match_rules.specs.declared.found.Match.{Match}
 use Rattle.match_engine.specs.HelperCalls.{after_matches}
 use Rattle.machine_rules.specs.Machine.{Machine, position_of}
 use Rattle.machine_rules.specs.Matcher.{Matcher}
-use Rattle.machine_rules.specs.Effects.{Effect, told, grown, growing}
+use Rattle.machine_rules.specs.Effects.{Effect, succeeded, grown, growing}
 use Rattle.machine_rules.specs.MatchTexts.{matches_text}
 use Rattle.machine_rules.specs.PatternTexts.{patterns_text}
 
@@ -24,7 +24,7 @@ after_asking matcher old friend = record old {
 -- the command succeeds with this result after the helpers were asked, in a growing reply: if there is no memory for it,
 -- the helpers may have been asked or not, and nothing else of the line counts
 abbrev pub advised : Machine → Machine → List ℕ → Machine → Effect
-advised old asked result next = growing old (growing asked (told result next))
+advised old asked result next = growing old (growing asked (succeeded result next))
 
 -- the matches for a friend are listed
 abbrev pub matches_listed : Matcher → Machine → Colour → Effect

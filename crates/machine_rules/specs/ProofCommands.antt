@@ -9,7 +9,7 @@ use Rattle.read_proof.specs.Tokens.{Word, words_in}
 use Rattle.gtp_cmd.specs.Words.{blank}
 use Rattle.gtp_cmd.specs.declared.refusals.RefuseText.TheVariants.{ProofTooLong}
 use Rattle.machine_rules.specs.Machine.{Machine, position_of, question_at}
-use Rattle.machine_rules.specs.Effects.{Effect, refused, told, growing}
+use Rattle.machine_rules.specs.Effects.{Effect, refused, succeeded, growing}
 use Rattle.machine_rules.specs.BoardCommands.{of_stone}
 use Rattle.machine_rules.specs.ReadingCommands.{reading_of}
 
@@ -29,7 +29,7 @@ proof_text machine kind p =
 -- the first proof is printed if it is not too long; else the command is refused
 abbrev pub proof_told : Machine → Kind → ℕ → Effect
 proof_told old kind p =
-    if nat_le (length (proof_of old kind p)) longest_proof then told (proof_text old kind p) old
+    if nat_le (length (proof_of old kind p)) longest_proof then succeeded (proof_text old kind p) old
     else refused old ProofTooLong
 
 -- the first proof of a question about a stone is printed, or refused as too long, in a growing reply
@@ -56,4 +56,4 @@ kind_of attack = if attack then Attack else Defend
 
 -- the reply says whether a text is a proof of the code of a question about a stone
 abbrev pub checked : Machine → Kind → ℕ → ℕ → List ℕ → Effect
-checked old kind p code text = of_stone old p (told (word_of (is_proof old kind p code text)) old)
+checked old kind p code text = of_stone old p (succeeded (word_of (is_proof old kind p code text)) old)

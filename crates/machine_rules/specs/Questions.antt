@@ -12,7 +12,7 @@ use Rattle.match_engine.specs.declared.keys.Key.{Key}
 use Rattle.machine_rules.specs.Machine.{Machine, question_at}
 use Rattle.machine_rules.specs.ChoiceCommands.{is_full}
 use Rattle.machine_rules.specs.Counting.{has_stone}
-use Rattle.machine_rules.specs.Turns.{Turn}
+use Rattle.machine_rules.specs.AnsweredLines.{AnsweredLine}
 
 -- what is asked of the readings
 pub data Asks : Type 0 where
@@ -51,5 +51,5 @@ asks_of_line machine TooLong = Nothing
 asks_of_line machine (Line text) = asks_of_parsed machine (parsed_of text machine.base.size)
 
 -- no line asks for a reading or for matches
-abbrev pub AskNothing : List (Turn Machine) → Type 0
+abbrev pub AskNothing : List (AnsweredLine Machine) → Type 0
 AskNothing turns = All (λ turn. asks_of_line turn.machine turn.line ≡ Nothing) turns

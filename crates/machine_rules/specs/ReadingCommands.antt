@@ -8,7 +8,7 @@ use Rattle.read_rules.specs.Answer.{answer_of}
 use Rattle.gtp_cmd.specs.Words.{blank}
 use Rattle.gtp_cmd.specs.Vertices.{vertex_text}
 use Rattle.machine_rules.specs.Machine.{Machine, position_of, question_at}
-use Rattle.machine_rules.specs.Effects.{Effect, told}
+use Rattle.machine_rules.specs.Effects.{Effect, succeeded}
 use Rattle.machine_rules.specs.BoardCommands.{of_stone}
 
 -- a move of a board of size s as it is printed; a pass is `PASS`
@@ -31,8 +31,8 @@ reading_of machine kind p = answer_of (question_at machine kind p) (position_of 
 
 -- the answer to a question about the string of a point is printed
 abbrev pub read : Machine → Kind → ℕ → Effect
-read old kind p = of_stone old p (told (answer_text old.base.size (reading_of old kind p)) old)
+read old kind p = of_stone old p (succeeded (answer_text old.base.size (reading_of old kind p)) old)
 
 -- readings go this deep from now on
 abbrev pub deepened : Machine → ℕ → ℕ → Effect
-deepened old plies wide = told [] (record old { depths = record old.depths { plies = plies; wide = wide } })
+deepened old plies wide = succeeded [] (record old { depths = record old.depths { plies = plies; wide = wide } })

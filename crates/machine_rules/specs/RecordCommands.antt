@@ -7,7 +7,7 @@ use Rattle.sgf_rules.specs.Game.{game_of}
 use Rattle.sgf_rules.specs.Kinds.{number_of}
 use Rattle.gtp_cmd.specs.declared.refusals.RefuseText.TheVariants.{SyntaxError, CannotLoadFile, BadSgf}
 use Rattle.machine_rules.specs.Machine.{Machine}
-use Rattle.machine_rules.specs.Effects.{Excuse, Effect, refused, told, growing}
+use Rattle.machine_rules.specs.Effects.{Excuse, Effect, refused, succeeded, growing}
 
 -- whether the bytes are UTF-8: their longest prefix in UTF-8 is the whole
 abbrev pub is_utf8 : List ℕ → Bool
@@ -19,7 +19,7 @@ not_loaded old = record { refusal = CannotLoadFile; next = old }
 
 -- moves are played from the position of the game record from now on, or the command is refused with its first fault
 abbrev pub recorded : Machine → Result BoardState FaultKind → Effect
-recorded old (Ok board) = told [] (record old { base = board; moves = [] })
+recorded old (Ok board) = succeeded [] (record old { base = board; moves = [] })
 recorded old (Err kind) = refused old (BadSgf (number_of kind))
 
 -- a text is parsed as a game record; the file may also fail to load

@@ -13,7 +13,7 @@ use Rattle.read_rules.specs.declared.question.Kind.TheVariants.{Attack, Defend}
 use Rattle.machine_rules.specs.Heard.{heard, bytes_in, word_at}
 use Rattle.machine_rules.specs.Machine.{Machine}
 use Rattle.machine_rules.specs.Matcher.{Matcher}
-use Rattle.machine_rules.specs.Effects.{Effect, refused, told, grown, ended, replied}
+use Rattle.machine_rules.specs.Effects.{Effect, refused, succeeded, grown, ended, replied}
 use Rattle.machine_rules.specs.Files.{Contents}
 use Rattle.machine_rules.specs.Loads.{load_in, IsFileOf}
 use Rattle.machine_rules.specs.BoardCommands.{resized, cleared, komi_kept, played, taken_back, shown, allowed}
@@ -34,16 +34,16 @@ pub record Input : Type 0 where
 
 -- what a command does to the machine, and what it prints
 abbrev pub effect_of : Matcher → Machine → Input → Command → Effect
-effect_of matcher old input command.ProtocolVersion = told (codes "2") old
-effect_of matcher old input command.Name = told (codes "gopat") old
-effect_of matcher old input command.Version = told (codes "1") old
-effect_of matcher old input (command.KnownCommand known) = told (word_of known) old
+effect_of matcher old input command.ProtocolVersion = succeeded (codes "2") old
+effect_of matcher old input command.Name = succeeded (codes "gopat") old
+effect_of matcher old input command.Version = succeeded (codes "1") old
+effect_of matcher old input (command.KnownCommand known) = succeeded (word_of known) old
 effect_of matcher old input command.ListCommands = grown old names_text old
 effect_of matcher old input command.Quit = ended old
 effect_of matcher old input (command.BoardSize size) = resized old size
 effect_of matcher old input command.ClearBoard = cleared old
 effect_of matcher old input (command.Komi komi) = komi_kept old komi
-effect_of matcher old input command.GetKomi = told old.komi old
+effect_of matcher old input command.GetKomi = succeeded old.komi old
 effect_of matcher old input (command.Play c at) = played old (record { colour = c; at = at })
 effect_of matcher old input command.Undo = taken_back old old.moves
 effect_of matcher old input command.ShowBoard = shown old

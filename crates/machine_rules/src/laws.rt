@@ -8,7 +8,7 @@ ghost use Rattle.gtp_rules.specs.Transcript.{IsTotal};
 ghost use Rattle.machine_rules.specs.Files.{Contents};
 ghost use Rattle.machine_rules.specs.Step.{step};
 ghost use Rattle.machine_rules.specs.Soundness.{IsSound};
-ghost use Rattle.machine_rules.specs.Turns.{Turn};
+ghost use Rattle.machine_rules.specs.AnsweredLines.{AnsweredLine};
 ghost use Rattle.machine_rules.specs.CertainHit.{AsksFor, IsCertainHit};
 ghost use Rattle.read_rules.specs.declared.question.ReadingQuestion.{ReadingQuestion};
 
@@ -23,7 +23,7 @@ pub fn replies_are_sound()
 
 /// A question asked twice in a row of the same machine is a certain hit the second time. The first line is never one.
 pub fn certain_hits_were_asked_before()
-    ensures again { (before : List (Turn Machine)) (turn : Turn Machine) (q : ReadingQuestion) → AsksFor turn q
-        → IsCertainHit (before ++ turn ∷ []) turn }
-    ensures first { (turn : Turn Machine) → IsCertainHit [] turn → ⊥ }
+    ensures again { (before : List (AnsweredLine Machine)) (turn : AnsweredLine Machine) (q : ReadingQuestion)
+        → AsksFor turn q → IsCertainHit (before ++ turn ∷ []) turn }
+    ensures first { (turn : AnsweredLine Machine) → IsCertainHit [] turn → ⊥ }
 {}

@@ -94,6 +94,7 @@ abbrev pub closed_reply : MatchReply
 closed_reply = record { status = closed; number = 0 }
 
 -- the reply and the buffer answer the question; or there was no memory, and the buffer is as it was
-pub data Answers (found : Result (List Match) DoorFault) (old new : List MatchBytes) (reply : MatchReply) : Type 0 where
-  answered : reply ≡ match_reply found (length old) → IsBuffer found old new → Answers found old new reply
-  without_memory : reply ≡ unanswered → new ≡ old → Answers found old new reply
+pub data AnswersWithMatches (found : Result (List Match) DoorFault) (old new : List MatchBytes) (reply : MatchReply) :
+    Type 0 where
+  answered : reply ≡ match_reply found (length old) → IsBuffer found old new → AnswersWithMatches found old new reply
+  without_memory : reply ≡ unanswered → new ≡ old → AnswersWithMatches found old new reply

@@ -1,7 +1,7 @@
 //! The matches on a board of bytes.
 
 ghost use Rattle.std.specs.Prelude.{◌≡◌, length};
-ghost use Rattle.match_doors.specs.Matching.{matching_on, matching_of, Answers};
+ghost use Rattle.match_doors.specs.Matching.{matching_on, matching_of, AnswersWithMatches};
 
 use crate::matcher::Matcher;
 use crate::replies::{MatchBytes, MatchReply, fault_reply, found_reply, unanswered};
@@ -21,7 +21,7 @@ fn find_on(
     depths: DepthBytes,
     out: &mut [MatchBytes],
 ) -> MatchReply
-    ensures answers { Answers (matching_on matcher.old colour depths position.now) out.old out.new result }
+    ensures answers { AnswersWithMatches (matching_on matcher.old colour depths position.now) out.old out.new result }
     ensures same { matcher.new ≡ matcher.old }
 {
     let Some(friend) = colour_named(colour) else {
@@ -48,7 +48,7 @@ pub fn find(
     depths: DepthBytes,
     out: &mut [MatchBytes],
 ) -> MatchReply
-    ensures answers { Answers (matching_of matcher.old board.now colour depths) out.old out.new result }
+    ensures answers { AnswersWithMatches (matching_of matcher.old board.now colour depths) out.old out.new result }
     ensures same { matcher.new ≡ matcher.old }
 {
     match position_of(board) {

@@ -26,7 +26,7 @@ use Rattle.pat_types.specs.Marks.{count_of}
 use Rattle.pat_types.specs.Cells.{anchor_of}
 use Rattle.dfa_core.specs.Automata.{Row, accepted, AreDistinct}
 use Rattle.dfa_match.specs.declared.Hit.{Hit}
-use Rattle.dfa_match.specs.Sights.{word_at}
+use Rattle.dfa_match.specs.SeenLetters.{word_at}
 use Rattle.dfa_match.specs.Hits.{IsHit, AreHits}
 use Rattle.match_rules.specs.declared.found.Match.{Match}
 use Rattle.go_rules.specs.Play.{is_legal}

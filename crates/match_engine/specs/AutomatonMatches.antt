@@ -10,7 +10,7 @@ use Rattle.spiral.specs.Spiral.{offset_count}
 use Rattle.pat_types.specs.declared.pattern.Pattern.{Pattern}
 use Rattle.pat_types.specs.Cells.{anchor_of}
 use Rattle.dfa_core.specs.Automata.{Row, accepted}
-use Rattle.dfa_match.specs.Sights.{word_at}
+use Rattle.dfa_match.specs.SeenLetters.{word_at}
 use Rattle.match_rules.specs.declared.found.Match.{Match}
 use Rattle.match_rules.specs.Fits.{place_of_cell}
 use Rattle.cons_eval.specs.Readings.{Codes}

@@ -4,7 +4,7 @@ ghost use Rattle.std.specs.Prelude.{◌≡◌, [], None, IfOk, map};
 ghost use Rattle.std.specs.Option.{option_map};
 ghost use Rattle.db_rules.specs.Entries.{entry_of};
 ghost use Rattle.db_rules.specs.Faults.{first_fault, entries};
-ghost use Rattle.pattern_report.specs.Told.{line_and_kind};
+ghost use Rattle.pattern_report.specs.ReportedFaults.{line_and_kind};
 
 use db_read::{DbError, read};
 use go_base::Bytes;

@@ -122,7 +122,7 @@ fn moves_in(matches: &ArgMatches<'_>) -> Option<Option<u64>> {
 
 /// The names on the command line.
 #[derive(Drop)]
-struct Names {
+struct CommandNames {
     /// The pattern file.
     file: String,
     /// The entry, if one is named.
@@ -132,11 +132,11 @@ struct Names {
 }
 
 /// The names for `--compare`: the old file, the new file and the folder. `None` if there are fewer or more names.
-fn compared_names(alloc: Global, names: &[&str]) -> Option<Names> {
+fn compared_names(alloc: Global, names: &[&str]) -> Option<CommandNames> {
     let [old, new, folder] = names else {
         return None;
     };
-    Some(Names {
+    Some(CommandNames {
         file: String::from_str(alloc, old).ok()?,
         entry: None,
         compare: Some(Comparison {
@@ -147,13 +147,13 @@ fn compared_names(alloc: Global, names: &[&str]) -> Option<Names> {
 }
 
 /// The pattern file, and the entry if one is named. `None` if there is no file, or one word too many.
-fn tried_names(alloc: Global, names: &[&str]) -> Option<Names> {
+fn tried_names(alloc: Global, names: &[&str]) -> Option<CommandNames> {
     let (file, entry) = match names {
         [file] => (file, None),
         [file, entry] => (file, Some(String::from_str(alloc, entry).ok()?)),
         _ => return None,
     };
-    Some(Names {
+    Some(CommandNames {
         file: String::from_str(alloc, file).ok()?,
         entry,
         compare: None,
@@ -161,7 +161,7 @@ fn tried_names(alloc: Global, names: &[&str]) -> Option<Names> {
 }
 
 /// The names on the command line; `None` if there are too few or too many.
-fn names_in(alloc: Global, matches: &ArgMatches<'_>) -> Option<Names> {
+fn names_in(alloc: Global, matches: &ArgMatches<'_>) -> Option<CommandNames> {
     let names = matches.get_strs("names")?;
     if is_set(matches, "compare") {
         compared_names(alloc, names)
@@ -188,7 +188,7 @@ fn are_together(options: &Options) -> bool {
 
 /// What a parsed command line asks for; `None` if its options cannot be combined.
 fn options_in(alloc: Global, matches: &ArgMatches<'_>) -> Option<Options> {
-    let Names {
+    let CommandNames {
         file,
         entry,
         compare,

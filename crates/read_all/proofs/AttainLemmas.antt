@@ -83,8 +83,12 @@ first_among : (among : Among) (q : ReadingQuestion) (pos : BoardState) (code : �
     → ((p : ℕ) → sets.contains points p ≡ (is_among among q pos p && attains_at q pos code p)) → HasMove pass points
 first_among among q pos code pass points Pass some first passes plays = grind (arith, lt-ltb)
 first_among among q pos code pass points (At p) some first passes plays =
-    grind (arith, candidate_among among q pos code p, play_attains q pos code p some,
-        succeeds_by_rules (q.plies - 1) (first_node q code) pos p)
+    grind (
+      arith,
+      candidate_among among q pos code p,
+      play_attains q pos code p some,
+      succeeds_by_rules (q.plies - 1) (first_node q code) pos p,
+    )
 
 -- a code above 0 has a move that attains it
 pub some_move : {among : Among} {q : ReadingQuestion} {pos : BoardState} {code : ℕ} {pass : Bool}

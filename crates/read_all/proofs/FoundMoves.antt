@@ -36,15 +36,27 @@ pub one_more : (tried wins : ℕ → Bool) (n p : ℕ) (found next : sets.FinSet
     → n ≤ p → ((r : ℕ) → n ≤ r → r < p → tried r ≡ false) → tried p ≡ true → wins p ≡ true
     → next ≡ sets.insert found p → HasBelow tried wins (p + 1) next
 one_more tried wins n p found next has later between t w e q =
-    grind (arith, contains-insert_nat found p q, cases_eq q p, eq-eqb p p refl, lt-ltb p (p + 1), ne_eqb q p,
-        apart tried wins n p q later between)
+    grind (
+      arith,
+      contains-insert_nat found p q,
+      cases_eq q p,
+      eq-eqb p p refl,
+      lt-ltb p (p + 1),
+      ne_eqb q p,
+      apart tried wins n p q later between,
+    )
 
 -- it does not
 pub no_more : (tried wins : ℕ → Bool) (n p : ℕ) (found : sets.FinSet nat_cmp) → HasBelow tried wins n found
     → n ≤ p → ((r : ℕ) → n ≤ r → r < p → tried r ≡ false) → wins p ≡ false → HasBelow tried wins (p + 1) found
 no_more tried wins n p found has later between w q =
-    grind (arith, cases_eq q p, le-ltb p n later, fails_of_three (ltb p (p + 1)) (tried p),
-        apart tried wins n p q later between)
+    grind (
+      arith,
+      cases_eq q p,
+      le-ltb p n later,
+      fails_of_three (ltb p (p + 1)) (tried p),
+      apart tried wins n p q later between,
+    )
 
 -- no tried point is left, so all are found
 pub all_found : (tried wins : ℕ → Bool) (n : ℕ) (found : sets.FinSet nat_cmp) → HasBelow tried wins n found

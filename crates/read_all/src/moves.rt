@@ -6,7 +6,7 @@ ghost use Rattle.std.specs.FinSet as set;
 ghost use Rattle.go_rules.specs.Position.{BoardState, stone_of};
 ghost use Rattle.go_rules.specs.Strings.{cell_at};
 ghost use Rattle.go_base.specs.Facts.{Agrees, Grows};
-ghost use Rattle.trial_board.specs.Trials.{Stays, most_moves};
+ghost use Rattle.trial_board.specs.Trials.{KeepsTrial, most_moves};
 ghost use Rattle.read_rules.specs.Ranges.{most_plies};
 ghost use Rattle.read_rules.specs.Answer.{asked_in};
 ghost use Rattle.read_rules.specs.GameTree.{succeeds};
@@ -62,7 +62,7 @@ fn is_success<L: Look>(
     requires target { IsPointOf L.shows board.old node.turn.target }
     requires on_board { IsPointOf L.shows board.old p }
     requires table { IsTrueTableAt (L.seen board.old.look) node.turn memory.old.table.now }
-    ensures stays { Stays L.shows L.seen board.old board.new }
+    ensures stays { KeepsTrial L.shows L.seen board.old board.new }
     ensures table { IsTrueTableAt (L.seen board.new.look) node.turn memory.new.table.now }
     ensures over { OnEachAgreeing L.seen board.old board.new (λ here. result ≡ succeeds plies node here p) }
 {
@@ -88,7 +88,7 @@ fn successes<L: Look>(
     requires target { IsPointOf L.shows board.old node.turn.target }
     requires on_board { (p : ℕ) → set.contains tried.now p ≡ true → IsPointOf L.shows board.old p }
     requires table { IsTrueTableAt (L.seen board.old.look) node.turn memory.old.table.now }
-    ensures stays { Stays L.shows L.seen board.old board.new }
+    ensures stays { KeepsTrial L.shows L.seen board.old board.new }
     ensures over { OnEachAgreeing L.seen board.old board.new (λ here. (p : ℕ)
         → set.contains result p ≡ (set.contains tried.now p && succeeds plies node here p)) }
 {
@@ -115,7 +115,7 @@ fn successes_by<L: Look>(
     requires target { IsPointOf L.shows board.old node.turn.target }
     requires on_board { (p : ℕ) → set.contains tried.now p ≡ true → IsPointOf L.shows board.old p }
     requires table { IsTrueTableAt (L.seen board.old.look) node.turn table.old }
-    ensures stays { Stays L.shows L.seen board.old board.new }
+    ensures stays { KeepsTrial L.shows L.seen board.old board.new }
     ensures over { OnEachAgreeing L.seen board.old board.new (λ here. (p : ℕ)
         → set.contains result p ≡ (set.contains tried.now p && succeeds plies node here p)) }
 {
@@ -138,7 +138,7 @@ fn successes_with_table<L: Look>(
     requires room { length board.old.moves + plies < most_moves }
     requires target { IsPointOf L.shows board.old node.turn.target }
     requires on_board { (p : ℕ) → set.contains tried.now p ≡ true → IsPointOf L.shows board.old p }
-    ensures stays { Stays L.shows L.seen board.old board.new }
+    ensures stays { KeepsTrial L.shows L.seen board.old board.new }
     ensures over { OnEachAgreeing L.seen board.old board.new (λ here. (p : ℕ)
         → set.contains result p ≡ (set.contains tried.now p && succeeds plies node here p)) }
 {
@@ -152,7 +152,7 @@ fn successes_of<L: Look>(board: &mut Trial<L>, node: Node, plies: u8, tried: &Po
     requires room { length board.old.moves + plies < most_moves }
     requires target { IsPointOf L.shows board.old node.turn.target }
     requires on_board { (p : ℕ) → set.contains tried.now p ≡ true → IsPointOf L.shows board.old p }
-    ensures stays { Stays L.shows L.seen board.old board.new }
+    ensures stays { KeepsTrial L.shows L.seen board.old board.new }
     ensures over { OnEachAgreeing L.seen board.old board.new (λ here. (p : ℕ)
         → set.contains result p ≡ (set.contains tried.now p && succeeds plies node here p)) }
 {
@@ -176,7 +176,7 @@ fn every_point(size: Size) -> PointSet
 /// The points that `among` names: the candidates of the question, or all points of the board.
 fn points_among<L: Look>(board: &mut Trial<L>, question: &ReadingQuestion, among: Among) -> PointSet
     requires target { IsPointOf L.shows board.old question.now.target }
-    ensures stays { Stays L.shows L.seen board.old board.new }
+    ensures stays { KeepsTrial L.shows L.seen board.old board.new }
     ensures on_board { (p : ℕ) → set.contains result p ≡ true → IsPointOf L.shows board.old p }
     ensures over { OnEachAgreeing L.seen board.old board.new (λ here. (p : ℕ)
         → set.contains result p ≡ is_among among question.now here p) }

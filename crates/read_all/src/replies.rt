@@ -4,7 +4,7 @@ ghost use Rattle.std.specs.Prelude.{◌≡◌, ◌≢◌, ◌+◌, ◌-◌, ◌*
 ghost use Rattle.go_rules.specs.Position.{BoardState};
 ghost use Rattle.go_rules.specs.Strings.{cell_at};
 ghost use Rattle.go_base.specs.Facts.{Agrees, Grows};
-ghost use Rattle.trial_board.specs.Trials.{Stays, most_moves};
+ghost use Rattle.trial_board.specs.Trials.{KeepsTrial, most_moves};
 ghost use Rattle.read_rules.specs.Answer.{asked_in};
 ghost use Rattle.read_tree.specs.Table.{IsTrueTableAt};
 ghost use Rattle.read_tree.specs.Walk.{IsPointOf, OnEachAgreeing};
@@ -42,7 +42,7 @@ fn first_reply<L: Look>(
     requires room { length board.old.moves + plies ≤ most_moves }
     requires target { IsPointOf L.shows board.old node.turn.target }
     requires table { IsTrueTableAt (L.seen board.old.look) node.turn memory.old.table.now }
-    ensures stays { Stays L.shows L.seen board.old board.new }
+    ensures stays { KeepsTrial L.shows L.seen board.old board.new }
     ensures over { OnEachAgreeing L.seen board.old board.new (λ here. result ≡ first_reply plies node here) }
 {
     if plies == 0 {
@@ -63,7 +63,7 @@ fn reply_unless<L: Look>(
     requires room { length board.old.moves + plies ≤ most_moves }
     requires target { IsPointOf L.shows board.old node.turn.target }
     requires table { IsTrueTableAt (L.seen board.old.look) node.turn memory.old.table.now }
-    ensures stays { Stays L.shows L.seen board.old board.new }
+    ensures stays { KeepsTrial L.shows L.seen board.old board.new }
     ensures over { OnEachAgreeing L.seen board.old board.new (λ here. result ≡ reply_unless attacker plies node here) }
 {
     if wins_at(board, node, plies, memory) == attacker {
@@ -84,7 +84,7 @@ fn reply_to<L: Look>(
     requires target { IsPointOf L.shows board.old node.turn.target }
     requires on_board { IsPointOf L.shows board.old p }
     requires table { IsTrueTableAt (L.seen board.old.look) node.turn memory.old.table.now }
-    ensures stays { Stays L.shows L.seen board.old board.new }
+    ensures stays { KeepsTrial L.shows L.seen board.old board.new }
     ensures over { OnEachAgreeing L.seen board.old board.new (λ here. result ≡ reply_to plies node here p) }
 {
     match make_at(board, node, p) {
@@ -109,7 +109,7 @@ fn reply_by<L: Look>(
     requires target { IsPointOf L.shows board.old node.turn.target }
     requires on_board { IsPointOf L.shows board.old p }
     requires table { IsTrueTableAt (L.seen board.old.look) node.turn table.old }
-    ensures stays { Stays L.shows L.seen board.old board.new }
+    ensures stays { KeepsTrial L.shows L.seen board.old board.new }
     ensures over { OnEachAgreeing L.seen board.old board.new (λ here. result ≡ reply_to plies node here p) }
 {
     let mut memory = Memory {
@@ -126,7 +126,7 @@ fn reply_with_table<L: Look>(board: &mut Trial<L>, node: Node, p: Point, plies: 
     requires room { length board.old.moves + plies < most_moves }
     requires target { IsPointOf L.shows board.old node.turn.target }
     requires on_board { IsPointOf L.shows board.old p }
-    ensures stays { Stays L.shows L.seen board.old board.new }
+    ensures stays { KeepsTrial L.shows L.seen board.old board.new }
     ensures over { OnEachAgreeing L.seen board.old board.new (λ here. result ≡ reply_to plies node here p) }
 {
     let mut table = empty_table();
@@ -138,7 +138,7 @@ fn reply_of<L: Look>(board: &mut Trial<L>, node: Node, p: Point, plies: u8) -> O
     requires room { length board.old.moves + plies < most_moves }
     requires target { IsPointOf L.shows board.old node.turn.target }
     requires on_board { IsPointOf L.shows board.old p }
-    ensures stays { Stays L.shows L.seen board.old board.new }
+    ensures stays { KeepsTrial L.shows L.seen board.old board.new }
     ensures over { OnEachAgreeing L.seen board.old board.new (λ here. result ≡ reply_to plies node here p) }
 {
     if plies < PLIES_WITH_TABLE {

@@ -19,9 +19,15 @@ pub told_is : (n : ℕ) (link : Link) (own : Bool) (here : BoardState) (told : B
     → TellsSome (is_connecting_move link here) (attains n link own here) told
     → told ≡ any_below (here.size * here.size) (succeeds n link own here)
 told_is n link own here told tells =
-    grind (arith, cases_Bool told, any_below_from (here.size * here.size) (succeeds n link own here),
-        move_on link here, any_below_false (here.size * here.size) (succeeds n link own here), and_from,
-        and_false_right)
+    grind (
+      arith,
+      cases_Bool told,
+      any_below_from (here.size * here.size) (succeeds n link own here),
+      move_on link here,
+      any_below_false (here.size * here.size) (succeeds n link own here),
+      and_from,
+      and_false_right,
+    )
 
 -- at their own turn the strings can be joined if some move serves
 pub own_by : (n : ℕ) (link : Link) (own : Bool) (here : BoardState) (told : Bool) → own ≡ true → IsUndecided link here

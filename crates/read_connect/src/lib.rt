@@ -8,12 +8,12 @@
 //! The tree is this project's own: GNU Go reads connections by trees of another kind.
 #![tactic(auto)]
 
+pub mod link_told;
 mod moves;
 pub mod reading;
 mod sets;
-pub mod told;
 mod tree;
 
 pub use connect_rules::{Link, LinkKind, LinkQuestion, LinkSpot, Linkage};
+pub use link_told::LinkTold;
 pub use reading::{connect, disconnect, read};
-pub use told::LinkTold;

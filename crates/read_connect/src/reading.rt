@@ -5,7 +5,7 @@ ghost use Rattle.std.specs.Prelude.{IfSome, IsTrue, None, Some, ℕ, if◌then�
 ghost use Rattle.go_rules.specs.Position.{BoardState, stone_of};
 ghost use Rattle.go_rules.specs.Strings.{cell_at};
 ghost use Rattle.go_base.specs.Facts.{Agrees, Grows, CellIs};
-ghost use Rattle.trial_board.specs.Trials.{Stays, most_moves, after};
+ghost use Rattle.trial_board.specs.Trials.{KeepsTrial, most_moves, after};
 ghost use Rattle.read_rules.specs.ActiveArea.{AddsNear};
 ghost use Rattle.read_rules.specs.GameTree.{at_point};
 ghost use Rattle.read_rules.specs.GoodMoves.{IsOnBoard};
@@ -15,8 +15,8 @@ ghost use Rattle.connect_rules.specs.Linkages.{is_connect, link_of, is_about, li
 ghost use Rattle.read_connect.specs.Walk.{IsPointOf, AreOnBoard, AreLiberties, IsReady, OnEachAgreeing, LooksNear};
 ghost use Rattle.read_connect.specs.Readings.{first_move, one_string};
 
+use crate::link_told::LinkTold;
 use crate::moves::{captures_of, crossing};
-use crate::told::LinkTold;
 use crate::tree::{attains, pass_parts};
 use connect_rules::{Link, LinkKind, LinkQuestion, LinkSpot, Linkage};
 use go_base::flood::Found;
@@ -35,7 +35,7 @@ fn first_point<L: Look>(
 ) -> Option<Point>
     requires ready { IsReady L.shows L.seen board.old link plies }
     requires liberties { AreLiberties L.seen board.old link of_a.now of_b.now }
-    ensures stays { Stays L.shows L.seen board.old board.new }
+    ensures stays { KeepsTrial L.shows L.seen board.old board.new }
     ensures on_board { IfSome result (λ p. p < (L.shows board.old.look).size * (L.shows board.old.look).size) }
     ensures over { OnEachAgreeing L.seen board.old board.new (λ here. result ≡ first_success plies link own here) }
     ensures near { LooksNear L.seen board.old board.new (suc plies) link own }
@@ -75,7 +75,7 @@ fn first_move<L: Look>(
 ) -> Option<LinkSpot>
     requires ready { IsReady L.shows L.seen board.old link plies }
     requires liberties { AreLiberties L.seen board.old link of_a.now of_b.now }
-    ensures stays { Stays L.shows L.seen board.old board.new }
+    ensures stays { KeepsTrial L.shows L.seen board.old board.new }
     ensures on_board { IfSome result (IsOnBoard (L.shows board.old.look).size) }
     ensures over { OnEachAgreeing L.seen board.old board.new (λ here. result ≡ first_move plies link own here) }
     ensures near { LooksNear L.seen board.old board.new (suc plies) link own }
@@ -116,7 +116,7 @@ fn first_node<L: Look>(board: &mut Trial<L>, question: &LinkQuestion) -> Linkage
     requires on_board { AreOnBoard L.shows board.old (link_of question.now) }
     requires about { (pos : BoardState) → Agrees (L.seen board.old.look) pos
         → is_about question.now (after pos board.old.moves) ≡ true }
-    ensures stays { Stays L.shows L.seen board.old board.new }
+    ensures stays { KeepsTrial L.shows L.seen board.old board.new }
     ensures none { IsNone result.at ↔ (result.yes ≡ false) }
     ensures on_board { IfSome result.at (IsOnBoard (L.shows board.old.look).size) }
     ensures over { OnEachAgreeing L.seen board.old board.new (λ here. result ≡ linkage_of question.now here) }

@@ -5,7 +5,7 @@ ghost use Rattle.std.specs.Prelude.{◌≡◌, ◌+◌, ◌≤◌, ℕ, suc, tru
 ghost use Rattle.std.specs.FinSet as set;
 ghost use Rattle.go_rules.specs.Position.{BoardState};
 ghost use Rattle.go_base.specs.Facts.{AddsIn};
-ghost use Rattle.trial_board.specs.Trials.{Stays, most_moves, after};
+ghost use Rattle.trial_board.specs.Trials.{KeepsTrial, most_moves, after};
 ghost use Rattle.connect_rules.specs.ConnectingMoves.{is_connecting_move};
 ghost use Rattle.connect_rules.specs.Connection.{both_stand, can_connect, has_way, pass_parts};
 ghost use Rattle.read_connect.specs.Stages.{is_end, attains, TellsSome};
@@ -22,7 +22,7 @@ use trial_board::{Trial, Tried};
 /// Whether both strings stand: both points of `link` hold stones of its colour.
 fn both_stand<L: Look>(board: &mut Trial<L>, link: Link) -> bool
     requires { AreOnBoard L.shows board.old link }
-    ensures stays { Stays L.shows L.seen board.old board.new }
+    ensures stays { KeepsTrial L.shows L.seen board.old board.new }
     ensures over { OnEachAgreeing L.seen board.old board.new (λ here. result ≡ both_stand link here) }
     ensures near { AddsIn (L.seen board.old.look) (L.seen board.new.look) (is_end link) }
 {
@@ -46,7 +46,7 @@ fn has_way(own: bool, joined: bool) -> bool
 pub fn can_connect<L: Look>(board: &mut Trial<L>, link: Link, own: bool, plies: u8) -> bool
     requires room { length board.old.moves + plies ≤ most_moves }
     requires on_board { AreOnBoard L.shows board.old link }
-    ensures stays { Stays L.shows L.seen board.old board.new }
+    ensures stays { KeepsTrial L.shows L.seen board.old board.new }
     ensures over { OnEachAgreeing L.seen board.old board.new (λ here. result ≡ can_connect plies link own here) }
     ensures near { LooksNearFrom L.seen board.old board.new plies link own }
 {
@@ -81,7 +81,7 @@ fn goes_on<L: Look>(
 ) -> bool
     requires ready { IsReady L.shows L.seen board.old link plies }
     requires liberties { AreLiberties L.seen board.old link of_a.now of_b.now }
-    ensures stays { Stays L.shows L.seen board.old board.new }
+    ensures stays { KeepsTrial L.shows L.seen board.old board.new }
     ensures over { OnEachAgreeing L.seen board.old board.new (λ here. result ≡ can_connect (suc plies) link own here) }
     ensures near { LooksNear L.seen board.old board.new (suc plies) link own }
 {
@@ -98,7 +98,7 @@ fn goes_on<L: Look>(
 #[cycle(read)]
 pub fn pass_parts<L: Look>(board: &mut Trial<L>, link: Link, plies: u8) -> bool
     requires { IsReady L.shows L.seen board.old link plies }
-    ensures stays { Stays L.shows L.seen board.old board.new }
+    ensures stays { KeepsTrial L.shows L.seen board.old board.new }
     ensures over { OnEachAgreeing L.seen board.old board.new (λ here. result ≡ pass_parts plies link here) }
     ensures near { LooksNear L.seen board.old board.new (suc plies) link false }
 {
@@ -121,7 +121,7 @@ fn some_move<L: Look>(
 ) -> bool
     requires ready { IsReady L.shows L.seen board.old link plies }
     requires liberties { AreLiberties L.seen board.old link of_a.now of_b.now }
-    ensures stays { Stays L.shows L.seen board.old board.new }
+    ensures stays { KeepsTrial L.shows L.seen board.old board.new }
     ensures over { OnEachAgreeing L.seen board.old board.new (λ here.
         TellsSome (is_connecting_move link here) (attains plies link own here) result) }
     ensures near { LooksNear L.seen board.old board.new (suc plies) link own }
@@ -150,7 +150,7 @@ fn some_of<L: Look>(
 ) -> bool
     requires ready { IsReady L.shows L.seen board.old link plies }
     requires on_board { (p : ℕ) → IsTrue (set.contains points.now p) → IsPointOf L.shows board.old p }
-    ensures stays { Stays L.shows L.seen board.old board.new }
+    ensures stays { KeepsTrial L.shows L.seen board.old board.new }
     ensures over { OnEachAgreeing L.seen board.old board.new (λ here.
         TellsSome (set.contains points.now) (attains plies link own here) result) }
     ensures near { LooksNearWhere L.seen board.old board.new (suc plies) link own (λ here.
@@ -171,7 +171,7 @@ fn some_of<L: Look>(
 pub fn attains<L: Look>(board: &mut Trial<L>, link: Link, own: bool, plies: u8, p: Point) -> bool
     requires ready { IsReady L.shows L.seen board.old link plies }
     requires on_board { IsPointOf L.shows board.old p }
-    ensures stays { Stays L.shows L.seen board.old board.new }
+    ensures stays { KeepsTrial L.shows L.seen board.old board.new }
     ensures over { OnEachAgreeing L.seen board.old board.new (λ here. result ≡ attains plies link own here p) }
     ensures near { LooksNearWhere L.seen board.old board.new (suc plies) link own (λ here.
         IsTrue (is_connecting_move link here p)) }

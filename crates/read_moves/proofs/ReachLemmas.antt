@@ -224,17 +224,25 @@ none_by_reached : (pos : BoardState) (c : Colour) (l p : ℕ) → l < pos.size *
     → (r : Result BoardState Illegal) → play_free pos c l ≡ r → leaves_only l p r ≡ true → ⊥
 none_by_reached pos c l p on whole other (Err why) is h = cc
 none_by_reached pos c l p on whole other (Ok new) is h =
-    grind (arith, size_played pos c l new is, reached_then pos c l new other.point on whole is other.inside,
-        only_parts new.size new.cells l p h, same_liberty new.size new.cells l p other.point,
-        is_liberty-from_fact pos.size new.cells l other.point on)
+    grind (
+      arith,
+      size_played pos c l new is,
+      reached_then pos c l new other.point on whole is other.inside,
+      only_parts new.size new.cells l p h,
+      same_liberty new.size new.cells l p other.point,
+      is_liberty-from_fact pos.size new.cells l other.point on,
+    )
 
 -- so it leaves nothing
 pub reached_leave_none : (pos : BoardState) (c : Colour) (l p : ℕ) → l < pos.size * pos.size
     → length pos.cells ≡ pos.size * pos.size → HasOther (IsReached pos.size pos.cells c l) p
     → leaves_only l p (play_free pos c l) ≡ false
 reached_leave_none pos c l p on whole other =
-    grind (arith, cases_Bool (leaves_only l p (play_free pos c l)),
-        none_by_reached pos c l p on whole other (play_free pos c l) refl)
+    grind (
+      arith,
+      cases_Bool (leaves_only l p (play_free pos c l)),
+      none_by_reached pos c l p on whole other (play_free pos c l) refl,
+    )
 
 -- the play that leaves a liberty is legal, and so its point is empty
 pub left_vacant : (here : BoardState) (c : Colour) (l p : ℕ) → is_left here c l p ≡ true → cell_at here.cells l ≡ Empty

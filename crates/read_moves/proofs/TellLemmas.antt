@@ -12,7 +12,7 @@ use Rattle.go_base.proofs.SidesOfPoints.{neighbour_at-all, neighbour_at-near}
 use Rattle.read_rules.specs.Candidates.{IsEmptyNeighbour}
 use Rattle.read_moves.specs.declared.reach.Reach.{Reach}
 use Rattle.read_moves.specs.declared.reach.Reach.TheVariants.{Nothing, Only, More}
-use Rattle.read_moves.specs.Reaches.{HasOther, Tells, together, is_more, IsOtherLibertyOf, IsReached, by_side}
+use Rattle.read_moves.specs.Reaches.{HasOther, HasReach, together, is_more, IsOtherLibertyOf, IsReached, by_side}
 use Rattle.read_moves.specs.Reaches.{by_string}
 
 -- two of one point at least are two of a larger set
@@ -20,26 +20,27 @@ other_within : (P Q : ℕ → Type 0) → ((x : ℕ) → P x → Q x) → (p : �
 other_within P Q f p o = record { point = o.point; inside = f o.point o.inside; other = o.other }
 
 -- what is told of one set of points is told of the same set
-pub Tells-same : (P Q : ℕ → Type 0) (r : Reach) → ((x : ℕ) → P x → Q x) → ((x : ℕ) → Q x → P x) → Tells P r
-    → Tells Q r
-Tells-same P Q Nothing to from h = λ x q. h x (from x q)
-Tells-same P Q (Only p) to from h = (to p h.0, λ x q. h.1 x (from x q))
-Tells-same P Q More to from h = λ p. other_within P Q to p (h p)
+pub HasReach-same : (P Q : ℕ → Type 0) (r : Reach) → ((x : ℕ) → P x → Q x) → ((x : ℕ) → Q x → P x) → HasReach P r
+    → HasReach Q r
+HasReach-same P Q Nothing to from h = λ x q. h x (from x q)
+HasReach-same P Q (Only p) to from h = (to p h.0, λ x q. h.1 x (from x q))
+HasReach-same P Q More to from h = λ p. other_within P Q to p (h p)
 
 -- a larger set has two points too
-pub Tells-more : (P Q : ℕ → Type 0) (r : Reach) → is_more r ≡ true → ((x : ℕ) → P x → Q x) → Tells P r → Tells Q r
-Tells-more P Q Nothing more to h = absurd (let no = more in cc)
-Tells-more P Q (Only p) more to h = absurd (let no = more in cc)
-Tells-more P Q More more to h = λ p. other_within P Q to p (h p)
+pub HasReach-more : (P Q : ℕ → Type 0) (r : Reach) → is_more r ≡ true → ((x : ℕ) → P x → Q x) → HasReach P r
+    → HasReach Q r
+HasReach-more P Q Nothing more to h = absurd (let no = more in cc)
+HasReach-more P Q (Only p) more to h = absurd (let no = more in cc)
+HasReach-more P Q More more to h = λ p. other_within P Q to p (h p)
 
 -- what is told of P and of Q is told together of both
-pub Tells-together : (P Q : ℕ → Type 0) (a b : Reach) → Tells P a → Tells Q b
-    → Tells (λ x. P x ⊎ Q x) (together a b)
-Tells-together P Q Nothing Nothing h k = λ x e. elim e [ inl i ↦ h x i | inr i ↦ k x i ]
-Tells-together P Q Nothing (Only q) h k = (inr k.0, λ x e. elim e [ inl i ↦ absurd (h x i) | inr i ↦ k.1 x i ])
-Tells-together P Q Nothing More h k = λ z. other_within Q (λ x. P x ⊎ Q x) (λ x i. inr i) z (k z)
-Tells-together P Q (Only p) Nothing h k = (inl h.0, λ x e. elim e [ inl i ↦ h.1 x i | inr i ↦ absurd (k x i) ])
-Tells-together P Q (Only p) (Only q) h k = elim (cases_eq p q) [
+pub HasReach-together : (P Q : ℕ → Type 0) (a b : Reach) → HasReach P a → HasReach Q b
+    → HasReach (λ x. P x ⊎ Q x) (together a b)
+HasReach-together P Q Nothing Nothing h k = λ x e. elim e [ inl i ↦ h x i | inr i ↦ k x i ]
+HasReach-together P Q Nothing (Only q) h k = (inr k.0, λ x e. elim e [ inl i ↦ absurd (h x i) | inr i ↦ k.1 x i ])
+HasReach-together P Q Nothing More h k = λ z. other_within Q (λ x. P x ⊎ Q x) (λ x i. inr i) z (k z)
+HasReach-together P Q (Only p) Nothing h k = (inl h.0, λ x e. elim e [ inl i ↦ h.1 x i | inr i ↦ absurd (k x i) ])
+HasReach-together P Q (Only p) (Only q) h k = elim (cases_eq p q) [
   | inl e ↦ rw (eq-eqb p q e)
       (inl h.0, λ x i. elim i [ inl i ↦ h.1 x i | inr i ↦ k.1 x i ∙ sym e ])
   | inr ne ↦ rw (ne_eqb p q ne) (λ z. elim (cases_eq p z) [
@@ -47,8 +48,8 @@ Tells-together P Q (Only p) (Only q) h k = elim (cases_eq p q) [
     | inr off ↦ record { point = p; inside = inl h.0; other = off }
   ])
 ]
-Tells-together P Q (Only p) More h k = λ z. other_within Q (λ x. P x ⊎ Q x) (λ x i. inr i) z (k z)
-Tells-together P Q More b h k = λ z. other_within P (λ x. P x ⊎ Q x) (λ x i. inl i) z (h z)
+HasReach-together P Q (Only p) More h k = λ z. other_within Q (λ x. P x ⊎ Q x) (λ x i. inr i) z (k z)
+HasReach-together P Q More b h k = λ z. other_within P (λ x. P x ⊎ Q x) (λ x i. inl i) z (h z)
 
 -- what is told together with nothing is told
 together-nothing : (r : Reach) → together r Nothing ≡ r
@@ -64,18 +65,18 @@ pub data IsSoFar (P : ℕ → Type 0) (S : ℕ → ℕ → Type 0) (n x : ℕ) :
 -- What is told of the points of P, and of those of S at one side after another.
 module _ (P : ℕ → Type 0) (S : ℕ → ℕ → Type 0) where
   -- no side was visited
-  pub SoFar-none : (r : Reach) → Tells P r → Tells (IsSoFar P S 0) r
-  SoFar-none r h = Tells-same P (IsSoFar P S 0) r (λ x i. before i) back h
+  pub SoFar-none : (r : Reach) → HasReach P r → HasReach (IsSoFar P S 0) r
+  SoFar-none r h = HasReach-same P (IsSoFar P S 0) r (λ x i. before i) back h
     where
       back : (x : ℕ) → IsSoFar P S 0 x → P x
       back x (before i) = i
       back x (at_side side below i) = absurd (omega (arith, below))
 
   -- the next side has the points that are told of it
-  pub SoFar-next : (n : ℕ) (old one : Reach) → Tells (IsSoFar P S n) old → Tells (S n) one
-      → Tells (IsSoFar P S (n + 1)) (together old one)
-  SoFar-next n old one h its = Tells-same (λ x. IsSoFar P S n x ⊎ S n x) (IsSoFar P S (n + 1)) (together old one)
-      to from (Tells-together (IsSoFar P S n) (S n) old one h its)
+  pub SoFar-next : (n : ℕ) (old one : Reach) → HasReach (IsSoFar P S n) old → HasReach (S n) one
+      → HasReach (IsSoFar P S (n + 1)) (together old one)
+  SoFar-next n old one h its = HasReach-same (λ x. IsSoFar P S n x ⊎ S n x) (IsSoFar P S (n + 1)) (together old one)
+      to from (HasReach-together (IsSoFar P S n) (S n) old one h its)
     where
       to : (x : ℕ) → IsSoFar P S n x ⊎ S n x → IsSoFar P S (n + 1) x
       to x (inl (before i)) = before i
@@ -90,9 +91,9 @@ module _ (P : ℕ → Type 0) (S : ℕ → ℕ → Type 0) where
       ]
 
   -- the next side has no points
-  pub SoFar-skip : (n : ℕ) (r : Reach) → Tells (IsSoFar P S n) r → ((x : ℕ) → S n x → ⊥)
-      → Tells (IsSoFar P S (n + 1)) r
-  SoFar-skip n r h none = subst (Tells (IsSoFar P S (n + 1))) (together-nothing r) (SoFar-next n r Nothing h none)
+  pub SoFar-skip : (n : ℕ) (r : Reach) → HasReach (IsSoFar P S n) r → ((x : ℕ) → S n x → ⊥)
+      → HasReach (IsSoFar P S (n + 1)) r
+  SoFar-skip n r h none = subst (HasReach (IsSoFar P S (n + 1))) (together-nothing r) (SoFar-next n r Nothing h none)
 
 -- no point
 abbrev pub Nowhere : ℕ → Type 0
@@ -113,8 +114,8 @@ pub record IsLibertyAtSide (s : ℕ) (cells : List Cell) (c : Colour) (l side x 
 module _ (s : ℕ) (cells : List Cell) (l : ℕ) (on : l < s * s) where
   -- the point at a side is told, where it is empty
   pub side_told : (side q : ℕ) (one : Reach) → neighbour_at s l side ≡ Some q
-      → one ≡ cond (same_cell (cell_at cells q) Empty) (Only q) Nothing → Tells (IsEmptySide s cells l side) one
-  side_told side q one at is = subst (Tells (IsEmptySide s cells l side)) (sym is)
+      → one ≡ cond (same_cell (cell_at cells q) Empty) (Only q) Nothing → HasReach (IsEmptySide s cells l side) one
+  side_told side q one at is = subst (HasReach (IsEmptySide s cells l side)) (sym is)
       (elim (cases_Bool (same_cell (cell_at cells q) Empty)) [
         | inl t ↦ rw t (
           record { at = at; is_empty = same_cell-true _ _ t },
@@ -127,10 +128,10 @@ module _ (s : ℕ) (cells : List Cell) (l : ℕ) (on : l < s * s) where
       ])
 
   -- after the four sides the empty neighbours are told
-  pub sides_told : (n : ℕ) (r : Reach) → 4 ≤ n → Tells (IsSoFar Nowhere (IsEmptySide s cells l) n) r
-      → Tells (IsEmptyNeighbour s cells l) r
+  pub sides_told : (n : ℕ) (r : Reach) → 4 ≤ n → HasReach (IsSoFar Nowhere (IsEmptySide s cells l) n) r
+      → HasReach (IsEmptyNeighbour s cells l) r
   sides_told n r four =
-      Tells-same (IsSoFar Nowhere (IsEmptySide s cells l) n) (IsEmptyNeighbour s cells l) r to from
+      HasReach-same (IsSoFar Nowhere (IsEmptySide s cells l) n) (IsEmptyNeighbour s cells l) r to from
     where
       to : (x : ℕ) → IsSoFar Nowhere (IsEmptySide s cells l) n x → IsEmptyNeighbour s cells l x
       to x (before i) = absurd i
@@ -147,8 +148,8 @@ module _ (s : ℕ) (cells : List Cell) (l : ℕ) (on : l < s * s) where
   module _ (c : Colour) where
     -- the liberties of the string at a side are told
     pub string_told : (side q : ℕ) (one : Reach) → neighbour_at s l side ≡ Some q
-        → Tells (IsOtherLibertyOf s cells c l q) one → Tells (IsLibertyAtSide s cells c l side) one
-    string_told side q one at = grind (arith, Tells-same)
+        → HasReach (IsOtherLibertyOf s cells c l q) one → HasReach (IsLibertyAtSide s cells c l side) one
+    string_told side q one at = grind (arith, HasReach-same)
 
     -- what was told so far is reached
     pub so_far_reached : (n x : ℕ) → IsSoFar (IsEmptyNeighbour s cells l) (IsLibertyAtSide s cells c l) n x
@@ -157,9 +158,9 @@ module _ (s : ℕ) (cells : List Cell) (l : ℕ) (on : l < s * s) where
 
     -- after the four sides what is reached is told
     pub strings_told : (n : ℕ) (r : Reach) → 4 ≤ n
-        → Tells (IsSoFar (IsEmptyNeighbour s cells l) (IsLibertyAtSide s cells c l) n) r
-        → Tells (IsReached s cells c l) r
-    strings_told n r four = Tells-same (IsSoFar (IsEmptyNeighbour s cells l) (IsLibertyAtSide s cells c l) n)
+        → HasReach (IsSoFar (IsEmptyNeighbour s cells l) (IsLibertyAtSide s cells c l) n) r
+        → HasReach (IsReached s cells c l) r
+    strings_told n r four = HasReach-same (IsSoFar (IsEmptyNeighbour s cells l) (IsLibertyAtSide s cells c l) n)
         (IsReached s cells c l) r (so_far_reached n) from
       where
         from : (x : ℕ) → IsReached s cells c l x

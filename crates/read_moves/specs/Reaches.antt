@@ -18,10 +18,10 @@ pub record HasOther (P : ℕ → Type 0) (p : ℕ) : Type 0 where
   pub other : point ≢ p
 
 -- which points P has, counted up to two: none, p alone, or at least two
-abbrev pub Tells : (ℕ → Type 0) → Reach → Type 0
-Tells P Nothing = (x : ℕ) → P x → ⊥
-Tells P (Only p) = P p × ((x : ℕ) → P x → x ≡ p)
-Tells P More = (p : ℕ) → HasOther P p
+abbrev pub HasReach : (ℕ → Type 0) → Reach → Type 0
+HasReach P Nothing = (x : ℕ) → P x → ⊥
+HasReach P (Only p) = P p × ((x : ℕ) → P x → x ≡ p)
+HasReach P More = (p : ℕ) → HasOther P p
 
 -- the reach of two sets of points together, from the reach of each
 abbrev pub together : Reach → Reach → Reach
@@ -67,4 +67,4 @@ pub data IsReached (s : ℕ) (cells : List Cell) (c : Colour) (l x : ℕ) : Type
 
 -- what a stone of c at l reaches: nothing, p alone, or at least two points
 abbrev pub Reaches : ℕ → List Cell → Colour → ℕ → Reach → Type 0
-Reaches s cells c l = Tells (IsReached s cells c l)
+Reaches s cells c l = HasReach (IsReached s cells c l)

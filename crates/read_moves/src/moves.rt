@@ -9,7 +9,7 @@ ghost use Rattle.go_rules.specs.Position.{BoardState};
 ghost use Rattle.go_base.specs.Facts.{Agrees, AddsIn};
 ghost use Rattle.go_base.specs.Views.{alone, neighbours_of};
 ghost use Rattle.trial_board.specs.Overlays.{neighbourhood_twice};
-ghost use Rattle.trial_board.specs.Trials.{Stays, after};
+ghost use Rattle.trial_board.specs.Trials.{KeepsTrial, after};
 ghost use Rattle.read_rules.specs.Candidates.{is_empty_beside};
 ghost use Rattle.read_moves.specs.Steps.{is_left};
 
@@ -24,7 +24,7 @@ use wider_moves::sides;
 /// Adds the empty neighbours of `l` to `found`.
 pub fn add_sides<L: Look>(board: &mut Trial<L>, l: Point, found: &mut PointSet)
     requires { l < (L.shows board.old.look).size * (L.shows board.old.look).size }
-    ensures stays { Stays L.shows L.seen board.old board.new }
+    ensures stays { KeepsTrial L.shows L.seen board.old board.new }
     ensures over { (pos : BoardState) → Agrees (L.seen board.new.look) pos → (p : ℕ)
         → set.contains found.new p
         ≡ (set.contains found.old p || is_empty_beside pos.size (after pos board.old.moves).cells (alone l) p) }
@@ -37,7 +37,7 @@ pub fn add_sides<L: Look>(board: &mut Trial<L>, l: Point, found: &mut PointSet)
 /// How many neighbours of `l` are empty.
 pub fn empty_sides<L: Look>(board: &mut Trial<L>, l: Point) -> u16
     requires { l < (L.shows board.old.look).size * (L.shows board.old.look).size }
-    ensures stays { Stays L.shows L.seen board.old board.new }
+    ensures stays { KeepsTrial L.shows L.seen board.old board.new }
     ensures few { result ≤ largest_points }
     ensures over { (pos : BoardState) → Agrees (L.seen board.new.look) pos
         → result ≡ count_below (pos.size * pos.size) (is_empty_beside pos.size (after pos board.old.moves).cells
@@ -55,7 +55,7 @@ pub fn empty_sides<L: Look>(board: &mut Trial<L>, l: Point) -> u16
 /// has a liberty where a taken stone stood, which is not empty now.
 fn add_backfilling_at<L: Look>(board: &mut Trial<L>, c: Colour, l: Point, found: &mut PointSet)
     requires { l < (L.shows board.old.look).size * (L.shows board.old.look).size }
-    ensures stays { Stays L.shows L.seen board.old board.new }
+    ensures stays { KeepsTrial L.shows L.seen board.old board.new }
     ensures over { (pos : BoardState) → Agrees (L.seen board.new.look) pos → (p : ℕ)
         → set.contains found.new p ≡ (set.contains found.old p || is_left (after pos board.old.moves) c l p) }
     ensures near { (pos : BoardState) → Agrees (L.seen board.new.look) pos
@@ -85,7 +85,7 @@ pub(crate) fn add_backfilling<L: Look>(
 )
     requires { (l : ℕ) → IsTrue (set.contains points.now l)
         → l < (L.shows board.old.look).size * (L.shows board.old.look).size }
-    ensures stays { Stays L.shows L.seen board.old board.new }
+    ensures stays { KeepsTrial L.shows L.seen board.old board.new }
     ensures over { (pos : BoardState) → Agrees (L.seen board.new.look) pos → (p : ℕ)
         → set.contains found.new p ≡ (set.contains found.old p || any_below (pos.size * pos.size)
         (λ l. set.contains points.now l && is_left (after pos board.old.moves) c l p)) }

@@ -7,7 +7,7 @@ ghost use Rattle.go_rules.specs.Neighbourhood.{neighbourhood_of};
 ghost use Rattle.go_base.specs.Facts.{Agrees, AddsIn};
 ghost use Rattle.go_base.specs.Views.{alone};
 ghost use Rattle.trial_board.specs.Overlays.{neighbourhood_twice};
-ghost use Rattle.trial_board.specs.Trials.{Stays, after};
+ghost use Rattle.trial_board.specs.Trials.{KeepsTrial, after};
 ghost use Rattle.read_moves.specs.Steps.{LivesWithout, AllLive};
 
 use crate::reach::first_other;
@@ -24,7 +24,7 @@ pub(crate) const IN_ATARI: u16 = 1;
 fn lives_without<L: Look>(board: &mut Trial<L>, c: Colour, l: Point, q: Point) -> bool
     requires small { l < largest_points }
     requires on_board { q < (L.shows board.old.look).size * (L.shows board.old.look).size }
-    ensures stays { Stays L.shows L.seen board.old board.new }
+    ensures stays { KeepsTrial L.shows L.seen board.old board.new }
     ensures over { (pos : BoardState) → Agrees (L.seen board.new.look) pos → result ≡ true
         → LivesWithout pos.size (after pos board.old.moves).cells c l q }
     ensures dies { (pos : BoardState) → Agrees (L.seen board.new.look) pos → result ≡ false
@@ -46,7 +46,7 @@ fn lives_without<L: Look>(board: &mut Trial<L>, c: Colour, l: Point, q: Point) -
 /// Whether a stone of colour `c` at `l` takes nothing: each enemy string next to `l` has another liberty.
 pub fn is_quiet<L: Look>(board: &mut Trial<L>, c: Colour, l: Point) -> bool
     requires { l < (L.shows board.old.look).size * (L.shows board.old.look).size }
-    ensures stays { Stays L.shows L.seen board.old board.new }
+    ensures stays { KeepsTrial L.shows L.seen board.old board.new }
     ensures over { (pos : BoardState) → Agrees (L.seen board.new.look) pos → result ≡ true
         → AllLive pos.size (after pos board.old.moves).cells c l }
     ensures dies { (pos : BoardState) → Agrees (L.seen board.new.look) pos → result ≡ false

@@ -10,9 +10,9 @@ ghost use Rattle.go_rules.specs.Neighbourhood.{neighbourhood_of};
 ghost use Rattle.go_base.specs.Facts.{Agrees, AddsIn};
 ghost use Rattle.go_base.specs.Views.{alone, neighbours_of};
 ghost use Rattle.trial_board.specs.Overlays.{neighbourhood_twice};
-ghost use Rattle.trial_board.specs.Trials.{Stays, after};
+ghost use Rattle.trial_board.specs.Trials.{KeepsTrial, after};
 ghost use Rattle.read_rules.specs.Candidates.{IsEmptyNeighbour};
-ghost use Rattle.read_moves.specs.Reaches.{Tells, together, is_more, IsOtherMember, IsOtherLibertyOf, Reaches};
+ghost use Rattle.read_moves.specs.Reaches.{HasReach, together, is_more, IsOtherMember, IsOtherLibertyOf, Reaches};
 
 use go_base::points::PointSet;
 use go_base::sides::neighbour;
@@ -78,7 +78,7 @@ pub(crate) fn first_other(points: &PointSet, l: Point, from: u16) -> Option<Poin
 /// The members of `points` other than `l`, as a reach.
 fn reach_within(points: &PointSet, l: Point) -> Reach
     requires { l < largest_points }
-    ensures { Tells (IsOtherMember points.now l) result }
+    ensures { HasReach (IsOtherMember points.now l) result }
 {
     match first_other(points, l, 0) {
         Some(p) => match first_other(points, l, p + 1) {
@@ -92,7 +92,7 @@ fn reach_within(points: &PointSet, l: Point) -> Reach
 /// The point `q` if it is empty, else nothing.
 fn reach_of_side<L: Look>(board: &mut Trial<L>, q: Point) -> Reach
     requires { q < (L.shows board.old.look).size * (L.shows board.old.look).size }
-    ensures stays { Stays L.shows L.seen board.old board.new }
+    ensures stays { KeepsTrial L.shows L.seen board.old board.new }
     ensures over { (pos : BoardState) → Agrees (L.seen board.new.look) pos
         → result ≡ (if same_cell (cell_at (after pos board.old.moves).cells q) Cell.Empty then Reach.Only q
         else Reach.Nothing) }
@@ -108,9 +108,9 @@ fn reach_of_side<L: Look>(board: &mut Trial<L>, q: Point) -> Reach
 /// The empty neighbours of `l`, as a reach.
 fn reach_of_sides<L: Look>(board: &mut Trial<L>, l: Point) -> Reach
     requires { l < (L.shows board.old.look).size * (L.shows board.old.look).size }
-    ensures stays { Stays L.shows L.seen board.old board.new }
+    ensures stays { KeepsTrial L.shows L.seen board.old board.new }
     ensures over { (pos : BoardState) → Agrees (L.seen board.new.look) pos
-        → Tells (IsEmptyNeighbour pos.size (after pos board.old.moves).cells l) result }
+        → HasReach (IsEmptyNeighbour pos.size (after pos board.old.moves).cells l) result }
     ensures near { (pos : BoardState) → Agrees (L.seen board.new.look) pos
         → AddsIn (L.seen board.old.look) (L.seen board.new.look) (neighbours_of pos.size l) }
 {
@@ -128,9 +128,9 @@ fn reach_of_sides<L: Look>(board: &mut Trial<L>, l: Point) -> Reach
 fn reach_of_string<L: Look>(board: &mut Trial<L>, c: Colour, l: Point, q: Point) -> Reach
     requires small { l < largest_points }
     requires on_board { q < (L.shows board.old.look).size * (L.shows board.old.look).size }
-    ensures stays { Stays L.shows L.seen board.old board.new }
+    ensures stays { KeepsTrial L.shows L.seen board.old board.new }
     ensures over { (pos : BoardState) → Agrees (L.seen board.new.look) pos
-        → Tells (IsOtherLibertyOf pos.size (after pos board.old.moves).cells c l q) result }
+        → HasReach (IsOtherLibertyOf pos.size (after pos board.old.moves).cells c l q) result }
     ensures near { (pos : BoardState) → Agrees (L.seen board.new.look) pos
         → AddsIn (L.seen board.old.look) (L.seen board.new.look)
         (neighbourhood_of pos.size (after pos board.old.moves).cells (alone q)) }
@@ -149,7 +149,7 @@ fn reach_of_string<L: Look>(board: &mut Trial<L>, c: Colour, l: Point, q: Point)
 /// reached.
 pub(crate) fn reach_of<L: Look>(board: &mut Trial<L>, c: Colour, l: Point) -> Reach
     requires { l < (L.shows board.old.look).size * (L.shows board.old.look).size }
-    ensures stays { Stays L.shows L.seen board.old board.new }
+    ensures stays { KeepsTrial L.shows L.seen board.old board.new }
     ensures inside { (p : ℕ) → result ≡ Reach.Only p → p < largest_points }
     ensures over { (pos : BoardState) → Agrees (L.seen board.new.look) pos
         → Reaches pos.size (after pos board.old.moves).cells c l result }

@@ -8,7 +8,7 @@ ghost use Rattle.go_rules.specs.Strings.{liberty_points};
 ghost use Rattle.go_rules.specs.Position.{BoardState};
 ghost use Rattle.go_base.specs.Facts.{Agrees, AddsIn};
 ghost use Rattle.go_base.specs.Views.{neighbours_of};
-ghost use Rattle.trial_board.specs.Trials.{Stays, after};
+ghost use Rattle.trial_board.specs.Trials.{KeepsTrial, after};
 ghost use Rattle.read_rules.specs.Candidates.{attacker_of, is_empty_beside, is_candidate, near_candidates};
 ghost use Rattle.read_rules.specs.Stages.{is_wide_by_liberties, is_later_candidate};
 
@@ -26,7 +26,7 @@ use wider_moves::sides::add_sides_of;
 fn add_beside_few<L: Look>(board: &mut Trial<L>, points: &PointSet, found: &mut PointSet)
     requires { (l : ℕ) → IsTrue (set.contains points.now l)
         → l < (L.shows board.old.look).size * (L.shows board.old.look).size }
-    ensures stays { Stays L.shows L.seen board.old board.new }
+    ensures stays { KeepsTrial L.shows L.seen board.old board.new }
     ensures over { (pos : BoardState) → Agrees (L.seen board.new.look) pos → (p : ℕ)
         → set.contains found.new p ≡ (set.contains found.old p
         || (nat_lt (set.len points.now) 3 && is_empty_beside pos.size (after pos board.old.moves).cells
@@ -56,7 +56,7 @@ fn wide_by_liberties<L: Look>(board: &mut Trial<L>, target: Point, liberties: &P
     requires on_board { target < (L.shows board.old.look).size * (L.shows board.old.look).size }
     requires liberties { (pos : BoardState) → Agrees (L.seen board.old.look) pos
         → liberties.now ≡ liberty_points pos.size (after pos board.old.moves).cells target }
-    ensures stays { Stays L.shows L.seen board.old board.new }
+    ensures stays { KeepsTrial L.shows L.seen board.old board.new }
     ensures over { (pos : BoardState) → Agrees (L.seen board.new.look) pos → (p : ℕ)
         → set.contains result p ≡ is_wide_by_liberties (after pos board.old.moves) target p }
     ensures near { (pos : BoardState) → Agrees (L.seen board.new.look) pos
@@ -80,7 +80,7 @@ fn stated_later_candidates<L: Look>(
     requires on_board { turn.target < (L.shows board.old.look).size * (L.shows board.old.look).size }
     requires liberties { (pos : BoardState) → Agrees (L.seen board.old.look) pos
         → liberties.now ≡ liberty_points pos.size (after pos board.old.moves).cells turn.target }
-    ensures stays { Stays L.shows L.seen board.old board.new }
+    ensures stays { KeepsTrial L.shows L.seen board.old board.new }
     ensures over { (pos : BoardState) → Agrees (L.seen board.new.look) pos → (p : ℕ)
         → set.contains result p
         ≡ (nat_lt 0 turn.wide && is_wide_by_liberties (after pos board.old.moves) turn.target p) }
@@ -106,7 +106,7 @@ fn wider_later_candidates<L: Look>(
     requires tree { turn.tree ≡ Tree.Wider }
     requires liberties { (pos : BoardState) → Agrees (L.seen board.old.look) pos
         → liberties.now ≡ liberty_points pos.size (after pos board.old.moves).cells turn.target }
-    ensures stays { Stays L.shows L.seen board.old board.new }
+    ensures stays { KeepsTrial L.shows L.seen board.old board.new }
     ensures over { (pos : BoardState) → Agrees (L.seen board.new.look) pos → (p : ℕ)
         → set.contains result p ≡ is_later_candidate turn (after pos board.old.moves) p }
     ensures near { (pos : BoardState) → Agrees (L.seen board.new.look) pos
@@ -130,7 +130,7 @@ pub fn later_candidates<L: Look>(board: &mut Trial<L>, turn: Turn, liberties: &P
     requires on_board { turn.target < (L.shows board.old.look).size * (L.shows board.old.look).size }
     requires liberties { (pos : BoardState) → Agrees (L.seen board.old.look) pos
         → liberties.now ≡ liberty_points pos.size (after pos board.old.moves).cells turn.target }
-    ensures stays { Stays L.shows L.seen board.old board.new }
+    ensures stays { KeepsTrial L.shows L.seen board.old board.new }
     ensures over { (pos : BoardState) → Agrees (L.seen board.new.look) pos → (p : ℕ)
         → set.contains result p ≡ is_later_candidate turn (after pos board.old.moves) p }
     ensures near { (pos : BoardState) → Agrees (L.seen board.new.look) pos
@@ -150,7 +150,7 @@ pub fn later_candidates<L: Look>(board: &mut Trial<L>, turn: Turn, liberties: &P
 /// project's own.
 pub fn candidates<L: Look>(board: &mut Trial<L>, turn: Turn) -> PointSet
     requires on_board { turn.target < (L.shows board.old.look).size * (L.shows board.old.look).size }
-    ensures stays { Stays L.shows L.seen board.old board.new }
+    ensures stays { KeepsTrial L.shows L.seen board.old board.new }
     ensures over { (pos : BoardState) → Agrees (L.seen board.new.look) pos → (p : ℕ)
         → set.contains result p ≡ is_candidate turn (after pos board.old.moves) p }
     ensures answer { (p : ℕ) → set.contains result p

@@ -2,7 +2,7 @@
 
 ghost use Rattle.std.specs.Prelude.{◌≡◌, ℕ, ◌*◌, ◌<◌, true, nat_lt};
 ghost use Rattle.std.specs.FinSet as set;
-ghost use Rattle.trial_board.specs.Trials.{Stays};
+ghost use Rattle.trial_board.specs.Trials.{KeepsTrial};
 ghost use Rattle.read_tree.specs.Walk.{IsPointOf, OnEachAgreeing};
 ghost use Rattle.sure_rules.specs.SureTree.{is_tried};
 
@@ -25,7 +25,7 @@ fn every_point(size: Size) -> PointSet
 /// The points that the side to play tries: the attacker tries the candidates, the defender every point of the board.
 pub fn tried_points<L: Look>(board: &mut Trial<L>, node: Node) -> PointSet
     requires target { IsPointOf L.shows board.old node.turn.target }
-    ensures stays { Stays L.shows L.seen board.old board.new }
+    ensures stays { KeepsTrial L.shows L.seen board.old board.new }
     ensures on_board { (p : ℕ) → set.contains result p ≡ true → IsPointOf L.shows board.old p }
     ensures over { OnEachAgreeing L.seen board.old board.new (λ here. (p : ℕ)
         → set.contains result p ≡ is_tried node here p) }

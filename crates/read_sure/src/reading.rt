@@ -4,7 +4,7 @@ ghost use Rattle.std.specs.Prelude.{◌≡◌, ◌≢◌, ℕ, ◌+◌, ◌-◌,
 ghost use Rattle.go_rules.specs.Position.{BoardState, stone_of};
 ghost use Rattle.go_rules.specs.Strings.{cell_at};
 ghost use Rattle.go_base.specs.Facts.{Agrees, Grows};
-ghost use Rattle.trial_board.specs.Trials.{Stays, most_moves};
+ghost use Rattle.trial_board.specs.Trials.{KeepsTrial, most_moves};
 ghost use Rattle.read_rules.specs.Ranges.{most_plies};
 ghost use Rattle.read_rules.specs.GoodMoves.{IsOnBoard};
 ghost use Rattle.read_rules.specs.Answer.{is_about, first_node, asked_in};
@@ -23,7 +23,7 @@ fn move_under<L: Look>(board: &mut Trial<L>, question: &ReadingQuestion, code: u
     requires room { length board.old.moves + question.now.plies ≤ most_moves }
     requires plies { 0 < question.now.plies }
     requires target { IsPointOf L.shows board.old question.now.target }
-    ensures stays { Stays L.shows L.seen board.old board.new }
+    ensures stays { KeepsTrial L.shows L.seen board.old board.new }
     ensures over { OnEachAgreeing L.seen board.old board.new (λ here.
         result ≡ sure_move (question.now.plies - 1) (first_node question.now code) here) }
     ensures on_board { IfSome result (IsOnBoard (L.shows board.old.look).size) }
@@ -37,7 +37,7 @@ fn answer_on<L: Look>(board: &mut Trial<L>, question: &ReadingQuestion) -> Answe
     requires room { length board.old.moves + question.now.plies ≤ most_moves }
     requires plies { 0 < question.now.plies }
     requires target { IsPointOf L.shows board.old question.now.target }
-    ensures stays { Stays L.shows L.seen board.old board.new }
+    ensures stays { KeepsTrial L.shows L.seen board.old board.new }
     ensures code { result.code ≤ 3 }
     ensures none { IsNone result.at ↔ (result.code ≡ 0) }
     ensures on_board { IfSome result.at (IsOnBoard (L.shows board.old.look).size) }

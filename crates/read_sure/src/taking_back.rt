@@ -1,7 +1,7 @@
 //! Whether the defender has just lost a lone stone, which he may take back.
 
 ghost use Rattle.std.specs.Prelude.{◌≡◌, true, false};
-ghost use Rattle.trial_board.specs.Trials.{Stays};
+ghost use Rattle.trial_board.specs.Trials.{KeepsTrial};
 ghost use Rattle.read_rules.specs.GameTree.{has_lost_one_stone};
 ghost use Rattle.read_tree.specs.Walk.{IsPointOf, OnEachAgreeing};
 
@@ -14,7 +14,7 @@ use trial_board::Trial;
 /// holds a stone of the attacker: a lone stone was just taken there.
 pub fn has_lost_one_stone<L: Look>(board: &mut Trial<L>, node: Node) -> bool
     requires target { IsPointOf L.shows board.old node.turn.target }
-    ensures stays { Stays L.shows L.seen board.old board.new }
+    ensures stays { KeepsTrial L.shows L.seen board.old board.new }
     ensures turn { result ≡ true → node.turn.attacker_to_play ≡ false }
     ensures over { OnEachAgreeing L.seen board.old board.new (λ here. result ≡ has_lost_one_stone node here) }
 {

@@ -4,7 +4,7 @@
 ghost use Rattle.std.specs.Prelude.{◌≡◌, ◌+◌, ◌<◌, ◌≤◌, true, IfSome, length, is_some};
 ghost use Rattle.go_rules.specs.Position.{BoardState, IsPosition};
 ghost use Rattle.go_base.specs.Facts.{Agrees};
-ghost use Rattle.trial_board.specs.Trials.{Stays, most_moves, after};
+ghost use Rattle.trial_board.specs.Trials.{KeepsTrial, most_moves, after};
 ghost use Rattle.read_rules.specs.GoodMoves.{IsOnBoard};
 ghost use Rattle.read_tree.specs.Walk.{IsPointOf, OnEachAgreeing};
 ghost use Rattle.sure_rules.specs.Nodes.{is_gone};
@@ -26,7 +26,7 @@ fn succeeds<L: Look>(board: &mut Trial<L>, node: Node, p: Point, plies: u8) -> b
     requires room { length board.old.moves + plies < most_moves }
     requires target { IsPointOf L.shows board.old node.turn.target }
     requires on_board { IsPointOf L.shows board.old p }
-    ensures stays { Stays L.shows L.seen board.old board.new }
+    ensures stays { KeepsTrial L.shows L.seen board.old board.new }
     ensures over { OnEachAgreeing L.seen board.old board.new (λ here. result ≡ surely_succeeds plies node here p) }
 {
     match make_at(board, node, p) {
@@ -44,7 +44,7 @@ fn succeeds<L: Look>(board: &mut Trial<L>, node: Node, p: Point, plies: u8) -> b
 fn pass_holds<L: Look>(board: &mut Trial<L>, node: Node, plies: u8) -> bool
     requires room { length board.old.moves + plies < most_moves }
     requires target { IsPointOf L.shows board.old node.turn.target }
-    ensures stays { Stays L.shows L.seen board.old board.new }
+    ensures stays { KeepsTrial L.shows L.seen board.old board.new }
     ensures over { OnEachAgreeing L.seen board.old board.new (λ here. result ≡ pass_holds plies node here) }
 {
     if node.turn.attacker_to_play {
@@ -61,7 +61,7 @@ fn pass_holds<L: Look>(board: &mut Trial<L>, node: Node, plies: u8) -> bool
 fn first_sure<L: Look>(board: &mut Trial<L>, node: Node, plies: u8) -> Option<Point>
     requires room { length board.old.moves + plies < most_moves }
     requires target { IsPointOf L.shows board.old node.turn.target }
-    ensures stays { Stays L.shows L.seen board.old board.new }
+    ensures stays { KeepsTrial L.shows L.seen board.old board.new }
     ensures over { OnEachAgreeing L.seen board.old board.new (λ here. result ≡ first_sure plies node here) }
     ensures on_board { IfSome result (IsPointOf L.shows board.old) }
 {
@@ -82,7 +82,7 @@ fn first_sure<L: Look>(board: &mut Trial<L>, node: Node, plies: u8) -> Option<Po
 fn first_sure_move<L: Look>(board: &mut Trial<L>, node: Node, plies: u8) -> Option<Spot>
     requires room { length board.old.moves + plies < most_moves }
     requires target { IsPointOf L.shows board.old node.turn.target }
-    ensures stays { Stays L.shows L.seen board.old board.new }
+    ensures stays { KeepsTrial L.shows L.seen board.old board.new }
     ensures over { OnEachAgreeing L.seen board.old board.new (λ here. result ≡ first_sure_move plies node here) }
     ensures on_board { IfSome result (IsOnBoard (L.shows board.old.look).size) }
 {
@@ -101,7 +101,7 @@ fn first_sure_move<L: Look>(board: &mut Trial<L>, node: Node, plies: u8) -> Opti
 pub fn sure_move<L: Look>(board: &mut Trial<L>, node: Node, plies: u8) -> Option<Spot>
     requires room { length board.old.moves + plies < most_moves }
     requires target { IsPointOf L.shows board.old node.turn.target }
-    ensures stays { Stays L.shows L.seen board.old board.new }
+    ensures stays { KeepsTrial L.shows L.seen board.old board.new }
     ensures over { OnEachAgreeing L.seen board.old board.new (λ here. result ≡ sure_move plies node here) }
     ensures on_board { IfSome result (IsOnBoard (L.shows board.old.look).size) }
 {
@@ -121,7 +121,7 @@ fn taken<L: Look>(board: &mut Trial<L>, node: Node, plies: u8) -> bool
     requires gone { (pos : BoardState) → Agrees (L.seen board.old.look) pos
         → is_gone node (after pos board.old.moves) ≡ true }
     requires sound { (pos : BoardState) → Agrees (L.seen board.old.look) pos → IsPosition (after pos board.old.moves) }
-    ensures stays { Stays L.shows L.seen board.old board.new }
+    ensures stays { KeepsTrial L.shows L.seen board.old board.new }
     ensures over { OnEachAgreeing L.seen board.old board.new (λ here. result ≡ surely_wins plies node here) }
 {
     if !has_lost_one_stone(board, node) {
@@ -138,7 +138,7 @@ fn taken<L: Look>(board: &mut Trial<L>, node: Node, plies: u8) -> bool
 fn surely_wins<L: Look>(board: &mut Trial<L>, node: Node, plies: u8) -> bool
     requires room { length board.old.moves + plies ≤ most_moves }
     requires target { IsPointOf L.shows board.old node.turn.target }
-    ensures stays { Stays L.shows L.seen board.old board.new }
+    ensures stays { KeepsTrial L.shows L.seen board.old board.new }
     ensures over { OnEachAgreeing L.seen board.old board.new (λ here. result ≡ surely_wins plies node here) }
 {
     if board.cell(node.turn.target) == Cell::Empty {

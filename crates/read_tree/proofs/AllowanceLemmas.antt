@@ -17,7 +17,7 @@ use Rattle.read_rules.specs.GameTree.{is_captured, allowance_of, next_node, atta
 use Rattle.read_rules.specs.GameTree.{child_of, succeeds, pass_saves, first_success, at_point}
 use Rattle.read_tree.specs.Allowances.{all_three}
 use Rattle.read_tree.specs.Allowances.{Ko, defender_may, neither_may, attacker_may, attacker_ko_of, defender_ko_of, has}
-use Rattle.read_tree.specs.Allowances.{has_some, own_ko, own_where, under, without, Tells}
+use Rattle.read_tree.specs.Allowances.{has_some, own_ko, own_where, under, without, IsFiltered}
 use Rattle.read_rules.specs.declared.question.ReadingQuestion.{ReadingQuestion}
 use Rattle.read_rules.specs.ActiveArea.{IsUndecided, IsNodeOf, by_play, by_pass}
 use Rattle.read_rules.specs.GoodMoves.{good_move}
@@ -108,9 +108,9 @@ suits_none n true o e = ap (suits n true) e
 suits_none n false o e = ap (suits n false) e
 
 -- the same of the asked, by a test that is the same
-pub Tells-same : {asked found : Allowances} {a b : Ko → Bool} → Tells asked found a → ((ko : Ko) → a ko ≡ b ko)
-    → Tells asked found b
-Tells-same {asked} t same = record { each = λ ko. t.each ko ∙ ap (λ x. has asked ko && x) (same ko) }
+pub IsFiltered-same : {asked found : Allowances} {a b : Ko → Bool} → IsFiltered asked found a
+    → ((ko : Ko) → a ko ≡ b ko) → IsFiltered asked found b
+IsFiltered-same {asked} t same = record { each = λ ko. t.each ko ∙ ap (λ x. has asked ko && x) (same ko) }
 
 -- an allowance that fails the test is not found
 found_not : (a b : Bool) → b ≡ false → false ≡ (a && b)
@@ -123,10 +123,10 @@ found_as true b y h e = e
 found_as false b y h e = cc
 
 -- where the own allowance alone passes
-pub Tells-own : (attacker : Bool) (asked : Allowances) (there : Bool) (test : Ko → Bool)
+pub IsFiltered-own : (attacker : Bool) (asked : Allowances) (there : Bool) (test : Ko → Bool)
     → has asked (own_ko attacker) ≡ true → there ≡ test (own_ko attacker)
-    → ((ko : Ko) → ko ≢ own_ko attacker → test ko ≡ false) → Tells asked (own_where attacker there) test
-Tells-own attacker asked there test h e none = grind (arith, found_not, found_as)
+    → ((ko : Ko) → ko ≢ own_ko attacker → test ko ≡ false) → IsFiltered asked (own_where attacker there) test
+IsFiltered-own attacker asked there test h e none = grind (arith, found_not, found_as)
 
 -- what is found after a play by the own allowance alone is told of the asked
 pub told_allowed : (n : ℕ) (turn : Turn) (here new : BoardState) (p : ℕ) (asked : Allowances) (way : Bool)
@@ -134,8 +134,8 @@ pub told_allowed : (n : ℕ) (turn : Turn) (here new : BoardState) (p : ℕ) (as
     → (child_of (under turn own) here p ≡ Some (under (next_turn turn) neither_may, new))
     × ((ko : Ko) → ko ≢ own → child_of (under turn ko) here p ≡ None)
     → way ≡ has_way turn.attacker_to_play (attacker_wins n (under (next_turn turn) neither_may) new)
-    → Tells asked (own_where turn.attacker_to_play way) (λ ko. succeeds n (under turn ko) here p)
-told_allowed n turn here new p asked way own made is = grind (arith, Tells-own, suits_child, suits_none)
+    → IsFiltered asked (own_where turn.attacker_to_play way) (λ ko. succeeds n (under turn ko) here p)
+told_allowed n turn here new p asked way own made is = grind (arith, IsFiltered-own, suits_child, suits_none)
 
 -- Each pass of the walk over the candidates.
 pub left_first : (n : ℕ) (turn : Turn) (here : BoardState) (candidate tried : ℕ → Bool) (asked : Allowances)
@@ -169,7 +169,7 @@ told_passes false b g e h f = cc
 module _ (n : ℕ) (turn : Turn) (here : BoardState) (candidate tried now : ℕ → Bool) (p : ℕ)
     (asked missing good : Allowances) (left : IsLeft n turn here candidate tried asked missing)
     (cand : candidate p ≡ true) (one_more : (q : ℕ) → now q ≡ true → (q ≡ p) ⊎ (tried q ≡ true))
-    (tells : Tells missing good (λ ko. succeeds n (under turn ko) here p)) where
+    (tells : IsFiltered missing good (λ ko. succeeds n (under turn ko) here p)) where
   -- none that was tried gives what is still missing
   still_missing : (ko : Ko) → has (without missing good) ko ≡ true → (q : ℕ) → now q ≡ true
       → (candidate q && succeeds n (under turn ko) here q) ≡ false
@@ -265,8 +265,12 @@ and_true false b h = refl
 pub success_some : (n : ℕ) (node : Node) (here : BoardState) (p : ℕ) → is_candidate node.turn here p ≡ true
     → succeeds n node here p ≡ true → is_some (first_success n node here) ≡ true
 success_some n node here p c t =
-    grind (arith, candidate_on node.turn here p c, any-first (succeeds n node here) (candidates_of node.turn here),
-        any_from (is_candidate node.turn here) (succeeds n node here) (here.size * here.size) 0 p)
+    grind (
+      arith,
+      candidate_on node.turn here p c,
+      any-first (succeeds n node here) (candidates_of node.turn here),
+      any_from (is_candidate node.turn here) (succeeds n node here) (here.size * here.size) 0 p,
+    )
 
 -- the defender's way is by the pass or by a candidate
 good_by : (turn many saved : Bool) (first : Option ℕ) → turn ≡ false
@@ -304,15 +308,16 @@ not_found true false g e = ap not e
 not_found false b g e = refl
 
 -- under which the attacker wins
-pub Tells-attackers : (attacker : Bool) (asked good : Allowances) (way won : Ko → Bool) → Tells asked good way
+pub IsFiltered-attackers : (attacker : Bool) (asked good : Allowances) (way won : Ko → Bool) → IsFiltered asked good way
     → ((ko : Ko) → beq (way ko) attacker ≡ won ko)
-    → Tells asked (cond attacker good (without asked good)) won
-Tells-attackers true asked good way won t same = Tells-same t (λ ko. said_true (way ko) ∙ same ko)
-Tells-attackers false asked good way won t same = grind (arith, Tells-same, has-without, not_found)
+    → IsFiltered asked (cond attacker good (without asked good)) won
+IsFiltered-attackers true asked good way won t same = IsFiltered-same t (λ ko. said_true (way ko) ∙ same ko)
+IsFiltered-attackers false asked good way won t same = grind (arith, IsFiltered-same, has-without, not_found)
 
 -- where all pass, and where none does
-pub Tells-all : (asked : Allowances) (test : Ko → Bool) → ((ko : Ko) → test ko ≡ true) → Tells asked asked test
-Tells-all asked test h = record { each = λ ko. and_true _ _ (λ _. h ko) }
+pub IsFiltered-all : (asked : Allowances) (test : Ko → Bool) → ((ko : Ko) → test ko ≡ true)
+    → IsFiltered asked asked test
+IsFiltered-all asked test h = record { each = λ ko. and_true _ _ (λ _. h ko) }
 
 -- none is there
 pub has_none : (ko : Ko) → has (record { defender = false; neither = false; attacker = false }) ko ≡ false
@@ -321,9 +326,10 @@ has_none neither_may = refl
 has_none attacker_may = refl
 
 -- nothing is found of the asked where no allowance passes the test
-pub Tells-none : (asked : Allowances) (test : Ko → Bool) → ((ko : Ko) → test ko ≡ false)
-    → Tells asked (record { defender = false; neither = false; attacker = false }) test
-Tells-none asked test h = record { each = λ ko. has_none ko ∙ sym (and_false_right (has asked ko) (test ko) (h ko)) }
+pub IsFiltered-none : (asked : Allowances) (test : Ko → Bool) → ((ko : Ko) → test ko ≡ false)
+    → IsFiltered asked (record { defender = false; neither = false; attacker = false }) test
+IsFiltered-none asked test h =
+    record { each = λ ko. has_none ko ∙ sym (and_false_right (has asked ko) (test ko) (h ko)) }
 
 -- all are there
 pub has_all : (ko : Ko) → has all_three ko ≡ true

@@ -24,7 +24,7 @@ use Rattle.read_rules.specs.ActiveArea.{IsNodeOf, IsUndecided, first}
 use Rattle.read_rules.specs.Bound.{outlasts, outlasts_at}
 use Rattle.read_tree.specs.Allowances.{all_three}
 use Rattle.read_tree.specs.Allowances.{Ko, defender_may, neither_may, attacker_may, has, has_some, own_ko, under, ko_of}
-use Rattle.read_tree.specs.Allowances.{codes_above, best_code, Tells}
+use Rattle.read_tree.specs.Allowances.{codes_above, best_code, IsFiltered}
 use Rattle.read_rules.specs.GoodMoves.{IsOnBoard, good_move}
 use Rattle.read_tree.specs.Steps.{unread, better, node_of, IsBest, AreNodesOf}
 use Rattle.read_tree.proofs.AllowanceLemmas.{none_of, has_all, and_false_right}
@@ -186,7 +186,7 @@ module _ (n : ℕ) (turn : Turn) (here : BoardState) where
       sym (ap (λ b. cond b (Some Pass) (at_point (first_success n (node_of turn code) here))) saves)
 
   -- the defender's pass, where it saves under some allowance
-  pass_saved : (saved : Allowances) → Tells all_three saved (λ ko. pass_saves n (under turn ko) here)
+  pass_saved : (saved : Allowances) → IsFiltered all_three saved (λ ko. pass_saves n (under turn ko) here)
       → has_some saved ≡ true
       → IsBest n turn here nowhere (record { code = best_code saved 0 turn.attacker_to_play; at = Some Pass })
   pass_saved saved t some =
@@ -207,7 +207,7 @@ module _ (n : ℕ) (turn : Turn) (here : BoardState) where
       }
 
   -- the defender's pass
-  pub best_pass : (saved : Allowances) → Tells all_three saved (λ ko. pass_saves n (under turn ko) here)
+  pub best_pass : (saved : Allowances) → IsFiltered all_three saved (λ ko. pass_saves n (under turn ko) here)
       → IsBest n turn here nowhere (better (record { code = 0; at = None }) turn.attacker_to_play saved Pass)
   best_pass saved t = elim (cases_Bool (has_some saved)) [
     | inl some ↦ rw some (pass_saved saved t some)
@@ -220,7 +220,7 @@ module _ (n : ℕ) (turn : Turn) (here : BoardState) where
       → ((q : ℕ) → cands q ≡ is_candidate turn here q)
       → IsBest n turn here (λ q. ltb q next && cands q) best → cands p ≡ true
       → ((q : ℕ) → next ≤ q → q < p → cands q ≡ false)
-      → Tells (codes_above best.code turn.attacker_to_play) good (λ ko. succeeds n (under turn ko) here p)
+      → IsFiltered (codes_above best.code turn.attacker_to_play) good (λ ko. succeeds n (under turn ko) here p)
       → IsBest n turn here (λ q. ltb q (p + 1) && cands q) (better best turn.attacker_to_play good (At p))
   best_point cands next p best good same i cand between t = elim (cases_Bool (has_some good)) [
     | inr none ↦ rw none (best_of (λ q. ltb q (p + 1) && cands q) i (λ more lo hi. later more lo hi
@@ -322,8 +322,13 @@ not_attained : (q : ReadingQuestion) (pos : BoardState) (code : ℕ) → IsCode 
     → ((p : ℕ) → (is_candidate (first_turn q) pos p
     && succeeds (q.plies - 1) (node_of (first_turn q) code) pos p) ≡ false) → attains_code q pos code ≡ false
 not_attained q pos code is ne stands few pass points =
-    grind (arith, node_is q code is, attained_by q pos code ne stands,
-        not_barred (q.plies - 1) (first_node q code) pos few, no_first (q.plies - 1) (first_node q code) pos)
+    grind (
+      arith,
+      node_is q code is,
+      attained_by q pos code ne stands,
+      not_barred (q.plies - 1) (first_node q code) pos few,
+      no_first (q.plies - 1) (first_node q code) pos,
+    )
 
 -- the best of all moves at the first turn is the answer, unless an attack's target has many liberties
 best_answer : (q : ReadingQuestion) (pos : BoardState) (best : Answer) → q.plies ≢ 0 → is_about q pos ≡ true

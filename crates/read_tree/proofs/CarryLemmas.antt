@@ -29,7 +29,7 @@ use Rattle.read_rules.proofs.AfterPlays.{after_liberty}
 use Rattle.read_rules.proofs.LibertyLemmas.{child_free}
 use Rattle.read_tree.proofs.TakeLemmas.{other_twice}
 use Rattle.go_base.specs.Facts.{Fact, SizeIs, Agrees, Grows, agrees_before, same_size}
-use Rattle.trial_board.specs.Trials.{Trying, Stays, after}
+use Rattle.trial_board.specs.Trials.{Trying, KeepsTrial, after}
 use Rattle.trial_board.proofs.AfterLemmas.{size-after}
 use Rattle.read_moves.proofs.WholeBoards.{whole_after}
 use Rattle.read_rules.proofs.AreaLemmas.{target_on}
@@ -209,7 +209,7 @@ carries Agreed turn p known here new (Some next) h played = λ pos a.
 pub carried_on : {L : Type 0} {shows : L → BoardState} {seen : L → Fact → Bool} {old made next : Trying L} {turn : Turn}
     {n : ℕ} {asked : Allowances} {known : sets.FinSet nat_cmp} {entries : List Entry}
     → IsReady shows seen old turn n asked known entries → seen old.look (SizeIs (shows old.look).size) ≡ true
-    → (p : ℕ) → IsPointOf shows old p → Grows (seen old.look) (seen made.look) → Stays shows seen made next
+    → (p : ℕ) → IsPointOf shows old p → Grows (seen old.look) (seen made.look) → KeepsTrial shows seen made next
     → (found : Option (sets.FinSet nat_cmp))
     → OnEachAgreeing seen made next (λ here. IfSome found (IsCarried turn here p known)) → (ko : Ko) (node : Node)
     → ((pos : BoardState) → Agrees (seen made.look) pos

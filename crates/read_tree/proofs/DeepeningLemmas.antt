@@ -13,7 +13,7 @@ use Rattle.read_rules.specs.GameTree.{suits, succeeds}
 use Rattle.read_rules.proofs.AreaLemmas.{AddsNear-mono}
 use Rattle.read_rules.proofs.PlyLaws.{one_more}
 use Rattle.read_tree.specs.declared.allowances.Allowances.{Allowances}
-use Rattle.read_tree.specs.Allowances.{Ko, under, has, has_some, without, Tells}
+use Rattle.read_tree.specs.Allowances.{Ko, under, has, has_some, without, IsFiltered}
 use Rattle.read_tree.specs.Deepening.{IsLeftOpen}
 use Rattle.read_tree.specs.Steps.{AreNodesOf}
 use Rattle.read_tree.proofs.AllowanceLemmas.{has-without, none_of}
@@ -136,7 +136,7 @@ has_by false x y ko = refl
 -- what was found of the open ones closes those under which the attacker has his way
 pub open_next : {n : ℕ} {turn : Turn} {here : BoardState} {p : ℕ} {asked left : Allowances} (fewer : ℕ)
     (good next : Allowances) → fewer ≤ n → IsLeftOpen n turn here p asked left
-    → Tells left good (λ ko. succeeds fewer (under turn ko) here p)
+    → IsFiltered left good (λ ko. succeeds fewer (under turn ko) here p)
     → next ≡ without left (if turn.attacker_to_play then good else without left good)
     → IsLeftOpen n turn here p asked next
 open_next {n} {turn} {here} {p} {asked} {left} fewer good next few before tells is =
@@ -145,12 +145,12 @@ open_next {n} {turn} {here} {p} {asked} {left} fewer good next few before tells 
 -- what was found with all plies of the open ones, with what is closed, tells of all that was asked
 pub closed_tells : {n : ℕ} {turn : Turn} {here : BoardState} {p : ℕ} {asked left : Allowances}
     (good found : Allowances) → IsLeftOpen n turn here p asked left
-    → Tells left good (λ ko. succeeds n (under turn ko) here p)
+    → IsFiltered left good (λ ko. succeeds n (under turn ko) here p)
     → found ≡ (if turn.attacker_to_play then without asked (without left good) else good)
-    → Tells asked found (λ ko. succeeds n (under turn ko) here p)
+    → IsFiltered asked found (λ ko. succeeds n (under turn ko) here p)
 closed_tells {n} {turn} {here} {p} {asked} {left} good found before tells is =
     grind (arith, has_by, has-without, both_ways)
 
 -- of no allowance, none is found
-pub none_tells : (left : Allowances) (test : Ko → Bool) → has_some left ≡ false → Tells left left test
+pub none_tells : (left : Allowances) (test : Ko → Bool) → has_some left ≡ false → IsFiltered left left test
 none_tells left test none = grind (arith, none_of)

@@ -8,7 +8,7 @@ use Rattle.read_rules.specs.GoodMoves.{good_move}
 use Rattle.read_rules.specs.Candidates.{is_candidate}
 use Rattle.read_rules.specs.declared.turn.Turn.{Turn}
 use Rattle.read_tree.specs.declared.allowances.Allowances.{Allowances}
-use Rattle.read_tree.specs.Allowances.{Ko, has, has_some, under, without, Tells}
+use Rattle.read_tree.specs.Allowances.{Ko, has, has_some, under, without, IsFiltered}
 use Rattle.read_tree.specs.Stages.{is_other, is_capture_or_liberty}
 use Rattle.read_tree.specs.Steps.{TellsBy}
 use Rattle.read_tree.proofs.AllowanceLemmas.{none_of, has-without, in_other, and_true, success_some, told_fails}
@@ -33,7 +33,7 @@ module _ (n : ℕ) (turn : Turn) (here : BoardState) (asked close : Allowances) 
 
   -- they left nothing
   pub close_done : has_some (without asked close) ≡ false
-      → Tells asked asked (λ ko. is_some (good_move n (under turn ko) here))
+      → IsFiltered asked asked (λ ko. is_some (good_move n (under turn ko) here))
   close_done none = record {
     each = λ ko. and_true _ _ (λ a. close_good ko
         (in_other (has asked ko) (has close ko) a (sym (has-without asked close ko)
@@ -44,7 +44,7 @@ module _ (n : ℕ) (turn : Turn) (here : BoardState) (asked close : Allowances) 
 module _ (n : ℕ) (turn : Turn) (here : BoardState) (asked close saved : Allowances)
     (defends : turn.attacker_to_play ≡ false)
     (first : TellsBy n turn here (is_capture_or_liberty here turn.target) asked close)
-    (second : Tells (without asked close) saved (λ ko. pass_saves n (under turn ko) here)) where
+    (second : IsFiltered (without asked close) saved (λ ko. pass_saves n (under turn ko) here)) where
   -- what it gives is a good move
   saved_good : (ko : Ko) → has saved ko ≡ true → is_some (good_move n (under turn ko) here) ≡ true
   saved_good ko h = good_by_pass n turn here ko defends (and_parts _ _ (sym (second.each ko) ∙ h)).1
@@ -61,7 +61,7 @@ module _ (n : ℕ) (turn : Turn) (here : BoardState) (asked close saved : Allowa
 
   -- it left nothing
   pub pass_done : has_some (without (without asked close) saved) ≡ false
-      → Tells asked asked (λ ko. is_some (good_move n (under turn ko) here))
+      → IsFiltered asked asked (λ ko. is_some (good_move n (under turn ko) here))
   pass_done none = record {
     each = λ ko. and_true _ _ (λ a. found_good ko a (none_of (without (without asked close) saved) ko none));
   }
@@ -69,7 +69,7 @@ module _ (n : ℕ) (turn : Turn) (here : BoardState) (asked close saved : Allowa
   -- and then the later candidates
   pub later_over : (later : Allowances)
       → TellsBy n turn here (is_other turn here) (without (without asked close) saved) later
-      → Tells asked (without asked (without (without (without asked close) saved) later))
+      → IsFiltered asked (without asked (without (without (without asked close) saved) later))
       (λ ko. is_some (good_move n (under turn ko) here))
   later_over later third = record {
     each = λ ko. has-three asked close saved later ko

@@ -23,7 +23,7 @@ use Rattle.read_tree.proofs.AllowanceLemmas.{suits_child, suits_none}
 use Rattle.read_rules.specs.declared.turn.Turn.{Turn}
 use Rattle.read_tree.specs.declared.allowances.Allowances.{Allowances}
 use Rattle.read_tree.specs.Allowances.{Ko, defender_may, neither_may, attacker_may, attacker_ko_of, defender_ko_of}
-use Rattle.read_tree.specs.Allowances.{under, has_some, Tells}
+use Rattle.read_tree.specs.Allowances.{under, has_some, IsFiltered}
 use Rattle.read_tree.specs.Nodes.{has_one_at_most, the_allowance, LeadsTo, SameReading}
 
 -- the set of the allowances of these numbers
@@ -47,7 +47,7 @@ alone_attacker found b d n a = rw (d, n, a) refl
 
 -- what is told of the only allowance of a node is told of the node
 told_by : (a d : ℕ) (found : Allowances) (test : Ko → Bool) (won : Bool) → a + d < 2
-    → Tells (allowance_by a d) found test
+    → IsFiltered (allowance_by a d) found test
     → ((ko : Ko) → attacker_ko_of ko ≡ a → defender_ko_of ko ≡ d → test ko ≡ won) → has_some found ≡ won
 told_by zero zero found test won few told is =
     alone_neither found won (told.each defender_may) (told.each neither_may ∙ is neither_may refl refl)
@@ -70,12 +70,12 @@ under_by turn ko a d ea ed = rw (ea, ed) refl
 -- what the reader tells of the only allowance of a node is who wins there
 pub told_alone : (n : ℕ) (node : Node) (here : BoardState) (asked found : Allowances) → has_one_at_most node ≡ true
     → asked ≡ the_allowance node
-    → Tells asked found (λ ko. attacker_wins n (under node.turn ko) here)
+    → IsFiltered asked found (λ ko. attacker_wins n (under node.turn ko) here)
     → has_some found ≡ attacker_wins n node here
 told_alone n node here asked found one is told =
     told_by node.attacker_ko node.defender_ko found (λ ko. attacker_wins n (under node.turn ko) here)
     (attacker_wins n node here) (ltb-true (node.attacker_ko + node.defender_ko) 2 one)
-    (subst (λ (set : Allowances). Tells set found (λ ko. attacker_wins n (under node.turn ko) here)) is told)
+    (subst (λ (set : Allowances). IsFiltered set found (λ ko. attacker_wins n (under node.turn ko) here)) is told)
     (λ ko ea ed. ap (λ (m : Node). attacker_wins n m here)
     (under_by node.turn ko node.attacker_ko node.defender_ko ea ed))
 

@@ -5,7 +5,7 @@ use Rattle.std.specs.FinSet as sets
 use Rattle.go_rules.specs.Position.{BoardState}
 use Rattle.go_base.specs.Facts.{Fact, SizeIs, Agrees, agrees_before}
 use Rattle.trial_board.specs.declared.moves.TrialMove.{TrialMove}
-use Rattle.trial_board.specs.Trials.{Trying, Stays, after}
+use Rattle.trial_board.specs.Trials.{Trying, KeepsTrial, after}
 use Rattle.trial_board.proofs.AfterLemmas.{size-after}
 use Rattle.read_rules.proofs.CandidateLaws.{candidate_on}
 use Rattle.read_rules.specs.Candidates.{is_candidate}
@@ -30,7 +30,7 @@ on_after {pos} {t} s told agrees moves on = grind (arith, target_on, size-after)
 
 -- Looks that leave the moves and the position shown.
 module _ {L : Type 0} {shows : L → BoardState} {seen : L → Fact → Bool} {old new : Trying L}
-    (stays : Stays shows seen old new) where
+    (stays : KeepsTrial shows seen old new) where
   -- a point of the board is still one
   pub point_after : (p : ℕ) → IsPointOf shows old p → IsPointOf shows new p
   point_after p on = subst (λ (pos : BoardState). p < pos.size * pos.size) (sym stays.shown) on

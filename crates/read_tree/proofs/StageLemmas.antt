@@ -21,7 +21,7 @@ use Rattle.read_rules.proofs.RuleLemmas.{child_gives}
 use Rattle.read_rules.proofs.WinLemmas.{first_success-none}
 use Rattle.read_rules.specs.declared.turn.Turn.{Turn}
 use Rattle.read_tree.specs.declared.allowances.Allowances.{Allowances}
-use Rattle.read_tree.specs.Allowances.{Ko, has, has_some, under, without, Tells}
+use Rattle.read_tree.specs.Allowances.{Ko, has, has_some, under, without, IsFiltered}
 use Rattle.read_rules.specs.Bound.{outlasts}
 use Rattle.read_rules.specs.Stages.{is_later_candidate, has_later_candidates}
 use Rattle.go_base.specs.Surroundings.{is_last_liberty_of_enemy}
@@ -150,8 +150,12 @@ pub none_succeeds : (n : ℕ) (turn : Turn) (here : BoardState) (ko : Ko)
     → ((q : ℕ) → (is_candidate turn here q && succeeds n (under turn ko) here q) ≡ false)
     → is_some (first_success n (under turn ko) here) ≡ false
 none_succeeds n turn here ko none =
-    grind (arith, first_success-none n (under turn ko) here (here.size * here.size) (is_candidate turn here),
-        candidate_on turn here, cases_Bool)
+    grind (
+      arith,
+      first_success-none n (under turn ko) here (here.size * here.size) (is_candidate turn here),
+      candidate_on turn here,
+      cases_Bool,
+    )
 
 -- The liberties of the target were tried.
 module _ (n : ℕ) (turn : Turn) (here : BoardState) (asked good : Allowances)
@@ -163,7 +167,7 @@ module _ (n : ℕ) (turn : Turn) (here : BoardState) (asked good : Allowances)
 
   -- they left nothing
   pub stage_done : has_some (without asked good) ≡ false
-      → Tells asked asked (λ ko. is_some (first_success n (under turn ko) here))
+      → IsFiltered asked asked (λ ko. is_some (first_success n (under turn ko) here))
   stage_done none = record {
     each = λ ko. and_true _ _ (λ a. by_liberty ko
         (in_other (has asked ko) (has good ko) a (sym (has-without asked good ko)
@@ -172,7 +176,7 @@ module _ (n : ℕ) (turn : Turn) (here : BoardState) (asked good : Allowances)
 
   -- and then the other candidates
   pub stage_over : (rest : Allowances) → TellsBy n turn here (is_off_liberties turn here) (without asked good) rest
-      → Tells asked (without asked (without (without asked good) rest))
+      → IsFiltered asked (without asked (without (without asked good) rest))
       (λ ko. is_some (first_success n (under turn ko) here))
   stage_over rest second = record {
     each = λ ko.

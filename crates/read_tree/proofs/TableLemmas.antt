@@ -16,7 +16,7 @@ use Rattle.trial_board.specs.declared.moves.TrialMove.{TrialMove}
 use Rattle.trial_board.specs.Trials.{after}
 use Rattle.trial_board.specs.Changed.{changed}
 use Rattle.read_tree.specs.Allowances.{Ko, defender_may, neither_may, attacker_may, under, has, has_some, without, both}
-use Rattle.read_tree.specs.Allowances.{either, Tells}
+use Rattle.read_tree.specs.Allowances.{either, IsFiltered}
 use Rattle.read_rules.specs.declared.node.Node.{Node}
 use Rattle.read_tree.proofs.AllowanceLemmas.{none_of, has-without, in_other}
 use Rattle.read_tree.specs.Table.{is_won, known_of, entry_node, IsTrueOf, IsTrueEntry, IsTrueTable}
@@ -132,7 +132,7 @@ more_true : {seen more : Fact → Bool} {tree : Tree} {target : ℕ} {defender :
       known = either before.known missing;
       good = either (both before.known before.good) good;
     }
-    → ((pos : BoardState) → Agrees more pos → Tells missing good (is_won tree target defender node pos))
+    → ((pos : BoardState) → Agrees more pos → IsFiltered missing good (is_won tree target defender node pos))
     → IsTrueOf more tree target defender node verdict
 more_true {seen} {more} {tree} {target} {defender} {node} {before} asked missing good verdict t grows e is tells =
     record {
@@ -171,7 +171,7 @@ told_by : {seen : Fact → Bool} (turn : Turn) (node : AttackerNode) (verdict : 
     (pos here : BoardState) → IsTrueOf seen turn.tree turn.target turn.defender node verdict → Agrees seen pos
     → turn.attacker_to_play ≡ true → turn.wide ≡ node.wide → here ≡ changed pos node.changes
     → ((ko : Ko) → has asked ko ≡ true → has verdict.known ko ≡ true) → found ≡ both asked verdict.good
-    → Tells asked found (λ ko. is_some (first_success node.plies (under turn ko) here))
+    → IsFiltered asked found (λ ko. is_some (first_success node.plies (under turn ko) here))
 told_by turn node verdict asked found pos here t a attacks wide at covered is = grind (arith, has_both, won_is)
 
 -- it is where nothing of it is missing
@@ -180,7 +180,7 @@ pub told_before : {seen : Fact → Bool} (turn : Turn) (node : AttackerNode) (ve
     → IsTrueOf seen turn.tree turn.target turn.defender node verdict → Agrees seen pos → turn.attacker_to_play ≡ true
     → turn.wide ≡ node.wide → here ≡ changed pos node.changes → missing ≡ without asked verdict.known
     → has_some missing ≡ false → found ≡ both asked verdict.good
-    → Tells asked found (λ ko. is_some (first_success node.plies (under turn ko) here))
+    → IsFiltered asked found (λ ko. is_some (first_success node.plies (under turn ko) here))
 told_before turn node verdict asked missing found pos here t a attacks wide at e none is =
     grind (arith, told_by, nothing_missing)
 
@@ -194,7 +194,7 @@ pub told_after : {seen : Fact → Bool} (turn : Turn) (node : AttackerNode) (bef
       good = either (both before.known before.good) good;
     }
     → found ≡ both asked verdict.good
-    → Tells asked found (λ ko. is_some (first_success node.plies (under turn ko) here))
+    → IsFiltered asked found (λ ko. is_some (first_success node.plies (under turn ko) here))
 told_after turn node before verdict asked missing good found pos here t a attacks wide at e same is =
     grind (arith, told_by, all_known)
 
@@ -205,7 +205,7 @@ pub read_true : {seen more : Fact → Bool} (turn : Turn) (node : AttackerNode) 
     → turn.wide ≡ node.wide
     → ((pos : BoardState) → Agrees seen pos → after pos moves ≡ changed pos node.changes)
     → ((pos : BoardState) → Agrees more pos
-    → Tells missing good (λ ko. is_some (first_success node.plies (under turn ko) (after pos moves))))
+    → IsFiltered missing good (λ ko. is_some (first_success node.plies (under turn ko) (after pos moves))))
     → missing ≡ without asked before.known
     → verdict ≡ record {
       known = either before.known missing;

@@ -167,8 +167,13 @@ pub taking_wins : (n : ℕ) (node : Node) (here : BoardState) → IsWhole here �
     → has_many_liberties node.turn here ≡ false → IsTaken node.turn here
     → attacker_wins (suc n) node here ≡ true
 taking_wins n node here whole on few t =
-    grind (arith, stone_stands (cell_at here.cells node.turn.target) node.turn.defender t.enemy, add-one n,
-        attacker_from n node here, take_child n node here whole on t)
+    grind (
+      arith,
+      stone_stands (cell_at here.cells node.turn.target) node.turn.defender t.enemy,
+      add-one n,
+      attacker_from n node here,
+      take_child n node here whole on t,
+    )
 
 -- the same at a turn, under any allowance
 pub take_wins : (n : ℕ) (turn : Turn) (here : BoardState) → IsWhole here → turn.target < here.size * here.size

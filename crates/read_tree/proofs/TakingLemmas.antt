@@ -45,7 +45,7 @@ use Rattle.read_rules.specs.GameTree.{allowance_of, attacker_wins, child_by, chi
 use Rattle.read_rules.proofs.WinLemmas.{wins-captured, wins-none_left, wins-taken_back, some_or_none}
 use Rattle.read_tree.specs.declared.allowances.Allowances.{Allowances}
 use Rattle.read_tree.specs.Allowances.{Ko as KoAllowance, defender_may, neither_may, attacker_may, under, has, without}
-use Rattle.read_tree.specs.Allowances.{defender_ko_of, own_ko, own_where, Tells}
+use Rattle.read_tree.specs.Allowances.{defender_ko_of, own_ko, own_where, IsFiltered}
 use Rattle.read_tree.specs.Steps.{IsTakenForGood, with_neighbour, AreNodesOf}
 use Rattle.read_tree.proofs.AllowanceLemmas.{has-without, neither_nodes}
 
@@ -323,20 +323,20 @@ module _ (node : Node) (pos : BoardState) (taken : is_captured pos node.turn.tar
           ∙ twice (attacker_wins n some.0.0 some.0.1) ∙ sym (ap (λ o. not (suits n false o)) some.1)
 
 -- what is not found of the asked, where the test fails exactly where the attacker wins
-pub Tells-lost : {asked found : Allowances} {way won : KoAllowance → Bool} → Tells asked found way
-    → ((ko : KoAllowance) → won ko ≡ not (way ko)) → Tells asked (without asked found) won
-Tells-lost {asked} {found} {way} {won} t is = grind (arith, has-without)
+pub IsFiltered-lost : {asked found : Allowances} {way won : KoAllowance → Bool} → IsFiltered asked found way
+    → ((ko : KoAllowance) → won ko ≡ not (way ko)) → IsFiltered asked (without asked found) won
+IsFiltered-lost {asked} {found} {way} {won} t is = grind (arith, has-without)
 
 -- a target that is taken for good is captured under all that is asked
-pub Tells-taken : (n : ℕ) (turn : Turn) (here : BoardState) (asked : Allowances)
+pub IsFiltered-taken : (n : ℕ) (turn : Turn) (here : BoardState) (asked : Allowances)
     → is_captured here turn.target ≡ true → has_lost_one_stone (under turn neither_may) here ≡ false
-    → Tells asked asked (λ ko. attacker_wins n (under turn ko) here)
-Tells-taken n turn here asked taken good = grind (arith, captured_for_good)
+    → IsFiltered asked asked (λ ko. attacker_wins n (under turn ko) here)
+IsFiltered-taken n turn here asked taken good = grind (arith, captured_for_good)
 
 -- under which allowances the defender's play takes back that the ban forbids: his own
-pub Tells-banned : (asked : Allowances) (test : KoAllowance → Bool) → test defender_may ≡ true
-    → test neither_may ≡ false → test attacker_may ≡ false → Tells asked (own_where false asked.defender) test
-Tells-banned asked test d n a = grind arith
+pub IsFiltered-banned : (asked : Allowances) (test : KoAllowance → Bool) → test defender_may ≡ true
+    → test neither_may ≡ false → test attacker_may ≡ false → IsFiltered asked (own_where false asked.defender) test
+IsFiltered-banned asked test d n a = grind arith
 
 -- an empty point has no liberties
 pub no_liberties : (s : ℕ) (cells : List Cell) (t : ℕ) (points : sets.FinSet nat_cmp) → points ≡ sets.empty

@@ -92,5 +92,5 @@ best_code set code attack =
     if has set (own_ko (not attack)) then 3 else if set.neither then 2 else if has set (own_ko attack) then 1 else code
 
 -- found has exactly the allowances of asked that pass the test
-pub record Tells (asked found : Allowances) (test : Ko → Bool) : Type 0 where
+pub record IsFiltered (asked found : Allowances) (test : Ko → Bool) : Type 0 where
   pub each : (ko : Ko) → has found ko ≡ (has asked ko && test ko)

@@ -4,7 +4,7 @@ use Rattle.std.specs.Ordering.{nat_cmp}
 use Rattle.std.specs.FinSet as set
 use Rattle.go_rules.specs.Position.{BoardState}
 use Rattle.go_base.specs.Facts.{Fact}
-use Rattle.trial_board.specs.Trials.{Trying, Stays, most_moves}
+use Rattle.trial_board.specs.Trials.{Trying, KeepsTrial, most_moves}
 use Rattle.read_rules.specs.Answer.{first_turn}
 use Rattle.read_rules.specs.declared.question.ReadingQuestion.{ReadingQuestion}
 use Rattle.read_rules.specs.declared.question.Answer.{Answer}
@@ -31,9 +31,9 @@ pub record IsToRead {L : Type 0} (shows : L → BoardState) (seen : L → Fact �
 -- the answer has a code, and a move on the board exactly if the code is not 0; and on each position that agrees with
 -- what is seen now and that the question is about, it is the question's answer, and what was looked at since lies in
 -- the active area
-pub record Answers {L : Type 0} (shows : L → BoardState) (seen : L → Fact → Bool) (old new : Trying L)
+pub record AnswersQuestion {L : Type 0} (shows : L → BoardState) (seen : L → Fact → Bool) (old new : Trying L)
     (q : ReadingQuestion) (answer : Answer) : Type 0 where
-  pub stays : Stays shows seen old new
+  pub stays : KeepsTrial shows seen old new
   pub code : answer.code ≤ 3
   pub none : IsNone answer.at ↔ (answer.code ≡ 0)
   pub on_board : IfSome answer.at (IsOnBoard (shows old.look).size)

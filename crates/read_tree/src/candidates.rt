@@ -7,7 +7,7 @@ ghost use Rattle.go_rules.specs.Position.{BoardState};
 ghost use Rattle.go_rules.specs.Strings.{liberty_points};
 ghost use Rattle.go_base.specs.Facts.{Agrees, AddsIn};
 ghost use Rattle.trial_board.specs.Overlays.{neighbourhood_twice};
-ghost use Rattle.trial_board.specs.Trials.{Stays, after};
+ghost use Rattle.trial_board.specs.Trials.{KeepsTrial, after};
 ghost use Rattle.read_rules.specs.Candidates.{near_candidates};
 ghost use Rattle.read_tree.specs.Stages.{is_capture, is_other};
 
@@ -22,7 +22,7 @@ pub fn captures_of<L: Look>(board: &mut Trial<L>, target: Point, known: &PointSe
     requires target { target < (L.shows board.old.look).size * (L.shows board.old.look).size }
     requires liberties { (pos : BoardState) → Agrees (L.seen board.old.look) pos
         → known.now ≡ liberty_points pos.size (after pos board.old.moves).cells target }
-    ensures stays { Stays L.shows L.seen board.old board.new }
+    ensures stays { KeepsTrial L.shows L.seen board.old board.new }
     ensures over { (pos : BoardState) → Agrees (L.seen board.new.look) pos → (p : ℕ)
         → set.contains result p ≡ is_capture (after pos board.old.moves) target p }
     ensures near { (pos : BoardState) → Agrees (L.seen board.new.look) pos
@@ -44,7 +44,7 @@ pub fn others_of<L: Look>(
         → known.now ≡ liberty_points pos.size (after pos board.old.moves).cells turn.target }
     requires captures { (pos : BoardState) → Agrees (L.seen board.old.look) pos → (p : ℕ)
         → set.contains captures.now p ≡ is_capture (after pos board.old.moves) turn.target p }
-    ensures stays { Stays L.shows L.seen board.old board.new }
+    ensures stays { KeepsTrial L.shows L.seen board.old board.new }
     ensures over { (pos : BoardState) → Agrees (L.seen board.new.look) pos → (p : ℕ)
         → set.contains result p ≡ is_other turn (after pos board.old.moves) p }
     ensures near { (pos : BoardState) → Agrees (L.seen board.new.look) pos

@@ -2,10 +2,10 @@
 //! then knows the nodes by which he does.
 
 ghost use Rattle.std.specs.Prelude.{◌≡◌, ℕ, ◌+◌, ◌<◌, ◌≤◌, suc, true, length, IsTrue, if◌then◌else◌};
-ghost use Rattle.trial_board.specs.Trials.{Stays};
+ghost use Rattle.trial_board.specs.Trials.{KeepsTrial};
 ghost use Rattle.read_rules.specs.Candidates.{is_candidate};
 ghost use Rattle.read_rules.specs.GameTree.{succeeds};
-ghost use Rattle.read_tree.specs.Allowances.{Tells, under, without, either};
+ghost use Rattle.read_tree.specs.Allowances.{IsFiltered, under, without, either};
 ghost use Rattle.read_tree.specs.Deepening.{IsLeftOpen};
 ghost use Rattle.read_tree.specs.Table.{IsTrueTableAt};
 ghost use Rattle.read_tree.specs.Walk.{IsPointOf, IsReady, LooksNearWhere, OnEachAgreeing};
@@ -39,7 +39,7 @@ fn open_after_fewer<L: Look>(
 ) -> Allowances
     requires ready { IsReady L.shows L.seen board.old turn plies asked known.now memory.old.table.now }
     requires on_board { IsPointOf L.shows board.old p }
-    ensures stays { Stays L.shows L.seen board.old board.new }
+    ensures stays { KeepsTrial L.shows L.seen board.old board.new }
     ensures table { IsTrueTableAt (L.seen board.new.look) turn memory.new.table.now }
     ensures over { OnEachAgreeing L.seen board.old board.new (λ here. IsLeftOpen plies turn here p asked result) }
     ensures near { LooksNearWhere L.seen board.old board.new (suc plies) turn asked (λ here.
@@ -83,10 +83,10 @@ pub fn succeeds_by_depths<L: Look>(
 ) -> Allowances
     requires ready { IsReady L.shows L.seen board.old turn plies asked known.now memory.old.table.now }
     requires on_board { IsPointOf L.shows board.old p }
-    ensures stays { Stays L.shows L.seen board.old board.new }
+    ensures stays { KeepsTrial L.shows L.seen board.old board.new }
     ensures table { IsTrueTableAt (L.seen board.new.look) turn memory.new.table.now }
     ensures over { OnEachAgreeing L.seen board.old board.new (λ here.
-        Tells asked result (λ ko. succeeds plies (under turn ko) here p)) }
+        IsFiltered asked result (λ ko. succeeds plies (under turn ko) here p)) }
     ensures near { LooksNearWhere L.seen board.old board.new (suc plies) turn asked (λ here.
         IsTrue (is_candidate turn here p)) }
 {

@@ -6,7 +6,7 @@ ghost use Rattle.go_rules.specs.Below.{any_below};
 ghost use Rattle.go_rules.specs.Position.{BoardState};
 ghost use Rattle.go_base.specs.Facts.{Agrees, AddsIn};
 ghost use Rattle.go_base.specs.Views.{alone, neighbours_of};
-ghost use Rattle.trial_board.specs.Trials.{Stays, after};
+ghost use Rattle.trial_board.specs.Trials.{KeepsTrial, after};
 ghost use Rattle.read_tree.specs.Escapes.{IsLibertyAfter, RunsFree, Escapes};
 
 use crate::apart::all_but;
@@ -22,7 +22,7 @@ use trial_board::Trial;
 /// neighbours of `l`.
 fn kept_at<L: Look>(board: &mut Trial<L>, l: Point, known: &PointSet) -> PointSet
     requires { l < (L.shows board.old.look).size * (L.shows board.old.look).size }
-    ensures stays { Stays L.shows L.seen board.old board.new }
+    ensures stays { KeepsTrial L.shows L.seen board.old board.new }
     ensures over { (pos : BoardState) → Agrees (L.seen board.new.look) pos → (x : ℕ)
         → IsTrue (set.contains result x) → IsLibertyAfter pos.size (after pos board.old.moves).cells known.now l x }
     ensures near { (pos : BoardState) → Agrees (L.seen board.new.look) pos
@@ -44,7 +44,7 @@ fn runs_free<L: Look>(
     known: &PointSet,
 ) -> bool
     requires { l < (L.shows board.old.look).size * (L.shows board.old.look).size }
-    ensures stays { Stays L.shows L.seen board.old board.new }
+    ensures stays { KeepsTrial L.shows L.seen board.old board.new }
     ensures over { (pos : BoardState) → Agrees (L.seen board.new.look) pos → result ≡ true
         → RunsFree plies turn (after pos board.old.moves) known.now l }
     ensures near { (pos : BoardState) → Agrees (L.seen board.new.look) pos
@@ -69,7 +69,7 @@ pub fn escapes<L: Look>(board: &mut Trial<L>, turn: Turn, plies: u8, known: &Poi
     requires target { turn.target < (L.shows board.old.look).size * (L.shows board.old.look).size }
     requires inside { (p : ℕ) → IsTrue (set.contains known.now p)
         → p < (L.shows board.old.look).size * (L.shows board.old.look).size }
-    ensures stays { Stays L.shows L.seen board.old board.new }
+    ensures stays { KeepsTrial L.shows L.seen board.old board.new }
     ensures over { (pos : BoardState) → Agrees (L.seen board.new.look) pos → result ≡ true
         → Escapes plies turn (after pos board.old.moves) known.now }
     ensures near { (pos : BoardState) → Agrees (L.seen board.new.look) pos

@@ -5,7 +5,7 @@ ghost use Rattle.std.specs.Prelude.{◌≡◌, ◌+◌, ◌<◌, ◌≤◌, ◌&
 ghost use Rattle.std.specs.Prelude.{MatchOption, length, is_some};
 ghost use Rattle.go_rules.specs.Position.{BoardState, IsPosition};
 ghost use Rattle.go_base.specs.Facts.{Agrees, Grows};
-ghost use Rattle.trial_board.specs.Trials.{Stays, most_moves, after, tail};
+ghost use Rattle.trial_board.specs.Trials.{KeepsTrial, most_moves, after, tail};
 ghost use Rattle.read_rules.specs.GameTree.{child_of, attacker_wins, pass_saves, succeeds, first_success, first_move};
 ghost use Rattle.read_rules.specs.GameTree.{is_captured};
 ghost use Rattle.read_rules.specs.GoodMoves.{good_move, is_barred, IsOnBoard};
@@ -72,7 +72,7 @@ fn wins_by_reader<L: Look>(board: &mut Trial<L>, node: Node, plies: u8, memory: 
     requires target { IsPointOf L.shows board.old node.turn.target }
     requires one { has_one_at_most node ≡ true }
     requires table { IsTrueTableAt (L.seen board.old.look) node.turn memory.old.table.now }
-    ensures stays { Stays L.shows L.seen board.old board.new }
+    ensures stays { KeepsTrial L.shows L.seen board.old board.new }
     ensures table { IsTrueTableAt (L.seen board.new.look) node.turn memory.new.table.now }
     ensures over { OnEachAgreeing L.seen board.old board.new (λ here. result ≡ attacker_wins plies node here) }
 {
@@ -111,7 +111,7 @@ pub fn make_at<L: Look>(board: &mut Trial<L>, node: Node, p: Point) -> Option<No
 /// Whether it is the attacker's turn, and the target has more liberties than he may play at.
 pub fn is_barred<L: Look>(board: &mut Trial<L>, node: Node) -> bool
     requires target { IsPointOf L.shows board.old node.turn.target }
-    ensures stays { Stays L.shows L.seen board.old board.new }
+    ensures stays { KeepsTrial L.shows L.seen board.old board.new }
     ensures over { OnEachAgreeing L.seen board.old board.new (λ here. result ≡ is_barred node here) }
 {
     if !node.turn.attacker_to_play {
@@ -134,7 +134,7 @@ fn succeeds<L: Look>(
     requires target { IsPointOf L.shows board.old node.turn.target }
     requires on_board { IsPointOf L.shows board.old p }
     requires table { IsTrueTableAt (L.seen board.old.look) node.turn memory.old.table.now }
-    ensures stays { Stays L.shows L.seen board.old board.new }
+    ensures stays { KeepsTrial L.shows L.seen board.old board.new }
     ensures table { IsTrueTableAt (L.seen board.new.look) node.turn memory.new.table.now }
     ensures over { OnEachAgreeing L.seen board.old board.new (λ here. result ≡ succeeds plies node here p) }
 {
@@ -154,7 +154,7 @@ fn pass_saves<L: Look>(board: &mut Trial<L>, node: Node, plies: u8, memory: &mut
     requires room { length board.old.moves + plies < most_moves }
     requires target { IsPointOf L.shows board.old node.turn.target }
     requires table { IsTrueTableAt (L.seen board.old.look) node.turn memory.old.table.now }
-    ensures stays { Stays L.shows L.seen board.old board.new }
+    ensures stays { KeepsTrial L.shows L.seen board.old board.new }
     ensures table { IsTrueTableAt (L.seen board.new.look) node.turn memory.new.table.now }
     ensures over { OnEachAgreeing L.seen board.old board.new (λ here. result ≡ pass_saves plies node here) }
 {
@@ -178,7 +178,7 @@ fn first_success<L: Look>(
     requires room { length board.old.moves + plies < most_moves }
     requires target { IsPointOf L.shows board.old node.turn.target }
     requires table { IsTrueTableAt (L.seen board.old.look) node.turn memory.old.table.now }
-    ensures stays { Stays L.shows L.seen board.old board.new }
+    ensures stays { KeepsTrial L.shows L.seen board.old board.new }
     ensures table { IsTrueTableAt (L.seen board.new.look) node.turn memory.new.table.now }
     ensures over { OnEachAgreeing L.seen board.old board.new (λ here. result ≡ first_success plies node here) }
     ensures on_board { IfSome result (IsPointOf L.shows board.old) }
@@ -207,7 +207,7 @@ pub fn first_move<L: Look>(
     requires room { length board.old.moves + plies < most_moves }
     requires target { IsPointOf L.shows board.old node.turn.target }
     requires table { IsTrueTableAt (L.seen board.old.look) node.turn memory.old.table.now }
-    ensures stays { Stays L.shows L.seen board.old board.new }
+    ensures stays { KeepsTrial L.shows L.seen board.old board.new }
     ensures table { IsTrueTableAt (L.seen board.new.look) node.turn memory.new.table.now }
     ensures over { OnEachAgreeing L.seen board.old board.new (λ here. result ≡ first_move plies node here) }
     ensures on_board { IfSome result (IsOnBoard (L.shows board.old.look).size) }
@@ -227,7 +227,7 @@ fn has_good_move<L: Look>(board: &mut Trial<L>, node: Node, plies: u8, memory: &
     requires room { length board.old.moves + plies < most_moves }
     requires target { IsPointOf L.shows board.old node.turn.target }
     requires table { IsTrueTableAt (L.seen board.old.look) node.turn memory.old.table.now }
-    ensures stays { Stays L.shows L.seen board.old board.new }
+    ensures stays { KeepsTrial L.shows L.seen board.old board.new }
     ensures table { IsTrueTableAt (L.seen board.new.look) node.turn memory.new.table.now }
     ensures over { OnEachAgreeing L.seen board.old board.new (λ here. result ≡ is_some (good_move plies node here)) }
 {
@@ -248,7 +248,7 @@ fn taken_at<L: Look>(board: &mut Trial<L>, node: Node, plies: u8, memory: &mut M
         → is_captured (after pos board.old.moves) node.turn.target ≡ true }
     requires sound { (pos : BoardState) → Agrees (L.seen board.old.look) pos → IsPosition (after pos board.old.moves) }
     requires table { IsTrueTableAt (L.seen board.old.look) node.turn memory.old.table.now }
-    ensures stays { Stays L.shows L.seen board.old board.new }
+    ensures stays { KeepsTrial L.shows L.seen board.old board.new }
     ensures table { IsTrueTableAt (L.seen board.new.look) node.turn memory.new.table.now }
     ensures over { OnEachAgreeing L.seen board.old board.new (λ here. result ≡ attacker_wins plies node here) }
 {
@@ -274,7 +274,7 @@ pub fn wins_at<L: Look>(board: &mut Trial<L>, node: Node, plies: u8, memory: &mu
     requires room { length board.old.moves + plies ≤ most_moves }
     requires target { IsPointOf L.shows board.old node.turn.target }
     requires table { IsTrueTableAt (L.seen board.old.look) node.turn memory.old.table.now }
-    ensures stays { Stays L.shows L.seen board.old board.new }
+    ensures stays { KeepsTrial L.shows L.seen board.old board.new }
     ensures table { IsTrueTableAt (L.seen board.new.look) node.turn memory.new.table.now }
     ensures over { OnEachAgreeing L.seen board.old board.new (λ here. result ≡ attacker_wins plies node here) }
 {
@@ -313,7 +313,7 @@ fn wins_with<L: Look>(board: &mut Trial<L>, node: NodeAt, table: &mut [Entry]) -
     requires room { length board.old.moves + node.n ≤ most_moves }
     requires target { IsPointOf L.shows board.old node.target }
     requires table { IsTrueTable (L.seen board.old.look) node.tree node.target node.defender table.old }
-    ensures stays { Stays L.shows L.seen board.old board.new }
+    ensures stays { KeepsTrial L.shows L.seen board.old board.new }
     ensures over { OnEachAgreeing L.seen board.old board.new (λ here.
         result ≡ attacker_wins node.n (game_node node) here) }
 {
@@ -330,7 +330,7 @@ fn wins_with<L: Look>(board: &mut Trial<L>, node: NodeAt, table: &mut [Entry]) -
 fn wins_with_table<L: Look>(board: &mut Trial<L>, node: NodeAt) -> bool
     requires room { length board.old.moves + node.n ≤ most_moves }
     requires target { IsPointOf L.shows board.old node.target }
-    ensures stays { Stays L.shows L.seen board.old board.new }
+    ensures stays { KeepsTrial L.shows L.seen board.old board.new }
     ensures over { OnEachAgreeing L.seen board.old board.new (λ here.
         result ≡ attacker_wins node.n (game_node node) here) }
 {
@@ -344,7 +344,7 @@ fn wins_with_table<L: Look>(board: &mut Trial<L>, node: NodeAt) -> bool
 pub fn wins<L: Look>(board: &mut Trial<L>, node: NodeAt) -> bool
     requires room { length board.old.moves + node.n ≤ most_moves }
     requires target { IsPointOf L.shows board.old node.target }
-    ensures stays { Stays L.shows L.seen board.old board.new }
+    ensures stays { KeepsTrial L.shows L.seen board.old board.new }
 
     // On every position that agrees with the facts seen afterwards the answer is this one; the position shown is one of
     // them.

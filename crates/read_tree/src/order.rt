@@ -8,7 +8,7 @@ ghost use Rattle.go_rules.specs.Board.{largest_points};
 ghost use Rattle.go_rules.specs.Position.{BoardState};
 ghost use Rattle.go_base.specs.Facts.{Agrees, AddsIn};
 ghost use Rattle.go_base.specs.Views.{neighbours_of};
-ghost use Rattle.trial_board.specs.Trials.{Stays};
+ghost use Rattle.trial_board.specs.Trials.{KeepsTrial};
 
 use go_base::points::PointSet;
 use go_base::size::MAX_POINTS;
@@ -90,7 +90,7 @@ impl TryOrder {
     fn find<L: Look>(&mut self, board: &mut Trial<L>, points: &PointSet, known: &PointSet)
         requires { (p : ℕ) → IsTrue (set.contains points.now p)
             → p < (L.shows board.old.look).size * (L.shows board.old.look).size }
-        ensures stays { Stays L.shows L.seen board.old board.new }
+        ensures stays { KeepsTrial L.shows L.seen board.old board.new }
         ensures near { (pos : BoardState) → Agrees (L.seen board.new.look) pos → AddsIn (L.seen board.old.look)
             (L.seen board.new.look)
             (λ r. any_below (pos.size * pos.size) (λ l. set.contains known.now l && neighbours_of pos.size l r)) }
@@ -137,7 +137,7 @@ pub fn next_to_try<L: Look>(
 ) -> Option<Point>
     requires { (p : ℕ) → IsTrue (set.contains points.now p)
         → p < (L.shows board.old.look).size * (L.shows board.old.look).size }
-    ensures stays { Stays L.shows L.seen board.old board.new }
+    ensures stays { KeepsTrial L.shows L.seen board.old board.new }
     ensures some { IfSome result (λ p. (p < largest_points) × IsTrue (set.contains points.now p)
         × (set.contains tried.now p ≡ false)) }
     ensures none { IfNone result ((p : ℕ) → IsTrue (set.contains points.now p) → IsTrue (set.contains tried.now p)) }

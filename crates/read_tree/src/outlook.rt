@@ -7,7 +7,7 @@ ghost use Rattle.std.specs.FinSet as set;
 ghost use Rattle.go_rules.specs.Position.{BoardState, stone_of};
 ghost use Rattle.go_base.specs.Facts.{Agrees, AddsIn};
 ghost use Rattle.go_base.specs.Views.{alone};
-ghost use Rattle.trial_board.specs.Trials.{Stays, after};
+ghost use Rattle.trial_board.specs.Trials.{KeepsTrial, after};
 ghost use Rattle.read_rules.specs.Bound.{outlasts_at};
 ghost use Rattle.read_tree.specs.Steps.{IsTakenForGood, IsTaken, IsInAtari, TellsLiberties, is_safe};
 
@@ -35,7 +35,7 @@ pub fn stone_of(colour: Colour) -> Cell
 /// a stone of its colour, which is taken with it. A lone stone may be taken back.
 fn is_taken_for_good<L: Look>(board: &mut Trial<L>, turn: Turn) -> bool
     requires { turn.target < (L.shows board.old.look).size * (L.shows board.old.look).size }
-    ensures stays { Stays L.shows L.seen board.old board.new }
+    ensures stays { KeepsTrial L.shows L.seen board.old board.new }
     ensures over { (pos : BoardState) → Agrees (L.seen board.new.look) pos → result ≡ true
         → IsTakenForGood turn (after pos board.old.moves) }
     ensures near { (pos : BoardState) → Agrees (L.seen board.new.look) pos
@@ -55,7 +55,7 @@ fn can_fill<L: Look>(board: &mut Trial<L>, turn: Turn, liberties: &PointSet) -> 
     requires target { turn.target < (L.shows board.old.look).size * (L.shows board.old.look).size }
     requires liberties { liberties.now ≡ liberty_points (L.shows board.old.look).size
         (after (L.shows board.old.look) board.old.moves).cells turn.target }
-    ensures stays { Stays L.shows L.seen board.old board.new }
+    ensures stays { KeepsTrial L.shows L.seen board.old board.new }
     ensures count { board.new.count ≡ board.old.count }
     ensures over { (pos : BoardState) → Agrees (L.seen board.new.look) pos
         → liberties.now ≡ liberty_points pos.size (after pos board.old.moves).cells turn.target
@@ -77,7 +77,7 @@ pub fn can_take<L: Look>(board: &mut Trial<L>, turn: Turn, liberties: &PointSet)
     requires target { turn.target < (L.shows board.old.look).size * (L.shows board.old.look).size }
     requires liberties { liberties.now ≡ liberty_points (L.shows board.old.look).size
         (after (L.shows board.old.look) board.old.moves).cells turn.target }
-    ensures stays { Stays L.shows L.seen board.old board.new }
+    ensures stays { KeepsTrial L.shows L.seen board.old board.new }
     ensures over { (pos : BoardState) → Agrees (L.seen board.new.look) pos
         → liberties.now ≡ liberty_points pos.size (after pos board.old.moves).cells turn.target
         → result ≡ true → IsTaken turn (after pos board.old.moves) }
@@ -96,7 +96,7 @@ pub fn is_in_atari<L: Look>(board: &mut Trial<L>, turn: Turn, plies: u8, known: 
     requires target { turn.target < (L.shows board.old.look).size * (L.shows board.old.look).size }
     requires liberties { (pos : BoardState) → Agrees (L.seen board.old.look) pos
         → known.now ≡ liberty_points pos.size (after pos board.old.moves).cells turn.target }
-    ensures stays { Stays L.shows L.seen board.old board.new }
+    ensures stays { KeepsTrial L.shows L.seen board.old board.new }
     ensures over { (pos : BoardState) → Agrees (L.seen board.new.look) pos → result ≡ true
         → IsInAtari plies turn (after pos board.old.moves) }
     ensures near { (pos : BoardState) → Agrees (L.seen board.new.look) pos
@@ -113,7 +113,7 @@ pub fn is_in_atari<L: Look>(board: &mut Trial<L>, turn: Turn, plies: u8, known: 
 /// The search of the string stops there.
 pub fn liberties_within<L: Look>(board: &mut Trial<L>, turn: Turn, plies: u8) -> PointSet
     requires { turn.target < (L.shows board.old.look).size * (L.shows board.old.look).size }
-    ensures stays { Stays L.shows L.seen board.old board.new }
+    ensures stays { KeepsTrial L.shows L.seen board.old board.new }
     ensures count { board.new.count ≡ board.old.count }
     ensures over { (pos : BoardState) → Agrees (L.seen board.new.look) pos
         → TellsLiberties turn plies pos.size (after pos board.old.moves).cells result }
@@ -141,7 +141,7 @@ pub fn outlook_of<L: Look>(board: &mut Trial<L>, turn: Turn, plies: u8, known: &
     requires target { turn.target < (L.shows board.old.look).size * (L.shows board.old.look).size }
     requires liberties { (pos : BoardState) → Agrees (L.seen board.old.look) pos
         → TellsLiberties turn plies pos.size (after pos board.old.moves).cells known.now }
-    ensures stays { Stays L.shows L.seen board.old board.new }
+    ensures stays { KeepsTrial L.shows L.seen board.old board.new }
     ensures over { (pos : BoardState) → Agrees (L.seen board.new.look) pos
         → outlasts_at turn plies
         (liberties pos.size (after pos board.old.moves).cells turn.target) ≡ is_safe result }

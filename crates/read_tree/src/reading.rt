@@ -6,7 +6,7 @@ ghost use Rattle.go_rules.specs.Position.{BoardState, stone_of};
 ghost use Rattle.go_rules.specs.Strings.{cell_at, liberties};
 ghost use Rattle.go_rules.specs.Neighbourhood.{neighbourhood_of};
 ghost use Rattle.go_base.specs.Facts.{Agrees, Grows, AddsIn, CellIs};
-ghost use Rattle.trial_board.specs.Trials.{Stays, most_moves};
+ghost use Rattle.trial_board.specs.Trials.{KeepsTrial, most_moves};
 ghost use Rattle.go_base.specs.Views.{nowhere, alone};
 ghost use Rattle.read_rules.specs.Ranges.{most_plies};
 ghost use Rattle.read_rules.specs.ActiveArea.{InActiveArea, AddsNear};
@@ -16,7 +16,7 @@ ghost use Rattle.read_rules.specs.Bound.{outlasts};
 ghost use Rattle.read_rules.specs.GoodMoves.{IsOnBoard};
 ghost use Rattle.read_rules.specs.Candidates.{is_candidate};
 ghost use Rattle.read_tree.specs.Steps.{unread, better, IsBest};
-ghost use Rattle.read_tree.specs.Readings.{IsToRead, Answers, untried};
+ghost use Rattle.read_tree.specs.Readings.{IsToRead, AnswersQuestion, untried};
 ghost use Rattle.read_tree.specs.Table.{IsTrueTable, IsTrueTableAt};
 ghost use Rattle.read_tree.specs.Walk.{IsPointOf, AreLibertiesOf, OnEachAgreeing, LooksNear};
 
@@ -69,7 +69,7 @@ fn best_point<L: Look>(
     requires none { IsNone first.at ↔ (first.code ≡ 0) }
     requires on_board { IfSome first.at (IsOnBoard (L.shows board.old.look).size) }
     requires table { IsTrueTableAt (L.seen board.old.look) turn memory.old.table.now }
-    ensures stays { Stays L.shows L.seen board.old board.new }
+    ensures stays { KeepsTrial L.shows L.seen board.old board.new }
     ensures code { result.code ≤ 3 }
     ensures none { IsNone result.at ↔ (result.code ≡ 0) }
     ensures on_board { IfSome result.at (IsOnBoard (L.shows board.old.look).size) }
@@ -117,7 +117,7 @@ fn read_by<L: Look>(
     requires ready { IsToRead L.shows L.seen board.old question.now known.now }
     requires table { IsTrueTable (L.seen board.old.look) question.now.tree question.now.target question.now.colour
         table.old }
-    ensures { Answers L.shows L.seen board.old board.new question.now result }
+    ensures { AnswersQuestion L.shows L.seen board.old board.new question.now result }
 {
     let turn = question.first_turn();
     let plies = question.plies - 1;
@@ -145,7 +145,7 @@ fn read_with_table<L: Look>(
     known: &PointSet,
 ) -> Answer
     requires { IsToRead L.shows L.seen board.old question.now known.now }
-    ensures { Answers L.shows L.seen board.old board.new question.now result }
+    ensures { AnswersQuestion L.shows L.seen board.old board.new question.now result }
 {
     let mut table = empty_table();
     read_by(board, question, known, &mut table)
@@ -159,7 +159,7 @@ fn read_with_smaller_table<L: Look>(
     known: &PointSet,
 ) -> Answer
     requires { IsToRead L.shows L.seen board.old question.now known.now }
-    ensures { Answers L.shows L.seen board.old board.new question.now result }
+    ensures { AnswersQuestion L.shows L.seen board.old board.new question.now result }
 {
     let mut table = smaller_table();
     read_by(board, question, known, &mut table)
@@ -168,7 +168,7 @@ fn read_with_smaller_table<L: Look>(
 /// The answer, read with a table if there are plies enough, and without one if a table would cost more than it saves.
 fn read_known<L: Look>(board: &mut Trial<L>, question: &ReadingQuestion, known: &PointSet) -> Answer
     requires { IsToRead L.shows L.seen board.old question.now known.now }
-    ensures { Answers L.shows L.seen board.old board.new question.now result }
+    ensures { AnswersQuestion L.shows L.seen board.old board.new question.now result }
 {
     if question.plies < PLIES_WITH_TABLE {
         return read_by(board, question, known, &mut []);
@@ -184,7 +184,7 @@ fn read_known<L: Look>(board: &mut Trial<L>, question: &ReadingQuestion, known: 
 #[inline(never)]
 fn read_through<L: Look>(look: L, question: ReadingQuestion, liberties: PointSet) -> Report<L>
     requires { IsToRead L.shows L.seen (untried look) question liberties }
-    ensures { Answers L.shows L.seen (untried look) (untried result.look) question result.answer }
+    ensures { AnswersQuestion L.shows L.seen (untried look) (untried result.look) question result.answer }
 {
     let mut board = Trial::new(look);
     let answer = read_known(&mut board, &question, &liberties);

@@ -5,9 +5,9 @@ ghost use Rattle.go_rules.specs.Position.{BoardState, IsPosition, other};
 ghost use Rattle.go_base.specs.Facts.{Agrees, AddsIn};
 ghost use Rattle.go_base.specs.Views.{neighbours_of};
 ghost use Rattle.trial_board.specs.Overlays.{neighbourhood_twice};
-ghost use Rattle.trial_board.specs.Trials.{Stays, after};
+ghost use Rattle.trial_board.specs.Trials.{KeepsTrial, after};
 ghost use Rattle.read_rules.specs.GameTree.{is_walled_in, is_captured, can_play};
-ghost use Rattle.read_tree.specs.Allowances.{under, Tells};
+ghost use Rattle.read_tree.specs.Allowances.{under, IsFiltered};
 
 use crate::allowances::Allowances;
 use crate::outlook::stone_of;
@@ -21,7 +21,7 @@ use wider_moves::sides::add_sides;
 /// Whether each neighbour of `p` holds a stone of the colour that attacks `defender`.
 pub fn is_walled_in<L: Look>(board: &mut Trial<L>, p: Point, defender: Colour) -> bool
     requires { p < (L.shows board.old.look).size * (L.shows board.old.look).size }
-    ensures stays { Stays L.shows L.seen board.old board.new }
+    ensures stays { KeepsTrial L.shows L.seen board.old board.new }
     ensures over { (pos : BoardState) → Agrees (L.seen board.new.look) pos
         → result ≡ is_walled_in pos.size (after pos board.old.moves).cells p (other defender) }
     ensures near { (pos : BoardState) → Agrees (L.seen board.new.look) pos
@@ -38,11 +38,11 @@ pub fn is_walled_in<L: Look>(board: &mut Trial<L>, p: Point, defender: Colour) -
 pub fn may_take_back<L: Look>(board: &mut Trial<L>, turn: Turn, asked: Allowances) -> Allowances
     requires target { turn.target < (L.shows board.old.look).size * (L.shows board.old.look).size }
     requires defender { turn.attacker_to_play ≡ false }
-    ensures stays { Stays L.shows L.seen board.old board.new }
+    ensures stays { KeepsTrial L.shows L.seen board.old board.new }
     ensures over { (pos : BoardState) → Agrees (L.seen board.new.look) pos → IsPosition (after pos board.old.moves)
         → is_captured (after pos board.old.moves) turn.target ≡ true
         → is_walled_in pos.size (after pos board.old.moves).cells turn.target (other turn.defender) ≡ true
-        → Tells asked result (λ ko. can_play (under turn ko) (after pos board.old.moves) turn.target) }
+        → IsFiltered asked result (λ ko. can_play (under turn ko) (after pos board.old.moves) turn.target) }
     ensures near { (pos : BoardState) → Agrees (L.seen board.new.look) pos
         → AddsIn (L.seen board.old.look) (L.seen board.new.look)
         (neighbourhood_twice pos.size (after pos board.old.moves).cells turn.target) }
@@ -61,7 +61,7 @@ pub fn may_take_back<L: Look>(board: &mut Trial<L>, turn: Turn, asked: Allowance
 pub fn may_take_back_at<L: Look>(board: &mut Trial<L>, node: Node) -> bool
     requires target { node.turn.target < (L.shows board.old.look).size * (L.shows board.old.look).size }
     requires defender { node.turn.attacker_to_play ≡ false }
-    ensures stays { Stays L.shows L.seen board.old board.new }
+    ensures stays { KeepsTrial L.shows L.seen board.old board.new }
     ensures over { (pos : BoardState) → Agrees (L.seen board.new.look) pos → IsPosition (after pos board.old.moves)
         → is_captured (after pos board.old.moves) node.turn.target ≡ true
         → is_walled_in pos.size (after pos board.old.moves).cells node.turn.target (other node.turn.defender) ≡ true

@@ -7,11 +7,11 @@ ghost use Rattle.std.specs.FinSet as set;
 ghost use Rattle.go_rules.specs.Position.{BoardState, IsPosition};
 ghost use Rattle.go_base.specs.Facts.{Agrees, AddsIn};
 ghost use Rattle.go_base.specs.Views.{alone};
-ghost use Rattle.trial_board.specs.Trials.{Stays, most_moves, after};
+ghost use Rattle.trial_board.specs.Trials.{KeepsTrial, most_moves, after};
 ghost use Rattle.read_rules.specs.declared.question.ReadingQuestion.{ReadingQuestion};
 ghost use Rattle.read_rules.specs.ActiveArea.{IsUndecided, InActiveArea, AddsNear};
 ghost use Rattle.read_rules.specs.GameTree.{is_captured, attacker_wins, succeeds, first_success, pass_saves};
-ghost use Rattle.read_tree.specs.Allowances.{Ko, under, has_some, without, Tells};
+ghost use Rattle.read_tree.specs.Allowances.{Ko, under, has_some, without, IsFiltered};
 ghost use Rattle.read_rules.specs.GoodMoves.{good_move};
 ghost use Rattle.read_rules.specs.Turns.{next_turn};
 ghost use Rattle.read_rules.specs.Candidates.{is_candidate};
@@ -58,7 +58,7 @@ fn liberties_after<L: Look>(
 ) -> Option<PointSet>
     requires target { IsPointOf L.shows board.old turn.target }
     requires on_board { IsPointOf L.shows board.old p }
-    ensures stays { Stays L.shows L.seen board.old board.new }
+    ensures stays { KeepsTrial L.shows L.seen board.old board.new }
     ensures over { OnEachAgreeing L.seen board.old board.new (λ here. IfSome result (IsCarried turn here p known.now)) }
     ensures near { AddsIn (L.seen board.old.look) (L.seen board.new.look) (alone turn.target) }
 {
@@ -79,7 +79,7 @@ fn liberties_known<L: Look>(
 ) -> PointSet
     requires target { IsPointOf L.shows board.old turn.target }
     requires liberties { IfSome known (AreLibertiesOf L.seen board.old turn.target) }
-    ensures stays { Stays L.shows L.seen board.old board.new }
+    ensures stays { KeepsTrial L.shows L.seen board.old board.new }
     ensures over { (pos : BoardState) → Agrees (L.seen board.new.look) pos
         → TellsLiberties turn plies pos.size (after pos board.old.moves).cells result }
     ensures near { (pos : BoardState) → Agrees (L.seen board.new.look) pos
@@ -115,10 +115,10 @@ fn has_way<L: Look>(
     requires some { has_some asked ≡ true }
     requires liberties { IfSome known (AreLibertiesOf L.seen board.old turn.target) }
     requires table { IsTrueTableAt (L.seen board.old.look) turn memory.old.table.now }
-    ensures stays { Stays L.shows L.seen board.old board.new }
+    ensures stays { KeepsTrial L.shows L.seen board.old board.new }
     ensures table { IsTrueTableAt (L.seen board.new.look) turn memory.new.table.now }
     ensures over { OnEachAgreeing L.seen board.old board.new (λ here.
-        Tells asked result (λ ko. has_way turn.attacker_to_play (attacker_wins plies (under (next_turn turn) ko)
+        IsFiltered asked result (λ ko. has_way turn.attacker_to_play (attacker_wins plies (under (next_turn turn) ko)
         here))) }
     ensures near { LooksNearOrAt L.seen board.old board.new plies (next_turn turn) asked }
 {
@@ -140,10 +140,10 @@ pub fn succeeds<L: Look>(
 ) -> Allowances
     requires ready { IsReady L.shows L.seen board.old turn plies asked known.now memory.old.table.now }
     requires on_board { IsPointOf L.shows board.old p }
-    ensures stays { Stays L.shows L.seen board.old board.new }
+    ensures stays { KeepsTrial L.shows L.seen board.old board.new }
     ensures table { IsTrueTableAt (L.seen board.new.look) turn memory.new.table.now }
     ensures over { OnEachAgreeing L.seen board.old board.new (λ here.
-        Tells asked result (λ ko. succeeds plies (under turn ko) here p)) }
+        IsFiltered asked result (λ ko. succeeds plies (under turn ko) here p)) }
     ensures near { LooksNearWhere L.seen board.old board.new (suc plies) turn asked (λ here.
         IsTrue (is_candidate turn here p)) }
     ensures back { p ≡ turn.target → LooksNearLoss L.seen board.old board.new (suc plies) turn asked }
@@ -188,7 +188,7 @@ fn some_of<L: Look>(
 ) -> Allowances
     requires ready { IsReady L.shows L.seen board.old turn plies asked known.now memory.old.table.now }
     requires on_board { (p : ℕ) → IsTrue (set.contains points.now p) → IsPointOf L.shows board.old p }
-    ensures stays { Stays L.shows L.seen board.old board.new }
+    ensures stays { KeepsTrial L.shows L.seen board.old board.new }
     ensures table { IsTrueTableAt (L.seen board.new.look) turn memory.new.table.now }
     ensures over { OnEachAgreeing L.seen board.old board.new (λ here.
         TellsBy plies turn here (set.contains points.now) asked result) }
@@ -225,7 +225,7 @@ fn some_later<L: Look>(
 ) -> Allowances
     requires ready { IsReady L.shows L.seen board.old turn plies asked known.now memory.old.table.now }
     requires captures { AreCapturesOf L.seen board.old turn.target captures.now }
-    ensures stays { Stays L.shows L.seen board.old board.new }
+    ensures stays { KeepsTrial L.shows L.seen board.old board.new }
     ensures table { IsTrueTableAt (L.seen board.new.look) turn memory.new.table.now }
     ensures over { OnEachAgreeing L.seen board.old board.new (λ here.
         TellsBy plies turn here (is_other turn here) asked result) }
@@ -254,7 +254,7 @@ fn some_other<L: Look>(
     memory: &mut Memory,
 ) -> Allowances
     requires { IsReady L.shows L.seen board.old turn plies asked known.now memory.old.table.now }
-    ensures stays { Stays L.shows L.seen board.old board.new }
+    ensures stays { KeepsTrial L.shows L.seen board.old board.new }
     ensures table { IsTrueTableAt (L.seen board.new.look) turn memory.new.table.now }
     ensures over { OnEachAgreeing L.seen board.old board.new (λ here.
         TellsBy plies turn here (is_off_liberties turn here) asked result) }
@@ -286,10 +286,10 @@ fn some_success<L: Look>(
     memory: &mut Memory,
 ) -> Allowances
     requires { IsReady L.shows L.seen board.old turn plies asked known.now memory.old.table.now }
-    ensures stays { Stays L.shows L.seen board.old board.new }
+    ensures stays { KeepsTrial L.shows L.seen board.old board.new }
     ensures table { IsTrueTableAt (L.seen board.new.look) turn memory.new.table.now }
     ensures over { OnEachAgreeing L.seen board.old board.new (λ here.
-        Tells asked result (λ ko. is_some (first_success plies (under turn ko) here))) }
+        IsFiltered asked result (λ ko. is_some (first_success plies (under turn ko) here))) }
     ensures near { LooksNear L.seen board.old board.new (suc plies) turn asked }
 {
     let good = some_of(board, turn, plies, asked, known, known, memory);
@@ -315,10 +315,10 @@ fn some_by_table<L: Look>(
 ) -> Allowances
     requires ready { IsReady L.shows L.seen board.old turn plies asked known.now memory.old.table.now }
     requires attacker { turn.attacker_to_play ≡ true }
-    ensures stays { Stays L.shows L.seen board.old board.new }
+    ensures stays { KeepsTrial L.shows L.seen board.old board.new }
     ensures table { IsTrueTableAt (L.seen board.new.look) turn memory.new.table.now }
     ensures over { OnEachAgreeing L.seen board.old board.new (λ here.
-        Tells asked result (λ ko. is_some (first_success plies (under turn ko) here))) }
+        IsFiltered asked result (λ ko. is_some (first_success plies (under turn ko) here))) }
     ensures near { LooksNear L.seen board.old board.new (suc plies) turn asked }
 {
     if plies < least_plies(turn.tree) || !memory.has_room() {
@@ -357,10 +357,10 @@ pub fn pass_saves<L: Look>(
 ) -> Allowances
     requires ready { IsReady L.shows L.seen board.old turn plies asked known.now memory.old.table.now }
     requires defender { turn.attacker_to_play ≡ false }
-    ensures stays { Stays L.shows L.seen board.old board.new }
+    ensures stays { KeepsTrial L.shows L.seen board.old board.new }
     ensures table { IsTrueTableAt (L.seen board.new.look) turn memory.new.table.now }
     ensures over { OnEachAgreeing L.seen board.old board.new (λ here.
-        Tells asked result (λ ko. pass_saves plies (under turn ko) here)) }
+        IsFiltered asked result (λ ko. pass_saves plies (under turn ko) here)) }
     ensures near { (pos : BoardState) → Agrees (L.seen board.new.look) pos → (q : ReadingQuestion) (root : BoardState)
         → AreNodesOf q root (suc plies) turn asked (after pos board.old.moves)
         → is_captured (after pos board.old.moves) turn.target ≡ false
@@ -390,7 +390,7 @@ fn some_capture_or_liberty<L: Look>(
 ) -> Allowances
     requires ready { IsReady L.shows L.seen board.old turn plies asked known.now memory.old.table.now }
     requires captures { AreCapturesOf L.seen board.old turn.target captures.now }
-    ensures stays { Stays L.shows L.seen board.old board.new }
+    ensures stays { KeepsTrial L.shows L.seen board.old board.new }
     ensures table { IsTrueTableAt (L.seen board.new.look) turn memory.new.table.now }
     ensures over { OnEachAgreeing L.seen board.old board.new (λ here.
         TellsBy plies turn here (is_capture_or_liberty here turn.target) asked result) }
@@ -422,10 +422,10 @@ fn defender_has_good_move<L: Look>(
 ) -> Allowances
     requires ready { IsReady L.shows L.seen board.old turn plies asked known.now memory.old.table.now }
     requires defender { turn.attacker_to_play ≡ false }
-    ensures stays { Stays L.shows L.seen board.old board.new }
+    ensures stays { KeepsTrial L.shows L.seen board.old board.new }
     ensures table { IsTrueTableAt (L.seen board.new.look) turn memory.new.table.now }
     ensures over { OnEachAgreeing L.seen board.old board.new (λ here.
-        Tells asked result (λ ko. is_some (good_move plies (under turn ko) here))) }
+        IsFiltered asked result (λ ko. is_some (good_move plies (under turn ko) here))) }
     ensures near { LooksNear L.seen board.old board.new (suc plies) turn asked }
 {
     let captures = captures_of(board, turn.target, known);
@@ -453,11 +453,11 @@ fn has_good_move<L: Look>(
     memory: &mut Memory,
 ) -> Allowances
     requires { IsReady L.shows L.seen board.old turn plies asked known.now memory.old.table.now }
-    ensures stays { Stays L.shows L.seen board.old board.new }
+    ensures stays { KeepsTrial L.shows L.seen board.old board.new }
     ensures table { IsTrueTableAt (L.seen board.new.look) turn memory.new.table.now }
     ensures over { OnEachAgreeing L.seen board.old board.new (λ here.
         ((ko : Ko) → IsUndecided (under turn ko) here)
-        → Tells asked result (λ ko. is_some (good_move plies (under turn ko) here))) }
+        → IsFiltered asked result (λ ko. is_some (good_move plies (under turn ko) here))) }
     ensures near { LooksNear L.seen board.old board.new (suc plies) turn asked }
 {
     if turn.attacker_to_play {
@@ -487,10 +487,10 @@ fn taken<L: Look>(
         → is_captured (after pos board.old.moves) turn.target ≡ true }
     requires sound { (pos : BoardState) → Agrees (L.seen board.old.look) pos → IsPosition (after pos board.old.moves) }
     requires table { IsTrueTableAt (L.seen board.old.look) turn memory.old.table.now }
-    ensures stays { Stays L.shows L.seen board.old board.new }
+    ensures stays { KeepsTrial L.shows L.seen board.old board.new }
     ensures table { IsTrueTableAt (L.seen board.new.look) turn memory.new.table.now }
     ensures over { OnEachAgreeing L.seen board.old board.new (λ here.
-        Tells asked result (λ ko. attacker_wins plies (under turn ko) here)) }
+        IsFiltered asked result (λ ko. attacker_wins plies (under turn ko) here)) }
     ensures near { LooksNearOrAt L.seen board.old board.new plies turn asked }
 {
     if !turn.tree.is_wider() {
@@ -526,10 +526,10 @@ pub fn attacker_wins<L: Look>(
     requires some { has_some asked ≡ true }
     requires liberties { IfSome known (AreLibertiesOf L.seen board.old turn.target) }
     requires table { IsTrueTableAt (L.seen board.old.look) turn memory.old.table.now }
-    ensures stays { Stays L.shows L.seen board.old board.new }
+    ensures stays { KeepsTrial L.shows L.seen board.old board.new }
     ensures table { IsTrueTableAt (L.seen board.new.look) turn memory.new.table.now }
     ensures over { OnEachAgreeing L.seen board.old board.new (λ here.
-        Tells asked result (λ ko. attacker_wins plies (under turn ko) here)) }
+        IsFiltered asked result (λ ko. attacker_wins plies (under turn ko) here)) }
     ensures near { LooksNearOrAt L.seen board.old board.new plies turn asked }
 {
     if board.cell(turn.target) == Cell::Empty {

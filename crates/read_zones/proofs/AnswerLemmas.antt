@@ -68,15 +68,25 @@ module _ (n : ℕ) (node : Node) (pos : BoardState) where
         → ((q : ℕ) → from ≤ q → q < p → points q ≡ false) → is_tried node pos p ≡ true
         → true ≡ surely_succeeds n node pos p → Some p ≡ first_sure n node pos
     first_found from p before between tried succeeds =
-        grind (arith, first_sure-found n node pos p p (is_tried node pos),
-            none_before points (surely_succeeds n node pos) from p before between, not_tried)
+        grind (
+          arith,
+          first_sure-found n node pos p p (is_tried node pos),
+          none_before points (surely_succeeds n node pos) from p before between,
+          not_tried,
+        )
 
     -- no point that is tried succeeds if none of the set does
     pub none_found : (from : ℕ) → ((q : ℕ) → q < from → (points q && surely_succeeds n node pos q) ≡ false)
         → ((q : ℕ) → from ≤ q → points q ≡ false) → None ≡ first_sure n node pos
     none_found from before left =
-        grind (arith, first_sure-none n node pos (pos.size * pos.size) (is_tried node pos),
-            none_left points (surely_succeeds n node pos) from before left, tried_on node pos, not_tried, cases_Bool)
+        grind (
+          arith,
+          first_sure-none n node pos (pos.size * pos.size) (is_tried node pos),
+          none_left points (surely_succeeds n node pos) from before left,
+          tried_on node pos,
+          not_tried,
+          cases_Bool,
+        )
 
   -- an attacker whose target has too many liberties has no move
   pub barred_move : is_attackers node ≡ true → has_too_many node pos ≡ true → None ≡ sure_move n node pos

@@ -24,9 +24,16 @@ won_at_end next new won = grind (arith, cases_Bool, some_or_none, both_ways, win
 takes_surely : (n : ℕ) (node : Node) (here : BoardState) → IsPosition here → node.turn.target < here.size * here.size
     → has_too_many node here ≡ false → IsTaken node.turn here → surely_wins (n + 1) node here ≡ true
 takes_surely n node here sound on few t =
-    grind (arith, stone_stands (cell_at here.cells node.turn.target) node.turn.defender t.enemy,
-        attacker_gives 0 node here, taking_wins 0 node here sound.cells on few t, add-one n,
-        sure_attacker_from n node here, sure-captured n, won_at_end)
+    grind (
+      arith,
+      stone_stands (cell_at here.cells node.turn.target) node.turn.defender t.enemy,
+      attacker_gives 0 node here,
+      taking_wins 0 node here sound.cells on few t,
+      add-one n,
+      sure_attacker_from n node here,
+      sure-captured n,
+      won_at_end,
+    )
 
 -- so what shows that it is taken is a zone
 pub taken_zone : (n : ℕ) (node : Node) (pos : BoardState) (Z : ℕ → Bool) → node.turn.target < pos.size * pos.size

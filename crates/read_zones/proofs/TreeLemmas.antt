@@ -128,8 +128,13 @@ none_gives A B P (Some zone) gives p = p
 pub attacker_barred : (n : ℕ) (node : Node) (pos : BoardState) → is_attackers node ≡ true → is_gone node pos ≡ false
     → has_too_many node pos ≡ true → surely_wins (n + 1) node pos ≡ false
 attacker_barred n node pos turn stands many =
-    grind (arith, add-one n, cases_Bool (surely_wins (suc n) node pos), both_ways (has_too_many node pos),
-        sure_attacker_gives n node pos stands turn)
+    grind (
+      arith,
+      add-one n,
+      cases_Bool (surely_wins (suc n) node pos),
+      both_ways (has_too_many node pos),
+      sure_attacker_gives n node pos stands turn,
+    )
 
 -- the pass holds
 pub defender_passes : (n : ℕ) (node : Node) (pos : BoardState) → is_attackers node ≡ false → is_gone node pos ≡ false
@@ -141,9 +146,19 @@ pub defender_replies : (n : ℕ) (node : Node) (pos : BoardState) (p : ℕ) → 
     → is_gone node pos ≡ false → p < pos.size * pos.size → each_child (surely_wins n) (child_of node pos p) ≡ false
     → surely_wins (n + 1) node pos ≡ false
 defender_replies n node pos p turn stands on holds =
-    grind (arith, add-one, cases_Bool, both_ways, sure_defender_gives, child_gives, add-one n,
-        cases_Bool (surely_wins (suc n) node pos), both_ways (each_child (surely_wins n) (child_of node pos p)) holds,
-        sure_defender_gives n node pos stands turn, child_gives node pos p)
+    grind (
+      arith,
+      add-one,
+      cases_Bool,
+      both_ways,
+      sure_defender_gives,
+      child_gives,
+      add-one n,
+      cases_Bool (surely_wins (suc n) node pos),
+      both_ways (each_child (surely_wins n) (child_of node pos p)) holds,
+      sure_defender_gives n node pos stands turn,
+      child_gives node pos p,
+    )
 
 -- every reply that is read fails
 pub defender_has : (n : ℕ) (node : Node) (pos : BoardState) (passed replies Y Z : ℕ → Bool)

@@ -8,7 +8,7 @@ use Rattle.machine_rules.specs.Files.{Contents}
 use Rattle.run_notes.specs.declared.notes.Sent.{Sent}
 use Rattle.session.specs.Tallies.{Tally}
 use Rattle.session.specs.Ends.{Streams}
-use Rattle.session.specs.Headline.{ServesLines, Came}
+use Rattle.session.specs.Headline.{ServesLines, ReachesPhase}
 use Rattle.session.specs.Outcomes.{Phase, NotTaken, NotOpened, Served}
 use Rattle.session.specs.declared.outcome.End.{End}
 use Rattle.run_tests.specs.MemoryRuns.{ServesEither, ComesTo}
@@ -66,7 +66,7 @@ module _ (input : List ℕ) (last hurt : ℕ) (old : List ℕ) (torn : ℕ) (res
   -- a run over them says what was taken and put
   pub told : (helpers : List SlotState) (words : List (List ℕ)) (contents : Contents) (missed now : List (List ℕ))
       (counts : List ℕ) (sent : Option Sent) (phase : Phase)
-      → Came Stated helpers words contents missed now (telling input last hurt old torn)
+      → ReachesPhase Stated helpers words contents missed now (telling input last hurt old torn)
       (telling rest piece fault new cut) counts sent phase
       → ComesTo helpers words contents input rest old new piece phase
   told helpers words contents missed now counts sent NotTaken came = let same = as_before came.1.streams in

@@ -18,7 +18,7 @@ use Rattle.session_core.specs.Kept.{Kept}
 use Rattle.machine_rules.specs.Counting.{counted, is_read_line}
 use Rattle.machine_rules.specs.Questions.{Asks, Nothing, One, Many, asks_of_line}
 use Rattle.session_core.specs.AfterLine.{ReadsAs, ReadsOnce, IsAfterLine}
-use Rattle.machine_rules.specs.Turns.{Turn, IsAlong}
+use Rattle.machine_rules.specs.AnsweredLines.{AnsweredLine, IsAlong}
 use Rattle.machine_rules.specs.CertainHit.{IsCertainHit, HaveCertainHits, board_at, is_reading, is_matching, named_in}
 use Rattle.machine_rules.specs.CertainHit.{reading_lines, matching_lines}
 use Rattle.machine_rules.proofs.CommandQuestions.{Fits, Fits-line, is_read_line-one}
@@ -74,7 +74,7 @@ module _ (old new : EngineView) where
       absurd (let both : true ≡ false = sym fits ∙ apart in cc)
 
 -- where no refused keeping is counted after some lines, none was before them
-unrefused_along : (turns : List (Turn Machine)) (a b : Kept) → IsAlong IsAfterLine a turns b
+unrefused_along : (turns : List (AnsweredLine Machine)) (a b : Kept) → IsAlong IsAfterLine a turns b
     → b.engine.counts.refused ≡ 0
     → a.engine.counts.refused ≡ 0
 unrefused_along [] a b along none = subst (λ (k : Kept). k.engine.counts.refused ≡ 0) along none
@@ -83,26 +83,27 @@ unrefused_along (turn ∷ turns) a b (mid, first, rest) none =
     (unrefused_along turns mid b rest none)
 
 -- as many questions may be kept after some lines as before them
-same_room_along : (turns : List (Turn Machine)) (a b : Kept) → IsAlong IsAfterLine a turns b
+same_room_along : (turns : List (AnsweredLine Machine)) (a b : Kept) → IsAlong IsAfterLine a turns b
     → room_of b.engine ≡ room_of a.engine
 same_room_along [] a b along = ap (λ (k : Kept). room_of k.engine) along
 same_room_along (turn ∷ turns) a b (mid, first, rest) =
     same_room_along turns mid b rest ∙ same_room a.engine mid.engine (asks_of_line turn.machine turn.line) first.read
 
 -- if no line names `match_patterns`, neither the first does nor those after it
-matching_lines-cons : (turn : Turn Machine) (turns : List (Turn Machine)) → matching_lines (turn ∷ turns) ≡ 0
-    → (is_matching (named_in turn.line) ≡ false) × (matching_lines turns ≡ 0)
+matching_lines-cons : (turn : AnsweredLine Machine) (turns : List (AnsweredLine Machine))
+    → matching_lines (turn ∷ turns) ≡ 0 → (is_matching (named_in turn.line) ≡ false) × (matching_lines turns ≡ 0)
 matching_lines-cons turn turns none =
     none_passes (is_matching (named_in turn.line)) (matching_lines turns)
-    (sym (sum_by-cons (λ (t : Turn Machine). cond (is_matching (named_in t.line)) 1 0) turn turns) ∙ none)
+    (sym (sum_by-cons (λ (t : AnsweredLine Machine). cond (is_matching (named_in t.line)) 1 0) turn turns) ∙ none)
 
 -- an `attack` or `defend` line, and those after it
-reading_lines-cons : (turn : Turn Machine) (turns : List (Turn Machine))
+reading_lines-cons : (turn : AnsweredLine Machine) (turns : List (AnsweredLine Machine))
     → reading_lines (turn ∷ turns) ≡ one_if (is_reading (named_in turn.line)) + reading_lines turns
-reading_lines-cons turn turns = sum_by-cons (λ (t : Turn Machine). cond (is_reading (named_in t.line)) 1 0) turn turns
+reading_lines-cons turn turns =
+    sum_by-cons (λ (t : AnsweredLine Machine). cond (is_reading (named_in t.line)) 1 0) turn turns
 
 -- so what is at hand stays so along few `attack` and `defend` lines and no `match_patterns` line
-at_hand_along : (key : Key) (pos : BoardState) (turns : List (Turn Machine)) (n : ℕ) (a b : Kept)
+at_hand_along : (key : Key) (pos : BoardState) (turns : List (AnsweredLine Machine)) (n : ℕ) (a b : Kept)
     → IsAlong IsAfterLine a turns b
     → b.engine.counts.refused ≡ 0 → 8 ≤ room_of a.engine → matching_lines turns ≡ 0 → n + reading_lines turns ≤ 4
     → IsAtHand key pos n a.engine.readings.answers.kept
@@ -121,7 +122,7 @@ at_hand_along key pos (turn ∷ turns) n a b (mid, first, rest) none room apart 
     (omega (arith, few, count, later.1)) later.2
 
 -- what is asked of two machines that are one
-module _ (k0 k new : Kept) (before : List (Turn Machine)) (now : Turn Machine)
+module _ (k0 k new : Kept) (before : List (AnsweredLine Machine)) (now : AnsweredLine Machine)
     (along : IsAlong IsAfterLine k0 before k)
     (line : IsAfterLine k now new) (none : new.engine.counts.refused ≡ 0) (room : 8 ≤ room_of k0.engine) where
   -- A question was asked before, and may be certain to be answered as it was.
@@ -221,7 +222,7 @@ module _ (old new : Kept) (m : ℕ) where
       (omega (arith, fresh, same, gap), omega (arith, same))
 
   -- after a line as many readings are not fresh as before it
-  gap_after : (turn : Turn Machine) → IsAfterLine old turn new → old.engine.counts.readings + 1 < 2 ^ 64
+  gap_after : (turn : AnsweredLine Machine) → IsAfterLine old turn new → old.engine.counts.readings + 1 < 2 ^ 64
       → old.engine.counts.fresh + m ≤ old.engine.counts.readings
       → (new.engine.counts.fresh + m ≤ new.engine.counts.readings)
       × (new.engine.counts.readings ≤ old.engine.counts.readings + 1)
@@ -231,7 +232,7 @@ module _ (old new : Kept) (m : ℕ) where
       line.readings small gap
 
 -- n certain hits among the lines leave n readings more that are not fresh
-pub hits_are_kept : (k0 : Kept) (before turns : List (Turn Machine)) (k b : Kept) (m n : ℕ)
+pub hits_are_kept : (k0 : Kept) (before turns : List (AnsweredLine Machine)) (k b : Kept) (m n : ℕ)
     → IsAlong IsAfterLine k0 before k
     → IsAlong IsAfterLine k turns b → 8 ≤ room_of k0.engine → b.engine.counts.refused ≡ 0
     → HaveCertainHits before turns n

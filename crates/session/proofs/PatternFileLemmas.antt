@@ -6,7 +6,7 @@ use Rattle.std.proofs.lemmas.List.{map-append, take_more}
 use Rattle.std.proofs.lemmas.List.Concat.{flat_map-append}
 use Rattle.gtp_io.specs.Loading.{IsLoaded}
 use Rattle.machine_rules.specs.Files.{IsContents}
-use Rattle.session.specs.PatternFiles.{added_feed, ended, joined_text, AreContents, IsJoined, Adds}
+use Rattle.session.specs.PatternFiles.{added_feed, ended, joined_text, AreContents, IsJoined, AddsContents}
 
 -- what was loaded stands behind the bytes that were handed in
 loaded : (contents : Option (List ℕ)) (into bytes : List ℕ) → IsLoaded contents into bytes → (more : List ℕ)
@@ -15,10 +15,10 @@ loaded None into bytes is = (is.0, tt, is.1)
 loaded (Some told) into bytes is = (told, refl, is)
 
 -- the contents of a file were loaded behind a text, and the line feed that they need was put
-pub Adds-loaded : (contents : Option (List ℕ)) (into bytes new : List ℕ) → IsLoaded contents into bytes → new
+pub AddsContents-loaded : (contents : Option (List ℕ)) (into bytes new : List ℕ) → IsLoaded contents into bytes → new
     ≡ bytes ++ added_feed (drop (length into) bytes)
-    → Adds contents into new
-Adds-loaded contents into bytes new is fed =
+    → AddsContents contents into new
+AddsContents-loaded contents into bytes new is fed =
     let more = loaded contents into bytes is in
     let behind : drop (length into) bytes ≡ more.0 = ap (drop (length into)) more.2 ∙ drop-append_seam into more.0 in
     record {
@@ -47,8 +47,8 @@ joined_text-next texts text = flat_map-append ended texts (text ∷ []) ∙ ap (
 -- the files so far, and the next one
 pub IsJoined-next : {A : Type 0} (f : A → List ℕ) (contents : List ℕ → Option (List ℕ)) (words : List A) (i : ℕ)
     (word : A) (text new : List ℕ) → i < length words
-    → word ≡ get_or words i word → IsJoined contents (map f (take i words)) text → Adds (contents (f word)) text new
-    → IsJoined contents (map f (take (i + 1) words)) new
+    → word ≡ get_or words i word → IsJoined contents (map f (take i words)) text
+    → AddsContents (contents (f word)) text new → IsJoined contents (map f (take (i + 1) words)) new
 IsJoined-next f contents words i word text new within is so_far adds =
     let names : map f (take (i + 1) words) ≡ map f (take i words) ++ f word ∷ [] =
     ap (map f) (take_more words i word within) ∙ map-append f (take i words) (get_or words i word ∷ []) ∙ ap

@@ -6,17 +6,17 @@ use Rattle.machine_rules.specs.Files.{Contents}
 use Rattle.run_notes.specs.Notes.{counts_line}
 use Rattle.run_notes.specs.declared.notes.Counts.{Counts}
 use Rattle.run_notes.specs.declared.notes.Sent.{Sent}
-use Rattle.session.specs.CountedRuns.{CameCounted, RunsCountedIn}
+use Rattle.session.specs.CountedRuns.{ReachesPhaseCounted, RunsCountedIn}
 use Rattle.session.specs.Ends.{Streams}
-use Rattle.session.specs.Headline.{Came, Outside, RunsIn}
+use Rattle.session.specs.Headline.{ReachesPhase, Outside, RunsIn}
 use Rattle.session.specs.Outcomes.{Phase, NotTaken, NotOpened, Served, phase_of}
 use Rattle.session.specs.declared.outcome.Outcome.{Outcome}
 
 -- how far a run came and what it counted says how far it came
 came-plain : (tree : Tree) (helpers : List SlotState) (words : List (List ℕ)) (contents : Contents)
     (missed now : List (List ℕ)) (before after : Streams) (counts : Option Counts) (sent : Option Sent) (phase : Phase)
-    → CameCounted tree helpers words contents missed now before after counts sent phase
-    → Came tree helpers words contents missed now before after (counts_line counts) sent phase
+    → ReachesPhaseCounted tree helpers words contents missed now before after counts sent phase
+    → ReachesPhase tree helpers words contents missed now before after (counts_line counts) sent phase
 came-plain tree helpers words contents missed now before after counts sent NotTaken came = (came.0, came.1.untouched)
 came-plain tree helpers words contents missed now before after counts sent (NotOpened error) came =
     (came.0, came.1.untouched)

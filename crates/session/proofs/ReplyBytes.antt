@@ -3,11 +3,11 @@ use Rattle.std.proofs.Common.{◌≡◌, ⊎_elim, ℕ, false, List, [], ◌∷�
 use Rattle.std.proofs.Common.{inl, inr}
 use Rattle.std.proofs.KnownBytes.{Appends-nil}
 use Rattle.gtp_rules.specs.Lines.{RawLine}
-use Rattle.gtp_rules.specs.Transcript.{Answers}
+use Rattle.gtp_rules.specs.Transcript.{MayAnswer}
 use Rattle.run_notes.specs.declared.notes.Counts.{Counts}
 use Rattle.run_notes.specs.declared.notes.Sent.{Sent}
 use Rattle.machine_rules.specs.Machine.{Machine}
-use Rattle.machine_rules.specs.Turns.{IsAlong}
+use Rattle.machine_rules.specs.AnsweredLines.{IsAlong}
 use Rattle.session_core.specs.AfterLine.{IsAfterLine}
 use Rattle.session_core.specs.LineAnswers.{AnswersLine, LineStep}
 use Rattle.session_core.specs.Kept.{Kept, machine_of}
@@ -58,7 +58,7 @@ module _ (step : LineStep) (old new : Kept) (line : RawLine) (reply : Reply)
       missing = put.missing;
       next = machine_of new;
       ends = reply_ends reply;
-      answers = subst (λ l. Answers step (machine_of old) line l (machine_of new) (reply_ends reply)) put.whole
+      answers = subst (λ l. MayAnswer step (machine_of old) line l (machine_of new) (reply_ends reply)) put.whole
           is.reply;
       proper = put.proper;
       advances = record {
@@ -75,7 +75,7 @@ module _ (step : LineStep) (old new : Kept) (line : RawLine) (reply : Reply)
       (progress_of w new s)
   Replies-nothing w s none = record {
     reply = [];
-    answers = subst (λ r. Answers step (machine_of old) line (reply_bytes r) (machine_of new) (reply_ends r)) none
+    answers = subst (λ r. MayAnswer step (machine_of old) line (reply_bytes r) (machine_of new) (reply_ends r)) none
         is.reply;
     advances = record {
       writes = Appends-nil w;

@@ -26,7 +26,7 @@ use Rattle.machine_rules.specs.LinkQuestions.{asks_link_of_line, connections_in}
 use Rattle.machine_rules.specs.Counting.{counted, is_read_line, readings_in}
 use Rattle.machine_rules.specs.Questions.{Asks, Nothing, One, Many, AskNothing, asks_of_line}
 use Rattle.session_core.specs.AfterLine.{ReadsAs, ReadsNothing, IsAfterLine, after_trials, HasFewFresh, of_readings}
-use Rattle.machine_rules.specs.Turns.{Turn, IsAlong}
+use Rattle.machine_rules.specs.AnsweredLines.{AnsweredLine, IsAlong}
 use Rattle.session.specs.Tallies.{Tally, IsTallied, BreaksOff, one_turn}
 use Rattle.session.specs.Ends.{Streams, Serves, AreTallied, IsRight, most_taken}
 use Rattle.session.specs.CountedRuns.{AreCountsOf}
@@ -149,12 +149,12 @@ module _ {M : Type 0} (step : M → RawLine → Step M → Type 0) where
 -- What was counted.
 
 -- the readings of the lines are counted
-readings_along : (turns : List (Turn Machine)) (a b : Kept) → IsAlong IsAfterLine a turns b
+readings_along : (turns : List (AnsweredLine Machine)) (a b : Kept) → IsAlong IsAfterLine a turns b
     → a.engine.counts.readings + length turns < 2 ^ 64
     → b.engine.counts.readings ≡ a.engine.counts.readings + readings_in turns
 readings_along [] a b along small = let same = ap (λ (k : Kept). k.engine.counts.readings) along in omega (arith, same)
 readings_along (turn ∷ turns) a b (mid, first, rest) small =
-    let counts = sum_by-cons (λ (t : Turn Machine). cond (is_read_line t.machine t.line) 1 0) turn turns in
+    let counts = sum_by-cons (λ (t : AnsweredLine Machine). cond (is_read_line t.machine t.line) 1 0) turn turns in
     let here = by (is_read_line turn.machine turn.line) first.readings in
     let later = readings_along turns mid b rest (omega (arith, small, here.1)) in
     omega (arith, counts, here.0, later)
@@ -166,14 +166,14 @@ readings_along (turn ∷ turns) a b (mid, first, rest) small =
     by false is = (omega (arith, is), omega (arith, is))
 
 -- no more are fresh than were counted
-few_along : (turns : List (Turn Machine)) (a b : Kept) → IsAlong IsAfterLine a turns b → HasFewFresh a.engine.counts
-    → HasFewFresh b.engine.counts
+few_along : (turns : List (AnsweredLine Machine)) (a b : Kept) → IsAlong IsAfterLine a turns b
+    → HasFewFresh a.engine.counts → HasFewFresh b.engine.counts
 few_along [] a b along few = subst (λ (k : Kept). HasFewFresh k.engine.counts) (sym along) few
 few_along (turn ∷ turns) a b (mid, first, rest) few =
     few_along turns mid b rest (few_fresh-line turn.machine turn.line a.engine mid.engine first.readings first.read few)
 
 -- where no reading was fresh, none was before, and no more plays were tried than before
-module _ (turn : Turn Machine) (a b : Kept) (unfresh : b.engine.counts.fresh ≡ 0) where
+module _ (turn : AnsweredLine Machine) (a b : Kept) (unfresh : b.engine.counts.fresh ≡ 0) where
   untried_by : (asks : Asks) → ReadsAs asks a.engine b.engine
       → (a.engine.counts.fresh ≡ 0) × (b.engine.counts.trials ≡ a.engine.counts.trials)
   untried_by Nothing read =
@@ -188,7 +188,7 @@ module _ (turn : Turn Machine) (a b : Kept) (unfresh : b.engine.counts.fresh ≡
   untried_by Many read = (sym read.counts.fresh ∙ unfresh, read.counts.trials)
 
 -- if no reading was fresh after the lines, none was before them, and no more plays were tried than before
-untried_along : (turns : List (Turn Machine)) (a b : Kept) → IsAlong IsAfterLine a turns b
+untried_along : (turns : List (AnsweredLine Machine)) (a b : Kept) → IsAlong IsAfterLine a turns b
     → b.engine.counts.fresh ≡ 0 → (a.engine.counts.fresh ≡ 0) × (b.engine.counts.trials ≡ a.engine.counts.trials)
 untried_along [] a b along unfresh =
     (ap (λ (k : Kept). k.engine.counts.fresh) (sym along) ∙ unfresh, ap (λ (k : Kept). k.engine.counts.trials) along)
@@ -198,7 +198,7 @@ untried_along (turn ∷ turns) a b (mid, first, rest) unfresh =
     (here.0, later.1 ∙ here.1)
 
 -- where no line asks for anything, all is counted of readings that was
-idle_along : (turns : List (Turn Machine)) (a b : Kept) → IsAlong IsAfterLine a turns b → AskNothing turns
+idle_along : (turns : List (AnsweredLine Machine)) (a b : Kept) → IsAlong IsAfterLine a turns b → AskNothing turns
     → of_readings b.engine.counts ≡ of_readings a.engine.counts
 idle_along [] a b along idle = ap (λ (k : Kept). of_readings k.engine.counts) along
 idle_along (turn ∷ turns) a b (mid, first, rest) idle =
@@ -237,7 +237,7 @@ module _ (old new : EngineView) where
       )
 
 -- the lines that ask about connections are counted, and no more are fresh
-links_along : (turns : List (Turn Machine)) (a b : Kept) → IsAlong IsAfterLine a turns b
+links_along : (turns : List (AnsweredLine Machine)) (a b : Kept) → IsAlong IsAfterLine a turns b
     → a.engine.counts.links.fresh ≤ a.engine.counts.links.connections
     → a.engine.counts.links.connections + length turns < 2 ^ 64
     → (b.engine.counts.links.connections ≡ a.engine.counts.links.connections + connections_in turns)
@@ -248,7 +248,7 @@ links_along [] a b along few small =
     (omega (arith, connections), omega (arith, connections, fresh, few))
 links_along (turn ∷ turns) a b (mid, first, rest) few small =
     let counts =
-    sum_by-cons (λ (t : Turn Machine). cond (is_some (asks_link_of_line t.machine t.line)) 1 0) turn turns in
+    sum_by-cons (λ (t : AnsweredLine Machine). cond (is_some (asks_link_of_line t.machine t.line)) 1 0) turn turns in
     let asks = asks_link_of_line turn.machine turn.line in
     let here = links_by a.engine mid.engine asks first.links few (omega (arith, small)) in
     let one = one-at-most (is_some asks) in
@@ -260,7 +260,7 @@ links_along (turn ∷ turns) a b (mid, first, rest) few small =
     one-at-most false = omega arith
 
 -- What a session that had counted nothing counts after few lines.
-module _ (first last : Kept) (turns : List (Turn Machine)) (along : IsAlong IsAfterLine first turns last)
+module _ (first last : Kept) (turns : List (AnsweredLine Machine)) (along : IsAlong IsAfterLine first turns last)
     (none : first.engine.counts ≡ no_counts) (few : length turns ≤ most_taken + 1) where
   -- it had counted no reading
   no-readings : first.engine.counts.readings ≡ 0

@@ -12,7 +12,7 @@ use Rattle.gtp_lex.specs.Held.{lines_from, held_from, held_line}
 use Rattle.gtp_lex.proofs.HeldLemmas.{lines_from-append, held_from-append, lines_of-lines_from}
 use Rattle.gtp_lex.proofs.HeldLemmas.{lines_with_rest-lines_from}
 use Rattle.session_core.specs.Kept.{Kept}
-use Rattle.machine_rules.specs.Turns.{Turn}
+use Rattle.machine_rules.specs.AnsweredLines.{AnsweredLine}
 use Rattle.session.specs.Tallies.{Tally, Progress, Advances, IsTallied, together}
 use Rattle.session.specs.Serving.{RunsTo, RunsPart}
 use Rattle.session.specs.Ends.{most_taken, Streams, earlier, IsRight, IsReadToEnd, AreTallied}
@@ -24,7 +24,7 @@ use Rattle.session.specs.declared.outcome.End.TheVariants.{Done, InputFault, Out
 
 -- some bytes were taken and some put, each line that ended was answered, the rest is held, and room bytes may still
 -- be taken
-pub record Served {M : Type 0} (step : M → RawLine → Step M → Type 0) (goes : Kept → Turn M → Kept → Type 0)
+pub record Served {M : Type 0} (step : M → RawLine → Step M → Type 0) (goes : Kept → AnsweredLine M → Kept → Type 0)
     (first now : M)
     (left_old left_new : Option (List ℕ)) (old new : Progress) (held : RawLine) (room : ℕ) : Type 0 where
   pub taken : List ℕ
@@ -55,7 +55,7 @@ earlier-append taken part piece len =
     ap (λ n. take n (taken ++ part)) (let whole = length-append taken part in omega (arith, whole))
     ∙ take_at taken part (length taken) refl
 
-module _ (M : Type 0) (step : M → RawLine → Step M → Type 0) (goes : Kept → Turn M → Kept → Type 0)
+module _ (M : Type 0) (step : M → RawLine → Step M → Type 0) (goes : Kept → AnsweredLine M → Kept → Type 0)
     (first now : M)
     (before : Streams)
     (l1 : Option (List ℕ)) (p0 p1 : Progress) (held : RawLine) (room : ℕ)

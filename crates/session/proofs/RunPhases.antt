@@ -15,7 +15,7 @@ use Rattle.machine_rules.specs.Files.{Contents}
 use Rattle.machine_rules.specs.Matcher.{Matcher}
 use Rattle.machine_rules.specs.Step.{step}
 use Rattle.machine_rules.specs.Loads.{missed_in}
-use Rattle.machine_rules.specs.Turns.{Turn, IsAlong}
+use Rattle.machine_rules.specs.AnsweredLines.{AnsweredLine, IsAlong}
 use Rattle.session_core.specs.AfterLine.{IsAfterLine}
 use Rattle.session.specs.Tallies.{Tally, kept_sum}
 use Rattle.gtp_rules.specs.Lines.{RawLine}
@@ -28,7 +28,7 @@ use Rattle.session_core.specs.LineAnswers.{LineStep}
 use Rattle.session_core.specs.EngineView.{depths_in}
 use Rattle.read_rules.specs.declared.tree.Tree.{Tree}
 use Rattle.session.specs.Waiting.{none_sent}
-use Rattle.session.specs.FirstSession.{Opens, CameBy, ServesCounting, EndsCounting}
+use Rattle.session.specs.FirstSession.{Opens, ReachesPhaseBy, ServesCounting, EndsCounting}
 use Rattle.session.specs.Outcomes.{Served, phase_of}
 use Rattle.session.specs.Ends.{Streams, IsRight, Serves, most_taken}
 use Rattle.session.specs.CountedRuns.{AreCounts, AreCountsOf, IsServedCounted}
@@ -37,7 +37,7 @@ use Rattle.session.specs.Serving.{progress_of}
 use Rattle.session.specs.declared.outcome.End.{End}
 use Rattle.session.specs.declared.outcome.End.TheVariants.{InputTooLong}
 use Rattle.session.specs.declared.serve.Ended.{Ended}
-use Rattle.session.specs.declared.top_call.Ran.{Ran}
+use Rattle.session.specs.declared.top_call.RunReport.{RunReport}
 use Rattle.session.proofs.RunCounts.{counts_of, served-few}
 use Rattle.session.proofs.PlainSessions.{ServesLines-plain}
 
@@ -75,7 +75,7 @@ sent-noted generate sent tally noted notes lines bytes =
     subst (λ o. IsSent generate o tally) (sym notes) (sent-told generate sent tally lines bytes)
 
 -- the names missed along lines are those of the lines, in their order
-missed_along : (turns : List (Turn Machine)) (old new : Kept) → IsAlong IsAfterLine old turns new
+missed_along : (turns : List (AnsweredLine Machine)) (old new : Kept) → IsAlong IsAfterLine old turns new
     → new.missed ≡ old.missed ++ flat_map missed_in turns
 missed_along [] old new along = ap (λ (k : Kept). k.missed) along ∙ sym (append-nil old.missed)
 missed_along (turn ∷ turns) old new (mid, first, rest) =
@@ -87,7 +87,7 @@ module _ (tree : Tree) (helpers : List SlotState) (contents : Contents) (options
     (before after : Streams) (matcher : Matcher) (first : Kept) (ended : Ended) (now : List (List ℕ))
     (sent : Sent) where
   -- as the session began that was opened, with nothing sent
-  came-first : (ran : Ran) → Opens tree helpers contents options matcher first.engine first.helpers lines
+  came-first : (ran : RunReport) → Opens tree helpers contents options matcher first.engine first.helpers lines
       → EndsCounting options.generate (step matcher contents) first none_sent before after ended now sent
       → ran.counts ≡ cond options.stats (Some ended.counts) None
       → ran.sent ≡ option_map (λ _. sent) options.generate
@@ -117,18 +117,18 @@ module _ (tree : Tree) (helpers : List SlotState) (contents : Contents) (options
       }
 
   -- by the run's phase, where opening the files left what files hold and which names were missed
-  pub came-served : (ran : Ran) (was : Sent) (here : Contents) (missed : List (List ℕ))
+  pub came-served : (ran : RunReport) (was : Sent) (here : Contents) (missed : List (List ℕ))
       → EndsCounting options.generate (step matcher here) first was before after ended now sent
       → Opens tree helpers contents options matcher first.engine first.helpers lines → here ≡ contents
       → first.missed ≡ missed → was ≡ none_sent
       → ran.counts ≡ cond options.stats (Some ended.counts) None
       → ran.sent ≡ option_map (λ _. sent) options.generate → phase_of ran.outcome ≡ Served ended.end
-      → CameBy tree helpers options contents missed now before after ran.counts ran.sent (phase_of ran.outcome)
+      → ReachesPhaseBy tree helpers options contents missed now before after ran.counts ran.sent (phase_of ran.outcome)
   came-served ran was here missed ends opens holds kept unsent tells notes is =
       let begun = subst (λ s. EndsCounting options.generate (step matcher contents) first s before after ended now sent)
       unsent
       (subst (λ c. EndsCounting options.generate (step matcher c) first was before after ended now sent) holds ends) in
-      subst (CameBy tree helpers options contents missed now before after ran.counts ran.sent) (sym is)
+      subst (ReachesPhaseBy tree helpers options contents missed now before after ran.counts ran.sent) (sym is)
       (subst (λ l. IsServedCounted tree helpers options contents l now before after ended.end ran.counts ran.sent) kept
       (came-first ran opens begun tells notes))
 

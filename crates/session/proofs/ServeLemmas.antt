@@ -17,14 +17,14 @@ use Rattle.run_notes.specs.declared.notes.Sent.{Sent}
 use Rattle.machine_rules.specs.Machine.{Machine}
 use Rattle.machine_rules.specs.Files.{Contents}
 use Rattle.machine_rules.specs.Step as answering
-use Rattle.machine_rules.specs.Turns.{Turn}
+use Rattle.machine_rules.specs.AnsweredLines.{AnsweredLine}
 use Rattle.session_core.specs.AfterLine.{IsAfterLine}
 use Rattle.session_core.specs.Kept.{Kept, machine_of}
 use Rattle.session_core.specs.LineAnswers.{LineStep}
 use Rattle.session_core.specs.MatcherView.{MatcherView, matcher_of}
 use Rattle.session.specs.Tallies.{Progress, IsTallied, tally_of, cut_tally, no_tally, together}
 use Rattle.session.specs.Serving.{Replies, RepliesPart, RunsTo, RunsPart, progress_of}
-use Rattle.session.specs.Waiting.{WaitingState, OutputState, none_wait, holds_with, Stop, IsStop, Stays}
+use Rattle.session.specs.Waiting.{WaitingState, OutputState, none_wait, holds_with, Stop, IsStop, KeepsOutput}
 use Rattle.session.specs.Answered.{Standing, standing_at, progress_at, progress_with, CutsShort, MayCut}
 use Rattle.session.specs.Answered.{Answered, AnsweredOut, BreaksIn, BreaksOut}
 use Rattle.session.proofs.WaitingReplies.{stays-none, none-stops, kept-none, none-appends}
@@ -160,7 +160,7 @@ kept-appends None new keeps = tt
 kept-appends (Some xs) None keeps = absurd keeps
 kept-appends (Some xs) (Some ys) keeps = keeps ∙ sym (append-nil xs)
 
-module _ (M : Type 0) (step : M → RawLine → Step M → Type 0) (goes : Kept → Turn M → Kept → Type 0) where
+module _ (M : Type 0) (step : M → RawLine → Step M → Type 0) (goes : Kept → AnsweredLine M → Kept → Type 0) where
   -- one line, answered whole
   pub RunsTo-one : (from : M) (line : RawLine) (to : M) (ends : Bool) (a b : Progress) (lines : List RawLine)
       → lines ≡ line ∷ []
@@ -266,7 +266,7 @@ module _ (M : Type 0) (step : M → RawLine → Step M → Type 0) (goes : Kept 
       subst (λ l. CutsShort step goes from l a stop missed) (sym same) cuts
 
   -- all that waited was put, or some of it, and no line was answered
-  RunsTo-stays : (from : M) (kept : Kept) (a b : OutputState) → Stays a b
+  RunsTo-stays : (from : M) (kept : Kept) (a b : OutputState) → KeepsOutput a b
       → RunsTo step goes from [] from false (progress_with (standing_at kept a)) (progress_with (standing_at kept b))
   RunsTo-stays from kept a b stays = record {
     tally = no_tally;
@@ -281,7 +281,7 @@ module _ (M : Type 0) (step : M → RawLine → Step M → Type 0) (goes : Kept 
 
   -- lines were answered after what stays
   RunsTo-after : (from to : M) (lines : List RawLine) (ended : Bool) (kept : Kept) (a b : OutputState) (c : Progress)
-      → Stays a b → RunsTo step goes from lines to ended (progress_with (standing_at kept b)) c
+      → KeepsOutput a b → RunsTo step goes from lines to ended (progress_with (standing_at kept b)) c
       → RunsTo step goes from lines to ended (progress_with (standing_at kept a)) c
   RunsTo-after from to lines ended kept a b c stays runs =
       RunsTo-append from from to [] lines ended (progress_with (standing_at kept a))
@@ -289,7 +289,7 @@ module _ (M : Type 0) (step : M → RawLine → Step M → Type 0) (goes : Kept 
 
   -- lines were answered after what stays, where the output may fail
   MayCut-after : (from : M) (lines : List RawLine) (kept : Kept) (a b : OutputState) (stop : Stop)
-      (missed : List (List ℕ)) → Stays a b → MayCut step goes from lines (standing_at kept b) stop missed
+      (missed : List (List ℕ)) → KeepsOutput a b → MayCut step goes from lines (standing_at kept b) stop missed
       → MayCut step goes from lines (standing_at kept a) stop missed
   MayCut-after from lines kept a b stop missed stays may =
       ⊎_elim (λ (at : IsStop b stop × (missed ≡ kept.missed)). inl (stays.stops stop at.0, at.1))
@@ -312,7 +312,7 @@ module _ (M : Type 0) (step : M → RawLine → Step M → Type 0) (goes : Kept 
 
   -- all that waits is put, and what was answered is out
   flushed : (from to : M) (lines : List RawLine) (ended : Bool) (a : Progress) (b : Standing) (c : OutputState)
-      → RunsTo step goes from lines to ended a (progress_with b) → Stays b.output c → c.waiting ≡ none_wait
+      → RunsTo step goes from lines to ended a (progress_with b) → KeepsOutput b.output c → c.waiting ≡ none_wait
       → RunsTo step goes from lines to ended a (progress_at (standing_at b.kept c))
   flushed from to lines ended a b c runs stays none =
       let out = stays-none b.output c none stays in
@@ -359,7 +359,7 @@ Answered-is step xs ys ended a b same answered = subst (λ l. Answered step l en
 
 -- lines were answered after what stays
 pub Answered-after : (step : LineStep) (lines : List RawLine) (ended : Bool) (kept : Kept) (a b : OutputState)
-    (c : Standing) → Stays a b → Answered step lines ended (standing_at kept b) c
+    (c : Standing) → KeepsOutput a b → Answered step lines ended (standing_at kept b) c
     → Answered step lines ended (standing_at kept a) c
 Answered-after step lines ended kept a b c stays answered = record {
   runs = RunsTo-after Machine step IsAfterLine (machine_of kept) (machine_of c.kept) lines ended kept a b
@@ -370,7 +370,7 @@ Answered-after step lines ended kept a b c stays answered = record {
 
 -- the output failed after what stays
 pub BreaksIn-after : (step : LineStep) (lines : List RawLine) (kept : Kept) (a b : OutputState) (stop : Stop)
-    (missed : List (List ℕ)) → Stays a b → BreaksIn step lines (standing_at kept b) stop missed
+    (missed : List (List ℕ)) → KeepsOutput a b → BreaksIn step lines (standing_at kept b) stop missed
     → BreaksIn step lines (standing_at kept a) stop missed
 BreaksIn-after step lines kept a b stop missed stays breaks = record {
   cut = MayCut-after Machine step IsAfterLine (machine_of kept) lines kept a b stop missed stays breaks.cut;
@@ -451,7 +451,7 @@ module _ (step : LineStep) (all left : List RawLine) (first now : Standing)
   }
 
   -- the lines were answered, and what waited was put
-  pub piece_done : (out : OutputState) → left ≡ [] → Stays now.output out → out.waiting ≡ none_wait
+  pub piece_done : (out : OutputState) → left ≡ [] → KeepsOutput now.output out → out.waiting ≡ none_wait
       → AnsweredOut step all false first (standing_at now.kept out)
   piece_done out none stays drained = record {
     runs = RunsTo-is Machine step IsAfterLine first-machine (machine_of now.kept) all so_far.lines false
@@ -493,7 +493,7 @@ module _ (step : LineStep) (all left : List RawLine) (first now : Standing)
         (machine_of now.kept) next now stop later.kept.missed (answered.stops stop at))
 
     -- one of them ended the session, and what waited was put
-    pub piece_ended : (out : OutputState) → ended ≡ true → Stays later.output out → out.waiting ≡ none_wait
+    pub piece_ended : (out : OutputState) → ended ≡ true → KeepsOutput later.output out → out.waiting ≡ none_wait
         → AnsweredOut step all true first (standing_at later.kept out)
     piece_ended out is stays none = record {
       runs = flushed Machine step IsAfterLine first-machine (machine_of later.kept) all true (progress_at first)
@@ -541,7 +541,7 @@ module _ (step : LineStep) (all lines : List RawLine) (same : all ≡ lines) (fi
 
   -- what waited is out
   pub rest_done : (ended : Bool) (later : Standing) (out : OutputState) → Answered step lines ended first later
-      → Stays later.output out → out.waiting ≡ none_wait → first.output.waiting ≡ none_wait
+      → KeepsOutput later.output out → out.waiting ≡ none_wait → first.output.waiting ≡ none_wait
       → AnsweredOut step all ended first (standing_at later.kept out)
   rest_done ended later out answered stays drained none =
       let from = machine_of first.kept in

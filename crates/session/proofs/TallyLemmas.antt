@@ -7,10 +7,10 @@ use Rattle.std.proofs.Common.{◌≡◌, ⊎_elim, ℕ, zero, suc, ◌+◌, ◌-
 use Rattle.std.proofs.Common.{◌++◌, length, refl, sym, ap, subst, ◌∙◌, append_assoc, append-nil, arith, length-append}
 use Rattle.gtp_rules.specs.Lines.{RawLine}
 use Rattle.gtp_rules.specs.Steps.{Step}
-use Rattle.gtp_rules.specs.Transcript.{Answers, IsRun}
+use Rattle.gtp_rules.specs.Transcript.{MayAnswer, IsRun}
 use Rattle.gtp_rules.proofs.Runs.{Cut-one, Cut-after, Cut-more}
 use Rattle.session_core.specs.Kept.{Kept}
-use Rattle.machine_rules.specs.Turns.{Turn, IsAlong}
+use Rattle.machine_rules.specs.AnsweredLines.{AnsweredLine, IsAlong}
 use Rattle.session.specs.Tallies.{Tally, no_tally, together, tally_of, cut_tally, kept_sum, Progress, Advances}
 use Rattle.session.specs.Tallies.{IsTallied, BreaksOff}
 
@@ -63,26 +63,26 @@ kept_sum-is count zero small =
 kept_sum-is count (suc n) small = refl
 
 -- what is kept goes along lines and then along others
-pub IsAlong-append : {K M : Type 0} (goes : K → Turn M → K → Type 0) (a b c : K) (xs ys : List (Turn M))
+pub IsAlong-append : {K M : Type 0} (goes : K → AnsweredLine M → K → Type 0) (a b c : K) (xs ys : List (AnsweredLine M))
     → IsAlong goes a xs b → IsAlong goes b ys c → IsAlong goes a (xs ++ ys) c
 IsAlong-append goes a b c [] ys none later = subst (λ k. IsAlong goes k ys c) none later
 IsAlong-append goes a b c (x ∷ xs) ys (mid, first, rest) later =
     (mid, first, IsAlong-append goes mid b c xs ys rest later)
 
 -- what is kept goes along some lines and then along the others
-pub IsAlong-split : {K M : Type 0} (goes : K → Turn M → K → Type 0) (a c : K) (xs ys : List (Turn M))
+pub IsAlong-split : {K M : Type 0} (goes : K → AnsweredLine M → K → Type 0) (a c : K) (xs ys : List (AnsweredLine M))
     → IsAlong goes a (xs ++ ys) c → (b : K) × IsAlong goes a xs b × IsAlong goes b ys c
 IsAlong-split goes a c [] ys along = (a, refl, along)
 IsAlong-split goes a c (x ∷ xs) ys (mid, first, rest) =
     let parts = IsAlong-split goes mid c xs ys rest in (parts.0, (mid, first, parts.1), parts.2)
 
 -- nothing was put
-pub Advances-none : {M : Type 0} (goes : Kept → Turn M → Kept → Type 0) (a : Progress)
+pub Advances-none : {M : Type 0} (goes : Kept → AnsweredLine M → Kept → Type 0) (a : Progress)
     → Advances goes a a no_tally
 Advances-none goes a = record { writes = Appends-nil a.written; along = refl; replies = refl; bytes = refl }
 
 -- one tally was put and then another
-pub Advances-trans : {M : Type 0} (goes : Kept → Turn M → Kept → Type 0) (a b c : Progress)
+pub Advances-trans : {M : Type 0} (goes : Kept → AnsweredLine M → Kept → Type 0) (a b c : Progress)
     (s t : Tally M)
     → Advances goes a b s → Advances goes b c t → Advances goes a c (together s t)
 Advances-trans goes a b c s t earlier later = record {
@@ -102,7 +102,7 @@ module _ (M : Type 0) (step : M → RawLine → Step M → Type 0) where
 
   -- one line
   pub IsTallied-one : (old : M) (line : RawLine) (out : List ℕ) (new : M) (ends : Bool)
-      → Answers step old line out new ends
+      → MayAnswer step old line out new ends
       → IsTallied step old (line ∷ []) (tally_of old line out) new ends
   IsTallied-one old line out new true a =
       (out, no_tally, new, true, a, sym (together-none (tally_of old line out)), (refl, refl, refl))
@@ -156,7 +156,7 @@ module _ (M : Type 0) (step : M → RawLine → Step M → Type 0) where
 
   -- the first of some lines broke off
   abbrev pub BreaksOff-one : (from : M) (line : RawLine) (more lines : List RawLine) (part missing : List ℕ) (next : M)
-      (ends : Bool) → lines ≡ line ∷ more → Answers step from line (part ++ missing) next ends → 0 < length missing
+      (ends : Bool) → lines ≡ line ∷ more → MayAnswer step from line (part ++ missing) next ends → 0 < length missing
       → BreaksOff step from lines (cut_tally from line part missing)
   BreaksOff-one from line more lines part missing next ends place answers proper = record {
     cut = Cut-one M step from line more lines part missing next ends place answers proper;

@@ -14,7 +14,8 @@ use Rattle.session_core.specs.EngineView.{no_counts}
 use Rattle.session.specs.Tallies.{kept_sum}
 use Rattle.session.specs.Serving.{Puts, PutsFront, PutsPart, PutsReply}
 use Rattle.session.specs.Waiting.{WaitingState, OutboxState, OutputState, none_wait, gone, counts_at, AreMarked}
-use Rattle.session.specs.Waiting.{output_of, holds_with, sent_with, Stop, IsStop, CutsReply, MayStop, Stays, Sends}
+use Rattle.session.specs.Waiting.{output_of, holds_with, sent_with, Stop, IsStop, CutsReply, MayStop, KeepsOutput}
+use Rattle.session.specs.Waiting.{Sends}
 use Rattle.session.specs.declared.outbox.ReplyMark.{ReplyMark}
 use Rattle.session.proofs.TallyLemmas.{kept_sum-twice}
 
@@ -287,10 +288,11 @@ abbrev pub drained : Option (List ℕ) → Sent → OutputState
 drained written sent = record { written = written; sent = sent; waiting = none_wait }
 
 -- all stayed, and nothing waits after it
-pub stays-none : (old new : OutputState) → new.waiting ≡ none_wait → Stays old new
-    → Stays old (drained new.written new.sent)
+pub stays-none : (old new : OutputState) → new.waiting ≡ none_wait → KeepsOutput old new
+    → KeepsOutput old (drained new.written new.sent)
 stays-none old new none stays =
-    subst (λ (b : WaitingState). Stays old (record { written = new.written; sent = new.sent; waiting = b })) none stays
+    subst (λ (b : WaitingState). KeepsOutput old (record { written = new.written; sent = new.sent; waiting = b })) none
+    stays
 
 -- if nothing waits the output fails within no reply before
 pub none-stops : (output : OutputState) (stop : Stop) → output.waiting ≡ none_wait → IsStop output stop → ⊥
@@ -300,7 +302,7 @@ none-stops output stop none at =
     omega (arith, within)
 
 -- a reply came, and then all stayed with what waits
-pub sends-stays : (a b c : OutputState) (reply : List ℕ) (counts : Counts) → Sends a b reply counts → Stays b c
+pub sends-stays : (a b c : OutputState) (reply : List ℕ) (counts : Counts) → Sends a b reply counts → KeepsOutput b c
     → Sends a c reply counts
 sends-stays a b c reply counts sends stays = record {
   whole = record {

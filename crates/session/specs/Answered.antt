@@ -2,7 +2,7 @@
 use Rattle.std.specs.Prelude.{◌≡◌, ◌⊎◌, ℕ, Bool, List, Option}
 use Rattle.gtp_rules.specs.Lines.{RawLine}
 use Rattle.gtp_rules.specs.Steps.{Step}
-use Rattle.machine_rules.specs.Turns.{Turn}
+use Rattle.machine_rules.specs.AnsweredLines.{AnsweredLine}
 use Rattle.session_core.specs.AfterLine.{IsAfterLine}
 use Rattle.session_core.specs.Kept.{Kept, machine_of}
 use Rattle.session_core.specs.LineAnswers.{LineStep}
@@ -33,7 +33,7 @@ progress_with now = progress_of (holds_with now.output) now.kept (sent_with now.
 
 -- The output failed within a reply to one of these lines. The counts after that line are noted, and these names were
 -- missed up to it.
-pub record CutsShort {M : Type 0} (step : M → RawLine → Step M → Type 0) (goes : Kept → Turn M → Kept → Type 0)
+pub record CutsShort {M : Type 0} (step : M → RawLine → Step M → Type 0) (goes : Kept → AnsweredLine M → Kept → Type 0)
     (from : M) (lines : List RawLine) (old : Progress) (stop : Stop) (missed : List (List ℕ)) : Type 0 where
   pub kept : Kept
   pub same : stop.counts ≡ kept.engine.counts
@@ -42,7 +42,7 @@ pub record CutsShort {M : Type 0} (step : M → RawLine → Step M → Type 0) (
 
 -- the output may fail within the waiting replies, and then no more names were missed; or within a later reply, to one
 -- of these lines
-abbrev pub MayCut : {M : Type 0} → (M → RawLine → Step M → Type 0) → (Kept → Turn M → Kept → Type 0) → M
+abbrev pub MayCut : {M : Type 0} → (M → RawLine → Step M → Type 0) → (Kept → AnsweredLine M → Kept → Type 0) → M
     → List RawLine → Standing → Stop → List (List ℕ) → Type 0
 MayCut step goes from lines old stop missed = (IsStop old.output stop × (missed ≡ old.kept.missed))
     ⊎ CutsShort step goes from lines (progress_with old) stop missed

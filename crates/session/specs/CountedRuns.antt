@@ -6,7 +6,7 @@ use Rattle.helpers.specs.HelperStates.{SlotState}
 use Rattle.machine_rules.specs.LinkQuestions.{connections_in}
 use Rattle.machine_rules.specs.Files.{Contents}
 use Rattle.machine_rules.specs.Machine.{Machine}
-use Rattle.machine_rules.specs.Turns.{Turn, IsAlong}
+use Rattle.machine_rules.specs.AnsweredLines.{AnsweredLine, IsAlong}
 use Rattle.machine_rules.specs.Counting.{readings_in}
 use Rattle.machine_rules.specs.Questions.{AskNothing}
 use Rattle.machine_rules.specs.CertainHit.{HaveCertainHits}
@@ -35,7 +35,7 @@ use Rattle.session.specs.declared.outcome.WordsError.{WordsError}
 
 -- A session that starts with no counts and empty caches, with room for `capacity` questions of readings and as many
 -- about connections, has these counts after the lines.
-pub record RoseAlong (capacity : ℕ) (turns : List (Turn Machine)) (counts : Counts) : Type 0 where
+pub record RoseAlong (capacity : ℕ) (turns : List (AnsweredLine Machine)) (counts : Counts) : Type 0 where
   pub first : Kept
   pub last : Kept
   pub uncounted : first.engine.counts ≡ no_counts
@@ -50,7 +50,7 @@ pub record RoseAlong (capacity : ℕ) (turns : List (Turn Machine)) (counts : Co
 -- matches, nothing is counted of readings. Each line that asks about a connection and is answered with a result is
 -- counted, and at most as many connections are fresh. The counts rose line by line, as those of a session with room for
 -- `capacity` cached questions.
-pub record AreCountsOf (capacity : ℕ) (turns : List (Turn Machine)) (counts : Counts) : Type 0 where
+pub record AreCountsOf (capacity : ℕ) (turns : List (AnsweredLine Machine)) (counts : Counts) : Type 0 where
   pub readings : counts.readings ≡ readings_in turns
   pub fresh : counts.fresh ≤ counts.readings
   pub hits : counts.refused ≡ 0 → (n : ℕ) → HaveCertainHits [] turns n → counts.fresh + n ≤ counts.readings
@@ -78,13 +78,13 @@ pub record IsUncounted (before after : Streams) (counts : Option Counts) (sent :
   pub uncounted : counts ≡ None
 
 -- what a run did, by how far it came: what its words gave, what it served, and the counts and what was sent to note
-abbrev pub CameCounted : Tree → List SlotState → List (List ℕ) → Contents → List (List ℕ) → List (List ℕ) → Streams
-    → Streams → Option Counts → Option Sent → Phase → Type 0
-CameCounted tree helpers words contents missed now before after counts sent NotTaken =
+abbrev pub ReachesPhaseCounted : Tree → List SlotState → List (List ℕ) → Contents → List (List ℕ) → List (List ℕ)
+    → Streams → Streams → Option Counts → Option Sent → Phase → Type 0
+ReachesPhaseCounted tree helpers words contents missed now before after counts sent NotTaken =
     (is_taken words ≡ false) × IsUncounted before after counts sent
-CameCounted tree helpers words contents missed now before after counts sent (NotOpened error) =
+ReachesPhaseCounted tree helpers words contents missed now before after counts sent (NotOpened error) =
     IsUnopened helpers words contents error × IsUncounted before after counts sent
-CameCounted tree helpers words contents missed now before after counts sent (Served end) =
+ReachesPhaseCounted tree helpers words contents missed now before after counts sent (Served end) =
     (options : Options) × GiveOptions words options
     × IsServedCounted tree helpers options contents missed now before after end counts sent
 
@@ -93,8 +93,8 @@ pub record RunsCountedIn (tree : Tree) (helpers : List SlotState) (words : List 
     (outcome : Outcome) : Type 0 where
   pub counts : Option Counts
   pub sent : Option Sent
-  pub came : CameCounted tree helpers words before.contents before.missed after.missed before.streams after.streams
-      counts sent (phase_of outcome)
+  pub came : ReachesPhaseCounted tree helpers words before.contents before.missed after.missed before.streams
+      after.streams counts sent (phase_of outcome)
   pub missed : MissedAfter (files_in words) before.missed after.missed (phase_of outcome)
   pub same : after.contents ≡ before.contents
   pub input : IsCauseOf (outcome ≡ told.InputFault) before.streams.input_faults after.streams.input_faults

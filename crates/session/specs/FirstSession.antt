@@ -19,7 +19,7 @@ use Rattle.session.specs.Outcomes.{Phase, NotTaken, NotOpened, Served}
 use Rattle.session.specs.Ends.{Streams}
 use Rattle.session.specs.CountedRuns.{IsServedCounted, IsUncounted}
 use Rattle.session.specs.Headline.{ServesLines}
-use Rattle.machine_rules.specs.Turns.{Turn}
+use Rattle.machine_rules.specs.AnsweredLines.{AnsweredLine}
 use Rattle.read_cache.specs.Keeping.{first_keeping}
 use Rattle.session.specs.Tallies.{Tally, Progress, Advances}
 use Rattle.session.specs.Serving.{progress_of}
@@ -52,17 +52,17 @@ pub record Opens (tree : Tree) (helpers : List SlotState) (contents : Contents) 
   pub none : lines ≡ no_line
 
 -- what a run with these options did, by how far it came: its files were not opened, or the lines were served
-abbrev pub CameBy : Tree → List SlotState → Options → Contents → List (List ℕ) → List (List ℕ) → Streams → Streams
-    → Option Counts → Option Sent → Phase → Type 0
-CameBy tree helpers options contents missed now before after counts sent NotTaken = ⊥
-CameBy tree helpers options contents missed now before after counts sent (NotOpened error) =
+abbrev pub ReachesPhaseBy : Tree → List SlotState → Options → Contents → List (List ℕ) → List (List ℕ) → Streams
+    → Streams → Option Counts → Option Sent → Phase → Type 0
+ReachesPhaseBy tree helpers options contents missed now before after counts sent NotTaken = ⊥
+ReachesPhaseBy tree helpers options contents missed now before after counts sent (NotOpened error) =
     IsRefused (helper_names helpers) contents options.files options.states error × IsUncounted before after counts sent
-CameBy tree helpers options contents missed now before after counts sent (Served end) =
+ReachesPhaseBy tree helpers options contents missed now before after counts sent (Served end) =
     IsServedCounted tree helpers options contents missed now before after end counts sent
 
 -- the lines were served with a tally, by which the counts rose, and along which what is kept changed
 pub record ServesCounting {M : Type 0} (generate : Option ℕ) (step : M → RawLine → Step M → Type 0)
-    (goes : Kept → Turn M → Kept → Type 0) (first : M) (before after : Streams) (end : End)
+    (goes : Kept → AnsweredLine M → Kept → Type 0) (first : M) (before after : Streams) (end : End)
     (old new : Progress) : Type 0 where
   pub tally : Tally M
   pub serves : ServesLines generate step first before after end tally

@@ -2,7 +2,7 @@
 use Rattle.std.specs.Prelude.{◌≡◌, ◌≢◌, ◌⊎◌, ℕ, ◌<◌, ◌≤◌, true, false, List, [], ◌++◌, length}
 use Rattle.std.specs.Prelude.{Option, Some, None, IsSomeAnd, MatchOption, Result, Ok, Err, codes}
 use Rattle.std.specs.List.{flat_map}
-use Rattle.gtp_io.specs.Outside.{Rose}
+use Rattle.gtp_io.specs.Outside.{HasRisen}
 use Rattle.gtp_rules.specs.Lines.{RawLine}
 use Rattle.gtp_rules.specs.Steps.{Step}
 use Rattle.pat_types.specs.declared.pattern.Pattern.{Pattern}
@@ -114,13 +114,13 @@ pub record IsUntouched (before after : Streams) (counts : List ℕ) (sent : Opti
 
 -- what a run did, by how far it came: what its words gave, what it served, and the text of counts and what was sent to
 -- note
-abbrev pub Came : Tree → List SlotState → List (List ℕ) → Contents → List (List ℕ) → List (List ℕ) → Streams → Streams
-    → List ℕ → Option Sent → Phase → Type 0
-Came tree helpers words contents missed now before after counts sent NotTaken =
+abbrev pub ReachesPhase : Tree → List SlotState → List (List ℕ) → Contents → List (List ℕ) → List (List ℕ) → Streams
+    → Streams → List ℕ → Option Sent → Phase → Type 0
+ReachesPhase tree helpers words contents missed now before after counts sent NotTaken =
     (is_taken words ≡ false) × IsUntouched before after counts sent
-Came tree helpers words contents missed now before after counts sent (NotOpened error) =
+ReachesPhase tree helpers words contents missed now before after counts sent (NotOpened error) =
     IsUnopened helpers words contents error × IsUntouched before after counts sent
-Came tree helpers words contents missed now before after counts sent (Served end) =
+ReachesPhase tree helpers words contents missed now before after counts sent (Served end) =
     (options : Options) × GiveOptions words options
     × IsServed tree helpers options contents missed now before after end counts sent
 
@@ -137,7 +137,7 @@ MissedAfter names before now (Served end) = Unit {0}
 -- if a fault is reported, its count rose, as far as a u64 can; if the count rose, the fault is reported
 pub record IsCauseOf (fault : Type 0) (before now : ℕ) : Type 0 where
   pub later : before ≤ now
-  pub rose : fault → Rose before now
+  pub rose : fault → HasRisen before now
   pub told : before < now → fault
 
 -- What a run of these words with these helpers and readings in this tree did, by its outcome. Its notes are a text of
@@ -146,8 +146,8 @@ pub record RunsIn (tree : Tree) (helpers : List SlotState) (words : List (List �
     (outcome : Outcome) : Type 0 where
   pub counts : List ℕ
   pub sent : Option Sent
-  pub came : Came tree helpers words before.contents before.missed after.missed before.streams after.streams counts sent
-      (phase_of outcome)
+  pub came : ReachesPhase tree helpers words before.contents before.missed after.missed before.streams after.streams
+      counts sent (phase_of outcome)
   pub missed : MissedAfter (files_in words) before.missed after.missed (phase_of outcome)
   pub same : after.contents ≡ before.contents
   pub input : IsCauseOf (outcome ≡ told.InputFault) before.streams.input_faults after.streams.input_faults

@@ -52,7 +52,7 @@ pub record IsJoined (contents : Contents) (names : List (List ℕ)) (text : List
   pub joined : text ≡ joined_text texts
 
 -- `new` is `old` with the contents of a file after it, and with a line feed if they need one
-pub record Adds (contents : Option (List ℕ)) (old new : List ℕ) : Type 0 where
+pub record AddsContents (contents : Option (List ℕ)) (old new : List ℕ) : Type 0 where
   pub text : List ℕ
   pub told : IsContents contents text
   pub added : new ≡ old ++ ended text

@@ -4,10 +4,10 @@ use Rattle.std.specs.Prelude.{◌≡◌, ℕ, ◌<◌, Bool, List, ◌++◌, len
 use Rattle.std.specs.Io.KnownBytes.{Appends}
 use Rattle.gtp_rules.specs.Lines.{RawLine}
 use Rattle.gtp_rules.specs.Steps.{Step}
-use Rattle.gtp_rules.specs.Transcript.{Answers}
+use Rattle.gtp_rules.specs.Transcript.{MayAnswer}
 use Rattle.run_notes.specs.declared.notes.Sent.{Sent}
 use Rattle.session_core.specs.Kept.{Kept}
-use Rattle.machine_rules.specs.Turns.{Turn}
+use Rattle.machine_rules.specs.AnsweredLines.{AnsweredLine}
 use Rattle.session.specs.Tallies.{Tally, Progress, Advances, IsTallied, BreaksOff, tally_of, cut_tally, kept_sum}
 
 -- the progress of a run: what its output holds, what its session keeps, and what was sent
@@ -41,27 +41,27 @@ pub record PutsReply (old new : Option (List ℕ)) (before now : Sent) (bytes : 
   pub bytes_sent : now.bytes ≡ kept_sum before.bytes (length bytes)
 
 -- the line was answered, and its reply was put whole
-pub record Replies {M : Type 0} (step : M → RawLine → Step M → Type 0) (goes : Kept → Turn M → Kept → Type 0)
+pub record Replies {M : Type 0} (step : M → RawLine → Step M → Type 0) (goes : Kept → AnsweredLine M → Kept → Type 0)
     (from : M)
     (line : RawLine) (to : M) (ends : Bool) (old new : Progress) : Type 0 where
   pub reply : List ℕ
-  pub answers : Answers step from line reply to ends
+  pub answers : MayAnswer step from line reply to ends
   pub advances : Advances goes old new (tally_of from line reply)
 
 -- the line was answered, and its reply was put in part
 pub record RepliesPart {M : Type 0} (step : M → RawLine → Step M → Type 0)
-    (goes : Kept → Turn M → Kept → Type 0) (from : M)
+    (goes : Kept → AnsweredLine M → Kept → Type 0) (from : M)
     (line : RawLine) (old new : Progress) : Type 0 where
   pub part : List ℕ
   pub missing : List ℕ
   pub next : M
   pub ends : Bool
-  pub answers : Answers step from line (part ++ missing) next ends
+  pub answers : MayAnswer step from line (part ++ missing) next ends
   pub proper : 0 < length missing
   pub advances : Advances goes old new (cut_tally from line part missing)
 
 -- the lines were answered, and their replies were put whole
-pub record RunsTo {M : Type 0} (step : M → RawLine → Step M → Type 0) (goes : Kept → Turn M → Kept → Type 0)
+pub record RunsTo {M : Type 0} (step : M → RawLine → Step M → Type 0) (goes : Kept → AnsweredLine M → Kept → Type 0)
     (from : M)
     (lines : List RawLine) (to : M) (ended : Bool) (old new : Progress) : Type 0 where
   pub tally : Tally M
@@ -69,7 +69,7 @@ pub record RunsTo {M : Type 0} (step : M → RawLine → Step M → Type 0) (goe
   pub advances : Advances goes old new tally
 
 -- the lines were answered up to one whose reply was put in part
-pub record RunsPart {M : Type 0} (step : M → RawLine → Step M → Type 0) (goes : Kept → Turn M → Kept → Type 0)
+pub record RunsPart {M : Type 0} (step : M → RawLine → Step M → Type 0) (goes : Kept → AnsweredLine M → Kept → Type 0)
     (from : M)
     (lines : List RawLine) (old new : Progress) : Type 0 where
   pub tally : Tally M

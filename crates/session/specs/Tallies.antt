@@ -7,15 +7,15 @@ use Rattle.std.specs.Prelude.{◌++◌, length, Option}
 use Rattle.std.specs.Io.KnownBytes.{Appends}
 use Rattle.gtp_rules.specs.Lines.{RawLine}
 use Rattle.gtp_rules.specs.Steps.{Step}
-use Rattle.gtp_rules.specs.Transcript.{Answers, Cut}
+use Rattle.gtp_rules.specs.Transcript.{MayAnswer, Cut}
 use Rattle.session_core.specs.Kept.{Kept}
-use Rattle.machine_rules.specs.Turns.{Turn, IsAlong}
+use Rattle.machine_rules.specs.AnsweredLines.{AnsweredLine, IsAlong}
 
 -- the bytes that were put, how many replies were put whole, and the lines that were answered, each with its machine
 pub record Tally (M : Type 0) : Type 0 where
   pub out : List ℕ
   pub replies : ℕ
-  pub turns : List (Turn M)
+  pub turns : List (AnsweredLine M)
 
 -- the tally before the first line
 abbrev pub no_tally : {M : Type 0} → Tally M
@@ -26,7 +26,7 @@ abbrev pub together : {M : Type 0} → Tally M → Tally M → Tally M
 together a b = record { out = a.out ++ b.out; replies = a.replies + b.replies; turns = a.turns ++ b.turns }
 
 -- a single line that comes to a machine and has this reply
-abbrev pub one_turn : {M : Type 0} → M → RawLine → List ℕ → List (Turn M)
+abbrev pub one_turn : {M : Type 0} → M → RawLine → List ℕ → List (AnsweredLine M)
 one_turn machine line reply = record { machine = machine; line = line; reply = reply } ∷ []
 
 -- the tally of a line and its reply
@@ -43,7 +43,7 @@ cut_tally machine line part missing =
 abbrev pub IsTallied : {M : Type 0} → (M → RawLine → Step M → Type 0) → M → List RawLine → Tally M → M → Bool → Type 0
 IsTallied step old [] tally new ended = (tally ≡ no_tally) × (new ≡ old) × (ended ≡ false)
 IsTallied {M} step old (line ∷ lines) tally new ended =
-    (first : List ℕ) × (rest : Tally M) × (mid : M) × (ends : Bool) × Answers step old line first mid ends
+    (first : List ℕ) × (rest : Tally M) × (mid : M) × (ends : Bool) × MayAnswer step old line first mid ends
     × (tally ≡ together (tally_of old line first) rest)
     × MatchBool ends ((rest ≡ no_tally) × (new ≡ mid) × (ended ≡ true)) (IsTallied step mid lines rest new ended)
 
@@ -69,7 +69,7 @@ pub record Progress : Type 0 where
   pub bytes : ℕ
 
 -- bytes were put on the output, what the session keeps changed along the lines, and the counts rose by their tally
-pub record Advances {M : Type 0} (goes : Kept → Turn M → Kept → Type 0) (old new : Progress)
+pub record Advances {M : Type 0} (goes : Kept → AnsweredLine M → Kept → Type 0) (old new : Progress)
     (tally : Tally M) : Type 0 where
   pub writes : Appends old.written new.written tally.out
   pub along : IsAlong goes old.kept tally.turns new.kept

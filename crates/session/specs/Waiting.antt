@@ -104,7 +104,7 @@ MayStop output reply counts stop =
     IsStop output stop ⊎ CutsReply (holds_with output) (sent_with output) reply counts stop
 
 -- once the waiting replies are out, all is as it was, and the output may fail in no new way
-pub record Stays (old new : OutputState) : Type 0 where
+pub record KeepsOutput (old new : OutputState) : Type 0 where
   pub holds : Keeps (holds_with old) (holds_with new)
   pub sends : sent_with new ≡ sent_with old
   pub stops : (stop : Stop) → IsStop new stop → IsStop old stop

@@ -5,7 +5,7 @@ ghost use Rattle.run_notes.specs.declared.notes.Sent.{Sent};
 ghost use Rattle.session.specs.Tallies.{kept_sum};
 ghost use Rattle.session.specs.Serving.{Puts, PutsFront, PutsReply};
 ghost use Rattle.session.specs.Waiting.{none_wait, none_sent, outbox_room, most_marks, gone, counts_at, output_of};
-ghost use Rattle.session.specs.Waiting.{stop_of, CutsReply, IsStop, MayStop, Sends, Stays};
+ghost use Rattle.session.specs.Waiting.{stop_of, CutsReply, IsStop, MayStop, Sends, KeepsOutput};
 
 use gtp_io::Sink;
 use run_notes::{Counts, Links, Sent};
@@ -179,7 +179,7 @@ impl Outbox {
 
     /// Flushes the waiting replies, or gives the counts up to and with the line whose reply broke off.
     pub(crate) fn flush<K: Sink>(&mut self, output: &mut K) -> Result<(), Counts>
-        ensures ok { OnOk result (Stays (output_of (K.written output.old) self.old)
+        ensures ok { OnOk result (KeepsOutput (output_of (K.written output.old) self.old)
             (output_of (K.written output.new) self.new)) }
         ensures none { OnOk result (self.new.waiting ≡ none_wait) }
         ensures part { IfErr result (λ noted. IsStop (output_of (K.written output.old) self.old)
@@ -207,7 +207,7 @@ impl Outbox {
 
     /// Flushes the waiting replies, if a reply of `n` bytes has no room after them.
     fn make_room<K: Sink>(&mut self, n: usize, output: &mut K) -> Result<(), Counts>
-        ensures ok { OnOk result (Stays (output_of (K.written output.old) self.old)
+        ensures ok { OnOk result (KeepsOutput (output_of (K.written output.old) self.old)
             (output_of (K.written output.new) self.new)) }
         ensures room { OnOk result (n ≤ outbox_room → (length self.new.waiting.bytes + n ≤ outbox_room)
             × (length self.new.waiting.marks < most_marks)) }

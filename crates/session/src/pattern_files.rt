@@ -5,7 +5,8 @@ ghost use Rattle.db_rules.specs.Entries.{entry_of};
 ghost use Rattle.db_rules.specs.Faults.{first_fault, entries};
 ghost use Rattle.db_read.specs.Reading.{BlamesAt};
 ghost use Rattle.go_options.specs.Found.{AreInRange};
-ghost use Rattle.session.specs.PatternFiles.{most_patterns, needs_feed, added_feed, Adds, IsJoined, MissedBy, MissedIn};
+ghost use Rattle.session.specs.PatternFiles.{most_patterns, needs_feed, added_feed, AddsContents, IsJoined, MissedBy};
+ghost use Rattle.session.specs.PatternFiles.{MissedIn};
 ghost use Rattle.session.specs.PatternFiles.{HasFewStates, RefusesStates, IsRefused};
 ghost use Rattle.helpers.specs.Slots.{listed, states_of};
 ghost use Rattle.session_core.specs.EngineView.{depths_in};
@@ -50,7 +51,7 @@ fn with_feed(mut text: Vec<u8>, before: usize) -> Result<Vec<u8>, AllocError>
 
 /// The text, then the contents of the file `name`, then a line feed if these need one.
 fn with_file<L: Loader>(files: &mut L, name: &str, text: Vec<u8>) -> Result<Vec<u8>, LoadError>
-    ensures ok { IfOk result (λ new. Adds (L.contents files.old name.now) text.items new.items) }
+    ensures ok { IfOk result (λ new. AddsContents (L.contents files.old name.now) text.items new.items) }
     ensures missed { L.missed files.new ≡ missed_after (L.missed files.old) name.now result }
     ensures same { L.contents files.new ≡ L.contents files.old }
 {

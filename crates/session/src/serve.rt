@@ -3,7 +3,7 @@ ghost use Rattle.std.specs.Prelude.{◌≡◌, ◌≤◌, ◌<◌, true, false, 
 ghost use Rattle.std.specs.Prelude.{is_err};
 ghost use Rattle.std.specs.Io.{ReadsAtMost};
 ghost use Rattle.std.specs.Io.KnownBytes.{ReadConsumes};
-ghost use Rattle.gtp_io.specs.Outside.{IsCounted, Gave};
+ghost use Rattle.gtp_io.specs.Outside.{IsCounted, GaveBytes};
 ghost use Rattle.gtp_rules.specs.Lines.{RawLine};
 ghost use Rattle.gtp_lex.specs.Held.{lines_from, held_from, held_line};
 ghost use Rattle.gtp_lex.specs.Lines.{no_line};
@@ -261,7 +261,7 @@ fn next_piece<S: Source>(input: &mut S, buf: &mut [u8], room: usize) -> Result<u
     ensures room { IfOk result (λ n. n ≤ room) }
     ensures bound { ReadsAtMost result buf.new }
     ensures bytes { ReadConsumes (S.left input.old) (S.left input.new) result buf.new }
-    ensures piece { Gave (S.piece input.new) result }
+    ensures piece { GaveBytes (S.piece input.new) result }
     ensures cause { IsCounted (S.faults input.old) (S.faults input.new) result }
     ensures last { S.failed input.new ≡ is_err result }
 {

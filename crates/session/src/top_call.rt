@@ -1,12 +1,12 @@
 //! The top call of the program.
 ghost use Rattle.std.specs.Prelude.{◌≡◌, ◌↔◌, MatchOption, Option, None, Some, true, if◌then◌else◌, option_map, map};
 ghost use Rattle.std.specs.Prelude.{string_bytes};
-ghost use Rattle.session.specs.CountedRuns.{CameCounted, RunsCounted, RunsCountedIn, RunsHadCounted};
+ghost use Rattle.session.specs.CountedRuns.{ReachesPhaseCounted, RunsCounted, RunsCountedIn, RunsHadCounted};
 ghost use Rattle.session.specs.Headline.{IsCauseOf, MissedAfter, Runs, RunsHad, RunsIn};
 ghost use Rattle.session.specs.Headline.{files_in, outside};
 ghost use Rattle.session.specs.Ends.{streams};
 ghost use Rattle.read_rules.specs.declared.tree.Tree.TheVariants.{Stated};
-ghost use Rattle.session.specs.FirstSession.{CameBy, EndsCounting};
+ghost use Rattle.session.specs.FirstSession.{ReachesPhaseBy, EndsCounting};
 ghost use Rattle.session.specs.Waiting.{none_wait};
 ghost use Rattle.go_options.specs.Found.{AreInRange, IsIn};
 ghost use Rattle.go_options.specs.NumberOptions.{generate_option};
@@ -31,17 +31,17 @@ use workload::Workload;
 
 // How a run ended, and what it notes of that.
 #[derive(Clone, Copy)]
-struct Ran {
+struct RunReport {
     outcome: Outcome,
     counts: Option<Counts>,
     sent: Option<Sent>,
 }
 
 // A run that read no line.
-fn unserved(outcome: Outcome) -> Ran
+fn unserved(outcome: Outcome) -> RunReport
     ensures { result ≡ record { outcome = outcome; counts = None; sent = None } }
 {
-    Ran {
+    RunReport {
         outcome,
         counts: None,
         sent: None,
@@ -49,14 +49,14 @@ fn unserved(outcome: Outcome) -> Ran
 }
 
 // A run that served lines until this end, with its counts and what it sent if `options` asks for them.
-fn served(ended: Ended, options: &Options, sent: Sent) -> Ran
+fn served(ended: Ended, options: &Options, sent: Sent) -> RunReport
     ensures phase { phase_of result.outcome ≡ Served ended.end }
     ensures input { (result.outcome ≡ Outcome.InputFault) ↔ (ended.end ≡ End.InputFault) }
     ensures output { (result.outcome ≡ Outcome.OutputFault) ↔ (ended.end ≡ End.OutputFault) }
     ensures counts { result.counts ≡ (if options.now.stats then Some ended.counts else None) }
     ensures sent { result.sent ≡ option_map (λ _. sent) options.now.generate }
 {
-    Ran {
+    RunReport {
         outcome: ended.end.outcome(),
         counts: if options.stats {
             Some(ended.counts)
@@ -107,9 +107,9 @@ fn run_options<L: Loader, S: Source, K: Sink>(
     files: &mut L,
     input: &mut S,
     output: &mut K,
-) -> Ran
+) -> RunReport
     requires { AreInRange options.now }
-    ensures came { CameBy setting.tree (handed state setting.helpers.items) options.now (L.contents files.old)
+    ensures came { ReachesPhaseBy setting.tree (handed state setting.helpers.items) options.now (L.contents files.old)
         (L.missed files.old) (L.missed files.new)
         (streams (S.left input.old) (S.piece input.old) (S.faults input.old) (K.written output.old)
         (K.faults output.old))
@@ -139,8 +139,8 @@ fn run_unnoted<L: Loader, S: Source, K: Sink>(
     files: &mut L,
     input: &mut S,
     output: &mut K,
-) -> Ran
-    ensures came { CameCounted setting.tree (handed state setting.helpers.items) (map string_bytes words.now)
+) -> RunReport
+    ensures came { ReachesPhaseCounted setting.tree (handed state setting.helpers.items) (map string_bytes words.now)
         (L.contents files.old) (L.missed files.old) (L.missed files.new)
         (streams (S.left input.old) (S.piece input.old) (S.faults input.old) (K.written output.old)
         (K.faults output.old))
@@ -163,7 +163,7 @@ fn run_unnoted<L: Loader, S: Source, K: Sink>(
 }
 
 // Puts the notes of a run.
-fn put_ran<D: Sink>(notes: &mut D, ran: Ran)
+fn put_report<D: Sink>(notes: &mut D, ran: RunReport)
     ensures { IsNoted (D.written notes.old) (D.written notes.new) (D.faults notes.old) (D.faults notes.new)
         (notes_text ran.counts ran.sent (note_of ran.outcome)) }
 {
@@ -271,7 +271,7 @@ pub fn run_in<L: Loader, S: Source, K: Sink, D: Sink>(
         helpers,
     };
     let ran = run_unnoted(setting, words, files, input, output);
-    put_ran(notes, ran);
+    put_report(notes, ran);
     ran.outcome
 }
 
@@ -357,7 +357,7 @@ pub fn run_words_in<L: Loader, S: Source, K: Sink, D: Sink>(
         Ok(words) => run_in(alloc, tree, &words, files, input, output, notes, helpers),
         Err(error) => {
             let ran = unserved(error.outcome());
-            put_ran(notes, ran);
+            put_report(notes, ran);
             ran.outcome
         }
     }

@@ -2,7 +2,7 @@
 use Rattle.std.proofs.Common.{◌≡◌, ◌↔◌, inl, ℕ, false, List, ◌++◌, Option, Result, Ok, Err, IfOk, IfErr}
 use Rattle.std.proofs.Common.{refl, sym, ap, subst, ◌∙◌, append-nil}
 use Rattle.gtp_rules.specs.Lines.{RawLine, Line, TooLong}
-use Rattle.gtp_rules.specs.Transcript.{MayGive, Answers}
+use Rattle.gtp_rules.specs.Transcript.{MayGive, MayAnswer}
 use Rattle.gtp_cmd.specs.Replies.{refusal_text}
 use Rattle.gtp_cmd.specs.Within.{SaysWithin, SaysWithinLine}
 use Rattle.gtp_cmd.specs.declared.commands.Command.{Command}
@@ -55,7 +55,7 @@ module _ (matcher : Matcher) (contents : Contents) (old : Kept) (line : RawLine)
     (is : AnswersParsed matcher old (record { line = bytes_in line; file = file })
     (heard (machine_of old) line) answer new) where
   -- the step gives the reply
-  line-reply : Answers (step matcher contents) (machine_of old) line (reply_bytes answer) (machine_of new)
+  line-reply : MayAnswer (step matcher contents) (machine_of old) line (reply_bytes answer) (machine_of new)
       (reply_ends answer)
   unfolding step_on load_in
   line-reply = (step_on matcher (machine_of old) file line, (file, of, refl), is.reply)

@@ -9,11 +9,11 @@ use Rattle.connect_rules.specs.declared.question.Linkage.{Linkage}
 use Rattle.read_cache.specs.Kept.{HoldsOfEach}
 use Rattle.kept_connections.specs.Connections.{ConnectionsView, Rests, HasAsked, key_on}
 use Rattle.machine_rules.specs.Counting.{counted}
-use Rattle.machine_rules.specs.Effects.{told}
+use Rattle.machine_rules.specs.Effects.{succeeded}
 use Rattle.machine_rules.specs.LinkCommands.{linked, linkage_at, linkage_text}
 use Rattle.machine_rules.specs.LinkQuestions.{have_one_colour, asks_link_at}
 use Rattle.machine_rules.specs.Machine.{Machine}
-use Rattle.machine_rules.proofs.Soundness.{linked-told}
+use Rattle.machine_rules.proofs.Soundness.{linked-succeeded}
 use Rattle.session_core.specs.AskedLinks.{LinksAs, LinksNothing, CountsFreshLinks}
 use Rattle.session_core.specs.CommandAnswers.{IsAnswer}
 use Rattle.session_core.specs.EngineView.{EngineView, board_of, machine_alone, machine_with}
@@ -66,18 +66,19 @@ linkage-here session kind a b pos n linkage is board plies =
 
 -- where stones of one colour stand at both points of the board of a session, what is told of their linkage there is an
 -- answer, whoever the helpers are
-pub told-linked : (session : EngineView) (helpers : List SlotState) (kind : LinkKind) (a b : ℕ) (pos : BoardState)
+pub succeeded-linked : (session : EngineView) (helpers : List SlotState) (kind : LinkKind) (a b : ℕ) (pos : BoardState)
     (n size : ℕ) (linkage : Linkage) (result : List ℕ) (said : Answer) (new : Machine)
-    → have_one_colour (machine_alone session) a b ≡ true → said ≡ answer.Told result
+    → have_one_colour (machine_alone session) a b ≡ true → said ≡ answer.Brief result
     → result ≡ linkage_text size linkage → size ≡ pos.size → (board_of session).size ≡ session.base.size
     → pos ≡ board_of session → n ≡ session.depths.plies → linkage ≡ linkage_of (asked_on pos kind a b n) pos
     → new ≡ machine_with helpers session → IsAnswer (linked (machine_with helpers session) kind a b) said new
-told-linked session helpers kind a b pos n size linkage result said new one says text is own board plies links keeps =
+succeeded-linked session helpers kind a b pos n size linkage result said new one says text is own board plies links
+    keeps =
     let machine = machine_with helpers session in
-    let effect = told (linkage_text session.base.size (linkage_at machine kind a b)) machine in
+    let effect = succeeded (linkage_text session.base.size (linkage_at machine kind a b)) machine in
     let same : result ≡ linkage_text session.base.size (linkage_at machine kind a b) =
     text ∙ ap (λ s. linkage_text s linkage) (is ∙ ap (λ (p : BoardState). p.size) board ∙ own)
     ∙ ap (linkage_text session.base.size) (linkage-here session kind a b pos n linkage links board plies) in
-    subst (λ e. IsAnswer e said new) (sym (linked-told machine kind a b one))
+    subst (λ e. IsAnswer e said new) (sym (linked-succeeded machine kind a b one))
     (subst (λ s. IsAnswer effect s new) (sym says)
     (record { allowed = refl; told = sym same; next = keeps; goes_on = refl }))

@@ -71,7 +71,7 @@ module _ (game : Game) (kept : Machine) (m : Move) where
     -- the move was added
     pub move_added : new ≡ record { base = game.base; moves = game.moves ++ m ∷ [] } → IsOk
         (moved (position_of old) m) → length game.moves < most_moves
-        → said ≡ answer.Told [] → IsAnswer (played old m) said (with_game new kept)
+        → said ≡ answer.Brief [] → IsAnswer (played old m) said (with_game new kept)
     move_added added legal room says =
         subst (λ effect. IsAnswer effect said (with_game new kept)) (sym (played-legal legal (λ full. omega arith)))
         (subst (λ a. IsAnswer (grown old [] with_move) a (with_game new kept)) (sym says)

@@ -34,7 +34,7 @@ text-is_utf8 bytes is = equal (utf8_valid_len bytes) (length bytes) (utf8_valid_
 more-excused : (effect : Effect) (excuses : List Excuse) (said : Answer) (new : Machine)
     → ((text : RefuseText) → IsExcused effect.excuses text new → IsExcused excuses text new)
     → IsAnswer effect said new → IsAnswer (record effect { excuses = excuses }) said new
-more-excused effect excuses (answer.Told result) new more is =
+more-excused effect excuses (answer.Brief result) new more is =
     record { allowed = is.allowed; told = is.told; next = is.next; goes_on = is.goes_on }
 more-excused effect excuses (answer.Grown result) new more is = (
   record { allowed = is.0.allowed; told = is.0.told; next = is.0.next; goes_on = is.0.goes_on },

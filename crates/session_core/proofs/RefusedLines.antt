@@ -3,10 +3,10 @@ use Rattle.machine_rules.proofs.Soundness.{success_apart, read-line, link-line}
 use Rattle.std.proofs.Common.{◌≡◌, ℕ, Bool, true, List, [], ◌∷◌, Option, Some, inl, inr, sym, ap, subst, ◌∙◌}
 use Rattle.gtp_rules.specs.Lines.{RawLine}
 use Rattle.gtp_rules.specs.Steps.{Fallback, Step}
-use Rattle.gtp_rules.specs.Transcript.{IsOneOf, MayGive, Answers}
+use Rattle.gtp_rules.specs.Transcript.{IsOneOf, MayGive, MayAnswer}
 use Rattle.machine_rules.specs.Calls.{AreSameButCalls, quiet}
 use Rattle.machine_rules.specs.Counting.{is_read_line}
-use Rattle.machine_rules.specs.Effects.{told, replied}
+use Rattle.machine_rules.specs.Effects.{succeeded, replied}
 use Rattle.machine_rules.specs.Files.{Contents}
 use Rattle.connect_rules.specs.declared.question.LinkQuestion.{LinkQuestion}
 use Rattle.machine_rules.specs.LinkQuestions.{asks_link_of_line}
@@ -16,26 +16,26 @@ use Rattle.machine_rules.specs.Soundness.{IsRefusal, AreExcuses, IsSound}
 use Rattle.machine_rules.specs.Step.{step}
 
 -- the reply to what tells something is no refusal
-told-not_refused : (old new : Machine) (id : Option ℕ) (text bytes : List ℕ) (ends : Bool)
-    → MayGive (replied id (told text old)) bytes new ends → IsRefusal bytes → ⊥
-told-not_refused old new id text bytes ends (inl may) refusal = success_apart bytes _ may.0 refusal
-told-not_refused old new id text bytes ends (inr may) refusal = absurd may.0
+succeeded-not_refused : (old new : Machine) (id : Option ℕ) (text bytes : List ℕ) (ends : Bool)
+    → MayGive (replied id (succeeded text old)) bytes new ends → IsRefusal bytes → ⊥
+succeeded-not_refused old new id text bytes ends (inl may) refusal = success_apart bytes _ may.0 refusal
+succeeded-not_refused old new id text bytes ends (inr may) refusal = absurd may.0
 
 -- a line that was refused is no reading that was answered with a code
 pub read-not_refused : (matcher : Matcher) (contents : Contents) (old : Machine) (line : RawLine) (bytes : List ℕ)
-    (new : Machine) (ends : Bool) → Answers (step matcher contents) old line bytes new ends → IsRefusal bytes
+    (new : Machine) (ends : Bool) → MayAnswer (step matcher contents) old line bytes new ends → IsRefusal bytes
     → is_read_line old line ≡ true → ⊥
 read-not_refused matcher contents old line bytes new ends (given, gives, may) refusal reads =
     let says = read-line matcher contents old line given gives reads in
-    told-not_refused old new says.0 says.1 bytes ends (subst (λ g. MayGive g bytes new ends) says.2 may) refusal
+    succeeded-not_refused old new says.0 says.1 bytes ends (subst (λ g. MayGive g bytes new ends) says.2 may) refusal
 
 -- a line that asks about a connection is not refused
 pub link-not_refused : (matcher : Matcher) (contents : Contents) (old : Machine) (line : RawLine) (bytes : List ℕ)
-    (new : Machine) (ends : Bool) → Answers (step matcher contents) old line bytes new ends → IsRefusal bytes
+    (new : Machine) (ends : Bool) → MayAnswer (step matcher contents) old line bytes new ends → IsRefusal bytes
     → (q : LinkQuestion) → asks_link_of_line old line ≡ Some q → ⊥
 link-not_refused matcher contents old line bytes new ends (given, gives, may) refusal q asks =
     let says = link-line matcher contents old line given gives q asks in
-    told-not_refused old new says.0 says.1 bytes ends (subst (λ g. MayGive g bytes new ends) says.2 may) refusal
+    succeeded-not_refused old new says.0 says.1 bytes ends (subst (λ g. MayGive g bytes new ends) says.2 may) refusal
 
 -- an excuse keeps the machine but for the calls of helpers
 excuse-same : (old new : Machine) (answers : List (Fallback Machine)) (bytes : List ℕ) → AreExcuses old answers

@@ -14,7 +14,7 @@ use Rattle.machine_rules.specs.LinkQuestions.{asks_link_of_line}
 use Rattle.session_core.specs.Kept.{Kept, machine_of}
 use Rattle.machine_rules.specs.Loads.{missed_in}
 use Rattle.machine_rules.specs.Counting.{counted, is_read_line}
-use Rattle.machine_rules.specs.Turns.{Turn}
+use Rattle.machine_rules.specs.AnsweredLines.{AnsweredLine}
 use Rattle.read_rules.specs.declared.question.Answer.{Answer}
 use Rattle.run_notes.specs.declared.notes.Counts.{Counts}
 
@@ -70,7 +70,7 @@ ReadsAs Many old new = ReadsMany old new
 -- A session that keeps `old` keeps `new` after a line that came to its machine. The line is counted if it asks for a
 -- reading and is answered with a code; what it asks was read, of connections too; and the file that it could not load
 -- is noted as missed.
-pub record IsAfterLine (old : Kept) (turn : Turn Machine) (new : Kept) : Type 0 where
+pub record IsAfterLine (old : Kept) (turn : AnsweredLine Machine) (new : Kept) : Type 0 where
   pub machine : turn.machine ≡ machine_of old
   pub readings : new.engine.counts.readings
       ≡ counted old.engine.counts.readings (is_read_line turn.machine turn.line)

@@ -21,7 +21,7 @@ pub record Succeeds (effect : Effect) (result : List ℕ) (new : Machine) : Type
 -- The answer is what the command prints, and `new` is the machine after it; or the answer is an excuse that may stand
 -- in its place. A grown result needs that excuse too, since there may be no memory for its reply.
 abbrev pub IsAnswer : Effect → Answer → Machine → Type 0
-IsAnswer effect (answer.Told result) new = Succeeds effect result new
+IsAnswer effect (answer.Brief result) new = Succeeds effect result new
 IsAnswer effect (answer.Grown result) new = Succeeds effect result new × IsExcused effect.excuses OutOfMemory new
 IsAnswer effect answer.NoMemory new = IsExcused effect.excuses OutOfMemory new
 IsAnswer effect (answer.Refused text) new =

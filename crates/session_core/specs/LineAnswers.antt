@@ -2,7 +2,7 @@
 use Rattle.std.specs.Prelude.{◌≡◌, ◌≢◌, ◌↔◌, ◌++◌}
 use Rattle.gtp_rules.specs.Lines.{RawLine}
 use Rattle.gtp_rules.specs.Steps.{Step}
-use Rattle.gtp_rules.specs.Transcript.{MayGive, Answers}
+use Rattle.gtp_rules.specs.Transcript.{MayGive, MayAnswer}
 use Rattle.gtp_cmd.specs.declared.commands.Parsed.{Parsed}
 use Rattle.gtp_cmd.specs.declared.commands.Parsed.TheVariants as parsed
 use Rattle.machine_rules.specs.Calls.{AreSameButCalls}
@@ -42,7 +42,7 @@ LineStep = Machine → RawLine → Step Machine → Type 0
 -- The session that kept `old` answers a line by this step of its machine and keeps `new`.
 pub record AnswersLine (step : LineStep) (old : Kept) (line : RawLine) (answer : Reply) (new : Kept) : Type 0 where
   -- the reply is one that the step gives
-  pub reply : Answers step (machine_of old) line (reply_bytes answer) (machine_of new) (reply_ends answer)
+  pub reply : MayAnswer step (machine_of old) line (reply_bytes answer) (machine_of new) (reply_ends answer)
   -- the reply is `Nothing` exactly if the line has no words
   pub nothing : (answer ≡ replies.Nothing) ↔ IsWithoutWords line
   pub bytes : answer ≢ replies.Nothing → reply_count (reply_bytes answer) ≡ 1

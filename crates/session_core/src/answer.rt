@@ -73,7 +73,7 @@ impl Brief {
 #[derive(Drop)]
 pub(crate) enum Answer {
     /// A success with a short result.
-    Told(Brief),
+    Brief(Brief),
     /// A success with a result that took memory, in a growing reply.
     Grown(Bytes),
     /// There was no memory for a growing reply.
@@ -85,26 +85,26 @@ pub(crate) enum Answer {
 }
 
 /// A success with this result.
-pub(crate) fn told(text: &[u8]) -> Answer
+pub(crate) fn brief_answer(text: &[u8]) -> Answer
     requires { length text.now ≤ result_room }
-    ensures { result ≡ Answer.Told text.now }
+    ensures { result ≡ Answer.Brief text.now }
 {
-    Answer::Told(Brief::new(text))
+    Answer::Brief(Brief::new(text))
 }
 
 /// A success with this text as its result.
-pub(crate) fn told_text(text: Short) -> Answer
+pub(crate) fn text_answer(text: Short) -> Answer
     requires { length text ≤ result_room }
-    ensures { result ≡ Answer.Told text }
+    ensures { result ≡ Answer.Brief text }
 {
-    Answer::Told(Brief::of(text))
+    Answer::Brief(Brief::of(text))
 }
 
 /// A success with this number as its result.
-pub(crate) fn told_number(n: u32) -> Answer
-    ensures { result ≡ Answer.Told (decimal n) }
+pub(crate) fn number_answer(n: u32) -> Answer
+    ensures { result ≡ Answer.Brief (decimal n) }
 {
-    Answer::Told(Brief::number(n))
+    Answer::Brief(Brief::number(n))
 }
 
 /// A success with the result `text`, or `NoMemory` if there was no memory for it.
@@ -132,7 +132,7 @@ impl Answer {
             ≡ missed_as (named name) self }
     {
         match self {
-            Answer::Told(text) => Reply::Short {
+            Answer::Brief(text) => Reply::Short {
                 text: short(id, text.as_slice()),
                 quit: false,
             },

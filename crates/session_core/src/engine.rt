@@ -33,7 +33,7 @@ mod proof_commands;
 mod reading_commands;
 mod record_commands;
 
-use crate::answer::{Answer, grown, told};
+use crate::answer::{Answer, brief_answer, grown};
 use crate::matcher::Matcher;
 use crate::reply::Reply;
 use crate::slow::{Slow, Work};
@@ -299,16 +299,16 @@ impl Engine {
         ensures helpers { OnErr result (helpers.new ≡ helpers.old) }
     {
         let answer = match command {
-            Command::ProtocolVersion => told(b"2"),
-            Command::Name => told(b"gopat"),
-            Command::Version => told(b"1"),
-            Command::KnownCommand(known) => told(word(known)),
+            Command::ProtocolVersion => brief_answer(b"2"),
+            Command::Name => brief_answer(b"gopat"),
+            Command::Version => brief_answer(b"1"),
+            Command::KnownCommand(known) => brief_answer(word(known)),
             Command::ListCommands => grown(names_text(self.alloc)),
             Command::Quit => Answer::Ended,
             Command::BoardSize(size) => self.resize(size),
             Command::ClearBoard => self.clear(),
             Command::Komi(komi) => self.keep_komi(komi),
-            Command::GetKomi => told(self.komi.as_slice()),
+            Command::GetKomi => brief_answer(self.komi.as_slice()),
             Command::Play(colour, at) => self.play(Move { colour, at }),
             Command::Undo => self.undo(),
             Command::ShowBoard => self.show_board(),

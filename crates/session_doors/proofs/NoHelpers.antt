@@ -27,7 +27,7 @@ use Rattle.match_rules.specs.Conditions.{all_yes}
 use Rattle.match_engine.specs.HelperCalls.{plays_of}
 use Rattle.machine_rules.specs.Machine.{Machine, position_of}
 use Rattle.machine_rules.specs.Matcher.{Matcher}
-use Rattle.machine_rules.specs.Effects.{Excuse, Effect, refused, told, growing, fallback, replied}
+use Rattle.machine_rules.specs.Effects.{Excuse, Effect, refused, succeeded, growing, fallback, replied}
 use Rattle.machine_rules.specs.Files.{Contents}
 use Rattle.machine_rules.specs.Heard.{heard, bytes_in, word_at}
 use Rattle.machine_rules.specs.BoardCommands.{resized, played, taken_back, of_stone}
@@ -70,12 +70,12 @@ module _ (old : Machine) (none : IsAlone old) where
   refused-alone text = record { next = none; excuses = tt }
 
   -- a success
-  told-alone : (result : List ℕ) (next : Machine) → IsAlone next → LeavesNone (told result next)
-  told-alone result next alone = record { next = alone; excuses = tt }
+  succeeded-alone : (result : List ℕ) (next : Machine) → IsAlone next → LeavesNone (succeeded result next)
+  succeeded-alone result next alone = record { next = alone; excuses = tt }
 
   -- a success that keeps the helpers
-  kept-alone : (result : List ℕ) (next : Machine) → next.helpers ≡ old.helpers → LeavesNone (told result next)
-  kept-alone result next same = told-alone result next (same ∙ none)
+  kept-alone : (result : List ℕ) (next : Machine) → next.helpers ≡ old.helpers → LeavesNone (succeeded result next)
+  kept-alone result next same = succeeded-alone result next (same ∙ none)
 
   -- a growing reply
   growing-alone : (effect : Effect) (next : Machine) → IsAlone next → LeavesNone effect
@@ -84,8 +84,8 @@ module _ (old : Machine) (none : IsAlone old) where
 
   -- a growing success that keeps the helpers
   grown-alone : (result : List ℕ) (next : Machine) → next.helpers ≡ old.helpers
-      → LeavesNone (growing old (told result next))
-  grown-alone result next same = growing-alone (told result next) old none (kept-alone result next same)
+      → LeavesNone (growing old (succeeded result next))
+  grown-alone result next same = growing-alone (succeeded result next) old none (kept-alone result next same)
 
   -- one of two
   cond-alone : (b : Bool) (x y : Effect) → LeavesNone x → LeavesNone y → LeavesNone (cond b x y)
@@ -150,9 +150,9 @@ module _ (old : Machine) (none : IsAlone old) where
     advised-alone : (friend : Colour) (result : List ℕ) (next : Machine) → IsAlone next
         → LeavesNone (advised old (after_asking matcher old friend) result next)
     advised-alone friend result next alone =
-        growing-alone (growing (after_asking matcher old friend) (told result next)) old none
-        (growing-alone (told result next) (after_asking matcher old friend) (asking-alone friend)
-        (told-alone result next alone))
+        growing-alone (growing (after_asking matcher old friend) (succeeded result next)) old none
+        (growing-alone (succeeded result next) (after_asking matcher old friend) (asking-alone friend)
+        (succeeded-alone result next alone))
 
     -- each command
     effect-alone : (input : Input) (c : Command) → LeavesNone (effect_of matcher old input c)
@@ -189,10 +189,10 @@ module _ (old : Machine) (none : IsAlone old) where
         cond-alone _ _ _ (refused-alone _) (advised-alone friend _ _ (asking-alone friend))
     effect-alone input (command.RegGenMove friend) = advised-alone friend _ _ (asking-alone friend)
     effect-alone input (command.HelperOff span) =
-        helper-alone _ _ (told-alone [] _ (off-none (word_at input.line span) old.helpers none))
+        helper-alone _ _ (succeeded-alone [] _ (off-none (word_at input.line span) old.helpers none))
     effect-alone input (command.HelperCalls span) = helper-alone _ _ (kept-alone _ old refl)
     effect-alone input (command.HelperDrop span) =
-        helper-alone _ _ (told-alone [] _ (remove-none (word_at input.line span) old.helpers none))
+        helper-alone _ _ (succeeded-alone [] _ (remove-none (word_at input.line span) old.helpers none))
 
 -- no machine of a step has helpers
 record StepsAlone (given : Step Machine) : Type 0 where

@@ -2,7 +2,7 @@
 use Rattle.std.proofs.Common.{◌≡◌, ◌∙◌, ℕ, Bool, true, false, List, [], map, refl, sym, ap, subst}
 use Rattle.std.proofs.lemmas.List.{append-nil}
 use Rattle.gtp_rules.specs.Lines.{line_of}
-use Rattle.gtp_rules.specs.Transcript.{Answers as answers-by, IsRun}
+use Rattle.gtp_rules.specs.Transcript.{MayAnswer as answers-by, IsRun}
 use Rattle.machine_rules.specs.Machine.{Machine}
 use Rattle.machine_rules.specs.Matcher.{Matcher, plain_matcher}
 use Rattle.machine_rules.specs.Step.{step}
@@ -10,12 +10,12 @@ use Rattle.session_core.specs.EngineView.{machine_alone}
 use Rattle.session_core.specs.MatcherView.{matcher_of}
 use Rattle.session_core.specs.Replies.{reply_bytes, reply_ends}
 use Rattle.session_doors.specs.declared.held.HeldSession.{HeldSession}
-use Rattle.session_doors.specs.Answered.{Answers, empty_files}
+use Rattle.session_doors.specs.Answered.{AnswersText, empty_files}
 use Rattle.session_doors.specs.Transcripts.{HasAnswered, nothing, next, ending, AnswersAreTranscripts}
 
 -- the plain machine may answer so
 answered-by : (matcher : Matcher) (old new : HeldSession) (text : List ℕ) (ends : Bool)
-    → matcher_of old.matcher ≡ matcher → reply_ends new.reply ≡ ends → Answers old text new
+    → matcher_of old.matcher ≡ matcher → reply_ends new.reply ≡ ends → AnswersText old text new
     → answers-by (step matcher empty_files) (machine_alone old.engine) (line_of text) (reply_bytes new.reply)
     (machine_alone new.engine) ends
 answered-by matcher old new text ends same told answers =

@@ -27,7 +27,7 @@ kept_alone engine = record { engine = engine; helpers = []; missed = [] }
 
 -- The session `old` answered the line of the text by the step of the plain machine without helpers, with every file
 -- empty, and became `new`, which has its reply. Matches are found as before.
-pub record Answers (old : HeldSession) (text : List ℕ) (new : HeldSession) : Type 0 where
+pub record AnswersText (old : HeldSession) (text : List ℕ) (new : HeldSession) : Type 0 where
   pub line : AnswersLine (step (matcher_of old.matcher) empty_files) (kept_alone old.engine) (line_of text) new.reply
       (kept_alone new.engine)
   pub matcher : new.matcher ≡ old.matcher

@@ -10,7 +10,7 @@ use Rattle.machine_rules.specs.Step.{step}
 use Rattle.session_core.specs.EngineView.{machine_alone}
 use Rattle.session_core.specs.Replies.{reply_bytes, reply_ends}
 use Rattle.session_doors.specs.declared.held.HeldSession.{HeldSession}
-use Rattle.session_doors.specs.Answered.{Answers, empty_files}
+use Rattle.session_doors.specs.Answered.{AnswersText, empty_files}
 use Rattle.session_doors.specs.Opened.{IsFirst}
 
 -- The session `first` answered the texts one after another with `out`, and `last` is the session after them. Only the
@@ -18,9 +18,9 @@ use Rattle.session_doors.specs.Opened.{IsFirst}
 pub data HasAnswered : HeldSession → List (List ℕ) → List ℕ → HeldSession → Bool → Type 0 where
   nothing : (held : HeldSession) → HasAnswered held [] [] held false
   next : (first mid last : HeldSession) (text : List ℕ) (texts : List (List ℕ)) (out : List ℕ) (ended : Bool)
-      → Answers first text mid → reply_ends mid.reply ≡ false → HasAnswered mid texts out last ended
+      → AnswersText first text mid → reply_ends mid.reply ≡ false → HasAnswered mid texts out last ended
       → HasAnswered first (text ∷ texts) (reply_bytes mid.reply ++ out) last ended
-  ending : (first last : HeldSession) (text : List ℕ) → Answers first text last → reply_ends last.reply ≡ true
+  ending : (first last : HeldSession) (text : List ℕ) → AnswersText first text last → reply_ends last.reply ≡ true
       → HasAnswered first (text ∷ []) (reply_bytes last.reply) last true
 
 -- what a session answers to texts from its beginning is a transcript of their lines, by the plain machine with its

@@ -3,7 +3,7 @@
 ghost use Rattle.std.specs.Prelude.{◌≡◌, [], false, IfOk, IfErr};
 ghost use Rattle.gtp_rules.specs.Lines.{line_of};
 ghost use Rattle.gtp_lex.specs.Raw.{raw_line};
-ghost use Rattle.session_doors.specs.Answered.{has_feed, Answers, LeavesUnanswered};
+ghost use Rattle.session_doors.specs.Answered.{has_feed, AnswersText, LeavesUnanswered};
 
 use crate::held::HeldSession;
 use gtp_io::SureShelf;
@@ -54,7 +54,7 @@ fn raw_of(text: &[u8]) -> Raw<'_>
 /// Answers a line with `helpers`, which is empty.
 fn answer_with(alloc: Global, helpers: Helpers, session: HeldSession, text: &[u8]) -> HeldSession
     requires { helpers.slots.items ≡ [] }
-    ensures { Answers session text.now result }
+    ensures { AnswersText session text.now result }
 {
     let HeldSession {
         engine,
@@ -83,7 +83,7 @@ fn answer_with(alloc: Global, helpers: Helpers, session: HeldSession, text: &[u8
 /// Answers `text` as a line of the protocol, if it has no line feed; else the session is as it was. Each file that the
 /// line names counts as empty. Takes memory.
 pub fn answer(alloc: Global, session: HeldSession, text: &[u8]) -> Result<HeldSession, Unanswered>
-    ensures ok { IfOk result (Answers session text.now) }
+    ensures ok { IfOk result (AnswersText session text.now) }
     ensures line { IfOk result (λ _. has_feed text.now ≡ false) }
     ensures err { IfErr result (LeavesUnanswered session text.now) }
 {

@@ -37,7 +37,7 @@ some_file contents (Some name) = some_loaded (contents name)
 pub more-excused : (effect : Effect) (excuses : List RefuseText) (said : Answer) (old new : Machine)
     → ((text : RefuseText) → IsExcused effect.excuses text → IsExcused excuses text)
     → IsAnswer effect said old new → IsAnswer (record effect { excuses = excuses }) said old new
-more-excused effect excuses (answer.Told result) old new more is =
+more-excused effect excuses (answer.Brief result) old new more is =
     record { allowed = is.allowed; told = is.told; next = is.next; goes_on = is.goes_on }
 more-excused effect excuses (answer.Grown result) old new more is = (
   record { allowed = is.0.allowed; told = is.0.told; next = is.0.next; goes_on = is.0.goes_on },

@@ -1,7 +1,7 @@
 -- What answers a line, by what the line says.
 use Rattle.std.proofs.Common.{◌≡◌, ℕ, Bool, List, [], Option, None, refl, sym, ap, subst, ◌∙◌}
 use Rattle.gtp_rules.specs.Lines.{RawLine}
-use Rattle.gtp_rules.specs.Transcript.{MayGive, Answers}
+use Rattle.gtp_rules.specs.Transcript.{MayGive, MayAnswer}
 use Rattle.gtp_cmd.specs.declared.commands.Command.{Command}
 use Rattle.gtp_cmd.specs.declared.commands.Parsed.{Parsed}
 use Rattle.sure_lines.specs.Answers.{IsAnswer}
@@ -26,7 +26,7 @@ obeyed contents old new line command known said is taken answers =
 pub answered : (contents : Contents) (old new : Machine) (line : RawLine) (size : ℕ) (what : Parsed) (out : List ℕ)
     (ends : Bool) (file : List ℕ) → what ≡ heard_at size line → size ≡ old.game.base.size
     → IsTextSaid contents old (bytes_in line) what file
-    → MayGive (parsed_step old (bytes_in line) file what) out new ends → Answers (step contents) old line out new ends
+    → MayGive (parsed_step old (bytes_in line) file what) out new ends → MayAnswer (step contents) old line out new ends
 answered contents old new line size what out ends file says same of gives =
     let heard_as : heard old line ≡ what = ap (λ s. heard_at s line) (sym same) ∙ sym says in (
       step_on old file line,

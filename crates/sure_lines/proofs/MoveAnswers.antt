@@ -10,7 +10,7 @@ use Rattle.gtp_cmd.specs.declared.refusals.RefuseText.{RefuseText}
 use Rattle.gtp_cmd.specs.declared.refusals.RefuseText.TheVariants.{IllegalMove, HistoryFull}
 use Rattle.sure_lines.specs.Answers.{IsAnswer}
 use Rattle.sure_lines.specs.BoardCommands.{played, with_move}
-use Rattle.sure_lines.specs.Effects.{Effect, refused, told, growing}
+use Rattle.sure_lines.specs.Effects.{Effect, refused, succeeded, growing}
 use Rattle.sure_lines.specs.Machine.{Machine, present}
 use Rattle.sure_lines.specs.declared.answer.Answer.{Answer}
 use Rattle.sure_lines.specs.declared.answer.Answer.TheVariants as answer
@@ -36,7 +36,7 @@ equal a b same = grind (arith, nat_tests)
 module _ (old : Machine) (m : Move) where
   -- a move that is added, if there is memory
   abbrev added : Effect
-  added = growing (told [] (with_move old m))
+  added = growing (succeeded [] (with_move old m))
 
   -- the move is legal, and the list is not full
   played-legal : IsOk (moved (present old) m) → (length old.game.moves ≡ most_moves → ⊥) → played old m ≡ added
@@ -63,7 +63,7 @@ module _ (old : Machine) (m : Move) where
   module _ (new : Game) (said : Answer) where
     -- the move was added
     pub move_added : new ≡ record old.game { moves = old.game.moves ++ m ∷ [] } → IsOk (moved (present old) m)
-        → length old.game.moves < most_moves → said ≡ answer.Told []
+        → length old.game.moves < most_moves → said ≡ answer.Brief []
         → IsAnswer (played old m) said old (with_game new old)
     move_added is legal room says =
         subst (λ effect. IsAnswer effect said old (with_game new old)) (sym (played-legal legal (λ full. omega arith)))

@@ -5,7 +5,7 @@ use Rattle.std.proofs.KnownBytes.{Appends-nil, Appends-trans, Consumes-nil, Cons
 use Rattle.std.proofs.lemmas.List.{take_rest}
 use Rattle.std.specs.Io.KnownBytes.{Appends, Consumes}
 use Rattle.gtp_rules.specs.Lines.{RawLine, Line, lines_with_rest}
-use Rattle.gtp_rules.specs.Transcript.{Answers, IsRun, IsTranscript}
+use Rattle.gtp_rules.specs.Transcript.{MayAnswer, IsRun, IsTranscript}
 use Rattle.gtp_rules.proofs.Runs.{IsRun-append}
 use Rattle.gtp_lex.specs.Held.{lines_from, held_from, held_line}
 use Rattle.gtp_lex.proofs.HeldLemmas.{lines_with_rest-lines_from, lines_from-append, held_from-append}
@@ -86,7 +86,7 @@ module _ (contents : Contents) where
 
   -- what is put after a line, by whether it ends the session
   after_one : (ends : Bool) (old new : Machine) (line : RawLine) (out : List ℕ)
-      → Answers (step contents) old line out new ends → IsRun (step contents) old (line ∷ []) out new ends
+      → MayAnswer (step contents) old line out new ends → IsRun (step contents) old (line ∷ []) out new ends
   after_one true old new line out answers =
       (out, [], new, true, answers, sym (append-nil out), (refl, refl, refl))
   after_one false old new line out answers =
@@ -94,7 +94,7 @@ module _ (contents : Contents) where
 
   -- one line
   pub answered-one : (old new : Machine) (line : RawLine) (out : List ℕ) (a b : Option (List ℕ)) (ends : Bool)
-      → Answers (step contents) old line out new ends → Appends a b out
+      → MayAnswer (step contents) old line out new ends → Appends a b out
       → AreAnswered contents old new (line ∷ []) a b ends
   answered-one old new line out a b ends answers puts =
       record { out = out; run = after_one ends old new line out answers; puts = puts }

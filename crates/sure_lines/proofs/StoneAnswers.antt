@@ -5,19 +5,19 @@ use Rattle.gtp_cmd.specs.declared.refusals.RefuseText.TheVariants.{VertexEmpty}
 use Rattle.read_rules.specs.declared.question.Kind.{Kind}
 use Rattle.sure_lines.specs.AnswerText.{answer_text}
 use Rattle.sure_lines.specs.Answers.{IsAnswer}
-use Rattle.sure_lines.specs.Effects.{refused, told}
+use Rattle.sure_lines.specs.Effects.{refused, succeeded}
 use Rattle.sure_lines.specs.Machine.{Machine, present}
 use Rattle.sure_lines.specs.QuestionCommands.{read, sure_reading}
 use Rattle.sure_lines.specs.declared.answer.Answer.{Answer}
 use Rattle.sure_lines.specs.declared.answer.Answer.TheVariants as answer
 
 -- if a stone stands at p, the text of its sure reading is an answer
-pub told-read : (machine : Machine) (kind : Kind) (p : ℕ) (text : List ℕ) (said : Answer)
-    → is_stone (cell_at (present machine).cells p) ≡ true → said ≡ answer.Told text
+pub succeeded-read : (machine : Machine) (kind : Kind) (p : ℕ) (text : List ℕ) (said : Answer)
+    → is_stone (cell_at (present machine).cells p) ≡ true → said ≡ answer.Brief text
     → text ≡ answer_text machine.game.base.size (sure_reading machine kind p)
     → IsAnswer (read machine kind p) said machine machine
-told-read machine kind p text said stone says is =
-    let effect = told (answer_text machine.game.base.size (sure_reading machine kind p)) machine in
+succeeded-read machine kind p text said stone says is =
+    let effect = succeeded (answer_text machine.game.base.size (sure_reading machine kind p)) machine in
     subst (λ b. IsAnswer (cond b effect (refused machine VertexEmpty)) said machine machine) (sym stone)
     (subst (λ a. IsAnswer effect a machine machine) (sym says)
     (record { allowed = refl; told = sym is; next = refl; goes_on = refl }))

@@ -17,7 +17,7 @@ pub record Succeeds (effect : Effect) (result : List ℕ) (new : Machine) : Type
 -- answer, and the machine is the old one. A result that took memory must allow the excuse OutOfMemory, since there may
 -- be no memory for its reply
 abbrev pub IsAnswer : Effect → Answer → Machine → Machine → Type 0
-IsAnswer effect (answer.Told result) old new = Succeeds effect result new
+IsAnswer effect (answer.Brief result) old new = Succeeds effect result new
 IsAnswer effect (answer.Grown result) old new =
     Succeeds effect result new × IsExcused effect.excuses OutOfMemory × (new ≡ old)
 IsAnswer effect answer.NoMemory old new = IsExcused effect.excuses OutOfMemory × (new ≡ old)

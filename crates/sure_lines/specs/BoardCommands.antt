@@ -6,18 +6,18 @@ use Rattle.go_rules.specs.Replay.{moved}
 use Rattle.go_history.specs.Games.{most_moves, new_game}
 use Rattle.gtp_cmd.specs.declared.refusals.RefuseText.TheVariants.{UnacceptableSize, IllegalMove, HistoryFull}
 use Rattle.gtp_cmd.specs.declared.refusals.RefuseText.TheVariants.{CannotUndo}
-use Rattle.sure_lines.specs.Effects.{Effect, refused, told, growing}
+use Rattle.sure_lines.specs.Effects.{Effect, refused, succeeded, growing}
 use Rattle.sure_lines.specs.Machine.{Machine, present}
 
 -- boardsize begins again from the empty board of this size, even if it is the present size; it is refused if there is
 -- no size
 abbrev pub resized : Machine → Option ℕ → Effect
 resized old None = refused old UnacceptableSize
-resized old (Some size) = told [] (record old { game = new_game size })
+resized old (Some size) = succeeded [] (record old { game = new_game size })
 
 -- clear_board begins again from the empty board of the present size
 abbrev pub cleared : Machine → Effect
-cleared old = told [] (record old { game = new_game old.game.base.size })
+cleared old = succeeded [] (record old { game = new_game old.game.base.size })
 
 -- the machine with one move more
 abbrev pub with_move : Machine → Move → Machine
@@ -28,15 +28,15 @@ abbrev pub played : Machine → Move → Effect
 played old move =
     if is_ok (moved (present old) move)
     then (if length old.game.moves == most_moves then refused old HistoryFull else growing
-    (told [] (with_move old move)))
+    (succeeded [] (with_move old move)))
     else refused old IllegalMove
 
 -- undo takes the last move from the list; it is refused if there is none
 abbrev pub taken_back : Machine → List Move → Effect
 taken_back old [] = refused old CannotUndo
 taken_back old (move ∷ moves) =
-    told [] (record old { game = record old.game { moves = take (length old.game.moves - 1) old.game.moves } })
+    succeeded [] (record old { game = record old.game { moves = take (length old.game.moves - 1) old.game.moves } })
 
 -- depths sets the plies and the wide plies of later readings; their tree stays
 abbrev pub deepened : Machine → ℕ → ℕ → Effect
-deepened old plies wide = told [] (record old { plies = plies; wide = wide })
+deepened old plies wide = succeeded [] (record old { plies = plies; wide = wide })

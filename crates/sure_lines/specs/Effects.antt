@@ -24,8 +24,8 @@ abbrev pub refused : Machine → RefuseText → Effect
 refused old text = record { refusal = Some text; result = []; excuses = []; next = old; ends = false }
 
 -- the command succeeds with this result, and the machine is next after it
-abbrev pub told : List ℕ → Machine → Effect
-told result next = record { refusal = None; result = result; excuses = []; next = next; ends = false }
+abbrev pub succeeded : List ℕ → Machine → Effect
+succeeded result next = record { refusal = None; result = result; excuses = []; next = next; ends = false }
 
 -- the command succeeds and ends the session, and the machine stays as it was
 abbrev pub ended : Machine → Effect

@@ -7,7 +7,7 @@ use Rattle.gtp_cmd.specs.Words.{cleaned, words_of, id_of}
 use Rattle.gtp_cmd.specs.declared.commands.Parsed.{Parsed}
 use Rattle.gtp_cmd.specs.declared.commands.Parsed.TheVariants as parsed
 use Rattle.gtp_cmd.specs.declared.refusals.RefuseText.TheVariants.{LineTooLong, UnknownCommand}
-use Rattle.sure_lines.specs.Names.{is_own}
+use Rattle.sure_lines.specs.CommandNames.{is_own}
 use Rattle.sure_lines.specs.Machine.{Machine}
 
 -- the words of a line from its command on: the first word is left out if it is an id

@@ -3,7 +3,7 @@ pub mod SeenMachines
 pub mod Effects
 pub mod Answers
 pub mod Replies
-pub mod Names
+pub mod CommandNames
 pub mod Heard
 pub mod Files
 pub mod BoardCommands

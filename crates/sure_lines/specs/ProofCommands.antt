@@ -13,7 +13,7 @@ use Rattle.read_rules.specs.declared.question.Kind.TheVariants.{Attack, Defend}
 use Rattle.read_proof.specs.Tokens.{Word, words_in}
 use Rattle.sure_proof.specs.SureProofs.{Proved, IsSureProof, proves_surely}
 use Rattle.write_sure.specs.Room.{longest_proof}
-use Rattle.sure_lines.specs.Effects.{Effect, refused, told}
+use Rattle.sure_lines.specs.Effects.{Effect, refused, succeeded}
 use Rattle.sure_lines.specs.Files.{named_file, by_file}
 use Rattle.sure_lines.specs.Machine.{Machine, present, question_at}
 use Rattle.sure_lines.specs.QuestionCommands.{sure_reading}
@@ -51,7 +51,7 @@ coded_proof code (first ∷ more) = decimal code ++ blank ∷ (first ∷ more)
 
 -- the code is printed with this proof; or instead the proof is refused as too long, or there is no memory for it
 abbrev pub proof_told : ℕ → List ℕ → Machine → Effect
-proof_told code text old = record (told (coded_proof code text) old) { excuses = ProofTooLong ∷ OutOfMemory ∷ [] }
+proof_told code text old = record (succeeded (coded_proof code text) old) { excuses = ProofTooLong ∷ OutOfMemory ∷ [] }
 
 -- the code of the sure answer to a question about the stone at p is printed with this proof; refused if no stone stands
 -- there
@@ -81,7 +81,7 @@ is_proof_under machine kind p code text =
 -- means
 abbrev pub judged : Machine → Kind → ℕ → ℕ → List ℕ → Effect
 judged old kind p code text =
-    told (word_of (has_allowances (code_of_capture kind code)
+    succeeded (word_of (has_allowances (code_of_capture kind code)
     && is_proof_under old kind p (code_of_capture kind code) text)) old
 
 -- the byte in front of the name of a file that holds a proof

@@ -6,7 +6,7 @@ use Rattle.read_rules.specs.declared.question.Answer.{Answer}
 use Rattle.read_rules.specs.declared.question.Kind.{Kind}
 use Rattle.sure_rules.specs.SureAnswer.{sure_answer_of}
 use Rattle.sure_lines.specs.AnswerText.{answer_text}
-use Rattle.sure_lines.specs.Effects.{Effect, refused, told}
+use Rattle.sure_lines.specs.Effects.{Effect, refused, succeeded}
 use Rattle.sure_lines.specs.Machine.{Machine, present, question_at}
 
 -- the sure answer to a question about the stone at p, on the present position and as deep as the machine reads
@@ -17,5 +17,5 @@ sure_reading machine kind p = sure_answer_of (question_at machine kind p) (prese
 abbrev pub read : Machine → Kind → ℕ → Effect
 read old kind p =
     if is_stone (cell_at (present old).cells p)
-    then told (answer_text old.game.base.size (sure_reading old kind p)) old
+    then succeeded (answer_text old.game.base.size (sure_reading old kind p)) old
     else refused old VertexEmpty

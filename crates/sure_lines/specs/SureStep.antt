@@ -11,10 +11,10 @@ use Rattle.gtp_cmd.specs.declared.commands.Parsed.TheVariants as parsed
 use Rattle.gtp_cmd.specs.declared.refusals.RefuseText.TheVariants.{UnknownCommand}
 use Rattle.read_rules.specs.declared.question.Kind.TheVariants.{Attack, Defend}
 use Rattle.sure_lines.specs.BoardCommands.{resized, cleared, played, taken_back, deepened}
-use Rattle.sure_lines.specs.Effects.{Effect, refused, told, ended, growing, replied}
+use Rattle.sure_lines.specs.Effects.{Effect, refused, succeeded, ended, growing, replied}
 use Rattle.sure_lines.specs.Files.{Contents, word_at}
 use Rattle.sure_lines.specs.Heard.{heard, bytes_in, asked_words, names_own}
-use Rattle.sure_lines.specs.Names.{names_text}
+use Rattle.sure_lines.specs.CommandNames.{names_text}
 use Rattle.sure_lines.specs.ProofCommands.{proved, checked_by, kind_of}
 use Rattle.sure_lines.specs.QuestionCommands.{read}
 use Rattle.sure_lines.specs.RecordCommands.{loaded_by}
@@ -25,16 +25,16 @@ use Rattle.sure_lines.specs.Machine.{Machine}
 -- the effect of a command of this line; the argument file is the text of the file that the command loads, or the proof
 -- that it prints
 abbrev pub effect_of : Machine → List ℕ → List ℕ → Command → Effect
-effect_of old line file command.ProtocolVersion = told (codes "2") old
-effect_of old line file command.Name = told (codes "gopat_sure") old
-effect_of old line file command.Version = told (codes "1") old
+effect_of old line file command.ProtocolVersion = succeeded (codes "2") old
+effect_of old line file command.Name = succeeded (codes "gopat_sure") old
+effect_of old line file command.Version = succeeded (codes "1") old
 effect_of old line file (command.KnownCommand known) =
-    told (word_of (names_own (drop 1 (asked_words (words_of (cleaned line)))))) old
-effect_of old line file command.ListCommands = growing (told names_text old)
+    succeeded (word_of (names_own (drop 1 (asked_words (words_of (cleaned line)))))) old
+effect_of old line file command.ListCommands = growing (succeeded names_text old)
 effect_of old line file command.Quit = ended old
 effect_of old line file (command.BoardSize size) = resized old size
 effect_of old line file command.ClearBoard = cleared old
-effect_of old line file (command.Komi komi) = told [] old
+effect_of old line file (command.Komi komi) = succeeded [] old
 effect_of old line file (command.Play c at) = played old (record { colour = c; at = at })
 effect_of old line file command.Undo = taken_back old old.game.moves
 effect_of old line file (command.Attack p) = read old Attack p

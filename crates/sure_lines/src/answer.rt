@@ -54,7 +54,7 @@ impl Brief {
 #[derive(Drop)]
 pub(crate) enum Answer {
     /// A success with a short result.
-    Told(Brief),
+    Brief(Brief),
     /// A success with a result that took memory.
     Grown(Bytes),
     /// There was no memory, and nothing changed.
@@ -66,19 +66,19 @@ pub(crate) enum Answer {
 }
 
 /// A success with these bytes as its result.
-pub(crate) fn told(bytes: &[u8]) -> Answer
+pub(crate) fn brief_answer(bytes: &[u8]) -> Answer
     requires { length bytes.now ≤ result_room }
-    ensures { result ≡ Answer.Told bytes.now }
+    ensures { result ≡ Answer.Brief bytes.now }
 {
-    Answer::Told(Brief::of(Short::of(bytes)))
+    Answer::Brief(Brief::of(Short::of(bytes)))
 }
 
 /// A success with this text as its result.
-pub(crate) fn told_text(text: Short) -> Answer
+pub(crate) fn text_answer(text: Short) -> Answer
     requires { length text ≤ result_room }
-    ensures { result ≡ Answer.Told text }
+    ensures { result ≡ Answer.Brief text }
 {
-    Answer::Told(Brief::of(text))
+    Answer::Brief(Brief::of(text))
 }
 
 impl Answer {
@@ -88,7 +88,7 @@ impl Answer {
             → MayGive (replied id old effect) (reply_bytes result) new (reply_ends result) }
     {
         match self {
-            Answer::Told(text) => Reply::Short {
+            Answer::Brief(text) => Reply::Short {
                 text: short(id, text.as_slice()),
                 quit: false,
             },

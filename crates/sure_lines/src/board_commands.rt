@@ -5,7 +5,7 @@ ghost use Rattle.read_rules.specs.Ranges.{AreDepths};
 ghost use Rattle.sure_lines.specs.Answers.{IsAnswer};
 ghost use Rattle.sure_lines.specs.BoardCommands.{resized, cleared, played, taken_back, deepened};
 
-use crate::answer::{Answer, told};
+use crate::answer::{Answer, brief_answer};
 use crate::machine::SureMachine;
 use go_base::Size;
 use go_history::{HistoryError, Move};
@@ -21,7 +21,7 @@ impl SureMachine {
             return Answer::Refused(RefuseText::UnacceptableSize);
         };
         self.game.resize(size);
-        told(b"")
+        brief_answer(b"")
     }
 
     /// Begins again from the empty board of the present size.
@@ -29,7 +29,7 @@ impl SureMachine {
         ensures { IsAnswer (cleared self.old) result self.old self.new }
     {
         self.game.clear();
-        told(b"")
+        brief_answer(b"")
     }
 
     /// Plays a move: adds it to the game if it is legal.
@@ -38,7 +38,7 @@ impl SureMachine {
         ensures { IsAnswer (played self.old m) result self.old self.new }
     {
         match self.game.play(m) {
-            Ok(()) => told(b""),
+            Ok(()) => brief_answer(b""),
             Err(HistoryError::Illegal(_)) => Answer::Refused(RefuseText::IllegalMove),
             Err(HistoryError::Full) => Answer::Refused(RefuseText::HistoryFull),
             Err(HistoryError::NoMemory) => Answer::NoMemory,
@@ -50,7 +50,7 @@ impl SureMachine {
         ensures { IsAnswer (taken_back self.old self.old.game.moves) result self.old self.new }
     {
         match self.game.undo() {
-            Ok(()) => told(b""),
+            Ok(()) => brief_answer(b""),
             Err(_) => Answer::Refused(RefuseText::CannotUndo),
         }
     }
@@ -62,6 +62,6 @@ impl SureMachine {
     {
         let tree = self.depths.tree;
         self.depths = Depths::new(plies, wide).unwrap().in_tree(tree);
-        told(b"")
+        brief_answer(b"")
     }
 }

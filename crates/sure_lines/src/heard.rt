@@ -8,7 +8,7 @@ ghost use Rattle.gtp_cmd.specs.Words.{kept, plain, cleaned, words_of, id_of};
 ghost use Rattle.gtp_lex.specs.Raw.{raw_line};
 ghost use Rattle.sure_lines.specs.Heard.{own_parsed, bytes_in, heard_at, asked_words, names_own, own_said};
 
-use crate::names::is_own;
+use crate::command_names::is_own;
 use go_base::Size;
 use gtp_cmd::{Parsed, RefuseText, parse};
 use gtp_lex::Raw;

@@ -10,11 +10,11 @@
 mod answer;
 mod answer_text;
 mod board_commands;
+mod command_names;
 mod files;
 mod heard;
 mod line;
 mod machine;
-mod names;
 mod proof_commands;
 mod question_commands;
 mod record_commands;

@@ -4,19 +4,19 @@ ghost use Rattle.std.specs.Prelude.{◌≡◌, ◌≤◌, ℕ, List, length, IfO
 ghost use Rattle.gtp_cmd.specs.Rooms.{longest_line};
 ghost use Rattle.gtp_cmd.specs.Within.{IsWithin, IsWithinLine};
 ghost use Rattle.gtp_lex.specs.Raw.{raw_line};
-ghost use Rattle.gtp_rules.specs.Transcript.{MayGive, Answers};
+ghost use Rattle.gtp_rules.specs.Transcript.{MayGive, MayAnswer};
 ghost use Rattle.sure_lines.specs.Answers.{IsAnswer};
-ghost use Rattle.sure_lines.specs.Effects.{growing, told};
+ghost use Rattle.sure_lines.specs.Effects.{growing, succeeded};
 ghost use Rattle.sure_lines.specs.Heard.{bytes_in};
 ghost use Rattle.sure_lines.specs.Machine.{Machine};
 ghost use Rattle.sure_lines.specs.Replies.{reply_bytes, reply_ends, word_of};
 ghost use Rattle.sure_lines.specs.SureStep.{effect_of, step};
 ghost use Rattle.sure_lines.specs.Texts.{IsTextOf};
 
-use crate::answer::{Answer, told};
+use crate::answer::{Answer, succeeded};
+use crate::command_names::names_text;
 use crate::heard::{bytes_of, heard, knows_argument};
 use crate::machine::SureMachine;
-use crate::names::names_text;
 use crate::reply::Reply;
 use go_base::{Bytes, NoMemory};
 use go_history::Move;
@@ -37,7 +37,7 @@ pub(crate) fn word(known: bool) -> &'static [u8]
 /// A success with a result that took memory, or the lack of memory if there was none for it.
 fn grown(text: Result<Bytes, NoMemory>) -> Answer
     ensures { (old : Machine) (result_of : List ℕ) → IfOk text (λ bytes. bytes ≡ result_of)
-        → IsAnswer (growing (told result_of old)) result old old }
+        → IsAnswer (growing (succeeded result_of old)) result old old }
 {
     match text {
         Ok(text) => Answer::Grown(text),
@@ -61,15 +61,15 @@ impl SureMachine {
         ensures contents { L.contents files.new ≡ L.contents files.old }
     {
         match command {
-            Command::ProtocolVersion => told(b"2"),
-            Command::Name => told(b"gopat_sure"),
-            Command::Version => told(b"1"),
-            Command::KnownCommand(_) => told(word(knows_argument(line))),
+            Command::ProtocolVersion => succeeded(b"2"),
+            Command::Name => succeeded(b"gopat_sure"),
+            Command::Version => succeeded(b"1"),
+            Command::KnownCommand(_) => succeeded(word(knows_argument(line))),
             Command::ListCommands => grown(names_text(alloc)),
             Command::Quit => Answer::Ended,
             Command::BoardSize(size) => self.resize(size),
             Command::ClearBoard => self.clear(),
-            Command::Komi(_) => told(b""),
+            Command::Komi(_) => succeeded(b""),
             Command::Play(colour, at) => self.play(Move { colour, at }),
             Command::Undo => self.undo(),
             Command::Attack(p) => self.read(Kind::Attack, p),
@@ -93,7 +93,7 @@ impl SureMachine {
     /// nothing.
     pub fn line<L: Loader>(&mut self, alloc: Global, raw: Raw<'_>, files: &mut L) -> Reply
         requires short { length (bytes_in (raw_line raw)) ≤ longest_line }
-        ensures answers { Answers (step (L.contents files.old)) self.old (raw_line raw.entry) (reply_bytes result)
+        ensures answers { MayAnswer (step (L.contents files.old)) self.old (raw_line raw.entry) (reply_bytes result)
             self.new (reply_ends result) }
         ensures contents { L.contents files.new ≡ L.contents files.old }
     {

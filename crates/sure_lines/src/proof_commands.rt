@@ -12,7 +12,7 @@ ghost use Rattle.sure_lines.specs.ProofCommands.{code_of_capture, has_allowances
 ghost use Rattle.sure_lines.specs.ProofCommands.{IsProofTold, is_sure_proof, judged, checked_by, kind_of, names_file};
 ghost use Rattle.sure_lines.specs.ProofCommands.{proof_name, proof_in, blank_for_line_feed};
 
-use crate::answer::{Answer, told};
+use crate::answer::{Answer, brief_answer};
 use crate::files::load_file;
 use crate::line::word;
 use crate::machine::SureMachine;
@@ -221,7 +221,7 @@ impl SureMachine {
     {
         let under = code_of_capture(kind, code);
         let holds = is_proof(&self.position(), kind, p, self.depths, under, words);
-        told(word(are_both(has_allowances(under), holds)))
+        brief_answer(word(are_both(has_allowances(under), holds)))
     }
 
     /// Answers the same of the words in the file whose name stands in the part `name` of the line. Takes memory for the

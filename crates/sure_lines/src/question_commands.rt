@@ -8,7 +8,7 @@ ghost use Rattle.sure_rules.specs.SureAnswer.{sure_answer_of};
 ghost use Rattle.sure_lines.specs.Answers.{IsAnswer};
 ghost use Rattle.sure_lines.specs.QuestionCommands.{read};
 
-use crate::answer::{Answer, told_text};
+use crate::answer::{Answer, text_answer};
 use crate::answer_text::answer_text;
 use crate::machine::SureMachine;
 use go_base::{Cell, Point, Position};
@@ -47,6 +47,6 @@ impl SureMachine {
             return Answer::Refused(RefuseText::VertexEmpty);
         }
         let answer = sure_answer(&position, kind, p, self.depths);
-        told_text(answer_text(position.size(), answer))
+        text_answer(answer_text(position.size(), answer))
     }
 }

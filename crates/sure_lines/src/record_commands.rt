@@ -7,7 +7,7 @@ ghost use Rattle.sure_lines.specs.Answers.{IsAnswer};
 ghost use Rattle.sure_lines.specs.Files.{named_file, IsFileOf, word_at};
 ghost use Rattle.sure_lines.specs.RecordCommands.{loaded_by, recorded};
 
-use crate::answer::{Answer, told};
+use crate::answer::{Answer, brief_answer};
 use crate::files::load_file;
 use crate::machine::SureMachine;
 use gtp_cmd::{RefuseText, Span};
@@ -43,7 +43,7 @@ impl SureMachine {
         match read(contents) {
             Ok(position) => {
                 self.game.start(&position);
-                told(b"")
+                brief_answer(b"")
             }
             Err(error) => Answer::Refused(RefuseText::BadSgf(error.kind)),
         }

@@ -84,8 +84,18 @@ least_found : (s : ℕ) (cells : List Cell) (p n r : ℕ) (least : sets.FinSet n
     → s * s ≤ n → r < s * s → is_boundary s cells p r ≡ true → sets.contains least r ≡ true
 unfolding is_boundary
 least_found s cells p n r least b whole on h =
-    grind (arith, any_below_gives (s * s), string_cell s cells r, string_back s cells r,
-        any_below_none r (is_in_string s cells r), string_on s cells r, and_parts, cases_Bool, both_ways, not-true)
+    grind (
+      arith,
+      any_below_gives (s * s),
+      string_cell s cells r,
+      string_back s cells r,
+      any_below_none r (is_in_string s cells r),
+      string_on s cells r,
+      and_parts,
+      cases_Bool,
+      both_ways,
+      not-true,
+    )
 
 -- where every point was passed, the set is the boundary
 pub Bounds-all : (s : ℕ) (cells : List Cell) (p n : ℕ) (least : sets.FinSet nat_cmp) → Bounds s cells p n least
@@ -120,8 +130,19 @@ pub AddsLeast-some : (s : ℕ) (cells : List Cell) (q r : ℕ) (found old new : 
     → found ≡ string_at s cells q → sets.contains found r ≡ true
     → ((k : ℕ) → k < r → sets.contains found k ≡ false) → new ≡ sets.insert old r → AddsLeast s cells q old new
 AddsLeast-some s cells q r found old new on e h none is =
-    grind (arith, contains-insert_nat, or_right, or_cases, eqb-true, least_in, least_is, or_left, eq-eqb, cases_lt,
-        both_ways)
+    grind (
+      arith,
+      contains-insert_nat,
+      or_right,
+      or_cases,
+      eqb-true,
+      least_in,
+      least_is,
+      or_left,
+      eq-eqb,
+      cases_lt,
+      both_ways,
+    )
 
 -- an empty string has no least point
 pub AddsLeast-none : (s : ℕ) (cells : List Cell) (q : ℕ) (found old : sets.FinSet nat_cmp) → q < s * s

@@ -3,7 +3,7 @@ use Rattle.std.proofs.Common.{◌≡◌, ℕ, ◌*◌, ◌<◌, Bool, true, refl
 use Rattle.go_rules.specs.Position.{BoardState}
 use Rattle.go_base.specs.Facts.{Fact, SizeIs, Agrees, AddsIn, Grows-refl, AddsIn-refl, AddsIn-trans, AddsIn-mono}
 use Rattle.go_base.specs.Facts.{agrees_before, same_size}
-use Rattle.trial_board.specs.Trials.{Trying, Stays, Stays-trans, after}
+use Rattle.trial_board.specs.Trials.{Trying, KeepsTrial, Stays-trans, after}
 
 -- a point of the board whose size was seen is on each position that agrees
 pub on_agreed : {seen : Fact → Bool} {pos : BoardState} (n l : ℕ) → seen (SizeIs n) ≡ true → Agrees seen pos
@@ -14,7 +14,7 @@ on_agreed n l told a on = subst (λ s. l < s * s) (sym (same_size told a)) on
 -- each look was in the area, and what they found holds
 pub record Walked {L : Type 0} (shows : L → BoardState) (seen : L → Fact → Bool) (area : ℕ → BoardState → ℕ → Bool)
     (Found : ℕ → BoardState → Type 0) (first now : Trying L) : Type 0 where
-  pub stays : Stays shows seen first now
+  pub stays : KeepsTrial shows seen first now
   pub near : (pos : BoardState) → Agrees (seen now.look) pos
       → AddsIn (seen first.look) (seen now.look) (area pos.size (after pos first.moves))
   pub over : (pos : BoardState) → Agrees (seen now.look) pos → Found pos.size (after pos first.moves)

@@ -14,7 +14,8 @@ ghost use Rattle.go_base.specs.Facts.{Agrees, Grows, AddsIn, AddsNoBan, AddsBanO
 ghost use Rattle.go_base.specs.Floods.{enemy_points};
 ghost use Rattle.trial_board.specs.declared.moves.TrialMove.{TrialMove};
 ghost use Rattle.trial_board.specs.SomeLiberties.{FindsLiberties};
-ghost use Rattle.trial_board.specs.Trials.{Trying, Stays, Moved, IsNoted, Put, most_moves, after, tried, tried_free};
+ghost use Rattle.trial_board.specs.Trials.{Trying, KeepsTrial, Moved, IsNoted, Put, most_moves, after, tried};
+ghost use Rattle.trial_board.specs.Trials.{tried_free};
 ghost use Rattle.trial_board.specs.Trials.{made_or_suicide, tail, is_some_move};
 ghost use Rattle.trial_board.specs.Changed.{changed};
 ghost use Rattle.trial_board.specs.Boundary.{boundary_points};
@@ -127,7 +128,7 @@ impl<L: Look> Trial<L> {
     /// What stands at `p` after the trial moves, which lead to a position.
     pub fn cell(&mut self, p: Point) -> Cell
         requires { p < (L.shows self.old.look).size * (L.shows self.old.look).size }
-        ensures stays { Stays L.shows L.seen self.old self.new }
+        ensures stays { KeepsTrial L.shows L.seen self.old self.new }
         ensures count { self.new.count ≡ self.old.count }
         ensures over { (pos : BoardState) → Agrees (L.seen self.new.look) pos
             → result ≡ cell_at (after pos self.old.moves).cells p }
@@ -143,7 +144,7 @@ impl<L: Look> Trial<L> {
     /// The string of `p`, its liberties and the enemy stones next to it. All three sets are empty if `p` is empty.
     pub fn string(&mut self, p: Point) -> Found
         requires { p < (L.shows self.old.look).size * (L.shows self.old.look).size }
-        ensures stays { Stays L.shows L.seen self.old self.new }
+        ensures stays { KeepsTrial L.shows L.seen self.old self.new }
         ensures count { self.new.count ≡ self.old.count }
         ensures over { (pos : BoardState) → Agrees (L.seen self.new.look) pos
             → (result.stones ≡ string_at pos.size (after pos self.old.moves).cells p)
@@ -166,7 +167,7 @@ impl<L: Look> Trial<L> {
     /// The least point of each enemy string next to the string of `p`; none if `p` is empty.
     pub fn boundary(&mut self, p: Point) -> PointSet
         requires { p < (L.shows self.old.look).size * (L.shows self.old.look).size }
-        ensures stays { Stays L.shows L.seen self.old self.new }
+        ensures stays { KeepsTrial L.shows L.seen self.old self.new }
         ensures count { self.new.count ≡ self.old.count }
         ensures over { (pos : BoardState) → Agrees (L.seen self.new.look) pos
             → result ≡ boundary_points pos.size (after pos self.old.moves).cells p }
@@ -183,7 +184,7 @@ impl<L: Look> Trial<L> {
     /// The liberties of the string of `p`; none if `p` is empty.
     pub fn liberties(&mut self, p: Point) -> PointSet
         requires { p < (L.shows self.old.look).size * (L.shows self.old.look).size }
-        ensures stays { Stays L.shows L.seen self.old self.new }
+        ensures stays { KeepsTrial L.shows L.seen self.old self.new }
         ensures count { self.new.count ≡ self.old.count }
         ensures over { (pos : BoardState) → Agrees (L.seen self.new.look) pos
             → result ≡ liberty_points pos.size (after pos self.old.moves).cells p }
@@ -201,7 +202,7 @@ impl<L: Look> Trial<L> {
     /// result has more points than `most`, and the search stops once it has seen so many.
     pub fn some_liberties(&mut self, p: Point, most: u16) -> PointSet
         requires { p < (L.shows self.old.look).size * (L.shows self.old.look).size }
-        ensures stays { Stays L.shows L.seen self.old self.new }
+        ensures stays { KeepsTrial L.shows L.seen self.old self.new }
         ensures count { self.new.count ≡ self.old.count }
         ensures over { (pos : BoardState) → Agrees (L.seen self.new.look) pos
             → FindsLiberties pos.size (after pos self.old.moves).cells p most result }
@@ -220,7 +221,7 @@ impl<L: Look> Trial<L> {
     /// if `p` is empty.
     pub fn surroundings(&mut self, p: Point) -> Surroundings
         requires { p < (L.shows self.old.look).size * (L.shows self.old.look).size }
-        ensures stays { Stays L.shows L.seen self.old self.new }
+        ensures stays { KeepsTrial L.shows L.seen self.old self.new }
         ensures count { self.new.count ≡ self.old.count }
         ensures over { (pos : BoardState) → Agrees (L.seen self.new.look) pos
             → (result.liberties ≡ liberty_points pos.size (after pos self.old.moves).cells p)
@@ -242,7 +243,7 @@ impl<L: Look> Trial<L> {
     /// Whether the ban forbids `c` to play at `p`.
     pub fn bans(&mut self, c: Colour, p: Point) -> bool
         requires { p < (L.shows self.old.look).size * (L.shows self.old.look).size }
-        ensures stays { Stays L.shows L.seen self.old self.new }
+        ensures stays { KeepsTrial L.shows L.seen self.old self.new }
         ensures count { self.new.count ≡ self.old.count }
         ensures over { (pos : BoardState) → Agrees (L.seen self.new.look) pos
             → result ≡ is_banned (after pos self.old.moves).ban c p }

@@ -12,8 +12,16 @@ use Rattle.go_rules.proofs.Tests.{same_tests}
 any_below_skip : (test : ℕ → Bool) (n m : ℕ) → n ≤ m → ((k : ℕ) → n ≤ k → k < m → test k ≡ false)
     → any_below m test ≡ any_below n test
 any_below_skip test n m up none =
-    grind (arith, any_below_gives m test, any_below_from n test, any_below_gives n test, any_below_from m test,
-        same_tests, cases_lt, both_ways)
+    grind (
+      arith,
+      any_below_gives m test,
+      any_below_from n test,
+      any_below_gives n test,
+      any_below_from m test,
+      same_tests,
+      cases_lt,
+      both_ways,
+    )
 
 -- what is added to the empty set is all there is
 pub added_to_none : (none : sets.FinSet nat_cmp) (p : ℕ) (here : Bool) → none ≡ sets.empty

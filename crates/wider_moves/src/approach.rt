@@ -8,7 +8,7 @@ ghost use Rattle.go_rules.specs.Position.{BoardState};
 ghost use Rattle.go_base.specs.Facts.{Agrees, AddsIn};
 ghost use Rattle.go_base.specs.Views.{neighbours_of};
 ghost use Rattle.trial_board.specs.Overlays.{neighbourhood_twice};
-ghost use Rattle.trial_board.specs.Trials.{Stays, after};
+ghost use Rattle.trial_board.specs.Trials.{KeepsTrial, after};
 ghost use Rattle.wider_rules.specs.Cramped.{foe_of, is_reached, takes_some, is_cramped};
 ghost use Rattle.wider_rules.specs.Further.{is_in_the_way, is_approach};
 ghost use Rattle.wider_rules.specs.FurtherAreas.{fourth_area};
@@ -43,7 +43,7 @@ fn foe_of(cell: Cell) -> Cell
 /// The neighbours of `l` that hold `cell`.
 fn neighbours_with<L: Look>(board: &mut Trial<L>, cell: Cell, l: Point) -> PointSet
     requires { l < (L.shows board.old.look).size * (L.shows board.old.look).size }
-    ensures stays { Stays L.shows L.seen board.old board.new }
+    ensures stays { KeepsTrial L.shows L.seen board.old board.new }
     ensures over { (pos : BoardState) → Agrees (L.seen board.new.look) pos → (q : ℕ)
         → set.contains result q ≡ holds_next pos.size (after pos board.old.moves).cells cell l q }
     ensures near { (pos : BoardState) → Agrees (L.seen board.new.look) pos
@@ -57,7 +57,7 @@ fn neighbours_with<L: Look>(board: &mut Trial<L>, cell: Cell, l: Point) -> Point
 /// The points that a stone `own` reaches if it is played at `l`.
 fn reached<L: Look>(board: &mut Trial<L>, own: Cell, l: Point) -> PointSet
     requires { l < (L.shows board.old.look).size * (L.shows board.old.look).size }
-    ensures stays { Stays L.shows L.seen board.old board.new }
+    ensures stays { KeepsTrial L.shows L.seen board.old board.new }
     ensures over { (pos : BoardState) → Agrees (L.seen board.new.look) pos → (x : ℕ)
         → set.contains result x ≡ is_reached pos.size (after pos board.old.moves).cells own l x }
     ensures near { (pos : BoardState) → Agrees (L.seen board.new.look) pos
@@ -75,7 +75,7 @@ fn reached<L: Look>(board: &mut Trial<L>, own: Cell, l: Point) -> PointSet
 /// Whether a stone `own` takes a string if it is played at `l`.
 fn takes_some<L: Look>(board: &mut Trial<L>, own: Cell, l: Point) -> bool
     requires { l < (L.shows board.old.look).size * (L.shows board.old.look).size }
-    ensures stays { Stays L.shows L.seen board.old board.new }
+    ensures stays { KeepsTrial L.shows L.seen board.old board.new }
     ensures over { (pos : BoardState) → Agrees (L.seen board.new.look) pos
         → result ≡ takes_some pos.size (after pos board.old.moves).cells own l }
     ensures near { (pos : BoardState) → Agrees (L.seen board.new.look) pos
@@ -90,7 +90,7 @@ fn takes_some<L: Look>(board: &mut Trial<L>, own: Cell, l: Point) -> bool
 /// Whether a stone `own` is cramped if it is played at `l`: it takes nothing, and it reaches at most one point.
 fn is_cramped<L: Look>(board: &mut Trial<L>, own: Cell, l: Point) -> bool
     requires { l < (L.shows board.old.look).size * (L.shows board.old.look).size }
-    ensures stays { Stays L.shows L.seen board.old board.new }
+    ensures stays { KeepsTrial L.shows L.seen board.old board.new }
     ensures over { (pos : BoardState) → Agrees (L.seen board.new.look) pos
         → result ≡ is_cramped pos.size (after pos board.old.moves).cells own l }
     ensures near { (pos : BoardState) → Agrees (L.seen board.new.look) pos
@@ -106,7 +106,7 @@ fn is_cramped<L: Look>(board: &mut Trial<L>, own: Cell, l: Point) -> bool
 /// Adds the enemy stones next to `l` to `found` if a stone `own` would be cramped at `l`.
 fn add_in_the_way<L: Look>(board: &mut Trial<L>, own: Cell, l: Point, found: &mut PointSet)
     requires { l < (L.shows board.old.look).size * (L.shows board.old.look).size }
-    ensures stays { Stays L.shows L.seen board.old board.new }
+    ensures stays { KeepsTrial L.shows L.seen board.old board.new }
     ensures over { (pos : BoardState) → Agrees (L.seen board.new.look) pos → (r : ℕ)
         → set.contains found.new r ≡ (set.contains found.old r
         || (is_cramped pos.size (after pos board.old.moves).cells own l
@@ -124,7 +124,7 @@ fn add_in_the_way<L: Look>(board: &mut Trial<L>, own: Cell, l: Point, found: &mu
 fn beside_cramped<L: Look>(board: &mut Trial<L>, own: Cell, points: &PointSet) -> PointSet
     requires { (l : ℕ) → IsTrue (set.contains points.now l)
         → l < (L.shows board.old.look).size * (L.shows board.old.look).size }
-    ensures stays { Stays L.shows L.seen board.old board.new }
+    ensures stays { KeepsTrial L.shows L.seen board.old board.new }
     ensures over { (pos : BoardState) → Agrees (L.seen board.new.look) pos → (r : ℕ)
         → set.contains result r ≡ any_below (pos.size * pos.size) (λ l. set.contains points.now l
         && (is_cramped pos.size (after pos board.old.moves).cells own l
@@ -147,7 +147,7 @@ fn beside_cramped<L: Look>(board: &mut Trial<L>, own: Cell, points: &PointSet) -
 /// a stone of the target's colour would be cramped at that liberty.
 fn in_the_way<L: Look>(board: &mut Trial<L>, target: Point) -> PointSet
     requires { target < (L.shows board.old.look).size * (L.shows board.old.look).size }
-    ensures stays { Stays L.shows L.seen board.old board.new }
+    ensures stays { KeepsTrial L.shows L.seen board.old board.new }
     ensures over { (pos : BoardState) → Agrees (L.seen board.new.look) pos → (r : ℕ)
         → set.contains result r
         ≡ (nat_lt r (pos.size * pos.size) && is_in_the_way pos.size (after pos board.old.moves).cells target r) }
@@ -163,7 +163,7 @@ fn in_the_way<L: Look>(board: &mut Trial<L>, target: Point) -> PointSet
 /// The points of Approach: the liberties of the strings that stand in the way and have at most two liberties.
 pub(crate) fn approach<L: Look>(board: &mut Trial<L>, target: Point) -> PointSet
     requires { target < (L.shows board.old.look).size * (L.shows board.old.look).size }
-    ensures stays { Stays L.shows L.seen board.old board.new }
+    ensures stays { KeepsTrial L.shows L.seen board.old board.new }
     ensures over { (pos : BoardState) → Agrees (L.seen board.new.look) pos → (p : ℕ)
         → set.contains result p ≡ is_approach pos.size (after pos board.old.moves).cells target p }
     ensures near { (pos : BoardState) → Agrees (L.seen board.new.look) pos

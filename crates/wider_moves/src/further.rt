@@ -5,7 +5,7 @@ ghost use Rattle.std.specs.FinSet as set;
 ghost use Rattle.go_rules.specs.Position.{BoardState};
 ghost use Rattle.go_rules.specs.Strings.{liberty_points};
 ghost use Rattle.go_base.specs.Facts.{Agrees, AddsIn};
-ghost use Rattle.trial_board.specs.Trials.{Stays, after};
+ghost use Rattle.trial_board.specs.Trials.{KeepsTrial, after};
 ghost use Rattle.wider_rules.specs.Further.{is_further_always, is_further_wide, is_further};
 ghost use Rattle.wider_rules.specs.FurtherAreas.{third_area, fourth_area, near_further};
 
@@ -33,7 +33,7 @@ const FEW_OF_LINKED: u16 = 4;
 /// Beside and Rescue: the attacker's further candidates of every ply.
 fn always_for_attacker<L: Look>(board: &mut Trial<L>, target: Point) -> PointSet
     requires on_board { target < (L.shows board.old.look).size * (L.shows board.old.look).size }
-    ensures stays { Stays L.shows L.seen board.old board.new }
+    ensures stays { KeepsTrial L.shows L.seen board.old board.new }
     ensures over { (pos : BoardState) → Agrees (L.seen board.new.look) pos → (p : ℕ)
         → set.contains result p ≡ is_further_always true pos.size (after pos board.old.moves).cells target p }
     ensures near { (pos : BoardState) → Agrees (L.seen board.new.look) pos
@@ -52,7 +52,7 @@ fn wide_for_attacker<L: Look>(board: &mut Trial<L>, target: Point, liberties: &P
     requires on_board { target < (L.shows board.old.look).size * (L.shows board.old.look).size }
     requires liberties { (pos : BoardState) → Agrees (L.seen board.old.look) pos
         → liberties.now ≡ liberty_points pos.size (after pos board.old.moves).cells target }
-    ensures stays { Stays L.shows L.seen board.old board.new }
+    ensures stays { KeepsTrial L.shows L.seen board.old board.new }
     ensures over { (pos : BoardState) → Agrees (L.seen board.new.look) pos → (p : ℕ)
         → set.contains result p ≡ is_further_wide true pos.size (after pos board.old.moves).cells target p }
     ensures near { (pos : BoardState) → Agrees (L.seen board.new.look) pos
@@ -74,7 +74,7 @@ fn always_for_defender<L: Look>(
     requires on_board { target < (L.shows board.old.look).size * (L.shows board.old.look).size }
     requires liberties { (pos : BoardState) → Agrees (L.seen board.old.look) pos
         → liberties.now ≡ liberty_points pos.size (after pos board.old.moves).cells target }
-    ensures stays { Stays L.shows L.seen board.old board.new }
+    ensures stays { KeepsTrial L.shows L.seen board.old board.new }
     ensures over { (pos : BoardState) → Agrees (L.seen board.new.look) pos → (p : ℕ)
         → set.contains result p ≡ is_further_always false pos.size (after pos board.old.moves).cells target p }
     ensures near { (pos : BoardState) → Agrees (L.seen board.new.look) pos
@@ -94,7 +94,7 @@ fn wide_for_defender<L: Look>(board: &mut Trial<L>, target: Point, liberties: &P
     requires on_board { target < (L.shows board.old.look).size * (L.shows board.old.look).size }
     requires liberties { (pos : BoardState) → Agrees (L.seen board.old.look) pos
         → liberties.now ≡ liberty_points pos.size (after pos board.old.moves).cells target }
-    ensures stays { Stays L.shows L.seen board.old board.new }
+    ensures stays { KeepsTrial L.shows L.seen board.old board.new }
     ensures over { (pos : BoardState) → Agrees (L.seen board.new.look) pos → (p : ℕ)
         → set.contains result p ≡ is_further_wide false pos.size (after pos board.old.moves).cells target p }
     ensures near { (pos : BoardState) → Agrees (L.seen board.new.look) pos
@@ -122,7 +122,7 @@ fn of_every_ply<L: Look>(
     requires on_board { target < (L.shows board.old.look).size * (L.shows board.old.look).size }
     requires liberties { (pos : BoardState) → Agrees (L.seen board.old.look) pos
         → liberties.now ≡ liberty_points pos.size (after pos board.old.moves).cells target }
-    ensures stays { Stays L.shows L.seen board.old board.new }
+    ensures stays { KeepsTrial L.shows L.seen board.old board.new }
     ensures over { (pos : BoardState) → Agrees (L.seen board.new.look) pos → (p : ℕ)
         → set.contains result p
         ≡ is_further_always attacker_to_play pos.size (after pos board.old.moves).cells target p }
@@ -147,7 +147,7 @@ fn of_a_wide_ply<L: Look>(
     requires on_board { target < (L.shows board.old.look).size * (L.shows board.old.look).size }
     requires liberties { (pos : BoardState) → Agrees (L.seen board.old.look) pos
         → liberties.now ≡ liberty_points pos.size (after pos board.old.moves).cells target }
-    ensures stays { Stays L.shows L.seen board.old board.new }
+    ensures stays { KeepsTrial L.shows L.seen board.old board.new }
     ensures over { (pos : BoardState) → Agrees (L.seen board.new.look) pos → (p : ℕ)
         → set.contains result p
         ≡ is_further_wide attacker_to_play pos.size (after pos board.old.moves).cells target p }
@@ -179,7 +179,7 @@ pub fn further_candidates<L: Look>(
     requires on_board { target < (L.shows board.old.look).size * (L.shows board.old.look).size }
     requires liberties { (pos : BoardState) → Agrees (L.seen board.old.look) pos
         → liberties.now ≡ liberty_points pos.size (after pos board.old.moves).cells target }
-    ensures stays { Stays L.shows L.seen board.old board.new }
+    ensures stays { KeepsTrial L.shows L.seen board.old board.new }
     ensures over { (pos : BoardState) → Agrees (L.seen board.new.look) pos → (p : ℕ)
         → set.contains result p
         ≡ is_further wide attacker_to_play pos.size (after pos board.old.moves).cells target p }

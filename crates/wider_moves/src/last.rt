@@ -8,7 +8,7 @@ ghost use Rattle.go_rules.specs.Neighbourhood.{neighbourhood_of};
 ghost use Rattle.go_base.specs.Facts.{Agrees, AddsIn};
 ghost use Rattle.go_base.specs.Surroundings.{is_only_liberty};
 ghost use Rattle.go_base.specs.Views.{alone};
-ghost use Rattle.trial_board.specs.Trials.{Stays, after};
+ghost use Rattle.trial_board.specs.Trials.{KeepsTrial, after};
 
 use go_base::Look;
 use go_base::points::PointSet;
@@ -22,7 +22,7 @@ const IN_ATARI: u16 = 1;
 /// liberty.
 fn add_last_liberty<L: Look>(board: &mut Trial<L>, r: Point, found: &mut PointSet)
     requires { r < (L.shows board.old.look).size * (L.shows board.old.look).size }
-    ensures stays { Stays L.shows L.seen board.old board.new }
+    ensures stays { KeepsTrial L.shows L.seen board.old board.new }
     ensures over { (pos : BoardState) → Agrees (L.seen board.new.look) pos → (p : ℕ)
         → set.contains found.new p
         ≡ (set.contains found.old p || is_only_liberty pos.size (after pos board.old.moves).cells r p) }
@@ -40,7 +40,7 @@ fn add_last_liberty<L: Look>(board: &mut Trial<L>, r: Point, found: &mut PointSe
 pub(crate) fn last_liberties<L: Look>(board: &mut Trial<L>, points: &PointSet) -> PointSet
     requires { (r : ℕ) → IsTrue (set.contains points.now r)
         → r < (L.shows board.old.look).size * (L.shows board.old.look).size }
-    ensures stays { Stays L.shows L.seen board.old board.new }
+    ensures stays { KeepsTrial L.shows L.seen board.old board.new }
     ensures over { (pos : BoardState) → Agrees (L.seen board.new.look) pos → (p : ℕ)
         → set.contains result p ≡ any_below (pos.size * pos.size)
         (λ r. set.contains points.now r && is_only_liberty pos.size (after pos board.old.moves).cells r p) }

@@ -6,7 +6,7 @@ ghost use Rattle.go_rules.specs.Position.{BoardState};
 ghost use Rattle.go_rules.specs.Strings.{liberty_points};
 ghost use Rattle.go_rules.specs.Neighbourhood.{neighbourhood_of};
 ghost use Rattle.go_base.specs.Facts.{Agrees, AddsIn};
-ghost use Rattle.trial_board.specs.Trials.{Stays, after};
+ghost use Rattle.trial_board.specs.Trials.{KeepsTrial, after};
 ghost use Rattle.wider_rules.specs.Further.{is_net, is_beside, is_ally, is_join, is_cutter};
 ghost use Rattle.wider_rules.specs.Further.{is_covered_liberty, is_cover};
 ghost use Rattle.wider_rules.specs.FurtherAreas.{second_area, third_area};
@@ -42,7 +42,7 @@ pub(crate) struct WeakEnemies {
 pub(crate) fn net<L: Look>(board: &mut Trial<L>, liberties: &PointSet) -> PointSet
     requires { (l : ℕ) → IsTrue (set.contains liberties.now l)
         → l < (L.shows board.old.look).size * (L.shows board.old.look).size }
-    ensures stays { Stays L.shows L.seen board.old board.new }
+    ensures stays { KeepsTrial L.shows L.seen board.old board.new }
     ensures over { (pos : BoardState) → Agrees (L.seen board.new.look) pos → (target : ℕ)
         → liberties.now ≡ liberty_points pos.size (after pos board.old.moves).cells target → (p : ℕ)
         → set.contains result p ≡ is_net pos.size (after pos board.old.moves).cells target p }
@@ -59,7 +59,7 @@ pub(crate) fn net<L: Look>(board: &mut Trial<L>, liberties: &PointSet) -> PointS
 /// The points of Beside for enemy strings with at most `most` liberties, and the allies next to these strings.
 pub(crate) fn weak_enemies<L: Look>(board: &mut Trial<L>, target: Point, most: u16) -> WeakEnemies
     requires { target < (L.shows board.old.look).size * (L.shows board.old.look).size }
-    ensures stays { Stays L.shows L.seen board.old board.new }
+    ensures stays { KeepsTrial L.shows L.seen board.old board.new }
     ensures liberties { (pos : BoardState) → Agrees (L.seen board.new.look) pos → (p : ℕ)
         → set.contains result.liberties p ≡ is_beside most pos.size (after pos board.old.moves).cells target p }
     ensures allies { (pos : BoardState) → Agrees (L.seen board.new.look) pos → (r : ℕ)
@@ -86,7 +86,7 @@ fn near_friends<L: Look>(board: &mut Trial<L>, target: Point, liberties: &PointS
     requires on_board { target < (L.shows board.old.look).size * (L.shows board.old.look).size }
     requires liberties { (pos : BoardState) → Agrees (L.seen board.old.look) pos
         → liberties.now ≡ liberty_points pos.size (after pos board.old.moves).cells target }
-    ensures stays { Stays L.shows L.seen board.old board.new }
+    ensures stays { KeepsTrial L.shows L.seen board.old board.new }
     ensures over { (pos : BoardState) → Agrees (L.seen board.new.look) pos → (q : ℕ)
         → set.contains result q
         ≡ (nat_lt q (pos.size * pos.size) && is_near_friend pos.size (after pos board.old.moves).cells target q) }
@@ -115,7 +115,7 @@ pub(crate) fn linked_strings<L: Look>(
     requires on_board { target < (L.shows board.old.look).size * (L.shows board.old.look).size }
     requires liberties { (pos : BoardState) → Agrees (L.seen board.old.look) pos
         → liberties.now ≡ liberty_points pos.size (after pos board.old.moves).cells target }
-    ensures stays { Stays L.shows L.seen board.old board.new }
+    ensures stays { KeepsTrial L.shows L.seen board.old board.new }
     ensures liberties { (pos : BoardState) → Agrees (L.seen board.new.look) pos → (p : ℕ)
         → set.contains result.liberties p ≡ is_join most pos.size (after pos board.old.moves).cells target p }
     ensures enemies { (pos : BoardState) → Agrees (L.seen board.new.look) pos → (r : ℕ)
@@ -132,7 +132,7 @@ pub(crate) fn linked_strings<L: Look>(
 /// The liberties of the enemy strings that are next to the target and have two or three liberties.
 fn covered_liberties<L: Look>(board: &mut Trial<L>, target: Point) -> PointSet
     requires { target < (L.shows board.old.look).size * (L.shows board.old.look).size }
-    ensures stays { Stays L.shows L.seen board.old board.new }
+    ensures stays { KeepsTrial L.shows L.seen board.old board.new }
     ensures over { (pos : BoardState) → Agrees (L.seen board.new.look) pos → (l : ℕ)
         → set.contains result l ≡ is_covered_liberty pos.size (after pos board.old.moves).cells target l }
     ensures near { (pos : BoardState) → Agrees (L.seen board.new.look) pos
@@ -152,7 +152,7 @@ fn covered_liberties<L: Look>(board: &mut Trial<L>, target: Point) -> PointSet
 /// or three liberties.
 pub(crate) fn cover<L: Look>(board: &mut Trial<L>, target: Point) -> PointSet
     requires { target < (L.shows board.old.look).size * (L.shows board.old.look).size }
-    ensures stays { Stays L.shows L.seen board.old board.new }
+    ensures stays { KeepsTrial L.shows L.seen board.old board.new }
     ensures over { (pos : BoardState) → Agrees (L.seen board.new.look) pos → (p : ℕ)
         → set.contains result p ≡ is_cover pos.size (after pos board.old.moves).cells target p }
     ensures near { (pos : BoardState) → Agrees (L.seen board.new.look) pos

@@ -9,7 +9,7 @@ ghost use Rattle.go_rules.specs.Position.{BoardState};
 ghost use Rattle.go_rules.specs.Neighbourhood.{neighbourhood_of};
 ghost use Rattle.go_base.specs.Facts.{Agrees, AddsIn};
 ghost use Rattle.go_base.specs.Views.{alone, neighbours_of};
-ghost use Rattle.trial_board.specs.Trials.{Stays, after};
+ghost use Rattle.trial_board.specs.Trials.{KeepsTrial, after};
 ghost use Rattle.wider_rules.specs.Strings.{holds_next};
 
 use go_base::points::PointSet;
@@ -22,7 +22,7 @@ use trial_board::Trial;
 fn add_where<L: Look>(board: &mut Trial<L>, cell: Cell, q: Point, found: &mut PointSet)
     requires on_board { q < (L.shows board.old.look).size * (L.shows board.old.look).size }
     requires small { q < largest_points }
-    ensures stays { Stays L.shows L.seen board.old board.new }
+    ensures stays { KeepsTrial L.shows L.seen board.old board.new }
     ensures over { (pos : BoardState) → Agrees (L.seen board.new.look) pos
         → found.new ≡ (if same_cell (cell_at (after pos board.old.moves).cells q) cell then set.insert found.old q
         else found.old) }
@@ -36,7 +36,7 @@ fn add_where<L: Look>(board: &mut Trial<L>, cell: Cell, q: Point, found: &mut Po
 /// Adds the neighbours of `l` that hold `cell` to `found`. The trial moves stay as they were, and it takes no memory.
 pub fn add_sides<L: Look>(board: &mut Trial<L>, cell: Cell, l: Point, found: &mut PointSet)
     requires { l < (L.shows board.old.look).size * (L.shows board.old.look).size }
-    ensures stays { Stays L.shows L.seen board.old board.new }
+    ensures stays { KeepsTrial L.shows L.seen board.old board.new }
     ensures over { (pos : BoardState) → Agrees (L.seen board.new.look) pos → (p : ℕ)
         → set.contains found.new p
         ≡ (set.contains found.old p || holds_next pos.size (after pos board.old.moves).cells cell l p) }
@@ -61,7 +61,7 @@ pub fn add_sides_of<L: Look>(
 )
     requires { (l : ℕ) → IsTrue (set.contains points.now l)
         → l < (L.shows board.old.look).size * (L.shows board.old.look).size }
-    ensures stays { Stays L.shows L.seen board.old board.new }
+    ensures stays { KeepsTrial L.shows L.seen board.old board.new }
     ensures over { (pos : BoardState) → Agrees (L.seen board.new.look) pos → (p : ℕ)
         → set.contains found.new p ≡ (set.contains found.old p || any_below (pos.size * pos.size)
         (λ l. set.contains points.now l && holds_next pos.size (after pos board.old.moves).cells cell l p)) }
@@ -80,7 +80,7 @@ pub fn add_sides_of<L: Look>(
 pub(crate) fn sides_of<L: Look>(board: &mut Trial<L>, cell: Cell, points: &PointSet) -> PointSet
     requires { (l : ℕ) → IsTrue (set.contains points.now l)
         → l < (L.shows board.old.look).size * (L.shows board.old.look).size }
-    ensures stays { Stays L.shows L.seen board.old board.new }
+    ensures stays { KeepsTrial L.shows L.seen board.old board.new }
     ensures over { (pos : BoardState) → Agrees (L.seen board.new.look) pos → (p : ℕ)
         → set.contains result p ≡ any_below (pos.size * pos.size)
         (λ l. set.contains points.now l && holds_next pos.size (after pos board.old.moves).cells cell l p) }

@@ -8,7 +8,7 @@ ghost use Rattle.go_rules.specs.Strings.{string_at};
 ghost use Rattle.go_rules.specs.Neighbourhood.{neighbourhood_of};
 ghost use Rattle.go_base.specs.Facts.{Agrees, AddsIn};
 ghost use Rattle.go_base.specs.Views.{alone};
-ghost use Rattle.trial_board.specs.Trials.{Stays, after};
+ghost use Rattle.trial_board.specs.Trials.{KeepsTrial, after};
 ghost use Rattle.wider_rules.specs.Strings.{is_few_liberty, is_few_enemy};
 
 use go_base::Look;
@@ -43,7 +43,7 @@ fn add_string<L: Look>(
     found: &mut Around,
 ) -> PointSet
     requires { q < (L.shows board.old.look).size * (L.shows board.old.look).size }
-    ensures stays { Stays L.shows L.seen board.old board.new }
+    ensures stays { KeepsTrial L.shows L.seen board.old board.new }
     ensures stones { (pos : BoardState) → Agrees (L.seen board.new.look) pos
         → result ≡ string_at pos.size (after pos board.old.moves).cells q }
     ensures liberties { (pos : BoardState) → Agrees (L.seen board.new.look) pos → (p : ℕ)
@@ -80,7 +80,7 @@ pub(crate) fn around_strings<L: Look>(
 ) -> Around
     requires { (q : ℕ) → IsTrue (set.contains points.now q)
         → q < (L.shows board.old.look).size * (L.shows board.old.look).size }
-    ensures stays { Stays L.shows L.seen board.old board.new }
+    ensures stays { KeepsTrial L.shows L.seen board.old board.new }
     ensures liberties { (pos : BoardState) → Agrees (L.seen board.new.look) pos → (p : ℕ)
         → set.contains result.liberties p ≡ any_below (pos.size * pos.size)
         (λ q. set.contains points.now q

@@ -2,7 +2,7 @@
 ghost use Rattle.std.specs.Prelude.{◌≡◌, Some, false, is_err};
 ghost use Rattle.std.specs.Io.{ReadsAtMost};
 ghost use Rattle.std.specs.Io.KnownBytes.{ReadConsumes};
-ghost use Rattle.gtp_io.specs.Outside.{Gave, IsCounted};
+ghost use Rattle.gtp_io.specs.Outside.{GaveBytes, IsCounted};
 ghost use Rattle.workload.specs.GeneratedLines.{generated_text};
 
 use crate::rest::Rest;
@@ -51,7 +51,7 @@ impl Source for Workload {
     fn next(&mut self, buf: &mut [u8]) -> Result<usize, Failed>
         ensures bound { ReadsAtMost result buf.new }
         ensures bytes { ReadConsumes (Some self.old.left) (Some self.new.left) result buf.new }
-        ensures piece { Gave self.new.piece result }
+        ensures piece { GaveBytes self.new.piece result }
         ensures cause { IsCounted 0 0 result }
         ensures last { false ≡ is_err result }
     {

@@ -12,20 +12,21 @@ use Rattle.read_rules.specs.declared.question.ReadingQuestion.{ReadingQuestion}
 use Rattle.read_rules.specs.Answer.{is_attack, first_node}
 use Rattle.read_rules.specs.GameTree.{pass_saves, first_success, first_move, at_point}
 use Rattle.read_tree.specs.Allowances.{Ko, defender_may, neither_may, attacker_may, all_three, has, has_some}
-use Rattle.read_tree.specs.Allowances.{under, Tells, own_ko, own_where, without, both, attacker_ko_of, defender_ko_of}
+use Rattle.read_tree.specs.Allowances.{under, IsFiltered, own_ko, own_where, without, both, attacker_ko_of}
+use Rattle.read_tree.specs.Allowances.{defender_ko_of}
 use Rattle.read_tree.proofs.AllowanceLemmas.{some_of, none_of, has-without, in_other, and_parts_not, has_all}
 use Rattle.read_tree.proofs.TableLemmas.{has_both}
 use Rattle.read_tree.proofs.NodeLemmas.{under_by, first_point}
 use Rattle.read_proof.specs.FirstProof.{first_words, first_words_of}
 use Rattle.read_proof.specs.ProofOf.{codes_down_to, claim_under, letter_of}
-use Rattle.write_proof.specs.declared.alike.Told.{Told}
-use Rattle.write_proof.specs.declared.alike.Told.TheVariants.{Always, Never, Differs}
+use Rattle.write_proof.specs.declared.alike.MoveSuccess.{MoveSuccess}
+use Rattle.write_proof.specs.declared.alike.MoveSuccess.TheVariants.{Always, Never, Differs}
 use Rattle.write_proof.specs.declared.alike.Common.{Common}
 use Rattle.write_proof.specs.declared.alike.Common.TheVariants.{Move, Nothing, Differs as differs}
 use Rattle.write_proof.specs.declared.text.NoRoom.{NoRoom}
 use Rattle.read_proof.specs.Tokens.{Word}
 use Rattle.write_proof.specs.Printed.{behind_blanks, Puts}
-use Rattle.write_proof.specs.Alike.{IsOne, only, ko_under, IsTold, IsCommon, claim_words, PutsAlike}
+use Rattle.write_proof.specs.Alike.{IsOne, only, ko_under, IsMoveSuccess, IsCommon, claim_words, PutsAlike}
 use Rattle.write_proof.proofs.PutLemmas.{puts_fails, blanks_both, part, under_words, whole_one, whole_first}
 
 -- an error that is handed up is that of the first piece
@@ -146,16 +147,16 @@ told_one asked good one without_it with_it =
     both_ways (has good a.0) a.2 (ap (has good) (one a.0 b.0 a.1 in_both.0) ∙ in_both.1)
 
 -- what is told of the asked allowances is told of each
-pub told_each : (asked found : Allowances) (test : Ko → Bool) → Tells asked found test → (ko : Ko)
+pub success_each : (asked found : Allowances) (test : Ko → Bool) → IsFiltered asked found test → (ko : Ko)
     → has asked ko ≡ true → has found ko ≡ test ko
-told_each asked found test tells ko there = tells.each ko ∙ ap (λ b. b && test ko) there
+success_each asked found test tells ko there = tells.each ko ∙ ap (λ b. b && test ko) there
 
 -- what is told of a test is told of another that is the same where it is asked
-pub told_same : (asked : Allowances) (t : Told) (f g : Ko → Bool) → ((ko : Ko) → has asked ko ≡ true → f ko ≡ g ko)
-    → IsTold asked t f → IsTold asked t g
-told_same asked Always f g same h = λ ko a. sym (same ko a) ∙ h ko a
-told_same asked Never f g same h = λ ko a. sym (same ko a) ∙ h ko a
-told_same asked Differs f g same h = tt
+pub success_same : (asked : Allowances) (t : MoveSuccess) (f g : Ko → Bool)
+    → ((ko : Ko) → has asked ko ≡ true → f ko ≡ g ko) → IsMoveSuccess asked t f → IsMoveSuccess asked t g
+success_same asked Always f g same h = λ ko a. sym (same ko a) ∙ h ko a
+success_same asked Never f g same h = λ ko a. sym (same ko a) ∙ h ko a
+success_same asked Differs f g same h = tt
 
 -- where the pass does not save the target, the first move is the first point
 pub after_pass : (n : ℕ) (turn : Turn) (asked : Allowances) (here : BoardState) (found : Common)

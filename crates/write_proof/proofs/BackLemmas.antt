@@ -6,12 +6,12 @@ use Rattle.read_rules.specs.declared.turn.Turn.{Turn}
 use Rattle.read_rules.specs.Trees.{is_wider}
 use Rattle.read_rules.specs.GameTree.{is_captured, is_walled_in, has_lost_one_stone, can_play}
 use Rattle.read_tree.specs.declared.allowances.Allowances.{Allowances}
-use Rattle.read_tree.specs.Allowances.{has, under, Tells}
+use Rattle.read_tree.specs.Allowances.{has, under, IsFiltered}
 use Rattle.read_tree.proofs.TakingLemmas.{lost_lone, back_none, back_is}
 use Rattle.read_proof.specs.Proves.{can_take_back}
-use Rattle.write_proof.specs.declared.alike.Told.{Told}
-use Rattle.write_proof.specs.Alike.{IsTold}
-use Rattle.write_proof.proofs.AlikeLemmas.{told_each, told_same}
+use Rattle.write_proof.specs.declared.alike.MoveSuccess.{MoveSuccess}
+use Rattle.write_proof.specs.Alike.{IsMoveSuccess}
+use Rattle.write_proof.proofs.AlikeLemmas.{success_each, success_same}
 
 -- where the defender cannot take back there is no child to which he does
 pub not_back : (o : Option (Node × BoardState)) → is_some o ≡ false → o ≡ None
@@ -37,13 +37,13 @@ pub cannot_take_back : (node : Node) (pos : BoardState) → has_lost_one_stone n
 cannot_take_back node pos e = ap is_some (back_none node pos e)
 
 -- where one was, what is told of the play at its point is told of taking back
-pub told_back : (asked found : Allowances) (told : Told) (turn : Turn) (here : BoardState)
+pub success_back : (asked found : Allowances) (told : MoveSuccess) (turn : Turn) (here : BoardState)
     → is_wider turn.tree ≡ true → turn.attacker_to_play ≡ false → is_captured here turn.target ≡ true
     → is_walled_in here.size here.cells turn.target (other turn.defender) ≡ true
-    → Tells asked found (λ ko. can_play (under turn ko) here turn.target) → IsTold asked told (has found)
-    → IsTold asked told (λ ko. can_take_back (under turn ko) here)
-told_back asked found told turn here wider defends taken walled tells is =
-    told_same asked told (has found) (λ ko. can_take_back (under turn ko) here)
-    (λ ko there. told_each asked found _ tells ko there
+    → IsFiltered asked found (λ ko. can_play (under turn ko) here turn.target) → IsMoveSuccess asked told (has found)
+    → IsMoveSuccess asked told (λ ko. can_take_back (under turn ko) here)
+success_back asked found told turn here wider defends taken walled tells is =
+    success_same asked told (has found) (λ ko. can_take_back (under turn ko) here)
+    (λ ko there. success_each asked found _ tells ko there
     ∙ ap is_some (sym (back_is (under turn ko) here (lost_lone (under turn ko) here wider defends taken walled))))
     is

@@ -11,7 +11,7 @@ use Rattle.go_rules.specs.Position.{BoardState}
 use Rattle.go_rules.specs.Play.{pass}
 use Rattle.go_rules.specs.Strings.{liberties}
 use Rattle.go_base.specs.Facts.{Fact}
-use Rattle.trial_board.specs.Trials.{Trying, Stays, after}
+use Rattle.trial_board.specs.Trials.{Trying, KeepsTrial, after}
 use Rattle.read_rules.proofs.CandidateLaws.{candidate_on}
 use Rattle.read_rules.specs.Candidates.{is_candidate}
 use Rattle.read_rules.specs.declared.node.Node.{Node}
@@ -32,7 +32,7 @@ use Rattle.write_proof.proofs.PutLemmas.{puts_both, puts_up, blanks_both, one_le
 
 -- where the trial moves and the position shown stay, so does the position after the moves
 pub here_stays : {L : Type 0} (shows : L → BoardState) (seen : L → Fact → Bool) (old new : Trying L)
-    → Stays shows seen old new → position_on shows new ≡ position_on shows old
+    → KeepsTrial shows seen old new → position_on shows new ≡ position_on shows old
 here_stays shows seen old new stays =
     ap (after (shows new.look)) stays.moves ∙ ap (λ (p : BoardState). after p old.moves) stays.shown
 

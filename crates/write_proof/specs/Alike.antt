@@ -11,8 +11,8 @@ use Rattle.read_tree.specs.Allowances.{Ko, defender_may, neither_may, attacker_m
 use Rattle.read_proof.specs.Tokens.{Word}
 use Rattle.read_proof.specs.ProofOf.{letter_of}
 use Rattle.read_proof.specs.FirstProof.{first_words}
-use Rattle.write_proof.specs.declared.alike.Told.{Told}
-use Rattle.write_proof.specs.declared.alike.Told.TheVariants.{Always, Never, Differs}
+use Rattle.write_proof.specs.declared.alike.MoveSuccess.{MoveSuccess}
+use Rattle.write_proof.specs.declared.alike.MoveSuccess.TheVariants.{Always, Never, Differs}
 use Rattle.write_proof.specs.declared.alike.Common.{Common}
 use Rattle.write_proof.specs.declared.alike.Common.TheVariants.{Move, Nothing, Differs as differs}
 use Rattle.write_proof.specs.declared.text.NoRoom.{NoRoom}
@@ -34,10 +34,10 @@ abbrev pub ko_under : Bool → ℕ → Ko
 ko_under attack code = if code == 3 then own_ko (not attack) else if code == 1 then own_ko attack else neither_may
 
 -- the test is true of each asked allowance if Always is told, and of none if Never is told; Differs says nothing
-abbrev pub IsTold : Allowances → Told → (Ko → Bool) → Type 0
-IsTold asked Always test = (ko : Ko) → has asked ko ≡ true → test ko ≡ true
-IsTold asked Never test = (ko : Ko) → has asked ko ≡ true → test ko ≡ false
-IsTold asked Differs test = Unit {0}
+abbrev pub IsMoveSuccess : Allowances → MoveSuccess → (Ko → Bool) → Type 0
+IsMoveSuccess asked Always test = (ko : Ko) → has asked ko ≡ true → test ko ≡ true
+IsMoveSuccess asked Never test = (ko : Ko) → has asked ko ≡ true → test ko ≡ false
+IsMoveSuccess asked Differs test = Unit {0}
 
 -- under each asked allowance this is the first move, or there is none; Differs says nothing
 abbrev pub IsCommon : Allowances → Common → (Ko → Option Spot) → Type 0

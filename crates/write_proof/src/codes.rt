@@ -1,7 +1,7 @@
 //! The first proof of a code: a letter and the first proof of a claim for each code from 3 down.
 
 ghost use Rattle.std.specs.Prelude.{◌≡◌, ◌≢◌, ◌+◌, ◌*◌, ◌<◌, ◌≤◌, [], ◌∷◌, length, Ok, true, false};
-ghost use Rattle.trial_board.specs.Trials.{Stays, most_moves};
+ghost use Rattle.trial_board.specs.Trials.{KeepsTrial, most_moves};
 ghost use Rattle.read_tree.specs.Allowances.{has_some};
 ghost use Rattle.read_tree.specs.Table.{IsTrueTable};
 ghost use Rattle.read_tree.specs.Walk.{IsPointOf};
@@ -56,7 +56,7 @@ pub fn write_claim<L: Look>(
     requires table { IsTrueTable (L.seen board.old.look) question.now.tree question.now.target question.now.colour
         memory.old.table.now }
     requires bytes { length out.old ≤ most_bytes }
-    ensures stays { Stays L.shows L.seen board.old board.new }
+    ensures stays { KeepsTrial L.shows L.seen board.old board.new }
     ensures table { IsTrueTable (L.seen board.new.look) question.now.tree question.now.target question.now.colour
         memory.new.table.now }
     ensures puts { PutsAlike asked out.old (claim_words question.now (position_on L.shows board.old) won) out.new
@@ -89,7 +89,7 @@ fn write_under<L: Look>(
     requires table { IsTrueTable (L.seen board.old.look) question.now.tree question.now.target question.now.colour
         memory.old.table.now }
     requires bytes { length out.old ≤ most_bytes }
-    ensures stays { Stays L.shows L.seen board.old board.new }
+    ensures stays { KeepsTrial L.shows L.seen board.old board.new }
     ensures table { IsTrueTable (L.seen board.new.look) question.now.tree question.now.target question.now.colour
         memory.new.table.now }
     ensures puts { Puts out.old

@@ -4,7 +4,7 @@ ghost use Rattle.std.specs.Prelude.{◌≡◌, ◌≢◌, ◌↔◌, ◌+◌, �
 ghost use Rattle.std.specs.Prelude.{length, drop};
 ghost use Rattle.go_rules.specs.Strings.{cell_at};
 ghost use Rattle.go_base.specs.Facts.{Fact};
-ghost use Rattle.trial_board.specs.Trials.{Stays, most_moves};
+ghost use Rattle.trial_board.specs.Trials.{KeepsTrial, most_moves};
 ghost use Rattle.read_tree.specs.Walk.{IsPointOf};
 ghost use Rattle.read_rules.specs.Ranges.{most_plies};
 ghost use Rattle.read_rules.specs.Answer.{answer_of, asked_in};
@@ -67,7 +67,7 @@ fn alike_words<L: Look>(
     requires table { IsTrueTable (L.seen board.old.look) question.now.tree question.now.target question.now.colour
         memory.old.table.now }
     requires bytes { length out.old ≤ most_bytes }
-    ensures stays { Stays L.shows L.seen board.old board.new }
+    ensures stays { KeepsTrial L.shows L.seen board.old board.new }
     ensures table { IsTrueTable (L.seen board.new.look) question.now.tree question.now.target question.now.colour
         memory.new.table.now }
     ensures puts { result ≢ Ok false → Puts out.old

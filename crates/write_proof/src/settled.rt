@@ -1,7 +1,7 @@
 //! Whether a claim is settled at a node, on a board with trial moves.
 
 ghost use Rattle.std.specs.Prelude.{◌≡◌, ◌+◌, ◌*◌, ◌<◌, ◌/◌, ◌||◌, ◌&&◌, ◌==◌, nat_lt, None, if◌then◌else◌};
-ghost use Rattle.trial_board.specs.Trials.{Stays};
+ghost use Rattle.trial_board.specs.Trials.{KeepsTrial};
 ghost use Rattle.read_rules.specs.GameTree.{taking_back};
 ghost use Rattle.read_rules.specs.Trees.{most_narrow};
 ghost use Rattle.read_tree.specs.Allowances.{Ko, under};
@@ -30,7 +30,7 @@ fn are_too_many(turn: Turn, plies: u8, liberties: u16) -> bool
 /// under each ko allowance under which the defender cannot take back.
 pub fn is_settled<L: Look>(board: &mut Trial<L>, turn: Turn, plies: u8, won: bool) -> bool
     requires target { turn.target < (L.shows board.old.look).size * (L.shows board.old.look).size }
-    ensures stays { Stays L.shows L.seen board.old board.new }
+    ensures stays { KeepsTrial L.shows L.seen board.old board.new }
     ensures answer { (ko : Ko) → taking_back (under turn ko) (position_on L.shows board.old) ≡ None
         → result ≡ is_settled plies won (under turn ko) (position_on L.shows board.old) }
 {

@@ -3,7 +3,7 @@
 
 ghost use Rattle.std.specs.Prelude.{◌≡◌, ◌≢◌, ◌+◌, ◌<◌, ◌≤◌, [], ◌∷◌, codes, length, Ok, None, true, false};
 ghost use Rattle.std.specs.Option.{option_to_list};
-ghost use Rattle.trial_board.specs.Trials.{Stays, most_moves};
+ghost use Rattle.trial_board.specs.Trials.{KeepsTrial, most_moves};
 ghost use Rattle.read_rules.specs.declared.question.Spot.TheVariants.{At};
 ghost use Rattle.read_rules.specs.GameTree.{child_of, first_move, taking_back};
 ghost use Rattle.read_tree.specs.Allowances.{Ko, under, neither_may, has, has_some};
@@ -15,10 +15,10 @@ ghost use Rattle.write_proof.specs.Printed.{behind_blanks, Puts, position_on};
 ghost use Rattle.write_proof.specs.Room.{most_bytes};
 ghost use Rattle.write_proof.specs.Alike.{IsOne, PutsAlike};
 
-use crate::alike::{Common, Told, first_alike, is_own_alone};
+use crate::alike::{Common, MoveSuccess, first_alike, is_own_alone};
 use crate::room::Text;
 use crate::settled::{is_settled, is_wanted};
-use crate::taking_back::back_told;
+use crate::taking_back::back_success;
 use crate::text::{NoRoom, put_move, put_word};
 use go_base::{Look, Point};
 use read_moves::candidates;
@@ -66,7 +66,7 @@ fn write_pass<L: Look>(
     requires some { has_some asked ≡ true }
     requires table { IsTrueTableAt (L.seen board.old.look) turn memory.old.table.now }
     requires bytes { length out.old ≤ most_bytes }
-    ensures stays { Stays L.shows L.seen board.old board.new }
+    ensures stays { KeepsTrial L.shows L.seen board.old board.new }
     ensures table { IsTrueTableAt (L.seen board.new.look) turn memory.new.table.now }
     ensures puts { PutsAlike asked out.old (λ ko. write_each (first_words plies won)
         (pass_children (under turn ko) (position_on L.shows board.old))) out.new result }
@@ -100,7 +100,7 @@ fn write_play<L: Look>(
     requires some { has_some asked ≡ true }
     requires table { IsTrueTableAt (L.seen board.old.look) turn memory.old.table.now }
     requires bytes { length out.old ≤ most_bytes }
-    ensures stays { Stays L.shows L.seen board.old board.new }
+    ensures stays { KeepsTrial L.shows L.seen board.old board.new }
     ensures table { IsTrueTableAt (L.seen board.new.look) turn memory.new.table.now }
     ensures puts { PutsAlike asked out.old (λ ko. write_each (first_words plies won)
         (option_to_list (child_of (under turn ko) (position_on L.shows board.old) p))) out.new result }
@@ -143,7 +143,7 @@ fn write_plays<L: Look>(
     requires some { has_some asked ≡ true }
     requires table { IsTrueTableAt (L.seen board.old.look) turn memory.old.table.now }
     requires bytes { length out.old ≤ most_bytes }
-    ensures stays { Stays L.shows L.seen board.old board.new }
+    ensures stays { KeepsTrial L.shows L.seen board.old board.new }
     ensures table { IsTrueTableAt (L.seen board.new.look) turn memory.new.table.now }
     ensures puts { PutsAlike asked out.old (λ ko. write_each (first_words plies won)
         (play_children (under turn ko) (position_on L.shows board.old))) out.new result }
@@ -178,7 +178,7 @@ fn write_move<L: Look>(
     requires some { has_some asked ≡ true }
     requires table { IsTrueTableAt (L.seen board.old.look) turn memory.old.table.now }
     requires bytes { length out.old ≤ most_bytes }
-    ensures stays { Stays L.shows L.seen board.old board.new }
+    ensures stays { KeepsTrial L.shows L.seen board.old board.new }
     ensures table { IsTrueTableAt (L.seen board.new.look) turn memory.new.table.now }
     ensures puts { PutsAlike asked out.old (λ ko. write_move (first_words plies won) (under turn ko)
         (position_on L.shows board.old) (first_move plies (under turn ko) (position_on L.shows board.old)))
@@ -215,7 +215,7 @@ fn write_back<L: Look>(
     requires some { has_some asked ≡ true }
     requires table { IsTrueTableAt (L.seen board.old.look) turn memory.old.table.now }
     requires bytes { length out.old ≤ most_bytes }
-    ensures stays { Stays L.shows L.seen board.old board.new }
+    ensures stays { KeepsTrial L.shows L.seen board.old board.new }
     ensures table { IsTrueTableAt (L.seen board.new.look) turn memory.new.table.now }
     ensures puts { PutsAlike asked out.old (λ ko. move_word (position_on L.shows board.old).size (At turn.target)
         ∷ write_each (first_words plies won)
@@ -246,7 +246,7 @@ fn write_moves<L: Look>(
     requires some { has_some asked ≡ true }
     requires table { IsTrueTableAt (L.seen board.old.look) turn memory.old.table.now }
     requires bytes { length out.old ≤ most_bytes }
-    ensures stays { Stays L.shows L.seen board.old board.new }
+    ensures stays { KeepsTrial L.shows L.seen board.old board.new }
     ensures table { IsTrueTableAt (L.seen board.new.look) turn memory.new.table.now }
     ensures puts { PutsAlike asked out.old (λ ko. first_words plies won (under turn ko) (position_on L.shows board.old))
         out.new result }
@@ -284,7 +284,7 @@ pub fn write<L: Look>(
     requires some { has_some asked ≡ true }
     requires table { IsTrueTableAt (L.seen board.old.look) turn memory.old.table.now }
     requires bytes { length out.old ≤ most_bytes }
-    ensures stays { Stays L.shows L.seen board.old board.new }
+    ensures stays { KeepsTrial L.shows L.seen board.old board.new }
     ensures table { IsTrueTableAt (L.seen board.new.look) turn memory.new.table.now }
     ensures puts { PutsAlike asked out.old (λ ko. first_words plies won (under turn ko) (position_on L.shows board.old))
         out.new result }
@@ -293,9 +293,9 @@ pub fn write<L: Look>(
     if plies == 0 {
         return put_dot(out);
     }
-    match back_told(board, turn, asked) {
-        Told::Always => write_back(board, turn, asked, plies - 1, won, memory, out),
-        Told::Differs => Ok(false),
-        Told::Never => write_moves(board, turn, asked, plies, won, memory, out),
+    match back_success(board, turn, asked) {
+        MoveSuccess::Always => write_back(board, turn, asked, plies - 1, won, memory, out),
+        MoveSuccess::Differs => Ok(false),
+        MoveSuccess::Never => write_moves(board, turn, asked, plies, won, memory, out),
     }
 }

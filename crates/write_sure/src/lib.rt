@@ -5,10 +5,10 @@
 //! the proof has to give. A text is answered only if the checker accepts it, so each text that is answered is a proof.
 #![tactic(auto)]
 
+mod checked_proof;
 mod refusal;
 mod text;
-mod told;
 mod walk;
 
+pub use checked_proof::sure_proof;
 pub use refusal::SureProofError;
-pub use told::sure_proof;

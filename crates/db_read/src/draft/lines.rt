@@ -16,7 +16,7 @@ ghost use Rattle.db_entry.specs.Reads.{Draws, IsMarked};
 
 use crate::draft::{Draft, ExpressionText};
 use crate::error::DbError;
-use crate::names::name_of;
+use crate::pattern_names::name_of;
 use crate::stages::fault_at;
 use cons_parse::{ConsError, parse};
 use db_entry::{Diagram, Marks, bytes_of, read_colon_line};

@@ -1,5 +1,5 @@
 //! The counts of readings and of connections.
-use super::runs::{CASE, Case, Told, assert_cases, compare, run_on};
+use super::runs::{CASE, Case, ExpectedResult, assert_cases, compare, run_on};
 use std::alloc::Global;
 use std::process::Abort;
 
@@ -239,13 +239,13 @@ fn readings_and_connections_are_counted(rt: HostRuntime) {
 /// Runs the case without its options, and compares all that came of it.
 fn assert_silent(rt: &impl Abort, alloc: Global, case: &Case<'_>) {
     let ran = run_on(rt, alloc, &[], case.files, case.input, case.way);
-    let told = Told {
+    let expected = ExpectedResult {
         output: case.output,
         noted: ran.notes.bytes().is_empty(),
         status: case.status,
         left: case.left,
     };
-    compare(rt, case.name, &ran, told);
+    compare(rt, case.name, &ran, expected);
 }
 
 #[test]

@@ -1,6 +1,6 @@
 //! What happens if the loader, the source or the sink fails, and which calls are not made.
 use super::runs::{
-    CASE, Case, MANY_CALLS, Ran, TWO_FILES, WHOLE, Way, assert_cases, run_on, words,
+    CASE, Case, MANY_CALLS, RunResult, TWO_FILES, WHOLE, Way, assert_cases, run_on, words,
 };
 use crate::sessions::{File, SESSIONS, Session};
 use std::alloc::Global;
@@ -259,7 +259,7 @@ fn each_call_fails_in_turn(rt: HostRuntime) {
 static NOTED: [&str; 3] = ["--stats", "--generate", "1"];
 
 /// What comes of the run with the options `NOTED`, with seven bytes a call, if the call `call` of the notes fails.
-fn noted(rt: &impl Abort, alloc: Global, call: u64) -> Ran {
+fn noted(rt: &impl Abort, alloc: Global, call: u64) -> RunResult {
     let way = Way {
         piece: 7,
         notes_fail: call,

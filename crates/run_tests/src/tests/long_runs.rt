@@ -1,5 +1,5 @@
 //! Runs of many lines, with long replies, or over large files. Their texts are put together from parts.
-use super::runs::{Ran, Told, WHOLE, Way, compare, repeated, run_on, words};
+use super::runs::{ExpectedResult, RunResult, WHOLE, Way, compare, repeated, run_on, words};
 use crate::sessions::File;
 use std::alloc::Global;
 use std::process::Abort;
@@ -284,7 +284,7 @@ static LARGE_RUNS: [Long; 4] = [
 ];
 
 /// What comes of a run whose file holds `text`.
-fn ran_over(rt: &impl Abort, alloc: Global, run: &Long, text: &[u8]) -> Ran {
+fn ran_over(rt: &impl Abort, alloc: Global, run: &Long, text: &[u8]) -> RunResult {
     let way = Way {
         sink_fails: run.sink_fails,
         ..WHOLE
@@ -299,13 +299,13 @@ fn assert_run(rt: &impl Abort, alloc: Global, run: &Long) {
     let text = repeated(rt, alloc, run.file);
     let ran = ran_over(rt, alloc, run, &text);
     let output = repeated(rt, alloc, run.output);
-    let told = Told {
+    let expected = ExpectedResult {
         output: &output,
         noted: ran.notes.bytes() == run.notes,
         status: run.status,
         left: 0,
     };
-    compare(rt, run.name, &ran, told);
+    compare(rt, run.name, &ran, expected);
 }
 
 #[test]

@@ -1,5 +1,7 @@
 //! The worked sessions, whole and cut into pieces; the longest line; and runs that are made twice.
-use super::runs::{MEMORY, PIECE, ROOM, Ran, Told, WHOLE, Way, compare, repeated, run_on, words};
+use super::runs::{
+    ExpectedResult, MEMORY, PIECE, ROOM, RunResult, WHOLE, Way, compare, repeated, run_on, words,
+};
 use crate::run_in_memory;
 use crate::sessions::{SESSIONS, Session};
 use gtp_io::{Feed, Page, Shelf};
@@ -15,13 +17,13 @@ fn assert_session(rt: &impl Abort, alloc: Global, session: &Session, piece: usiz
     let words = words(rt, alloc, &[], session.files);
     let way = Way { piece, ..WHOLE };
     let ran = run_on(rt, alloc, &words, session.files, session.input, way);
-    let told = Told {
+    let expected = ExpectedResult {
         output: session.output,
         noted: ran.notes.bytes().is_empty(),
         status: 0,
         left: ran.left,
     };
-    compare(rt, session.name, &ran, told);
+    compare(rt, session.name, &ran, expected);
 }
 
 #[test]
@@ -108,7 +110,7 @@ fn checksum(bytes: &[u8]) -> u32 {
 }
 
 /// What comes of the run's lines if a call moves at most `piece` bytes.
-fn ran_by(rt: &impl Abort, alloc: Global, run: &Twice, piece: usize) -> Ran {
+fn ran_by(rt: &impl Abort, alloc: Global, run: &Twice, piece: usize) -> RunResult {
     let input = repeated(rt, alloc, run.lines);
     let words = words(rt, alloc, run.options, &[]);
     run_on(rt, alloc, &words, &[], &input, Way { piece, ..WHOLE })
@@ -118,13 +120,13 @@ fn ran_by(rt: &impl Abort, alloc: Global, run: &Twice, piece: usize) -> Ran {
 fn assert_twice(rt: &impl Abort, alloc: Global, run: &Twice) {
     let first = ran_by(rt, alloc, run, PIECE);
     let again = ran_by(rt, alloc, run, run.piece);
-    let told = Told {
+    let expected = ExpectedResult {
         output: first.output.bytes(),
         noted: again.notes.bytes() == first.notes.bytes(),
         status: 0,
         left: 0,
     };
-    compare(rt, run.name, &again, told);
+    compare(rt, run.name, &again, expected);
     assert!(rt;
         first.status == 0 && first.left == 0 && checksum(first.output.bytes()) == run.checksum,
         "the first run of: {}",

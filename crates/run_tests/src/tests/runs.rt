@@ -91,7 +91,7 @@ pub(super) const CASE: Case<'static> = Case {
 
 /// What came of a run.
 #[derive(Drop)]
-pub(super) struct Ran {
+pub(super) struct RunResult {
     pub(super) status: u8,
     pub(super) output: Page,
     pub(super) notes: Page,
@@ -171,7 +171,7 @@ pub(super) fn run_on(
     files: &[File<'_>],
     input: &[u8],
     way: Way,
-) -> Ran {
+) -> RunResult {
     let mut feed = feed(rt, alloc, input, way.piece, way.source_fails);
     let takes = way.piece.min(way.sink_takes);
     let mut output = page(rt, alloc, takes, way.sink_fails);
@@ -185,7 +185,7 @@ pub(super) fn run_on(
         &mut notes,
         helpers(rt, alloc),
     );
-    Ran {
+    RunResult {
         status: outcome.code(),
         output,
         notes,
@@ -194,7 +194,7 @@ pub(super) fn run_on(
 }
 
 /// What comes of the run of a case.
-fn run_case(rt: &impl Abort, alloc: Global, case: &Case<'_>) -> Ran {
+fn run_case(rt: &impl Abort, alloc: Global, case: &Case<'_>) -> RunResult {
     let words = words(rt, alloc, case.options, case.files);
     if case.files.is_empty() {
         run_on(rt, alloc, &words, case.records, case.input, case.way)
@@ -215,7 +215,7 @@ fn are_notes_of(case: &Case<'_>, notes: &[u8]) -> bool {
 /// What must come of a run: its output, whether its notes are right, its exit status, and how many bytes of the input
 /// are left.
 #[derive(Clone, Copy)]
-pub(super) struct Told<'a> {
+pub(super) struct ExpectedResult<'a> {
     pub(super) output: &'a [u8],
     pub(super) noted: bool,
     pub(super) status: u8,
@@ -223,14 +223,14 @@ pub(super) struct Told<'a> {
 }
 
 /// Compares all that came of a run with what must come of it.
-pub(super) fn compare(rt: &impl Abort, name: &str, ran: &Ran, told: Told<'_>) {
-    let other = if ran.output.bytes() != told.output {
+pub(super) fn compare(rt: &impl Abort, name: &str, ran: &RunResult, expected: ExpectedResult<'_>) {
+    let other = if ran.output.bytes() != expected.output {
         "the output"
-    } else if !told.noted {
+    } else if !expected.noted {
         "the notes"
-    } else if ran.status != told.status {
+    } else if ran.status != expected.status {
         "the exit status"
-    } else if ran.left != told.left {
+    } else if ran.left != expected.left {
         "the bytes left"
     } else {
         return;
@@ -241,13 +241,13 @@ pub(super) fn compare(rt: &impl Abort, name: &str, ran: &Ran, told: Told<'_>) {
 /// Runs the case, and compares all that came of it.
 fn assert_case(rt: &impl Abort, alloc: Global, case: &Case<'_>) {
     let ran = run_case(rt, alloc, case);
-    let told = Told {
+    let expected = ExpectedResult {
         output: case.output,
         noted: are_notes_of(case, ran.notes.bytes()),
         status: case.status,
         left: case.left,
     };
-    compare(rt, case.name, &ran, told);
+    compare(rt, case.name, &ran, expected);
 }
 
 /// Runs the cases, and compares all that came of them.

@@ -1,7 +1,8 @@
 //! Replies that wait: in which call they go out, and what is counted if a reply is cut.
 use super::counts::STATS;
 use super::runs::{
-    CASE, Case, Ran, Told, WHOLE, Way, assert_cases, compare, repeated, run_on, words,
+    CASE, Case, ExpectedResult, RunResult, WHOLE, Way, assert_cases, compare, repeated, run_on,
+    words,
 };
 use crate::sessions::File;
 use std::alloc::Global;
@@ -410,7 +411,7 @@ static QUESTIONS: [Question; 11] = [
 ];
 
 /// What comes of the lines around a question, if the call `sink_fails` of the output fails.
-fn ran_asking(rt: &impl Abort, alloc: Global, question: &Question, sink_fails: u64) -> Ran {
+fn ran_asking(rt: &impl Abort, alloc: Global, question: &Question, sink_fails: u64) -> RunResult {
     let (line, again) = (question.line.as_bytes(), question.again);
     let (next, _) = NEXT;
     let parts = [
@@ -441,13 +442,13 @@ fn assert_out(
     let ran = ran_asking(rt, alloc, question, sink_fails);
     let output = repeated(rt, alloc, output);
     let notes: &[u8] = if status == 0 { b"" } else { b"output failed\n" };
-    let told = Told {
+    let expected = ExpectedResult {
         output: &output,
         noted: ran.notes.bytes() == notes,
         status,
         left: 0,
     };
-    compare(rt, question.line, &ran, told);
+    compare(rt, question.line, &ran, expected);
 }
 
 /// Compares the three calls of the output: the replies before the question, the question's own reply, and all others.

@@ -12,7 +12,7 @@ ghost use Rattle.machine_rules.specs.BoardCommands.{captures_counted};
 ghost use Rattle.session_core.specs.AskedLinks.{LinksNothing};
 ghost use Rattle.session_core.specs.CommandAnswers.{IsAnswer};
 
-use crate::answer::{Answer, grown, told, told_number};
+use crate::answer::{Answer, brief_answer, grown, number_answer};
 use crate::board_text::board_text;
 use crate::engine::Engine;
 use crate::point_lists::{legal_text, liberties_text};
@@ -54,7 +54,7 @@ impl Engine {
             return Answer::Refused(RefuseText::UnacceptableSize);
         };
         self.history.resize(size);
-        told(b"")
+        brief_answer(b"")
     }
 
     /// Empties the board and the list of moves; the size stays.
@@ -66,7 +66,7 @@ impl Engine {
         ensures links { LinksNothing self.old self.new }
     {
         self.history.clear();
-        told(b"")
+        brief_answer(b"")
     }
 
     /// Keeps the text of the komi.
@@ -79,7 +79,7 @@ impl Engine {
         ensures links { LinksNothing self.old self.new }
     {
         self.komi = komi;
-        told(b"")
+        brief_answer(b"")
     }
 
     /// Plays `m`, if it is legal and the list of moves is not full.
@@ -92,7 +92,7 @@ impl Engine {
         ensures links { LinksNothing self.old self.new }
     {
         match self.history.play(m) {
-            Ok(()) => told(b""),
+            Ok(()) => brief_answer(b""),
             Err(HistoryError::Illegal(_)) => Answer::Refused(RefuseText::IllegalMove),
             Err(HistoryError::Full) => Answer::Refused(RefuseText::HistoryFull),
             Err(HistoryError::NoMemory) => Answer::NoMemory,
@@ -109,7 +109,7 @@ impl Engine {
         ensures links { LinksNothing self.old self.new }
     {
         match self.history.undo() {
-            Ok(()) => told(b""),
+            Ok(()) => brief_answer(b""),
             Err(_) => Answer::Refused(RefuseText::CannotUndo),
         }
     }
@@ -131,7 +131,7 @@ impl Engine {
         ensures { (helpers : List SlotState) → IsAnswer
             (allowed (machine_with helpers self.now) m) result (machine_with helpers self.now) }
     {
-        told(digit(self.is_legal(m)))
+        brief_answer(digit(self.is_legal(m)))
     }
 
     /// Prints the board.
@@ -162,7 +162,7 @@ impl Engine {
         if !has_stone(board, p) {
             return Answer::Refused(RefuseText::VertexEmpty);
         }
-        told_number(u32::from(board.liberties(p)))
+        number_answer(u32::from(board.liberties(p)))
     }
 
     /// Lists the liberties of the string of `p`.
@@ -185,6 +185,6 @@ impl Engine {
             (captures_counted (machine_with helpers self.now) colour) result
             (machine_with helpers self.now) }
     {
-        told_number(self.history.captures(colour))
+        number_answer(self.history.captures(colour))
     }
 }

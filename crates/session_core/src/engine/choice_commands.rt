@@ -11,7 +11,7 @@ ghost use Rattle.session_core.specs.CommandAnswers.{IsAnswer};
 ghost use Rattle.session_core.specs.EngineView.{machine_alone, machine_with};
 ghost use Rattle.session_core.specs.MatcherView.{matcher_of};
 
-use crate::answer::{Answer, told_text};
+use crate::answer::{Answer, text_answer};
 use crate::engine::Engine;
 use crate::matcher::Matcher;
 use crate::readings::move_text;
@@ -62,7 +62,7 @@ impl Engine {
     {
         let size = self.history.size();
         match self.chosen_point(matcher, helpers, friend) {
-            Ok(at) => told_text(move_text(size, at)),
+            Ok(at) => text_answer(move_text(size, at)),
             Err(_) => Answer::NoMemory,
         }
     }
@@ -88,7 +88,7 @@ impl Engine {
             return Answer::NoMemory;
         };
         match self.history.play(Move { colour: friend, at }) {
-            Ok(()) => told_text(move_text(size, at)),
+            Ok(()) => text_answer(move_text(size, at)),
             Err(_) => Answer::NoMemory,
         }
     }

@@ -7,7 +7,7 @@ ghost use Rattle.machine_rules.specs.HelperCommands.{switched_off, calls_told, d
 ghost use Rattle.session_core.specs.CommandAnswers.{IsAnswer};
 ghost use Rattle.session_core.specs.EngineView.{machine_with};
 
-use crate::answer::{Answer, told, told_text};
+use crate::answer::{Answer, brief_answer, text_answer};
 use crate::engine::Engine;
 use go_base::{Bytes, NoMemory};
 use gtp_cmd::{RefuseText, Short, Span, text};
@@ -33,7 +33,7 @@ impl Engine {
             return Answer::NoMemory;
         };
         if helpers.off(name.as_slice()) {
-            told(b"")
+            brief_answer(b"")
         } else {
             Answer::Refused(RefuseText::NoSuchHelper)
         }
@@ -51,7 +51,7 @@ impl Engine {
         match helpers.calls(name.as_slice()) {
             Some(calls) => {
                 let mut buffer = Buffer::new();
-                told_text(Short::of(buffer.format(calls).as_bytes()))
+                text_answer(Short::of(buffer.format(calls).as_bytes()))
             }
             None => Answer::Refused(RefuseText::NoSuchHelper),
         }
@@ -67,7 +67,7 @@ impl Engine {
             return Answer::NoMemory;
         };
         match helpers.remove(name.as_slice()) {
-            Some(_) => told(b""),
+            Some(_) => brief_answer(b""),
             None => Answer::Refused(RefuseText::NoSuchHelper),
         }
     }

@@ -11,7 +11,7 @@ ghost use Rattle.session_core.specs.AskedLinks.{LinksAs, CountsFreshLinks};
 ghost use Rattle.session_core.specs.CommandAnswers.{IsAnswer};
 ghost use Rattle.session_core.specs.EngineView.{board_of, machine_alone, machine_with};
 
-use crate::answer::{Answer, told_text};
+use crate::answer::{Answer, text_answer};
 use crate::engine::Engine;
 use crate::engine::board_commands::has_stone;
 use crate::readings::linkage_text;
@@ -71,7 +71,7 @@ impl Engine {
         let position = self.position();
         let linkage = self.links.ask(kind, &position, a, b);
         self.count_link();
-        told_text(linkage_text(position.size(), linkage))
+        text_answer(linkage_text(position.size(), linkage))
     }
 
     /// Answers the question about the strings of `a` and `b` that `work` stands for, if the answer is cached or the
@@ -100,6 +100,6 @@ impl Engine {
             return Err(work);
         };
         self.count_link();
-        Ok(told_text(linkage_text(position.size(), linkage)))
+        Ok(text_answer(linkage_text(position.size(), linkage)))
     }
 }

@@ -7,7 +7,7 @@ ghost use Rattle.machine_rules.specs.ProofCommands.{proved, checked, kind_of};
 ghost use Rattle.session_core.specs.CommandAnswers.{IsAnswer};
 ghost use Rattle.session_core.specs.EngineView.{machine_with};
 
-use crate::answer::{Answer, grown, told};
+use crate::answer::{Answer, brief_answer, grown};
 use crate::engine::board_commands::has_stone;
 use crate::engine::{Engine, word};
 use crate::point_lists::push_number;
@@ -67,6 +67,6 @@ impl Engine {
         let position = self.position();
         let kind = if attack { Kind::Attack } else { Kind::Defend };
         let words = &line[tokens.from as usize..tokens.to as usize];
-        told(word(check(&position, kind, p, self.readings.depths(), code, words)))
+        brief_answer(word(check(&position, kind, p, self.readings.depths(), code, words)))
     }
 }

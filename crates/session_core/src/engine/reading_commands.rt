@@ -10,7 +10,7 @@ ghost use Rattle.machine_rules.specs.Counting.{counted, has_stone};
 ghost use Rattle.session_core.specs.AfterLine.{ReadsAs, CountsRefused, after_trials};
 ghost use Rattle.machine_rules.specs.Questions.{asks_at};
 
-use crate::answer::{Answer, told, told_text};
+use crate::answer::{Answer, brief_answer, text_answer};
 use crate::engine::Engine;
 use crate::engine::board_commands::has_stone;
 use crate::readings::answer_text;
@@ -56,7 +56,7 @@ impl Engine {
         let answer = self.readings.read(kind, &position, p);
         let tried = self.readings.last();
         self.count_reading(tried);
-        told_text(answer_text(position.size(), answer))
+        text_answer(answer_text(position.size(), answer))
     }
 
     /// Answers the question about the string of `p` that `work` stands for, if the answer is cached or the question is
@@ -82,7 +82,7 @@ impl Engine {
         };
         let tried = self.readings.last();
         self.count_reading(tried);
-        Ok(told_text(answer_text(position.size(), answer)))
+        Ok(text_answer(answer_text(position.size(), answer)))
     }
 
     /// Sets how deep readings go.
@@ -99,6 +99,6 @@ impl Engine {
         self.readings
             .set(Depths::new(plies, wide).unwrap().in_tree(tree));
         self.links.set(plies);
-        told(b"")
+        brief_answer(b"")
     }
 }

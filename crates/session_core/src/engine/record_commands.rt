@@ -10,7 +10,7 @@ ghost use Rattle.session_core.specs.AskedLinks.{LinksNothing};
 ghost use Rattle.session_core.specs.CommandAnswers.{IsAnswer, missed_as};
 ghost use Rattle.session_core.specs.EngineView.{machine_with};
 
-use crate::answer::{Answer, told};
+use crate::answer::{Answer, brief_answer};
 use crate::engine::Engine;
 use go_base::Bytes;
 use gtp_cmd::{RefuseText, Span, text};
@@ -64,7 +64,7 @@ impl Engine {
         match read(contents) {
             Ok(position) => {
                 self.history.start(&position);
-                told(b"")
+                brief_answer(b"")
             }
             Err(error) => Answer::Refused(RefuseText::BadSgf(error.kind)),
         }

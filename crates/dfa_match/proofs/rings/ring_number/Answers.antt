@@ -4,7 +4,7 @@ use Rattle.dfa_core.specs.Words.{letter_number}
 use Rattle.dfa_core.proofs.Entries.{letter_below}
 use Rattle.dfa_shortcuts.specs.Openings.{word_number}
 use Rattle.dfa_match.specs.Rings.{ring_letters}
-use Rattle.dfa_match.specs.Sights.{word_from}
+use Rattle.dfa_match.specs.SeenLetters.{word_from}
 use Rattle.dfa_match.proofs.SeenWords.{word_from-zero}
 use Rattle.dfa_match.proofs.OpeningNumbers.{number_more, number_low, number_room, letter_tag}
 use Rattle.dfa_match.proofs.TurnedRings.{ring_by_steps}
@@ -14,7 +14,7 @@ use Rattle.dfa_match.proofs.rings.ring_number.Goals as goal
 pub letters-init : goal.letters-init
 letters-init c = record {
   value = sym (ap word_number (word_from-zero
-      (λ i. get_or c.args.sights.now.letters (c.args.corner + get_or c.args.steps.now i 0) Off) 1));
+      (λ i. get_or c.args.padded.now.letters (c.args.corner + get_or c.args.steps.now i 0) Off) 1));
   low = omega arith;
 }
 
@@ -30,14 +30,20 @@ letter-requires-clause-step c = c.requires.steps.1.past (1 + c.letters.place) (o
 -- the number with one digit more has room
 pub overflow_add-number : goal.overflow_add-number
 overflow_add-number c =
-    grind (arith, number_room c.letters.place c.letters.number c.letters-test.true c.letters.invariant.low,
-        letter_tag c.letter.result, letter_below c.letter.result, c.letters-test.true, c.letters.invariant.low)
+    grind (
+      arith,
+      number_room c.letters.place c.letters.number c.letters-test.true c.letters.invariant.low,
+      letter_tag c.letter.result,
+      letter_below c.letter.result,
+      c.letters-test.true,
+      c.letters.invariant.low,
+    )
 
 -- one letter more was read
 pub letters-preserved : goal.letters-preserved
 letters-preserved c = record {
   value = ap (λ n. 4 * c.letters.number + n) (letter_tag c.letter.result ∙ ap letter_number c.letter.ensures)
-      ∙ number_more (λ i. get_or c.args.sights.now.letters (c.args.corner + get_or c.args.steps.now i 0) Off) 1
+      ∙ number_more (λ i. get_or c.args.padded.now.letters (c.args.corner + get_or c.args.steps.now i 0) Off) 1
       c.letters.place c.letters.number c.letters.invariant.value;
   low = subst (λ n. 4 * c.letters.number + n < 4 ^ (c.letters.place + 1)) (sym (letter_tag c.letter.result))
       (number_low c.letters.place c.letters.number c.letter.result c.letters.invariant.low);
@@ -49,5 +55,5 @@ returns c t are =
     let last : c.letters.place ≡ ring_letters = omega (arith, c.letters-test.false) in
     c.letters.invariant.value
     ∙ ap (λ n. word_number (word_from
-    (λ i. get_or c.args.sights.now.letters (c.args.corner + get_or c.args.steps.now i 0) Off) 1 n)) last
-    ∙ ap word_number (ring_by_steps c.args.sights.now.letters c.args.steps.now t c.args.corner are)
+    (λ i. get_or c.args.padded.now.letters (c.args.corner + get_or c.args.steps.now i 0) Off) 1 n)) last
+    ∙ ap word_number (ring_by_steps c.args.padded.now.letters c.args.steps.now t c.args.corner are)

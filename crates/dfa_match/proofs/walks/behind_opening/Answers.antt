@@ -9,8 +9,8 @@ use Rattle.dfa_match.proofs.walks.behind_opening.Goals as goal
 -- the number is that of the opening which is read by the steps
 number_read : (c : After-opening_number) (steps : List ℕ) → AreSteps c.args.t steps
     → c.opening_number.result
-    ≡ word_number (word_behind c.args.sights.now.letters steps c.args.walk.corner opening_letters)
-number_read c steps are = c.opening_number.ensures c.args.sights.now.letters steps c.args.walk are
+    ≡ word_number (word_behind c.args.padded.now.letters steps c.args.walk.corner opening_letters)
+number_read c steps are = c.opening_number.ensures c.args.padded.now.letters steps c.args.walk are
     c.anchor.ensures c.requires.ring
 
 -- nothing is known of the row behind the opening

@@ -35,7 +35,7 @@ walks-preserved c =
     let low = on at in
     let inv = c.walks.invariant in
     let open_one : List ℕ → Walk → Walk =
-    λ steps. after_opening c.args.shortcuts.now.openings.items steps c.args.sights.now.letters in
+    λ steps. after_opening c.args.shortcuts.now.openings.items steps c.args.padded.now.letters in
     let next : Walk = c.set.new.self in
     let passes : goes_on next ≡ c.goes_on.result = ap goes_on c.set.ensures ∙ sym c.goes_on.ensures in
     record {

@@ -8,7 +8,7 @@ use Rattle.dfa_match.proofs.walks.open_all.Given as goal
 abbrev pub invariant-walks : goal.invariant-walks
 invariant-walks l = record {
   place : (steps : List ℕ) → AreSteps l.fn.t steps
-      → MapsInPlace (after_opening l.shortcuts.openings.items steps l.sights.letters) goes_on l.fn.walks l.walks l.left
+      → MapsInPlace (after_opening l.shortcuts.openings.items steps l.padded.letters) goes_on l.fn.walks l.walks l.left
       l.index;
   behind : l.left ≤ l.index;
   long : length l.walks ≡ length l.fn.walks;

@@ -14,7 +14,7 @@ use Rattle.dfa_match.proofs.walks.read_letters.Goals as goal
 -- what a walk is behind its next letter
 abbrev next : (c : After-read_on-met) → Walk → Walk
 next c = after_letters c.args.shortcuts.now.entries.items c.args.shortcuts.now.passed.items c.args.steps.now
-    c.args.sights.now.letters
+    c.args.padded.now.letters
 
 -- each walk has read its letter
 read : (c : After-read_on-met) → c.read_on-met.new.walks ≡ map (next c) c.args.walks.now.items
@@ -46,7 +46,7 @@ returns-clause-few c = few_passed (goal.at.returns-clause-few c).After-read_on-m
 standing : (c : After-read_on-met) → All (IsStanding c.args.automaton.now) (map (next c) c.args.walks.now.items)
 standing c = All-map (IsStanding c.args.automaton.now) (next c) c.args.walks.now.items
     (λ k d low. standing_after c.args.automaton.now c.args.shortcuts.now.entries.items
-    c.args.shortcuts.now.passed.items c.args.steps.now c.args.sights.now.letters (get_or c.args.walks.now.items k d)
+    c.args.shortcuts.now.passed.items c.args.steps.now c.args.padded.now.letters (get_or c.args.walks.now.items k d)
     c.rows.ensures.automaton c.requires.shortcuts (c.requires.standing k d low))
 
 -- where they may give out hits
@@ -66,6 +66,6 @@ returns-clause-hits c =
     subst (All (λ w. is_accepting_entry w.entry ≡ false)) (read at_read)
     (c.read_on-met.ensures.silent (omega (arith, c.if-met-ne0.false))) in
     sym (ap (λ hs. c.args.out.now.items ++ hs)
-    (hits_of-silent c.args.automaton.now c.args.sights.now.size c.args.t walks
+    (hits_of-silent c.args.automaton.now c.args.padded.now.size c.args.t walks
     (λ k d low. silent_standing c.args.automaton.now (get_or walks k d) (standing at_read k d low) (silent k d low)))
     ∙ append-nil c.args.out.now.items)

@@ -56,7 +56,7 @@ moved_is entries passed steps letters w place entry more at row count = grind ar
 pub walks-preserved : goal.walks-preserved
 walks-preserved c =
     let steps : List ℕ = c.args.steps.now in
-    let letters = c.args.sights.now.letters in
+    let letters = c.args.padded.now.letters in
     let step : Walk → Walk = after_letters c.args.entries.now c.args.passed.now steps letters in
     let index : ℕ = c.walks.walk-index in
     let walk : Walk = get_or c.walks.walks index none in

@@ -6,5 +6,5 @@ use Rattle.dfa_match.proofs.walks.second_walks.Given as goal
 abbrev pub invariant-walks : goal.invariant-walks
 invariant-walks l = record {
   gathered : l.walks.items ≡ filter goes_on
-      (map (after_anchor l.automaton l.sights.letters) (take l.walk-index l.first));
+      (map (after_anchor l.automaton l.padded.letters) (take l.walk-index l.first));
 }

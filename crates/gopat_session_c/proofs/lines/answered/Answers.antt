@@ -1,6 +1,6 @@
 -- The session of a handle answered a line, or left it.
 use Rattle.std.proofs.Common.{refl}
-use Rattle.gopat_session_c.proofs.Told.{told-answered, told-unanswered}
+use Rattle.gopat_session_c.proofs.HeldAnswers.{told-answered, told-unanswered}
 use Rattle.gopat_session_c.proofs.lines.answered.Goals as goal
 
 -- the line was answered, and its reply written if there was room

@@ -2,7 +2,7 @@
 use Rattle.std.proofs.Common.{◌∙◌, sym, ap}
 use Rattle.std.specs.Str.{bytes_eq}
 use Rattle.std.specs.String.{string_bytes}
-use Rattle.gtp_io.proofs.Names.{named-drop, named-here}
+use Rattle.gtp_io.proofs.NamedContents.{named-drop, named-here}
 use Rattle.gtp_io.proofs.shelf.find.Goals as goal
 
 -- the first name that is equal has the contents that are found

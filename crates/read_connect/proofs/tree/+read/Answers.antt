@@ -228,8 +228,12 @@ can_connect-liberties-of_b-requires g t c = grind arith
 -- both stand, they are apart, and these are their liberties
 pub can_connect-goes_on-requires : goal.can_connect-goes_on-requires
 can_connect-goes_on-requires g t c κs within =
-    grind (arith, apart g t (goal.at.can_connect-goes_on-requires g t c).After-has c.if-has.false, ready_after,
-        liberties_after)
+    grind (
+      arith,
+      apart g t (goal.at.can_connect-goes_on-requires g t c).After-has c.if-has.false,
+      ready_after,
+      liberties_after,
+    )
 
 -- the strings and what follows are looked at near
 pub can_connect-returns-clause-near : goal.can_connect-returns-clause-near

@@ -7,9 +7,9 @@ use Rattle.trial_board.specs.Trials.{after}
 use Rattle.trial_board.proofs.WalkLemmas.{on_agreed}
 use Rattle.wider_moves.proofs.SideLemmas.{Walked-side, Walked-off}
 use Rattle.read_rules.specs.Candidates.{IsEmptyNeighbour}
-use Rattle.read_moves.specs.Reaches.{Tells, IsOtherLibertyOf, IsReached}
+use Rattle.read_moves.specs.Reaches.{HasReach, IsOtherLibertyOf, IsReached}
 use Rattle.read_moves.proofs.SideLemmas.{sides_near, string_near}
-use Rattle.read_moves.proofs.TellLemmas.{IsSoFar, IsLibertyAtSide, SoFar-none, SoFar-skip, SoFar-next, Tells-more}
+use Rattle.read_moves.proofs.TellLemmas.{IsSoFar, IsLibertyAtSide, SoFar-none, SoFar-skip, SoFar-next, HasReach-more}
 use Rattle.read_moves.proofs.TellLemmas.{string_told, so_far_reached, strings_told}
 use Rattle.read_moves.proofs.reach.reach_of.Goals as goal
 use Rattle.read_moves.proofs.reach.reach_of.Goals.{in-Some, in_default}
@@ -42,7 +42,7 @@ loop-side-preserved g c =
           let one = w.reach_of_string in
           rw (w.board-is, w.reach-is, w.with-reach.ensures) (Walked-side l side told c.requires c.size-size.ensures
           c.neighbour.ensures.value c.loop-side.invariant (λ s b. neighbourhood_of s b.cells (alone q))
-          (λ s b. Tells (IsOtherLibertyOf s b.cells c.args.c l q) one.result) w.in-Some.is
+          (λ s b. HasReach (IsOtherLibertyOf s b.cells c.args.c l q) one.result) w.in-Some.is
           (record { stays = one.ensures.stays; near = one.ensures.near; over = one.ensures.over })
           (λ s b is. string_near b.cells is)
           (λ s b is i came. SoFar-next (IsEmptyNeighbour s b.cells l) (IsLibertyAtSide s b.cells c.args.c l) side
@@ -60,7 +60,7 @@ returns-then-is_more-clause-over g c = λ pos a.
     let i = c.loop-side.invariant in
     let on = on_agreed _ _ (g.met.L.Look.sized c.args.board.now.look) (agrees_before i.stays.grows a) c.requires in
     let cells = (after pos c.args.board.now.moves).cells in
-    Tells-more (IsSoFar (IsEmptyNeighbour pos.size cells c.args.l)
+    HasReach-more (IsSoFar (IsEmptyNeighbour pos.size cells c.args.l)
     (IsLibertyAtSide pos.size cells c.args.c c.args.l) c.loop-side.side)
     (IsReached pos.size cells c.args.c c.args.l) c.loop-side.reach (sym c.is_more.ensures ∙ c.if-is_more.true)
     (so_far_reached pos.size cells c.args.l on c.args.c c.loop-side.side) (i.over pos a)

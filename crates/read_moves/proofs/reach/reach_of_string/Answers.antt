@@ -18,7 +18,7 @@ use Rattle.trial_board.specs.Trials.{after}
 use Rattle.read_moves.specs.Reaches.{IsOtherMember, IsOtherLibertyOf}
 use Rattle.wider_rules.proofs.StringLemmas.{has_liberty}
 use Rattle.read_moves.proofs.OtherLiberties.{other_of_three}
-use Rattle.read_moves.proofs.TellLemmas.{Tells-same}
+use Rattle.read_moves.proofs.TellLemmas.{HasReach-same}
 use Rattle.read_moves.proofs.reach.reach_of_string.Given.{Over}
 use Rattle.read_moves.proofs.reach.reach_of_string.Goals as goal
 use Rattle.read_moves.proofs.reach.reach_of_string.Goals.{After-some_liberties-found}
@@ -46,8 +46,16 @@ near g c pos a = grind (arith, close_alone, inside)
 -- another string reaches nothing
 pub returns-then-ne-clause-over : goal.returns-then-ne-clause-over
 returns-then-ne-clause-over g c =
-    grind (arith, both_ways c.ne.result, eq_is_same_cell c.cell.result c.cell-2.result, same_cell-from, c.ne.ensures,
-        c.cell.ensures.over, c.cell-2.ensures, c.if-ne.true)
+    grind (
+      arith,
+      both_ways c.ne.result,
+      eq_is_same_cell c.cell.result c.cell-2.result,
+      same_cell-from,
+      c.ne.ensures,
+      c.cell.ensures.over,
+      c.cell-2.ensures,
+      c.if-ne.true,
+    )
 
 -- its point alone was looked at
 pub returns-then-ne-clause-near : goal.returns-then-ne-clause-near
@@ -104,7 +112,7 @@ returns-clause-over g c = λ pos a.
     let all = found.all (omega arith) in
     let on = inside g d pos a in
     let its = stone g d pos a in
-    Tells-same (IsOtherMember points c.args.l) (IsOtherLibertyOf pos.size cells c.args.c c.args.l c.args.q)
+    HasReach-same (IsOtherMember points c.args.l) (IsOtherLibertyOf pos.size cells c.args.c c.args.l c.args.q)
     c.reach_within.result
     (to_liberty pos.size cells c.args.c c.args.l c.args.q on its points all)
     (to_member pos.size cells c.args.c c.args.l c.args.q on its points all) c.reach_within.ensures

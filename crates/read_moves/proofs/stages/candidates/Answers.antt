@@ -71,11 +71,18 @@ returns-else-has_later_candidates-clause-near g c = λ pos a.
 -- the position shown is one of those that agree
 pub returns-then-has_later_candidates-clause-answer : goal.returns-then-has_later_candidates-clause-answer
 returns-then-has_later_candidates-clause-answer g c =
-    grind (arith, returns-then-has_later_candidates-clause-over g c (g.L.Look.shows c.args.board.now.look),
-        c.later_candidates.ensures.stays.shown, c.surroundings-liberties.ensures.stays.shown)
+    grind (
+      arith,
+      returns-then-has_later_candidates-clause-over g c (g.L.Look.shows c.args.board.now.look),
+      c.later_candidates.ensures.stays.shown,
+      c.surroundings-liberties.ensures.stays.shown,
+    )
 
 -- if there are no later candidates, what was gathered are the candidates on the position shown
 pub returns-else-has_later_candidates-clause-answer : goal.returns-else-has_later_candidates-clause-answer
 returns-else-has_later_candidates-clause-answer g c =
-    grind (arith, returns-else-has_later_candidates-clause-over g c (g.L.Look.shows c.args.board.now.look),
-        c.surroundings-liberties.ensures.stays.shown)
+    grind (
+      arith,
+      returns-else-has_later_candidates-clause-over g c (g.L.Look.shows c.args.board.now.look),
+      c.surroundings-liberties.ensures.stays.shown,
+    )

@@ -3,7 +3,7 @@ use Rattle.std.specs.FinSet as set
 use Rattle.go_rules.specs.Board.{largest_points}
 use Rattle.go_rules.specs.Position.{BoardState}
 use Rattle.go_base.specs.Facts.{Agrees, Grows}
-use Rattle.trial_board.specs.Trials.{Stays, after}
+use Rattle.trial_board.specs.Trials.{KeepsTrial, after}
 use Rattle.sure_rules.specs.SureAnswer.{surely_succeeds}
 use Rattle.read_sure.proofs.tree.+sure.Given as goal
 
@@ -39,7 +39,7 @@ decreases-sure_move g l = 8 * l.plies + 5
 -- no point so far succeeds, on any position that agrees
 abbrev pub invariant-first_sure-plays : goal.invariant-first_sure-plays
 invariant-first_sure-plays g l = record {
-  stays : Stays g.L.Look.shows g.L.Look.seen l.fn.board l.board;
+  stays : KeepsTrial g.L.Look.shows g.L.Look.seen l.fn.board l.board;
   grows : Grows (g.L.Look.seen l.initial.board.look) (g.L.Look.seen l.board.look);
   none : (pos : BoardState) → Agrees (g.L.Look.seen l.board.look) pos → (q : ℕ) → q < l.from
       → (set.contains l.tried q && surely_succeeds l.plies l.node (after pos l.fn.board.moves) q) ≡ false;

@@ -1,5 +1,5 @@
 use Rattle.std.proofs.Common.{◌≡◌, ◌-◌, suc, true}
-use Rattle.trial_board.specs.Trials.{Stays}
+use Rattle.trial_board.specs.Trials.{KeepsTrial}
 use Rattle.read_rules.specs.Candidates.{is_candidate}
 use Rattle.read_tree.specs.Allowances.{has_some}
 use Rattle.read_tree.specs.Deepening.{IsLeftOpen}
@@ -10,7 +10,7 @@ use Rattle.read_tree.proofs.deepening.open_after_fewer.Given as goal
 -- what is left is open after the plies before, on any position that agrees
 abbrev pub invariant-depths : goal.invariant-depths
 invariant-depths g l = record {
-  stays : Stays g.L.Look.shows g.L.Look.seen l.fn.board l.board;
+  stays : KeepsTrial g.L.Look.shows g.L.Look.seen l.fn.board l.board;
   some : has_some l.left ≡ true;
   table : IsTrueTableAt (g.L.Look.seen l.board.look) l.turn l.memory.table.now;
   near : LooksNearWhere g.L.Look.seen l.fn.board l.board (suc l.plies) l.turn l.fn.asked

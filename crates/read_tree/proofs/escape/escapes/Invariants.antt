@@ -5,13 +5,13 @@ use Rattle.go_rules.specs.Board.{largest_points}
 use Rattle.go_rules.specs.Position.{BoardState}
 use Rattle.go_base.specs.Facts.{Agrees, Grows, AddsIn}
 use Rattle.go_base.specs.Views.{alone, neighbours_of}
-use Rattle.trial_board.specs.Trials.{Stays}
+use Rattle.trial_board.specs.Trials.{KeepsTrial}
 use Rattle.read_tree.proofs.escape.escapes.Given as goal
 
 -- no more was looked at than the target, the known points and their sides
 abbrev pub invariant-loop-l : goal.invariant-loop-l
 invariant-loop-l g l = record {
-  stays : Stays g.L.Look.shows g.L.Look.seen l.fn.board l.board;
+  stays : KeepsTrial g.L.Look.shows g.L.Look.seen l.fn.board l.board;
   grows : Grows (g.L.Look.seen l.initial.board.look) (g.L.Look.seen l.board.look);
   near : (pos : BoardState) → Agrees (g.L.Look.seen l.board.look) pos
       → AddsIn (g.L.Look.seen l.fn.board.look) (g.L.Look.seen l.board.look) (λ r. alone l.turn.target r

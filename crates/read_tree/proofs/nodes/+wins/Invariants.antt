@@ -3,7 +3,7 @@ use Rattle.std.specs.FinSet as set
 use Rattle.go_rules.specs.Board.{largest_points}
 use Rattle.go_rules.specs.Position.{BoardState}
 use Rattle.go_base.specs.Facts.{Agrees, Grows}
-use Rattle.trial_board.specs.Trials.{Stays, after}
+use Rattle.trial_board.specs.Trials.{KeepsTrial, after}
 use Rattle.read_rules.specs.GameTree.{succeeds}
 use Rattle.read_tree.specs.Table.{IsTrueTableAt}
 use Rattle.read_tree.proofs.nodes.+wins.Given as goal
@@ -40,7 +40,7 @@ decreases-has_good_move g l = 8 * l.plies + 5
 -- no candidate so far succeeds, on any position that agrees
 abbrev pub invariant-first_success-plays : goal.invariant-first_success-plays
 invariant-first_success-plays g l = record {
-  stays : Stays g.L.Look.shows g.L.Look.seen l.fn.board l.board;
+  stays : KeepsTrial g.L.Look.shows g.L.Look.seen l.fn.board l.board;
   grows : Grows (g.L.Look.seen l.initial.board.look) (g.L.Look.seen l.board.look);
   table : IsTrueTableAt (g.L.Look.seen l.board.look) l.node.turn l.memory.table.now;
   none : (pos : BoardState) → Agrees (g.L.Look.seen l.board.look) pos → (q : ℕ) → q < l.from

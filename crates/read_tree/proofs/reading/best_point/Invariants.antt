@@ -4,7 +4,7 @@ use Rattle.go_rules.specs.Board.{largest_points}
 use Rattle.go_rules.specs.Position.{BoardState}
 use Rattle.go_base.specs.Facts.{Agrees, Grows}
 use Rattle.go_base.specs.Views.{nowhere}
-use Rattle.trial_board.specs.Trials.{Stays, after}
+use Rattle.trial_board.specs.Trials.{KeepsTrial, after}
 use Rattle.read_tree.specs.Allowances.{all_three}
 use Rattle.read_rules.specs.GoodMoves.{IsOnBoard}
 use Rattle.read_tree.specs.Steps.{IsBest}
@@ -15,7 +15,7 @@ use Rattle.read_tree.proofs.reading.best_point.Given as goal
 -- the best of the candidates before the next one, on any position that agrees
 abbrev pub invariant-loop-p : goal.invariant-loop-p
 invariant-loop-p g l = record {
-  stays : Stays g.L.Look.shows g.L.Look.seen l.fn.board l.board;
+  stays : KeepsTrial g.L.Look.shows g.L.Look.seen l.fn.board l.board;
   grows : Grows (g.L.Look.seen l.initial.board.look) (g.L.Look.seen l.board.look);
   code : l.best.code < 3;
   none : IsNone l.best.at ↔ (l.best.code ≡ 0);

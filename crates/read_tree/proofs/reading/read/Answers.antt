@@ -121,9 +121,16 @@ returns-then-has_too_many-clause-too_many g c = grind (arith, stone_near g, show
 -- the liberties that were found are the target's, and they are not too many
 pub read_through-requires : goal.read_through-requires
 read_through-requires g c =
-    grind (arith, still_on g (goal.at.read_through-requires g c).After-first_look-liberties, c.requires.plies,
-        c.requires.few, c.first_look-liberties.ensures.over, c.has_too_many.ensures, c.if-has_too_many.false,
-        c.first_turn-turn.ensures)
+    grind (
+      arith,
+      still_on g (goal.at.read_through-requires g c).After-first_look-liberties,
+      c.requires.plies,
+      c.requires.few,
+      c.first_look-liberties.ensures.over,
+      c.has_too_many.ensures,
+      c.if-has_too_many.false,
+      c.first_turn-turn.ensures,
+    )
 
 -- the reading's answer is that of the question
 pub returns-clause-over : goal.returns-clause-over

@@ -5,13 +5,13 @@ use Rattle.go_base.specs.Facts.{Fact}
 use Rattle.trial_board.specs.Trials.{Trying}
 use Rattle.read_rules.specs.declared.question.ReadingQuestion.{ReadingQuestion}
 use Rattle.read_rules.specs.declared.question.Answer.{Answer}
-use Rattle.read_tree.specs.Readings.{Answers, untried}
+use Rattle.read_tree.specs.Readings.{AnswersQuestion, untried}
 use Rattle.read_tree.proofs.reading.read_through.Goals as goal
 
 -- an answer on a board without trial moves is one of the views that the board was given and hands back
 of_views : {L : Type 0} {shows : L → BoardState} {seen : L → Fact → Bool} {old new : Trying L} {first last : L}
     {q : ReadingQuestion} {answer : Answer} → old ≡ untried first → last ≡ new.look
-    → Answers shows seen old new q answer → Answers shows seen (untried first) (untried last) q answer
+    → AnswersQuestion shows seen old new q answer → AnswersQuestion shows seen (untried first) (untried last) q answer
 of_views {L} {shows} {seen} {new} {q} {answer} begun ended told = grind arith
 
 -- the liberties are known on the board without trial moves

@@ -11,8 +11,9 @@ use Rattle.trial_board.proofs.WalkLemmas.{on_agreed}
 use Rattle.read_moves.specs.Steps.{AllLive}
 use Rattle.read_rules.specs.GameTree.{is_walled_in}
 use Rattle.read_tree.specs.Allowances.{Ko, under, defender_may, neither_may, attacker_may}
-use Rattle.read_tree.proofs.AllowanceLemmas.{Tells-all, Tells-none}
-use Rattle.read_tree.proofs.TakingLemmas.{quiet_fails, loud_plays, loud_allowed, Tells-banned, defends, nothing_of_it}
+use Rattle.read_tree.proofs.AllowanceLemmas.{IsFiltered-all, IsFiltered-none}
+use Rattle.read_tree.proofs.TakingLemmas.{quiet_fails, loud_plays, loud_allowed, IsFiltered-banned, defends}
+use Rattle.read_tree.proofs.TakingLemmas.{nothing_of_it}
 use Rattle.read_tree.proofs.TakingLemmas.{one_of_it}
 use Rattle.read_tree.proofs.taking_back.may_take_back.Given.{Over}
 use Rattle.read_tree.proofs.taking_back.may_take_back.Goals as goal
@@ -30,7 +31,7 @@ returns-then-is_quiet-clause-over g c = λ pos a sound taken walled.
     let here = after pos c.args.board.now.moves in
     let turn = c.args.turn in
     let size = sym (size-after pos c.args.board.now.moves) in
-    rw c.none.ensures (Tells-none c.args.asked _ (λ ko.
+    rw c.none.ensures (IsFiltered-none c.args.asked _ (λ ko.
     quiet_fails here turn.defender turn.target sound (inside g d pos a) (same_cell-true _ _ taken)
     (subst (λ m. is_walled_in m here.cells turn.target (other turn.defender) ≡ true) size walled) (under turn ko)
     (defends turn c.requires.defender)
@@ -56,7 +57,7 @@ returns-then-bans-clause-over g c = λ pos a sound taken walled.
     (inside g e pos (agrees_before c.bans.ensures.stays.grows a)) (same_cell-true _ _ taken)
     (subst (λ m. is_walled_in m here.cells turn.target (other turn.defender) ≡ true) size walled) (under turn ko)
     (defends turn c.requires.defender) (loud g d pos a) banned in
-    rw c.own_where.ensures (Tells-banned c.args.asked _
+    rw c.own_where.ensures (IsFiltered-banned c.args.asked _
     (plays defender_may ∙ one_of_it turn c.requires.defender)
     (plays neither_may ∙ nothing_of_it turn neither_may c.requires.defender refl)
     (plays attacker_may ∙ nothing_of_it turn attacker_may c.requires.defender refl))
@@ -70,7 +71,7 @@ returns-clause-over g c = λ pos a sound taken walled.
     let turn = c.args.turn in
     let size = sym (size-after pos c.args.board.now.moves) in
     let free = sym (rw c.is_quiet.ensures.stays.moves at (c.bans.ensures.over pos a)) ∙ c.if-bans.false in
-    Tells-all c.args.asked _ (λ ko. loud_plays here turn.defender turn.target sound
+    IsFiltered-all c.args.asked _ (λ ko. loud_plays here turn.defender turn.target sound
     (inside g e pos (agrees_before c.bans.ensures.stays.grows a)) (same_cell-true _ _ taken)
     (subst (λ m. is_walled_in m here.cells turn.target (other turn.defender) ≡ true) size walled) (under turn ko)
     (defends turn c.requires.defender) (loud g d pos a) free)

@@ -21,7 +21,7 @@ use Rattle.read_rules.specs.GoodMoves.{good_move}
 use Rattle.read_tree.specs.Steps.{AreNodesOf, TellsBy, is_off_liberties, is_safe}
 use Rattle.read_rules.specs.GameTree.{has_many_liberties, attacker_wins, child_of, first_success, succeeds}
 use Rattle.read_tree.proofs.AllowanceLemmas.{success_some, good_by_success, suits_child}
-use Rattle.read_tree.proofs.AllowanceLemmas.{Tells-same, Tells-attackers, Tells-all, Tells-none}
+use Rattle.read_tree.proofs.AllowanceLemmas.{IsFiltered-same, IsFiltered-attackers, IsFiltered-all, IsFiltered-none}
 use Rattle.read_tree.proofs.AllowanceLemmas.{good_attacker, told_allowed, legal_nodes, allowed_nodes, pass_nodes}
 use Rattle.read_tree.proofs.AllowanceLemmas.{left_first, left_next}
 use Rattle.read_tree.proofs.StageLemmas.{by_done, by_over, by_none, by_failing, by_same, by_enough, by_both}
@@ -59,7 +59,8 @@ use Rattle.std.proofs.Common.{◌+◌, length}
 use Rattle.trial_board.specs.Trials.{most_moves}
 use Rattle.read_rules.specs.GameTree.{is_walled_in, has_lost_one_stone}
 use Rattle.read_tree.specs.Walk.{IsReady}
-use Rattle.read_tree.proofs.TakingLemmas.{Tells-taken, Tells-lost, lost_stated, lost_by_attacker, lost_free, lost_lone}
+use Rattle.read_tree.proofs.TakingLemmas.{IsFiltered-taken, IsFiltered-lost, lost_stated, lost_by_attacker, lost_free}
+use Rattle.read_tree.proofs.TakingLemmas.{lost_lone}
 use Rattle.read_tree.proofs.TakingLemmas.{lost_stones, lone_left, lone_read, no_liberties, back_nodes, back_spent}
 use Rattle.read_tree.proofs.StandingNodes.{lost_node, near_loss, near_loss_sides, near_back, near_cell, near_beside}
 use Rattle.read_tree.proofs.StandingNodes.{near_or_at}
@@ -105,7 +106,7 @@ succeeds-returns-in-Legal-clause-over g t c = λ pos a.
     (agrees_before c.has_way-good.ensures.stays.grows a2) in
     let new = after pos c.make.new.board.moves in
     let made = rw c.in-Legal.is at (c.make.ensures.over pos a1) in
-    Tells-same (rw c.liberties_after-next.ensures.stays.moves at (c.has_way-good.ensures.over pos a2))
+    IsFiltered-same (rw c.liberties_after-next.ensures.stays.moves at (c.has_way-good.ensures.over pos a2))
     (λ ko. suits_child c.args.plies c.args.turn.attacker_to_play
     (child_of (under c.args.turn ko) (after pos c.args.board.now.moves) c.args.p)
     (under (next_turn c.args.turn) ko) new (made ko))
@@ -209,7 +210,7 @@ pass_saves-returns-then-is_in_atari-clause-over g t c = λ pos a.
     let a0 = agrees_before c.is_in_atari.ensures.stays.grows a in
     let inside = on_after _ (g.met.L.Look.sized c.args.board.now.look) a0 c.args.board.now.moves
     c.requires.ready.target in
-    rw c.none.ensures (Tells-none c.args.asked _ (pass_fails c.args.plies c.args.turn
+    rw c.none.ensures (IsFiltered-none c.args.asked _ (pass_fails c.args.plies c.args.turn
     (after pos c.args.board.now.moves) inside (c.is_in_atari.ensures.over pos a c.if-is_in_atari.true)))
 
 -- the target's neighbourhood lies in the active area
@@ -578,7 +579,7 @@ some_success-returns-clause-near g t c = λ pos a q root tree und.
 pub has_good_move-returns-then-turn-clause-over : goal.has_good_move-returns-then-turn-clause-over
 has_good_move-returns-then-turn-clause-over g t c = λ pos a und.
     let here = after pos c.args.board.now.moves in
-    Tells-same (c.some_by_table.ensures.over pos a)
+    IsFiltered-same (c.some_by_table.ensures.over pos a)
     (λ ko. good_attacker c.args.turn.attacker_to_play (has_many_liberties c.args.turn here) _
     (first_success c.args.plies (under c.args.turn ko) here) c.if-turn.true ((und ko).few c.if-turn.true))
 
@@ -599,7 +600,7 @@ has_good_move-returns-then-escapes-clause-over g t c = λ pos a und.
     let its = its_liberty pos.size here turn.target c.args.known.now (size-after pos c.args.board.now.moves)
     (c.requires.liberties pos a0) in
     let way = c.escapes.ensures.over pos a c.if-escapes.true in
-    Tells-all c.args.asked _ (λ ko. good_by_success c.args.plies turn here ko c.if-turn.false
+    IsFiltered-all c.args.asked _ (λ ko. good_by_success c.args.plies turn here ko c.if-turn.false
     (success_some c.args.plies (under turn ko) here way.l
     (liberty_is_candidate turn here way.l (sym (its way.l) ∙ way.there))
     (escape_succeeds c.args.plies turn here c.args.known.now
@@ -827,7 +828,7 @@ defender_has_good_move-returns-clause-near g t c = λ pos a q root tree und.
 pub taken-returns-then-not-is_wider-clause-over : goal.taken-returns-then-not-is_wider-clause-over
 taken-returns-then-not-is_wider-clause-over g t c = λ pos a.
     let here = after pos c.args.board.now.moves in
-    Tells-taken c.args.plies c.args.turn here c.args.asked (c.requires.captured pos a)
+    IsFiltered-taken c.args.plies c.args.turn here c.args.asked (c.requires.captured pos a)
     (lost_stated (under c.args.turn neither_may) here (sym c.is_wider.ensures ∙ c.if-not-is_wider.true))
 
 -- nothing is looked at
@@ -838,7 +839,7 @@ taken-returns-then-not-is_wider-clause-near g t c = λ pos a q root tree. nothin
 pub taken-returns-then-turn-clause-over : goal.taken-returns-then-turn-clause-over
 taken-returns-then-turn-clause-over g t c = λ pos a.
     let here = after pos c.args.board.now.moves in
-    Tells-taken c.args.plies c.args.turn here c.args.asked (c.requires.captured pos a)
+    IsFiltered-taken c.args.plies c.args.turn here c.args.asked (c.requires.captured pos a)
     (lost_by_attacker (under c.args.turn neither_may) here c.if-turn.true)
 
 -- nothing is looked at either
@@ -870,7 +871,7 @@ pub taken-returns-then-not-is_walled_in-clause-over : goal.taken-returns-then-no
 taken-returns-then-not-is_walled_in-clause-over g t c = λ pos a.
     let d = (goal.at.taken-returns-then-not-is_walled_in-clause-over g t c).After-is_walled_in in
     let here = after pos c.args.board.now.moves in
-    Tells-taken c.args.plies c.args.turn here c.args.asked
+    IsFiltered-taken c.args.plies c.args.turn here c.args.asked
     (c.requires.captured pos (agrees_before c.is_walled_in.ensures.stays.grows a))
     (lost_free (under c.args.turn neither_may) here
     (sym (walled_is g t d pos a) ∙ c.if-not-is_walled_in.true))
@@ -906,7 +907,7 @@ taken-returns-then-plies-eq0-clause-over g t c = λ pos a.
     let told = (rw c.is_walled_in.ensures.stays.moves at (c.may_take_back-back.ensures.over pos a))
     (c.requires.sound pos (agrees_before c.is_walled_in.ensures.stays.grows a1)) w.0
     (sym (c.is_walled_in.ensures.over pos a1) ∙ c.if-not-is_walled_in.false) in
-    rw c.without.ensures (Tells-lost told
+    rw c.without.ensures (IsFiltered-lost told
     (λ ko. lone_left (under c.args.turn ko) here w.0 w.1 c.args.plies c.if-plies-eq0.true))
 
 -- the looks of the play that takes it back lie in the active area
@@ -955,7 +956,8 @@ taken-returns-clause-over g t c = λ pos a.
     let here = after pos c.args.board.now.moves in
     let w = lone_lost g t d c.if-not-is_walled_in.false pos
     (agrees_before c.succeeds-back.ensures.stays.grows a) in
-    rw c.without-2.ensures (Tells-lost (rw c.is_walled_in.ensures.stays.moves at (c.succeeds-back.ensures.over pos a))
+    rw c.without-2.ensures (IsFiltered-lost
+    (rw c.is_walled_in.ensures.stays.moves at (c.succeeds-back.ensures.over pos a))
     (λ ko. lone_read (under c.args.turn ko) here w.0 w.1 c.args.plies c.if-plies-eq0.false c.if-turn.false))
 
 -- the looks at the node after it lie in the active area
@@ -999,7 +1001,7 @@ pub attacker_wins-returns-then-plies-eq0-clause-over : goal.attacker_wins-return
 attacker_wins-returns-then-plies-eq0-clause-over g t c = λ pos a.
     let cell = c.cell.ensures.over pos a in
     let stands = sym (eq_is_same_cell c.cell.result Empty) ∙ sym c.eq.ensures ∙ c.if-eq.false in
-    rw c.none.ensures (Tells-none c.args.asked _
+    rw c.none.ensures (IsFiltered-none c.args.asked _
     (λ ko. wins-no_plies c.args.plies (under c.args.turn ko) (after pos c.args.board.now.moves)
     (rw cell at stands) c.if-plies-eq0.true))
 
@@ -1011,7 +1013,7 @@ attacker_wins-returns-in-Safe-clause-over g t c = λ pos a.
     let inside = target_on pos.size (g.L.Look.shows c.args.board.now.look).size c.args.turn.target
     (same_size (g.met.L.Look.sized c.args.board.now.look) a0) c.requires.target in
     let many = (rw (before.moves, c.in-Safe.is) at c.outlook_of.ensures.over) pos a in
-    rw c.none-in-Safe.ensures (Tells-none c.args.asked _
+    rw c.none-in-Safe.ensures (IsFiltered-none c.args.asked _
     (bounded_at c.args.plies c.args.turn (after pos c.args.board.now.moves) pos.size
     (size-after pos c.args.board.now.moves) inside many))
 
@@ -1058,7 +1060,7 @@ attacker_wins-returns-in-Taken-clause-over g t c = λ pos a.
     let taken = (rw before.moves at c.outlook_of.ensures.taken) pos a c.in-Taken.is in
     let und = outlook_undecided g t d (ap is_safe c.in-Taken.is) pos a in
     let more : c.args.plies ≡ suc (c.args.plies - 1) = omega (arith, c.if-plies-eq0.false) in
-    Tells-all c.args.asked _ (λ ko. ap (λ m. attacker_wins m (under c.args.turn ko) here) more
+    IsFiltered-all c.args.asked _ (λ ko. ap (λ m. attacker_wins m (under c.args.turn ko) here) more
     ∙ take_wins (c.args.plies - 1) c.args.turn here (whole_after pos c.args.board.now.moves a.sound.cells) inside
     ((und ko).few taken.attacks) taken ko)
 
@@ -1079,7 +1081,7 @@ attacker_wins-returns-in-Open-clause-over g t c = λ pos a.
     let here = after pos c.args.board.now.moves in
     let before = Stays-trans c.cell.ensures.stays c.liberties_known-known.ensures.stays in
     let a1 = agrees_before c.has_good_move-good.ensures.stays.grows a in
-    rw c.attackers.ensures (Tells-attackers c.args.turn.attacker_to_play c.args.asked c.has_good_move-good.result
+    rw c.attackers.ensures (IsFiltered-attackers c.args.turn.attacker_to_play c.args.asked c.has_good_move-good.result
     (λ ko. is_some (good_move (c.args.plies - 1) (under c.args.turn ko) here))
     (λ ko. attacker_wins c.args.plies (under c.args.turn ko) here)
     ((rw (Stays-trans before c.outlook_of.ensures.stays).moves at (c.has_good_move-good.ensures.over pos a))

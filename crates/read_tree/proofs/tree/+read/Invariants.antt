@@ -3,7 +3,7 @@ use Rattle.std.specs.FinSet as set
 use Rattle.go_rules.specs.Below.{count_below}
 use Rattle.go_rules.specs.Board.{largest_points}
 use Rattle.go_base.specs.Facts.{Grows}
-use Rattle.trial_board.specs.Trials.{Stays}
+use Rattle.trial_board.specs.Trials.{KeepsTrial}
 use Rattle.read_rules.specs.Candidates.{is_candidate}
 use Rattle.read_tree.specs.Allowances.{has_some}
 use Rattle.read_tree.specs.Steps.{IsLeft}
@@ -67,7 +67,7 @@ decreases-has_good_move g l = 9 * l.plies + 9
 -- what is missing is what no point that was tried gave, on any position that agrees
 abbrev pub invariant-some_of-loop-p : goal.invariant-some_of-loop-p
 invariant-some_of-loop-p g l = record {
-  stays : Stays g.L.Look.shows g.L.Look.seen l.fn.board l.board;
+  stays : KeepsTrial g.L.Look.shows g.L.Look.seen l.fn.board l.board;
   grows : Grows (g.L.Look.seen l.initial.board.look) (g.L.Look.seen l.board.look);
   some : has_some l.missing ≡ true;
   table : IsTrueTableAt (g.L.Look.seen l.board.look) l.turn l.memory.table.now;

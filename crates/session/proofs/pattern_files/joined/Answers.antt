@@ -1,7 +1,7 @@
 -- One file more.
 use Rattle.std.proofs.Common.{ℕ, List, Option, ap, subst, ◌∙◌, arith}
 use Rattle.std.specs.String.{string_bytes}
-use Rattle.session.specs.PatternFiles.{Adds}
+use Rattle.session.specs.PatternFiles.{AddsContents}
 use Rattle.session.proofs.PatternFileLemmas.{IsJoined-next}
 use Rattle.session.proofs.pattern_files.joined.Goals as goal
 
@@ -16,7 +16,7 @@ loop-name-preserved g c =
       joined = IsJoined-next string_bytes contents c.args.names.now c.loop-name.name-index c.name-item.result
           c.loop-name.text.items c.in_ok-text.text.items
           (omega arith) c.name-item.is so_far.joined
-          (subst (λ o. Adds o c.loop-name.text.items c.in_ok-text.text.items) told c.in_ok-text.ensures.ok);
+          (subst (λ o. AddsContents o c.loop-name.text.items c.in_ok-text.text.items) told c.in_ok-text.ensures.ok);
       missed = c.in_ok-text.ensures.missed ∙ so_far.missed;
       same = c.in_ok-text.ensures.same ∙ so_far.same;
     }

@@ -14,5 +14,5 @@ returns-clause-runs g c =
       same = ran.ensures.same;
       input = ran.ensures.input;
       output = ran.ensures.output;
-      notes = c.put_ran.ensures;
+      notes = c.put_report.ensures;
     })

@@ -1,7 +1,7 @@
 -- The line is answered by the step, and its reply is put.
 use Rattle.std.proofs.Common.{Bool, sym, subst}
 use Rattle.gtp_lex.specs.Raw.{raw_line}
-use Rattle.gtp_rules.specs.Transcript.{Answers}
+use Rattle.gtp_rules.specs.Transcript.{MayAnswer}
 use Rattle.sure_lines.specs.Replies.{reply_bytes}
 use Rattle.sure_lines.specs.SureStep.{step}
 use Rattle.sure_lines.proofs.SessionLemmas.{if_ok_map, answered-one}
@@ -17,5 +17,6 @@ returns-clause-answered g c =
     let out = reply_bytes c.line-reply.result in
     if_ok_map c.send.result
     (λ ends said. answered-one contents old new line out _ _ ends
-    (subst (λ (e : Bool). Answers (step contents) old line out new e) (sym said.0) c.line-reply.ensures.answers) said.1)
+    (subst (λ (e : Bool). MayAnswer (step contents) old line out new e) (sym said.0) c.line-reply.ensures.answers)
+    said.1)
     c.send.ensures

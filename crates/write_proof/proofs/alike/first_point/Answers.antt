@@ -22,8 +22,8 @@ plays-init g c = record {
 }
 
 -- the next candidate is on the board, and what the reader needs is as before
-pub play_told-requires : goal.play_told-requires
-play_told-requires g c =
+pub play_success-requires : goal.play_success-requires
+play_success-requires g c =
     let i = c.plays.invariant in
     let ready = ready_after i.stays c.args.asked c.requires c.requires.some i.table in
     let on_board = point_after i.stays c.in-Some.p (candidate_inside c.args.turn
@@ -38,13 +38,13 @@ plays-preserved g c =
     let found = c.in-Some.ensures.some in
     let same = here_stays g.L.Look.shows g.L.Look.seen c.args.board.now c.plays.board i.stays in
     record {
-      stays = Stays-trans i.stays c.play_told.ensures.stays;
-      table = c.play_told.ensures.table;
+      stays = Stays-trans i.stays c.play_success.ensures.stays;
+      table = c.play_success.ensures.table;
       none = λ ko asked. none_up_to (set.contains c.candidates-candidates.result)
           (succeeds c.args.plies (under c.args.turn ko) (position_on g.L.Look.shows c.args.board.now)) c.plays.next
           c.in-Some.p (i.none ko asked) found.3 found.2
           (subst (λ (pos : BoardState). succeeds c.args.plies (under c.args.turn ko) pos c.in-Some.p ≡ false) same
-          ((rw c.in-Never.is at c.play_told.ensures.told) ko asked));
+          ((rw c.in-Never.is at c.play_success.ensures.success) ko asked));
     }
 
 -- it is the first that succeeds under each
@@ -59,7 +59,7 @@ returns-in-Always-clause-first g c = λ ko asked.
     (set.contains c.candidates-candidates.result)
     c.candidates-candidates.ensures.answer (i.none ko asked) found.3 found.2
     (sym (subst (λ (pos : BoardState). succeeds c.args.plies node pos c.in-Some.p ≡ true) same
-    ((rw c.in-Always.is at c.play_told.ensures.told) ko asked))))
+    ((rw c.in-Always.is at c.play_success.ensures.success) ko asked))))
 
 -- and is on the board
 pub returns-in-Always-clause-on_board : goal.returns-in-Always-clause-on_board
@@ -70,7 +70,7 @@ returns-in-Always-clause-on_board g c =
 
 -- of one allowance it is not told that it differs
 pub returns-in-Differs-clause-one : goal.returns-in-Differs-clause-one
-returns-in-Differs-clause-one g c = λ one e. c.play_told.ensures.one one c.in-Differs.is
+returns-in-Differs-clause-one g c = λ one e. c.play_success.ensures.one one c.in-Differs.is
 
 -- no candidate is left
 pub returns-clause-first : goal.returns-clause-first

@@ -1,7 +1,7 @@
 use Rattle.std.proofs.Common.{◌≡◌, ℕ, ◌-◌, ◌<◌, ◌&&◌, true, false}
 use Rattle.std.specs.FinSet as set
 use Rattle.go_rules.specs.Board.{largest_points}
-use Rattle.trial_board.specs.Trials.{Stays}
+use Rattle.trial_board.specs.Trials.{KeepsTrial}
 use Rattle.read_rules.specs.GameTree.{succeeds}
 use Rattle.read_tree.specs.Allowances.{Ko, has, under}
 use Rattle.read_tree.specs.Table.{IsTrueTableAt}
@@ -11,7 +11,7 @@ use Rattle.write_proof.proofs.alike.first_point.Given as goal
 -- no candidate so far succeeds under any asked allowance
 abbrev pub invariant-plays : goal.invariant-plays
 invariant-plays g l = record {
-  stays : Stays g.L.Look.shows g.L.Look.seen l.fn.board l.board;
+  stays : KeepsTrial g.L.Look.shows g.L.Look.seen l.fn.board l.board;
   table : IsTrueTableAt (g.L.Look.seen l.board.look) l.turn l.memory.table.now;
   none : (ko : Ko) → has l.asked ko ≡ true → (q : ℕ) → q < l.next
       → (set.contains l.candidates q

@@ -308,13 +308,13 @@ write-returns-then-plies-eq0-clause-puts g t c = λ same ko asked.
 pub write-returns-in-Always-clause-puts : goal.write-returns-in-Always-clause-puts
 write-returns-in-Always-clause-puts g t c = λ same ko asked.
     let node = under c.args.turn ko in
-    let told = rw c.in-Always.is at c.back_told.ensures.told in
+    let told = rw c.in-Always.is at c.back_success.ensures.success in
     rw (back_words c.args.plies c.args.won node (position_on g.L.Look.shows c.args.board.now) c.if-plies-eq0.false
     (told ko asked))
     (subst (λ (p : BoardState). Puts c.args.out.now (behind_blanks (move_word p.size (At c.args.turn.target)
     ∷ write_each (first_words (c.args.plies - 1) c.args.won) (option_to_list (child_of node p c.args.turn.target))))
     c.write_back.new.out c.write_back.result)
-    (here_stays g.L.Look.shows g.L.Look.seen c.args.board.now c.back_told.new.board c.back_told.ensures.stays)
+    (here_stays g.L.Look.shows g.L.Look.seen c.args.board.now c.back_success.new.board c.back_success.ensures.stays)
     (c.write_back.ensures.puts same ko asked))
 
 -- under some of the asked alone he does
@@ -323,20 +323,20 @@ write-returns-in-Differs-clause-puts g t c = λ same ko asked. absurd (same refl
 
 -- the table stays true
 pub write-returns-in-Differs-clause-table : goal.write-returns-in-Differs-clause-table
-write-returns-in-Differs-clause-table g t c = table_more c.requires.table c.back_told.ensures.stays.grows
+write-returns-in-Differs-clause-table g t c = table_more c.requires.table c.back_success.ensures.stays.grows
 
 -- of one allowance alone it does not differ
 pub write-returns-in-Differs-clause-one : goal.write-returns-in-Differs-clause-one
-write-returns-in-Differs-clause-one g t c = λ one e. c.back_told.ensures.one one c.in-Differs.is
+write-returns-in-Differs-clause-one g t c = λ one e. c.back_success.ensures.one one c.in-Differs.is
 
 -- under none of them he does
 pub write-write_moves-requires : goal.write-write_moves-requires
 write-write_moves-requires g t c κs within =
-    let told = rw c.in-Never.is at c.back_told.ensures.told in
-    let stays = c.back_told.ensures.stays in
-    let here = here_stays g.L.Look.shows g.L.Look.seen c.args.board.now c.back_told.new.board stays in
+    let told = rw c.in-Never.is at c.back_success.ensures.success in
+    let stays = c.back_success.ensures.stays in
+    let here = here_stays g.L.Look.shows g.L.Look.seen c.args.board.now c.back_success.new.board stays in
     let none : (ko : Ko) → has c.args.asked ko ≡ true
-    → taking_back (under c.args.turn ko) (position_on g.L.Look.shows c.back_told.new.board) ≡ None =
+    → taking_back (under c.args.turn ko) (position_on g.L.Look.shows c.back_success.new.board) ≡ None =
     λ ko asked. ap (taking_back (under c.args.turn ko)) here ∙ not_back _ (told ko asked) in
     let target = point_after stays c.args.turn.target c.requires.target in
     let table = table_more c.requires.table stays.grows in
@@ -347,7 +347,7 @@ pub write-returns-in-Never-clause-puts : goal.write-returns-in-Never-clause-puts
 write-returns-in-Never-clause-puts g t c = λ same ko asked.
     subst (λ (p : BoardState). Puts c.args.out.now (behind_blanks (first_words c.args.plies c.args.won
     (under c.args.turn ko) p)) c.write_moves.new.out c.write_moves.result)
-    (here_stays g.L.Look.shows g.L.Look.seen c.args.board.now c.back_told.new.board c.back_told.ensures.stays)
+    (here_stays g.L.Look.shows g.L.Look.seen c.args.board.now c.back_success.new.board c.back_success.ensures.stays)
     (c.write_moves.ensures.puts same ko asked)
 
 -- there is no room for the word of the play that takes back

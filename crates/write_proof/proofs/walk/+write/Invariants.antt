@@ -1,7 +1,7 @@
 use Rattle.std.proofs.Common.{◌≡◌, ◌+◌, ◌-◌, ◌*◌, ◌≤◌, ◌++◌, length, true}
 use Rattle.std.specs.List.{filter_map, filter, range_with_len}
 use Rattle.go_rules.specs.Board.{largest_points}
-use Rattle.trial_board.specs.Trials.{Stays}
+use Rattle.trial_board.specs.Trials.{KeepsTrial}
 use Rattle.read_rules.specs.Candidates.{is_candidate}
 use Rattle.read_rules.specs.GameTree.{child_of}
 use Rattle.read_tree.specs.Allowances.{Ko, has, under}
@@ -44,7 +44,7 @@ decreases-write_back g l = 6 * l.plies + 3
 -- was to be written
 abbrev pub invariant-write_plays-plays : goal.invariant-write_plays-plays
 invariant-write_plays-plays g l = record {
-  stays : Stays g.L.Look.shows g.L.Look.seen l.fn.board l.board;
+  stays : KeepsTrial g.L.Look.shows g.L.Look.seen l.fn.board l.board;
   table : IsTrueTableAt (g.L.Look.seen l.board.look) l.turn l.memory.table.now;
   text : (ko : Ko) → has l.asked ko ≡ true → l.out ++ behind_blanks (write_each (first_words l.plies l.won)
       (filter_map (child_of (under l.turn ko) (position_on g.L.Look.shows l.fn.board))

@@ -37,5 +37,10 @@ returns-in-Err-tabled_line-clause-err c = λ s k number fine bytes kind h.
 -- the line has no fault
 pub returns-clause-ok : goal.returns-clause-ok
 returns-clause-ok c =
-    grind (arith, same_behind c.args.helpers.now c.args.kind, found_table c.args.helpers.now, c.in-Ok.ensures.ok,
-        c.in-Ok-tabled_line.ensures.ok)
+    grind (
+      arith,
+      same_behind c.args.helpers.now c.args.kind,
+      found_table c.args.helpers.now,
+      c.in-Ok.ensures.ok,
+      c.in-Ok-tabled_line.ensures.ok,
+    )

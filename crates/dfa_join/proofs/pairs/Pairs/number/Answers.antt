@@ -1,7 +1,7 @@
 use Rattle.std.proofs.Common.{◌≡◌, ◌++◌, ◌∷◌, [], length, Some, ap, sym, subst, arith, ◌∙◌}
-use Rattle.dfa_join.specs.Pairs.{Adds}
-use Rattle.dfa_join.specs.Index.{Tells, told_by}
-use Rattle.dfa_join.proofs.PairLists.{Adds-push, Tells-push}
+use Rattle.dfa_join.specs.Pairs.{NumbersPair}
+use Rattle.dfa_join.specs.Index.{IsLookup, indexed_number}
+use Rattle.dfa_join.proofs.PairLists.{NumbersPair-push, IsLookup-push}
 use Rattle.dfa_join.proofs.pairs.Pairs.number.Goals.{After-push_reserved}
 use Rattle.dfa_join.proofs.pairs.Pairs.number.Goals as goal
 
@@ -11,21 +11,23 @@ list_is : (c : After-push_reserved)
 list_is c = c.push_reserved.ensures.items ∙ ap (λ pairs. pairs ++ c.args.pair ∷ []) c.reserve.ensures.items
 
 -- the pair was not in the list, so its number is the count of the pairs before it
-adds : (c : After-push_reserved) → Adds c.args.limit c.self.inside.list.items
+adds : (c : After-push_reserved) → NumbersPair c.args.limit c.self.inside.list.items
     (c.self.inside.list.items ++ c.args.pair ∷ []) c.args.pair (length c.self.inside.list.items)
 adds c =
     let list = c.self.inside.list.items in
-    let told = subst (Tells list c.args.pair) (sym c.number.ensures ∙ c.in_default.is) (c.self.invariant c.args.pair) in
-    Adds-push c.args.limit list c.args.pair told.1 (omega (arith, c.len-number.ensures, c.if-number-limit.false))
+    let told = subst (IsLookup list c.args.pair) (sym c.number.ensures ∙ c.in_default.is)
+    (c.self.invariant c.args.pair) in
+    NumbersPair-push c.args.limit list c.args.pair told.1 (omega (arith, c.len-number.ensures, c.if-number-limit.false))
 
 -- what the index tells is so of the longer list
 pub invariant_of-self-2 : goal.invariant_of-self-2
 invariant_of-self-2 c = λ q.
     let d = (goal.at.invariant_of-self-2 c).After-push_reserved in
     let list = c.self.inside.list.items in
-    let here : told_by c.put.new.self c.args.pair ≡ Some (length list) =
+    let here : indexed_number c.put.new.self c.args.pair ≡ Some (length list) =
     c.in_ok-put.ensures.here ∙ ap (λ n. Some n) (omega (arith, c.len-number.ensures)) in
-    rw (list_is d) (Tells-push list c.args.pair (told_by c.self.inside.index) (told_by c.put.new.self) c.self.invariant
+    rw (list_is d) (IsLookup-push list c.args.pair (indexed_number c.self.inside.index) (indexed_number c.put.new.self)
+    c.self.invariant
     (adds d).number here c.in_ok-put.ensures.elsewhere q)
 
 -- the pair has its number

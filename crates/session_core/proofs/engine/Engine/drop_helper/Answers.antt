@@ -2,7 +2,7 @@
 use Rattle.std.proofs.Common.{◌≡◌, [], ap, ◌∙◌}
 use Rattle.helpers.specs.Slots.{states_of}
 use Rattle.helpers.specs.HelperStates.{SlotState, named, after_remove}
-use Rattle.machine_rules.specs.Effects.{told}
+use Rattle.machine_rules.specs.Effects.{succeeded}
 use Rattle.machine_rules.specs.Heard.{word_at}
 use Rattle.machine_rules.specs.HelperCommands.{with_helpers}
 use Rattle.session_core.specs.EngineView.{machine_with}
@@ -21,5 +21,6 @@ returns g c =
     (nothing-there (λ (s : SlotState). s.helper) (named c.as_slice.result.now before) c.in-None.ensures.found) in
     let same = c.remove.ensures.after ∙ ap (λ n. after_remove n before) is ∙ remove-none name before missing in
     not-there (machine_with before kept) name
-    (told [] (with_helpers (machine_with before kept) (after_remove name before))) (machine_with after kept) missing
+    (succeeded [] (with_helpers (machine_with before kept) (after_remove name before))) (machine_with after kept)
+    missing
     (ap (λ helpers. machine_with helpers kept) same)

@@ -21,7 +21,7 @@ returns-clause-answer c = λ helpers.
       | in-Ok w ↦
           move_added game kept c.args.m new c.match-play.result w.in-Ok.ensures.ok w.in-Ok.ensures.allowed
           w.in-Ok.ensures.room
-          (w.result-is ∙ w.told.ensures)
+          (w.result-is ∙ w.brief_answer.ensures)
       | in-Err-Illegal w ↦
           let answer = w.in-Err-Illegal in
           move_illegal game kept c.args.m new c.match-play.result answer.field-0-0 answer.ensures.err

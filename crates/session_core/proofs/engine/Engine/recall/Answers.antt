@@ -2,7 +2,7 @@
 use Rattle.std.proofs.Common.{ap, ◌∙◌, rules}
 use Rattle.session_core.specs.EngineView.{machine_with}
 use Rattle.session_core.proofs.LineCounts.{ReadsAs-inside}
-use Rattle.session_core.proofs.StoneAnswers.{depths-kept, told-read}
+use Rattle.session_core.proofs.StoneAnswers.{depths-kept, succeeded-read}
 use Rattle.session_core.proofs.engine.Engine.recall.Goals as goal
 
 -- attack or defend on a stone makes one reading, of the session's position and at the session's depths
@@ -16,7 +16,7 @@ returns-clause-read c =
 -- its answer is told
 pub returns-clause-answer : goal.returns-clause-answer
 returns-clause-answer c = λ helpers.
-    told-read c.args.self.now c.args.kind c.args.p (search rules) helpers c.answer_text.result c.told_text.result
-    (machine_with helpers c.count_reading.new.self) c.told_text.ensures (search rules)
+    succeeded-read c.args.self.now c.args.kind c.args.p (search rules) helpers c.answer_text.result c.text_answer.result
+    (machine_with helpers c.count_reading.new.self) c.text_answer.ensures (search rules)
     (c.count_reading.ensures.machine helpers ∙ depths-kept _ _ c.in-Some.ensures.read.depths
     ∙ ap (machine_with helpers) c.self.view_is)

@@ -2,7 +2,7 @@
 use Rattle.std.proofs.Common.{◌≡◌, false, [], sym, ap, ◌∙◌}
 use Rattle.helpers.specs.Slots.{states_of}
 use Rattle.helpers.specs.HelperStates.{after_off}
-use Rattle.machine_rules.specs.Effects.{told}
+use Rattle.machine_rules.specs.Effects.{succeeded}
 use Rattle.machine_rules.specs.Heard.{word_at}
 use Rattle.machine_rules.specs.HelperCommands.{with_helpers}
 use Rattle.session_core.specs.EngineView.{machine_with}
@@ -21,5 +21,5 @@ returns g c =
     let same : after ≡ before = c.off.ensures.after ∙ ap (λ n. after_off n before) is
     ∙ change-none name (λ s. record s { on = false }) before missing in
     not-there (machine_with before kept) name
-    (told [] (with_helpers (machine_with before kept) (after_off name before))) (machine_with after kept) missing
+    (succeeded [] (with_helpers (machine_with before kept) (after_off name before))) (machine_with after kept) missing
     (ap (λ helpers. machine_with helpers kept) same)

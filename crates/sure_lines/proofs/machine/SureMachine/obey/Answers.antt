@@ -1,7 +1,7 @@
 -- The list of the names takes memory.
 use Rattle.std.proofs.Common.{refl}
 use Rattle.gtp_cmd.specs.declared.commands.Command.TheVariants.{ListCommands}
-use Rattle.sure_lines.specs.Names.{names_text}
+use Rattle.sure_lines.specs.CommandNames.{names_text}
 use Rattle.sure_lines.proofs.LineAnswers.{obeyed}
 use Rattle.sure_lines.proofs.machine.SureMachine.obey.Goals as goal
 

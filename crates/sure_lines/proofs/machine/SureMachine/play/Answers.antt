@@ -18,7 +18,7 @@ returns c =
     (λ _. IsAnswer (played kept c.args.m) c.match-play.result kept (with_game new kept)) [
       | in-Ok w ↦
           move_added kept c.args.m new c.match-play.result w.in-Ok.ensures.ok w.in-Ok.ensures.allowed
-          w.in-Ok.ensures.room (w.result-is ∙ w.told.ensures)
+          w.in-Ok.ensures.room (w.result-is ∙ w.brief_answer.ensures)
       | in-Err-Illegal w ↦
           let answer = w.in-Err-Illegal in
           move_illegal kept c.args.m new c.match-play.result answer.field-0-0 answer.ensures.err

@@ -5,11 +5,11 @@ use Rattle.read_tree.proofs.TableLemmas.{has_both}
 use Rattle.read_tree.specs.Allowances.{without, both}
 use Rattle.read_tree.proofs.AllowanceLemmas.{in_other}
 use Rattle.write_proof.proofs.AlikeLemmas.{not_both, told_one}
-use Rattle.write_proof.proofs.alike.told_by.Goals as goal
+use Rattle.write_proof.proofs.alike.success_under.Goals as goal
 
 -- none is left without those
-pub returns-then-not-has_some-clause-told : goal.returns-then-not-has_some-clause-told
-returns-then-not-has_some-clause-told c = λ ko asked.
+pub returns-then-not-has_some-clause-success : goal.returns-then-not-has_some-clause-success
+returns-then-not-has_some-clause-success c = λ ko asked.
     in_other (has c.args.asked ko) (has c.args.good ko) asked (sym (has-without c.args.asked c.args.good ko)
     ∙ none_of (without c.args.asked c.args.good) ko
     (ap has_some (sym c.without.ensures) ∙ sym c.has_some.ensures ∙ c.if-not-has_some.true))
@@ -22,8 +22,8 @@ returns-then-has_some-clause-one c = λ one e.
     (ap has_some (sym c.both.ensures) ∙ sym c.has_some-2.ensures ∙ c.if-has_some.true)
 
 -- none of those is asked for
-pub returns-clause-told : goal.returns-clause-told
-returns-clause-told c = λ ko asked.
+pub returns-clause-success : goal.returns-clause-success
+returns-clause-success c = λ ko asked.
     not_both (has c.args.asked ko) (has c.args.good ko) asked (sym (has_both c.args.asked c.args.good ko)
     ∙ none_of (both c.args.asked c.args.good) ko
     (ap has_some (sym c.both.ensures) ∙ sym c.has_some-2.ensures ∙ c.if-has_some.false))

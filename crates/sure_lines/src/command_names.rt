@@ -4,7 +4,7 @@ ghost use Rattle.std.specs.Prelude.{◌≡◌, ◌∷◌, ◌++◌, IfOk, OnOk};
 ghost use Rattle.std.specs.List.{flat_map, list_any};
 ghost use Rattle.std.specs.Str.{bytes_eq};
 ghost use Rattle.gtp_cmd.specs.Words.{kept, line_feed};
-ghost use Rattle.sure_lines.specs.Names.{is_own, names_text};
+ghost use Rattle.sure_lines.specs.CommandNames.{is_own, names_text};
 
 use go_base::{Bytes, NoMemory};
 use std::alloc::Global;

@@ -15,7 +15,7 @@ use Rattle.pat_types.specs.Letters.{admits}
 use Rattle.match_rules.specs.Fits.{drawn_fits}
 use Rattle.dfa_core.specs.declared.automaton.Seen.TheVariants.{Off}
 use Rattle.dfa_core.specs.Fits.{letter_admits, drawn_admits, is_friend, is_enemy, is_empty, is_off}
-use Rattle.dfa_match.specs.Sights.{seen_of, seen_at_place}
+use Rattle.dfa_match.specs.SeenLetters.{seen_of, seen_at_place}
 
 -- what a friend sees of a cell: his stones and his enemy's where they stand, an empty point where nothing stands, and
 -- that it is on the board

@@ -1,7 +1,7 @@
 use Rattle.std.proofs.Common.{◌≡◌, ◌∷◌, ◌++◌, take}
 use Rattle.std.specs.List.{flat_map}
 use Rattle.gtp_cmd.specs.Words.{line_feed}
-use Rattle.sure_lines.proofs.names.put_names.Given as goal
+use Rattle.sure_lines.proofs.command_names.put_names.Given as goal
 
 -- the names so far were put
 abbrev pub invariant-loop-name : goal.invariant-loop-name

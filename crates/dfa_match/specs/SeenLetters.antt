@@ -56,13 +56,13 @@ seen_below n pos friend None = Off
 seen_below n pos friend (Some q) = if nat_lt q n then seen_of friend (cell_at pos.cells q) else Off
 
 -- the padded board shows what the friend sees at the points below n, and is off the board elsewhere
-pub record AreSightsBelow (n : ℕ) (pos : BoardState) (friend : Colour) (letters : List Seen) : Type 0 where
+pub record IsPaddedBoardBelow (n : ℕ) (pos : BoardState) (friend : Colour) (letters : List Seen) : Type 0 where
   pub length : length letters ≡ padded_side * padded_side
   pub each : (r c : ℕ) → r < padded_side → c < padded_side
       → slice_index_or letters (r * padded_side + c) Off ≡ seen_below n pos friend (padded_point pos.size r c)
 
 -- letters shows, on the padded board, what the friend sees at each point of a board of this size
-pub record AreSights (pos : BoardState) (friend : Colour) (size : ℕ) (letters : List Seen) : Type 0 where
+pub record IsPaddedBoard (pos : BoardState) (friend : Colour) (size : ℕ) (letters : List Seen) : Type 0 where
   pub same_size : size ≡ pos.size
   pub few : size ≤ largest_size
-  pub all : AreSightsBelow (pos.size * pos.size) pos friend letters
+  pub all : IsPaddedBoardBelow (pos.size * pos.size) pos friend letters

@@ -2,20 +2,20 @@ use Rattle.std.proofs.Common.{◌≡◌, ℕ, ◌*◌, ◌<◌, ◌≤◌, subst
 use Rattle.go_rules.specs.Board.{largest_size}
 use Rattle.go_rules.specs.Position.{BoardState}
 use Rattle.go_rules.specs.Strings.{cell_at}
-use Rattle.dfa_match.specs.Sights.{seen_of}
+use Rattle.dfa_match.specs.SeenLetters.{seen_of}
 use Rattle.dfa_match.specs.Steps.{cursor_at, last_corner}
 use Rattle.dfa_match.proofs.Cursors.{cursor_place, cursor_corner}
-use Rattle.dfa_match.proofs.PaddedBoard.{sights_none, sights_more, row_low, column_low}
-use Rattle.dfa_match.proofs.sights.Sights.of.Given.{Over}
-use Rattle.dfa_match.proofs.sights.Sights.of.Goals.{In-points}
-use Rattle.dfa_match.proofs.sights.Sights.of.Goals as goal
+use Rattle.dfa_match.proofs.PaddedBoard.{padded_none, padded_more, row_low, column_low}
+use Rattle.dfa_match.proofs.padded_board.PaddedBoard.of.Given.{Over}
+use Rattle.dfa_match.proofs.padded_board.PaddedBoard.of.Goals.{In-points}
+use Rattle.dfa_match.proofs.padded_board.PaddedBoard.of.Goals as goal
 
 -- before the first point each place is off the board, and the cursor is that of the first point
 pub points-init : goal.points-init
 points-init g c = record {
   shows = refl;
   at = c.first-at.ensures c.size-size.result (omega (arith, c.get.ensures.at_least));
-  sights = sights_none (g.L.Look.shows c.args.look.now) c.args.friend c.no_letters-letters.result
+  padded = padded_none (g.L.Look.shows c.args.look.now) c.args.friend c.no_letters-letters.result
       c.no_letters-letters.ensures;
 }
 
@@ -51,7 +51,7 @@ points-preserved g c =
     record {
       shows = c.sight.ensures.same ∙ c.points.invariant.shows;
       at = c.next-at.ensures p c.points.invariant.at;
-      sights = sights_more board c.args.friend p _ c.points.letters c.sight.result c.points.invariant.sights some few
+      padded = padded_more board c.args.friend p _ c.points.letters c.sight.result c.points.invariant.padded some few
           (cursor_place board.size p c.points.at cursor) (omega (arith, low)) (row_low board.size p some most few)
           (column_low board.size p some most) (c.sight.ensures.value
           ∙ ap (λ (b : BoardState). seen_of c.args.friend (cell_at b.cells p)) c.points.invariant.shows);

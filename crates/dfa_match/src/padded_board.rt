@@ -3,7 +3,7 @@ ghost use Rattle.std.specs.Prelude.{◌≡◌, ◌+◌, ◌*◌, ◌<◌, ◌≤
 ghost use Rattle.std.specs.Prelude.{length};
 ghost use Rattle.go_rules.specs.Transform.{largest_offset, IsNear};
 ghost use Rattle.go_rules.specs.Strings.{cell_at};
-ghost use Rattle.dfa_match.specs.Sights.{seen_of, padded_side, AreSights};
+ghost use Rattle.dfa_match.specs.SeenLetters.{seen_of, padded_side, IsPaddedBoard};
 ghost use Rattle.dfa_match.specs.Steps.{strip_by, step_by, no_step, last_corner, last_step};
 
 use crate::cursor::Cursor;
@@ -20,7 +20,7 @@ const CENTRE: usize = MAX_OFFSET as usize * SIDE + MAX_OFFSET as usize;
 /// The letters that a friend sees, row by row. The board is padded by the largest offset before its first row and
 /// column, and by at least as much after its last ones.
 #[derive(Drop)]
-pub struct Sights {
+pub struct PaddedBoard {
     /// The size of the board.
     pub size: Size,
     /// The letters; `Off` at each place that is no point of the board.
@@ -82,10 +82,10 @@ pub fn step_of(by: (i8, i8)) -> u16
     strip_in_square(by.0) * SIDE as u16 + strip_in_square(by.1)
 }
 
-impl Sights {
+impl PaddedBoard {
     /// What a friend of the colour `friend` sees on the position of `look`. Each point is looked at once.
-    pub fn of<L: Look>(look: &mut L, friend: Colour) -> Sights
-        ensures sights { AreSights (L.shows look.old) friend result.size result.letters }
+    pub fn of<L: Look>(look: &mut L, friend: Colour) -> PaddedBoard
+        ensures padded { IsPaddedBoard (L.shows look.old) friend result.size result.letters }
         ensures same { L.shows look.new ≡ L.shows look.old }
     {
         let size = look.size();
@@ -96,7 +96,7 @@ impl Sights {
             letters[at.corner as usize + CENTRE] = sight(look, friend, p);
             at = at.next(size);
         }
-        Sights { size, letters }
+        PaddedBoard { size, letters }
     }
 
     /// The letter of the anchor whose square begins at `corner`.

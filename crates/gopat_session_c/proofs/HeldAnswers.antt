@@ -5,7 +5,7 @@ use Rattle.board_doors.specs.Printed.{printed_over}
 use Rattle.session_doors.specs.declared.held.HeldSession.{HeldSession}
 use Rattle.session_doors.specs.declared.lines.Unanswered.{Unanswered}
 use Rattle.session_doors.specs.declared.replies.LineReply.{LineReply}
-use Rattle.session_doors.specs.Answered.{Answers, has_feed, LeavesUnanswered}
+use Rattle.session_doors.specs.Answered.{AnswersText, has_feed, LeavesUnanswered}
 use Rattle.session_doors.specs.Replies.{line_reply, fault_reply}
 use Rattle.gopat_session_c.specs.Held.{HasAnswered, answered, unanswered}
 
@@ -18,7 +18,7 @@ module _ (was : Option HeldSession) (held : HeldSession) (text : List ℕ) (now 
       subst (λ (o : Option HeldSession). IfSome o (λ old. HasAnswered old text now before after reply)) (sym is) answers
 
   -- a line
-  pub told-answered : (new : HeldSession) → now ≡ Some new → Answers held text new → has_feed text ≡ false
+  pub told-answered : (new : HeldSession) → now ≡ Some new → AnswersText held text new → has_feed text ≡ false
       → reply ≡ line_reply new.reply (length before) → after ≡ printed_over (reply_bytes new.reply) before
       → IfSome was (λ old. HasAnswered old text now before after reply)
   told-answered new holds answers line told over = by-held (answered new holds answers line told over)

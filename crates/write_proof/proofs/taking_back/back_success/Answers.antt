@@ -12,27 +12,27 @@ use Rattle.read_rules.specs.GameTree.{is_walled_in}
 use Rattle.read_tree.specs.Allowances.{under}
 use Rattle.read_tree.proofs.TakingLemmas.{lost_stated, lost_by_attacker, lost_free}
 use Rattle.write_proof.specs.Printed.{position_on}
-use Rattle.write_proof.proofs.BackLemmas.{cannot_take_back, lost_standing, told_back}
-use Rattle.write_proof.proofs.taking_back.back_told.Given.{Over}
-use Rattle.write_proof.proofs.taking_back.back_told.Goals.{After-is_walled_in}
-use Rattle.write_proof.proofs.taking_back.back_told.Goals as goal
+use Rattle.write_proof.proofs.BackLemmas.{cannot_take_back, lost_standing, success_back}
+use Rattle.write_proof.proofs.taking_back.back_success.Given.{Over}
+use Rattle.write_proof.proofs.taking_back.back_success.Goals.{After-is_walled_in}
+use Rattle.write_proof.proofs.taking_back.back_success.Goals as goal
 
 -- the tree is the stated one
-pub returns-then-not-is_wider-clause-told : goal.returns-then-not-is_wider-clause-told
-returns-then-not-is_wider-clause-told g c = λ ko asked.
+pub returns-then-not-is_wider-clause-success : goal.returns-then-not-is_wider-clause-success
+returns-then-not-is_wider-clause-success g c = λ ko asked.
     cannot_take_back (under c.args.turn ko) (position_on g.L.Look.shows c.args.board.now)
     (lost_stated (under c.args.turn ko) (position_on g.L.Look.shows c.args.board.now)
     (sym c.is_wider.ensures ∙ c.if-not-is_wider.true))
 
 -- it is the attacker's turn
-pub returns-then-turn-clause-told : goal.returns-then-turn-clause-told
-returns-then-turn-clause-told g c = λ ko asked.
+pub returns-then-turn-clause-success : goal.returns-then-turn-clause-success
+returns-then-turn-clause-success g c = λ ko asked.
     cannot_take_back (under c.args.turn ko) (position_on g.L.Look.shows c.args.board.now)
     (lost_by_attacker (under c.args.turn ko) (position_on g.L.Look.shows c.args.board.now) c.if-turn.true)
 
 -- the target stands
-pub returns-then-ne-clause-told : goal.returns-then-ne-clause-told
-returns-then-ne-clause-told g c = λ ko asked.
+pub returns-then-ne-clause-success : goal.returns-then-ne-clause-success
+returns-then-ne-clause-success g c = λ ko asked.
     let stands = ap (λ (x : Cell). same_cell x Empty) (sym c.cell.ensures.answer)
     ∙ sym (eq_is_same_cell c.cell.result Empty) ∙ not-true _ (sym c.ne.ensures ∙ c.if-ne.true) in
     cannot_take_back (under c.args.turn ko) (position_on g.L.Look.shows c.args.board.now)
@@ -53,17 +53,17 @@ walled_is g c =
     (sym (size-after shown c.args.board.now.moves))
 
 -- it was no lone stone
-pub returns-then-not-is_walled_in-clause-told : goal.returns-then-not-is_walled_in-clause-told
-returns-then-not-is_walled_in-clause-told g c = λ ko asked.
-    let d = (goal.at.returns-then-not-is_walled_in-clause-told g c).After-is_walled_in in
+pub returns-then-not-is_walled_in-clause-success : goal.returns-then-not-is_walled_in-clause-success
+returns-then-not-is_walled_in-clause-success g c = λ ko asked.
+    let d = (goal.at.returns-then-not-is_walled_in-clause-success g c).After-is_walled_in in
     cannot_take_back (under c.args.turn ko) (position_on g.L.Look.shows c.args.board.now)
     (lost_free (under c.args.turn ko) (position_on g.L.Look.shows c.args.board.now)
     (sym (walled_is g d) ∙ c.if-not-is_walled_in.true))
 
 -- it was, and the play at its point is told
-pub returns-clause-told : goal.returns-clause-told
-returns-clause-told g c =
-    let d = (goal.at.returns-clause-told g c).After-is_walled_in in
+pub returns-clause-success : goal.returns-clause-success
+returns-clause-success g c =
+    let d = (goal.at.returns-clause-success g c).After-is_walled_in in
     let shown = g.L.Look.shows c.args.board.now.look in
     let here = position_on g.L.Look.shows c.args.board.now in
     let cell_agrees = subst (Agrees (g.L.Look.seen c.cell.new.self.look)) c.cell.ensures.stays.shown
@@ -79,5 +79,6 @@ returns-clause-told g c =
     (sym (size-after shown c.args.board.now.moves)) ∙ walled in
     let tells = (rw (c.is_walled_in.ensures.stays.moves, c.cell.ensures.stays.moves)
     at (c.may_take_back-good.ensures.over shown agrees)) (c.cell.ensures.sound shown cell_agrees) taken at_size in
-    told_back c.args.asked c.may_take_back-good.result c.told_by.result c.args.turn here
-    (sym c.is_wider.ensures ∙ c.if-not-is_wider.false) c.if-turn.false taken walled tells c.told_by.ensures.told
+    success_back c.args.asked c.may_take_back-good.result c.success_under.result c.args.turn here
+    (sym c.is_wider.ensures ∙ c.if-not-is_wider.false) c.if-turn.false taken walled tells
+    c.success_under.ensures.success
