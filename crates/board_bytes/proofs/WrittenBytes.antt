@@ -117,8 +117,14 @@ points_back pos is = grind (arith, length-map, take-append_seam)
 pub read_back : (pos : BoardState) → IsPosition pos → position_of (bytes_of pos) ≡ Ok pos
 unfolding bytes_of
 read_back pos is =
-    grind (arith, by_stones (bytes_of pos), points_back pos is, bytes_are_named pos.cells, stones_back pos is,
-        ban_back pos.size pos.cells pos.ban is.ban)
+    grind (
+      arith,
+      by_stones (bytes_of pos),
+      points_back pos is,
+      bytes_are_named pos.cells,
+      stones_back pos is,
+      ban_back pos.size pos.cells pos.ban is.ban,
+    )
 
 -- bytes that are those of a position are read as it
 pub read_back_from : (pos : BoardState) (bytes : BoardBytes) → bytes ≡ bytes_of pos → IsPosition pos

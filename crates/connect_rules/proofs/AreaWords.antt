@@ -60,15 +60,23 @@ near_from link here p a_on b_on (inr w) = by_b (reach_from link here link.b p b_
 area_gives : (q : LinkQuestion) (pos : BoardState) (p : ℕ) → q.a < pos.size * pos.size → q.b < pos.size * pos.size
     → InConnectionArea q pos p → IsLookedAt q pos p
 area_gives q pos p a_on b_on h =
-    grind (arith, near_gives (link_of q) h.here p (tree_on q.a a_on h.in_tree) (tree_on q.b b_on h.in_tree) h.near,
-        tree_on q.a a_on h.in_tree, tree_on q.b b_on h.in_tree)
+    grind (
+      arith,
+      near_gives (link_of q) h.here p (tree_on q.a a_on h.in_tree) (tree_on q.b b_on h.in_tree) h.near,
+      tree_on q.a a_on h.in_tree,
+      tree_on q.b b_on h.in_tree,
+    )
 
 -- what these steps reach is in the active area
 area_from : (q : LinkQuestion) (pos : BoardState) (p : ℕ) → q.a < pos.size * pos.size → q.b < pos.size * pos.size
     → IsLookedAt q pos p → InConnectionArea q pos p
 area_from q pos p a_on b_on h =
-    grind (arith, near_from (link_of q) h.here p (tree_on q.a a_on h.in_tree) (tree_on q.b b_on h.in_tree) h.reached,
-        tree_on q.a a_on h.in_tree, tree_on q.b b_on h.in_tree)
+    grind (
+      arith,
+      near_from (link_of q) h.here p (tree_on q.a a_on h.in_tree) (tree_on q.b b_on h.in_tree) h.reached,
+      tree_on q.a a_on h.in_tree,
+      tree_on q.b b_on h.in_tree,
+    )
 
 -- the active area is what these steps reach
 pub area-is : (q : LinkQuestion) (pos : BoardState) (p : ℕ) → q.a < pos.size * pos.size → q.b < pos.size * pos.size
@@ -90,11 +98,19 @@ pub node_gives : {q : LinkQuestion} {pos : BoardState} {n : ℕ} {own : Bool} {h
     → q.a < pos.size * pos.size → IsNodeOf q pos n own here → IsFirstOf q pos n own here ⊎ IsNextOf q pos n own here
 node_gives a_on first = inl (record { plies = refl; turn = refl; on_it = refl })
 node_gives {q} a_on (by_play {n} {own} {here} tree undecided p c new e) =
-    grind (arith, stand_gives (link_of q) here undecided.stand,
-        apart_gives (link_of q) here (tree_on q.a a_on tree) undecided, tree_on q.a a_on tree)
+    grind (
+      arith,
+      stand_gives (link_of q) here undecided.stand,
+      apart_gives (link_of q) here (tree_on q.a a_on tree) undecided,
+      tree_on q.a a_on tree,
+    )
 node_gives {q} a_on (by_pass {n} {here} tree undecided) =
-    grind (arith, stand_gives (link_of q) here undecided.stand,
-        apart_gives (link_of q) here (tree_on q.a a_on tree) undecided, tree_on q.a a_on tree)
+    grind (
+      arith,
+      stand_gives (link_of q) here undecided.stand,
+      apart_gives (link_of q) here (tree_on q.a a_on tree) undecided,
+      tree_on q.a a_on tree,
+    )
 
 -- the node that the other colour's pass leads to
 passed_from : (q : LinkQuestion) (pos : BoardState) (n : ℕ) (side : Bool) (there : BoardState)

@@ -107,8 +107,14 @@ pub linkage_apart : (q : LinkQuestion) (pos : BoardState) → q.plies ≢ 0 → 
     → is_one_string (link_of q) pos ≡ false
     → linkage_of q pos ≡ record { yes = is_some (first_move_of q pos); at = first_move_of q pos }
 linkage_apart q pos some about apart =
-    grind (arith, yes_about q pos about, attained_apart q pos some, linkage_by q pos (is_some (first_move_of q pos)),
-        if_some (first_move_of q pos), and_parts)
+    grind (
+      arith,
+      yes_about q pos about,
+      attained_apart q pos some,
+      linkage_by q pos (is_some (first_move_of q pos)),
+      if_some (first_move_of q pos),
+      and_parts,
+    )
 
 -- where strings are one, connect has the pass for its first move
 one_move : (kind : LinkKind) (one parts : Bool) (move : Option Spot) → one ≡ true

@@ -132,5 +132,16 @@ pub one_more : (n : ℕ) (link : Link) (own : Bool) (pos : BoardState) → can_c
     → can_connect (suc n) link own pos ≡ true
 one_more zero link own pos h = grind (arith, cases_Bool, connects-joined, joined_stand, both_ways, connects-no_plies)
 one_more (suc n) link own pos h =
-    grind (arith, joined_stand, cases_Bool, connects-joined, own_gives, own_from, other_gives, other_from,
-        one_more n link false, one_more n link true (pass pos), one_more n link true)
+    grind (
+      arith,
+      joined_stand,
+      cases_Bool,
+      connects-joined,
+      own_gives,
+      own_from,
+      other_gives,
+      other_from,
+      one_more n link false,
+      one_more n link true (pass pos),
+      one_more n link true,
+    )

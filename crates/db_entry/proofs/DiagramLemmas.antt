@@ -72,5 +72,13 @@ pub Draws-push : (d n : Diagram) (words : List (List ℕ)) (word : List ℕ) →
     → n.letters ≡ d.letters ++ cond (is_row word) (letters_of_row word) []
     → Draws n (words ++ word ∷ [])
 Draws-push d n words word s even lines rows top bottom shape letters =
-    grind (arith, length-rows_of-push, length-append, has_top-push, ends_in_edge-push, wanted-push, letters_of-push,
-        whole-push)
+    grind (
+      arith,
+      length-rows_of-push,
+      length-append,
+      has_top-push,
+      ends_in_edge-push,
+      wanted-push,
+      letters_of-push,
+      whole-push,
+    )

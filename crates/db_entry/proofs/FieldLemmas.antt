@@ -46,8 +46,13 @@ pub split-goes : (text : List ℕ) (i depth : ℕ) → i < length text → (get_
     → split_at_commas 0 text ≡ with_fronts (take (i + 1) text)
     (split_at_commas (depth_after depth (get_or text i 0)) (drop (i + 1) text))
 split-goes text i depth lt goes so_far =
-    grind (arith, at_drop_more (split_at_commas depth) text i 0 lt, split-cons depth, with_fronts-push (take i text),
-        take_more text i 0 lt)
+    grind (
+      arith,
+      at_drop_more (split_at_commas depth) text i 0 lt,
+      split-cons depth,
+      with_fronts-push (take i text),
+      take_more text i 0 lt,
+    )
 
 -- a comma outside parentheses ends it
 pub split-ends : (text : List ℕ) (i depth : ℕ) → i < length text → (get_or text i 0 == comma && depth == 0) ≡ true

@@ -121,8 +121,13 @@ main_edge main cols edge = grind (arith, letter_of_line, edge_has_no_letter)
 main_lines : (diagram : List (List ℕ)) → IsDrawn diagram → (k : ℕ) → k < length diagram
     → IsMainLine (width_of (wanted diagram)) (get_or diagram k [])
 main_lines diagram drawn k lt =
-    grind (arith, drawn_line_kinds diagram drawn k lt, main_edge (get_or diagram k []) (width_of (wanted diagram)),
-        main_row (get_or diagram k []) (width_of (wanted diagram)), drawn_even diagram drawn k lt)
+    grind (
+      arith,
+      drawn_line_kinds diagram drawn k lt,
+      main_edge (get_or diagram k []) (width_of (wanted diagram)),
+      main_row (get_or diagram k []) (width_of (wanted diagram)),
+      drawn_even diagram drawn k lt,
+    )
 
 -- a byte that repeats the line adds no label, and one over a letter adds one that stands where the letter does
 label_in : (row col total cols m w : ℕ) (rest : List LabelAt) (same : Bool)

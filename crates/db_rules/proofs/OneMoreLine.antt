@@ -111,7 +111,12 @@ pub whole-push : (words : List (List ℕ)) (word : List ℕ)
     (wanted (words ++ word ∷ []))
 unfolding wanted
 whole-push words word whole even =
-    grind (arith, letters_of-push words word,
-        length-append (letters_of words) (cond (is_row word) (letters_of_row word) []),
-        count_letters (rows_of words) words (length (letters_of words)) (line_shape word) (is_row word) whole even,
-        length-rows_of-push words word, wanted-push words word, length-letters_of_row word)
+    grind (
+      arith,
+      letters_of-push words word,
+      length-append (letters_of words) (cond (is_row word) (letters_of_row word) []),
+      count_letters (rows_of words) words (length (letters_of words)) (line_shape word) (is_row word) whole even,
+      length-rows_of-push words word,
+      wanted-push words word,
+      length-letters_of_row word,
+    )

@@ -26,9 +26,17 @@ use Rattle.go_base.proofs.SidesOfPoints.{neighbour_at-all, neighbour_at-near}
 pub len_on_board : (s : ℕ) (stones : sets.FinSet nat_cmp) → ((r : ℕ) → sets.contains stones r ≡ true → r < s * s)
     → sets.len stones ≤ s * s
 len_on_board s stones on =
-    grind (arith, same_nat_set stones (set_below (s * s) (sets.contains stones)),
-        contains-set_below (s * s) (sets.contains stones), len-set_below (s * s) (sets.contains stones),
-        count_below_at_most (s * s) (sets.contains stones), same_tests, and_from, lt-ltb, and_parts)
+    grind (
+      arith,
+      same_nat_set stones (set_below (s * s) (sets.contains stones)),
+      contains-set_below (s * s) (sets.contains stones),
+      len-set_below (s * s) (sets.contains stones),
+      count_below_at_most (s * s) (sets.contains stones),
+      same_tests,
+      and_from,
+      lt-ltb,
+      and_parts,
+    )
 
 -- no stone came
 pub Finds-none : (s : ℕ) (old wait : sets.FinSet nat_cmp) → Finds s old old wait wait
@@ -159,8 +167,13 @@ pub visited_before : (s q x : ℕ) (old new wait held waits : sets.FinSet nat_cm
     → sets.contains new x ≡ true → sets.contains waits x ≡ false
     → (x ≡ q) ⊎ ((sets.contains old x ≡ true) × (sets.contains wait x ≡ false))
 visited_before s q x old new wait held waits h has gone =
-    grind (arith, cases_eq x q, both_ways (sets.contains waits x) gone, false_from_ne_true (sets.contains wait x),
-        waits_still s q x old new wait held waits h)
+    grind (
+      arith,
+      cases_eq x q,
+      both_ways (sets.contains waits x) gone,
+      false_from_ne_true (sets.contains wait x),
+      waits_still s q x old new wait held waits h,
+    )
 
 -- the neighbours of one more stone came
 pub Flooded-next : (s : ℕ) (cells : List Cell) (own : Cell) (p q : ℕ) (old new wait held waits : sets.FinSet nat_cmp)

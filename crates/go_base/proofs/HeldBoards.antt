@@ -22,9 +22,13 @@ use Rattle.go_base.specs.Positions.{position_of, padding, HoldsPosition, Holds}
 -- the cells fill their array
 kept_length : (a : Inside) → HoldsPosition a → a.size ≤ largest_size → length a.cells ≡ largest_points
 kept_length a k small =
-    grind (arith, square_small a.size small, length-replicate (largest_points - a.size * a.size) Empty,
-        take-append-drop (a.size * a.size) a.cells,
-        length-append (take (a.size * a.size) a.cells) (drop (a.size * a.size) a.cells))
+    grind (
+      arith,
+      square_small a.size small,
+      length-replicate (largest_points - a.size * a.size) Empty,
+      take-append-drop (a.size * a.size) a.cells,
+      length-append (take (a.size * a.size) a.cells) (drop (a.size * a.size) a.cells),
+    )
 
 -- the board that a position is kept as holds the position
 pub holds_of : (a : Inside) (pos : BoardState) → position_of a ≡ pos → HoldsPosition a → a.size ≤ largest_size

@@ -44,8 +44,18 @@ with_both new more n = set new n (bit_or (get_or new n 0) (get_or more n 0))
 pub both_next : (old more new : List ℕ) (n : ℕ) → n < set_words → HasBoth old more n new
     → HasBoth old more (n + 1) (with_both new more n)
 both_next old more new n on h =
-    grind (arith, length-set, get_or-set_same, bit_of_both, cases_eq, le-ltb, or-false, lt-ltb, get_or-set_other,
-        below_next)
+    grind (
+      arith,
+      length-set,
+      get_or-set_same,
+      bit_of_both,
+      cases_eq,
+      le-ltb,
+      or-false,
+      lt-ltb,
+      get_or-set_other,
+      below_next,
+    )
 
 -- no point past the last word is marked
 none_past : (words : List ℕ) (q : ℕ) → length words ≡ set_words → set_words ≤ q / 64 → is_marked words q ≡ false

@@ -32,8 +32,13 @@ turned_bit (suc (suc b)) h = absurd (omega arith)
 pub bit_apart : (a b k : ℕ) → b < 2 ^ 64 → k < 64
     → eqb (bit_at (bit_and a (bit_not w64 b)) k) 1 ≡ (eqb (bit_at a k) 1 && not (eqb (bit_at b k) 1))
 bit_apart a b k small low =
-    grind (arith, common_bit a (bit_not w64 b) k, bit_at_not w64 b k small low,
-        turned_bit (bit_at b k) (bit_at-lt b k), bit_at-lt b k)
+    grind (
+      arith,
+      common_bit a (bit_not w64 b) k,
+      bit_at_not w64 b k small low,
+      turned_bit (bit_at b k) (bit_at-lt b k),
+      bit_at-lt b k,
+    )
 
 -- below word n each bit is what the test says of the two old ones, and from there on the words are the first ones
 pub record IsMadeBelow (test : Bool → Bool → Bool) (old more : List ℕ) (n : ℕ) (new : List ℕ) : Type 0 where

@@ -126,8 +126,18 @@ unfolding have_common_point
 refused_from s black white (both p on b w) = sym (setup_common s black white
     (any_below_from (s * s) (λ q. sets.contains black q && sets.contains white q) p on (and_from _ _ b w)))
 refused_from s black white (dead p on stone none) =
-    grind (arith, cases_Bool (have_common_point s black white), setup_common s black white, setup_dead s black white,
-        one_dead s, dead_from s, cell_with s black white p on, liberties_some s, stone_there, cases_eq)
+    grind (
+      arith,
+      cases_Bool (have_common_point s black white),
+      setup_common s black white,
+      setup_dead s black white,
+      one_dead s,
+      dead_from s,
+      cell_with s black white p on,
+      liberties_some s,
+      stone_there,
+      cases_eq,
+    )
 
 -- the two are the same
 pub refused_exactly : (s : ℕ) (black white : sets.FinSet nat_cmp)

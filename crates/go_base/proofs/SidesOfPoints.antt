@@ -57,8 +57,15 @@ below s p on = grind (arith, row_down, has_rows, next_in_column, are_one_apart-f
 -- the point before one that is not first in its row is its neighbour
 left : (s p : ℕ) → p < s * s → (p % s ≡ 0 → ⊥) → (p - 1 < s * s) × (are_neighbours s p (p - 1) ≡ true)
 left s p on l =
-    grind (arith, mod_below p s (has_rows s p on), has_rows s p on, row_column s (p - 1) (p / s) (p % s - 1),
-        div-add-mod' p s, are_one_apart-from (p % s) ((p - 1) % s), next_in_row s p (p - 1))
+    grind (
+      arith,
+      mod_below p s (has_rows s p on),
+      has_rows s p on,
+      row_column s (p - 1) (p / s) (p % s - 1),
+      div-add-mod' p s,
+      are_one_apart-from (p % s) ((p - 1) % s),
+      next_in_row s p (p - 1),
+    )
 
 -- the point after one that is not last in its row is its neighbour
 right : (s p : ℕ) → p < s * s → (p % s + 1 ≡ s → ⊥) → (p + 1 < s * s) × (are_neighbours s p (p + 1) ≡ true)

@@ -69,8 +69,16 @@ pub IsNoteOf-last : (old new : List ℕ) (used p : ℕ) → IsNoteOf old used �
     → ((q : ℕ) → q ≢ p → is_marked new q ≡ is_marked old q)
     → ((q : ℕ) → q / 64 ≡ p / 64 → is_marked new q ≡ false) → IsNoteOf new (without_word used (p / 64))
 IsNoteOf-last old new used p is on here elsewhere none =
-    grind (arith, bit_at_clear_other w16, bit_at_clear_same w16, both_ways, cases_eq, bit_at_and, bit_at-lt,
-        other_point)
+    grind (
+      arith,
+      bit_at_clear_other w16,
+      bit_at_clear_same w16,
+      both_ways,
+      cases_eq,
+      bit_at_and,
+      bit_at-lt,
+      other_point,
+    )
 
 module _ (words : List ℕ) (used first next : ℕ) (is : IsNoteOf words used)
     (rest : (k : ℕ) → first % 64 ≤ k → k < 64 → bit_at (get_or words (first / 64) 0) k ≡ 0)

@@ -41,8 +41,15 @@ pub ban_some : (s : ℕ) (put after : List Cell) (c : Colour) (p q : ℕ) (taken
     → Some (q, other c) ≡ ban_after s put after c p
 unfolding ban_after taken_at
 ban_some s put after c p q taken b e is t has least =
-    grind (arith, contains-set_below (s * s) (is_taken s put c), ltb-true q (s * s),
-        first_below_is (s * s) (is_taken s put c) q, ko_test_is s put after c p taken e, and_parts, lt-ltb)
+    grind (
+      arith,
+      contains-set_below (s * s) (is_taken s put c),
+      ltb-true q (s * s),
+      first_below_is (s * s) (is_taken s put c) q,
+      ko_test_is s put after c p taken e,
+      and_parts,
+      lt-ltb,
+    )
 
 -- if nothing was taken there is no ban
 pub ban_empty : (s : ℕ) (put after : List Cell) (c : Colour) (p : ℕ) (taken : sets.FinSet nat_cmp) (b : Bool)
@@ -50,5 +57,10 @@ pub ban_empty : (s : ℕ) (put after : List Cell) (c : Colour) (p : ℕ) (taken 
     → ((r : ℕ) → 0 ≤ r → sets.contains taken r ≡ false) → None ≡ ban_after s put after c p
 unfolding ban_after taken_at
 ban_empty s put after c p taken b e is t none =
-    grind (arith, contains-set_below (s * s) (is_taken s put c), first_below_none (s * s) (is_taken s put c),
-        ko_test_is s put after c p taken e, lt-ltb)
+    grind (
+      arith,
+      contains-set_below (s * s) (is_taken s put c),
+      first_below_none (s * s) (is_taken s put c),
+      ko_test_is s put after c p taken e,
+      lt-ltb,
+    )

@@ -119,8 +119,14 @@ stable_at s cells p n none q l now = elim (cases_Bool (reached s cells p n q)) [
 more_at : (s : ℕ) (cells : List Cell) (p n : ℕ) → any_below (s * s) (new_at s cells p n) ≡ true
     → count_below (s * s) (reached s cells p n) < count_below (s * s) (reached s cells p (suc n))
 more_at s cells p n some =
-    grind (arith, any_below_gives (s * s), count_below_less (s * s) (reached s cells p n) (reached s cells p (suc n)),
-        reached_more s cells p n, and_parts, not-true)
+    grind (
+      arith,
+      any_below_gives (s * s),
+      count_below_less (s * s) (reached s cells p n) (reached s cells p (suc n)),
+      reached_more s cells p n,
+      and_parts,
+      not-true,
+    )
 
 -- after n steps either nothing new came at some step, or more than n points are reached
 stable_or_many : (s : ℕ) (cells : List Cell) (p : ℕ) → p < s * s → (n : ℕ)
@@ -143,8 +149,13 @@ stable_or_many s cells p h (suc n) = elim (stable_or_many s cells p h n) [
 pub reached_all : (s : ℕ) (cells : List Cell) (p : ℕ) → p < s * s → {q : ℕ} → Path s cells p q
     → reached s cells p (s * s) q ≡ true
 reached_all s cells p h {q} path =
-    grind (arith, stable_or_many s cells p h (s * s), reached_later s cells p q, reached_from_path s cells p,
-        count_below_at_most (s * s) (reached s cells p (s * s)))
+    grind (
+      arith,
+      stable_or_many s cells p h (s * s),
+      reached_later s cells p q,
+      reached_from_path s cells p,
+      count_below_at_most (s * s) (reached s cells p (s * s)),
+    )
 
 -- The test is the fact.
 pub IsInString-from_test : (s : ℕ) (cells : List Cell) (p q : ℕ) → is_in_string s cells p q ≡ true

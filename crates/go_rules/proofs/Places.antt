@@ -40,5 +40,16 @@ pub are_neighbours-is : (s p q : ℕ) → p < s * s → q < s * s
     → (are_neighbours s p q ≡ true) ↔ AreNeighbours s (place_of s p) (place_of s q)
 unfolding are_neighbours
 are_neighbours-is s p q h k =
-    grind (arith, on_its_place, or_cases, and_parts, eqb-true, one_apart-true, or_left, and_from, eq-eqb,
-        one_apart-from, or_right)
+    grind (
+      arith,
+      on_its_place,
+      or_cases,
+      and_parts,
+      eqb-true,
+      one_apart-true,
+      or_left,
+      and_from,
+      eq-eqb,
+      one_apart-from,
+      or_right,
+    )

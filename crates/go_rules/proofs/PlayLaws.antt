@@ -134,17 +134,34 @@ is_banned-from b c p e = ap (λ x. is_banned x c p) e ∙ and_from _ _ (eq-eqb p
 pub ko_exactly : (pos : BoardState) (c : Colour) (p : ℕ)
     → (play pos c p ≡ Err Ko) ↔ ((cell_at pos.cells p ≡ Empty) × (pos.ban ≡ Some (p, c)))
 ko_exactly pos c p =
-    grind (arith, cases_Bool (is_stone (cell_at pos.cells p)), play_occupied pos c p,
-        cases_Bool (is_banned pos.ban c p), empty_from (cell_at pos.cells p), banned_is pos.ban c p,
-        free_never_ko pos c p, play_else pos c p, play_ko pos c p, is_banned-from pos.ban c p)
+    grind (
+      arith,
+      cases_Bool (is_stone (cell_at pos.cells p)),
+      play_occupied pos c p,
+      cases_Bool (is_banned pos.ban c p),
+      empty_from (cell_at pos.cells p),
+      banned_is pos.ban c p,
+      free_never_ko pos c p,
+      play_else pos c p,
+      play_ko pos c p,
+      is_banned-from pos.ban c p,
+    )
 
 -- Occupied is told exactly if a stone stands
 pub occupied_exactly : (pos : BoardState) (c : Colour) (p : ℕ)
     → (play pos c p ≡ Err Occupied) ↔ (cell_at pos.cells p ≢ Empty)
 occupied_exactly pos c p =
-    grind (arith, cases_Bool (is_banned pos.ban c p), play_ko pos c p, both_ways (is_stone (cell_at pos.cells p)),
-        free_occupied_only pos c p, play_else pos c p, play_occupied pos c p, empty_from (cell_at pos.cells p),
-        true_from_ne_false)
+    grind (
+      arith,
+      cases_Bool (is_banned pos.ban c p),
+      play_ko pos c p,
+      both_ways (is_stone (cell_at pos.cells p)),
+      free_occupied_only pos c p,
+      play_else pos c p,
+      play_occupied pos c p,
+      empty_from (cell_at pos.cells p),
+      true_from_ne_false,
+    )
 
 -- where neither a stone nor the ban is in the way, the play is that with the ban dropped
 pub free_otherwise : (pos : BoardState) (c : Colour) (p : ℕ) → cell_at pos.cells p ≡ Empty → pos.ban ≢ Some (p, c)
@@ -195,8 +212,12 @@ follows_same pos c p a b h k q on =
 pub answered : (pos : BoardState) (c : Colour) (p : ℕ) (next : BoardState) → p < pos.size * pos.size
     → Follows pos c p next → (new : BoardState) × (play_free pos c p ≡ Ok new)
 answered pos c p next on h =
-    grind (arith, free_cases pos c p, both_ways (is_stone (cell_at pos.cells p)) (ap is_stone h.was_empty),
-        free_suicide_only pos c p on)
+    grind (
+      arith,
+      free_cases pos c p,
+      both_ways (is_stone (cell_at pos.cells p)) (ap is_stone h.was_empty),
+      free_suicide_only pos c p on,
+    )
 
 -- suicide, exactly
 pub suicide_from : (pos : BoardState) (c : Colour) (p : ℕ) → IsSuicide pos c p → play_free pos c p ≡ Err Suicide
@@ -217,8 +238,18 @@ free_occupied_exactly pos c p =
 pub suicide_exactly : (pos : BoardState) (c : Colour) (p : ℕ) → p < pos.size * pos.size
     → (play pos c p ≡ Err Suicide) ↔ ((pos.ban ≢ Some (p, c)) × IsSuicide pos c p)
 suicide_exactly pos c p on =
-    grind (arith, cases_Bool, play_occupied, play_ko, both_ways, is_banned-from, free_suicide_only, play_else,
-        free_otherwise, suicide_from)
+    grind (
+      arith,
+      cases_Bool,
+      play_occupied,
+      play_ko,
+      both_ways,
+      is_banned-from,
+      free_suicide_only,
+      play_else,
+      free_otherwise,
+      suicide_from,
+    )
 
 -- a play that the rules answer is done with no regard to the ban
 pub play_done : (pos : BoardState) (c : Colour) (p : ℕ) (new : BoardState) → play pos c p ≡ Ok new

@@ -95,8 +95,18 @@ alive_not_taken s put c q h = grind (arith, cases_Bool, taken_parts)
 pub taken_whole : (s : ℕ) (put : List Cell) (c : Colour) (q x : ℕ) → q < s * s → is_taken s put c q ≡ true
     → Path s put q x → is_taken s put c x ≡ true
 taken_whole s put c q x on t path =
-    grind (arith, taken_parts, path_on_board, path_same, taken_from, cases_eq, liberties_some, stone_is,
-        liberties_from, liberty_moves)
+    grind (
+      arith,
+      taken_parts,
+      path_on_board,
+      path_same,
+      taken_from,
+      cases_eq,
+      liberties_some,
+      stone_is,
+      liberties_from,
+      liberty_moves,
+    )
 
 -- the removal of a set's stones, if the set is what is taken
 pub after_from : (s : ℕ) (put : List Cell) (c : Colour) (taken : sets.FinSet nat_cmp) → taken ≡ taken_at s put c
@@ -211,9 +221,12 @@ module _ (pos : BoardState) (good : IsPosition pos) (c : Colour) (p : ℕ) (p_on
               let q_after : cell_at after q ≡ stone_of c = stays q q_on (was_left q q_on stone) ∙ own in
               joined_alive q p q_on stone (step there p_on near (played ∙ sym q_after)) p_alive
           | inr l_not ↦
-              grind (arith, liberties_from pos.size after q l.0 q_on,
-                  clear l.0 l.1.on_board (at_put_other pos.cells p l.0 (stone_of c) l_not ∙ l.1.is_empty),
-                  at_put_other pos.cells p l.0 (stone_of c) l_not)
+              grind (
+                arith,
+                liberties_from pos.size after q l.0 q_on,
+                clear l.0 l.1.on_board (at_put_other pos.cells p l.0 (stone_of c) l_not ∙ l.1.is_empty),
+                at_put_other pos.cells p l.0 (stone_of c) l_not,
+              )
         ]
 
     -- the stones of a string of which one is left are all left

@@ -30,8 +30,18 @@ pub contains-set_below : (n : ℕ) (test : ℕ → Bool) (q : ℕ) → set.conta
 unfolding set_below
 contains-set_below zero test q = rw (le-ltb q 0 (omega arith)) (set.contains-empty nat_cmp q)
 contains-set_below (suc n) test q =
-    grind (arith, cases_Bool, contains-insert_nat, cases_eq, eq-eqb, lt-ltb, ne_eqb, ltb-other, le-ltb,
-        contains-set_below n test q)
+    grind (
+      arith,
+      cases_Bool,
+      contains-insert_nat,
+      cases_eq,
+      eq-eqb,
+      lt-ltb,
+      ne_eqb,
+      ltb-other,
+      le-ltb,
+      contains-set_below n test q,
+    )
 
 -- the set has as many members as numbers pass
 pub len-set_below : (n : ℕ) (test : ℕ → Bool) → set.len (set_below n test) ≡ count_below n test

@@ -28,5 +28,8 @@ IsKomiText-push a b kept_so room =
 pub kept-long : (word : List ℕ) (i : ℕ) → i < length word → is_kept (get_or word i 0) ≡ true
     → length (kept (take i word)) ≡ komi_room → komi_room < length (kept word)
 kept-long word i within here full =
-    grind (arith, kept-cut word i within here,
-        length-append (kept (take i word)) (get_or word i 0 ∷ kept (drop (i + 1) word)))
+    grind (
+      arith,
+      kept-cut word i within here,
+      length-append (kept (take i word)) (get_or word i 0 ∷ kept (drop (i + 1) word)),
+    )

@@ -57,8 +57,11 @@ nothing-from item none = by_number (worth_said item) refl
 filter_map-nothing : (items : List Item) → All SaysNothing items → filter_map worth_said items ≡ []
 filter_map-nothing [] none = refl
 filter_map-nothing (item ∷ items) none =
-    grind (arith, nothing-from item (All-head SaysNothing item items none),
-        filter_map-nothing items (All-tail SaysNothing item items none))
+    grind (
+      arith,
+      nothing-from item (All-head SaysNothing item items none),
+      filter_map-nothing items (All-tail SaysNothing item items none),
+    )
 
 -- the first number of these items, and 0 if there is none
 abbrev first : List Item → ℕ
@@ -67,8 +70,14 @@ first items = unwrap_or (slice_get (filter_map worth_said items) 0) 0
 -- the first number in words is the first number
 first-from : (items : List Item) (n : ℕ) → IsWorth items n → first items ≡ n
 first-from items n (said before item after place none is) =
-    grind (arith, filter_map-append worth_said before (item ∷ after), filter_map-nothing before none,
-        said-from item n is, unwrap_or, slice_get)
+    grind (
+      arith,
+      filter_map-append worth_said before (item ∷ after),
+      filter_map-nothing before none,
+      said-from item n is,
+      unwrap_or,
+      slice_get,
+    )
 first-from items n (unsaid none zero) = grind (arith, unwrap_or, slice_get, filter_map-nothing)
 
 -- an item more in front that says nothing

@@ -56,8 +56,11 @@ each_child_is : (P : Node × BoardState → Type 0) (node : Node) (pos : BoardSt
     → AllByRecursion P (children_of node pos)
 unfolding children_of
 each_child_is P node pos by_pass by_play =
-    grind (arith, both_rows P (pass_children node pos) (play_children node pos),
-        chosen_from (child_of node pos) (is_candidate node.turn pos) P by_play (pos.size * pos.size) 0)
+    grind (
+      arith,
+      both_rows P (pass_children node pos) (play_children node pos),
+      chosen_from (child_of node pos) (is_candidate node.turn pos) P by_play (pos.size * pos.size) 0,
+    )
 
 -- The board has s rows.
 module _ (s : ℕ) where

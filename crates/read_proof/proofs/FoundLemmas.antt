@@ -55,8 +55,17 @@ pub only_one : (s : ℕ) (cells : List Cell) (q l n : ℕ) (libs : sets.FinSet n
     → (l < s * s) × ((p : ℕ) → is_only_liberty s cells q p ≡ eqb p l)
 unfolding is_only_liberty is_liberty
 only_one s cells q l n libs its counted one has =
-    grind (arith, eqb-true n 1 one, contains-liberty_points s cells q, len-liberty_points s cells q,
-        ltb-true l (s * s), one_member libs l, and_parts, same_tests, eq-eqb)
+    grind (
+      arith,
+      eqb-true n 1 one,
+      contains-liberty_points s cells q,
+      len-liberty_points s cells q,
+      ltb-true l (s * s),
+      one_member libs l,
+      and_parts,
+      same_tests,
+      eq-eqb,
+    )
 
 -- a set that a point was added to has the points that it had and that one
 pub found_add : (new old : sets.FinSet nat_cmp) (p r : ℕ) (b : Bool) → new ≡ sets.insert old p → b ≡ true

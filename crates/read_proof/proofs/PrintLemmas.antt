@@ -102,9 +102,13 @@ words_read [] all = refl
 words_read (word ∷ []) all =
     grind (arith, and_parts (has_bytes word) (list_all is_plain_byte word) all.0, parts_of-end word, with_bytes word)
 words_read (word ∷ (next ∷ more)) all =
-    grind (arith, and_parts (has_bytes word) (list_all is_plain_byte word) all.0,
-        parts_of-front word (join_with_byte blank (next ∷ more)),
-        with_bytes word (parts_of (join_with_byte blank (next ∷ more))), words_read (next ∷ more) all.1)
+    grind (
+      arith,
+      and_parts (has_bytes word) (list_all is_plain_byte word) all.0,
+      parts_of-front word (join_with_byte blank (next ∷ more)),
+      with_bytes word (parts_of (join_with_byte blank (next ∷ more))),
+      words_read (next ∷ more) all.1,
+    )
 
 -- each letter of a column is a plain byte
 letter_plain : (c : ℕ) → c < 25 → is_plain_byte (slice_index column_letters c) ≡ true

@@ -57,8 +57,18 @@ settled_sound : (n : ℕ) (won : Bool) (node : Node) (pos : BoardState) → node
 unfolding is_settled
 settled_sound n true node pos on h = grind (arith, and_parts, wins-captured, none_there)
 settled_sound n false node pos on h =
-    grind (arith, cases_Bool, and_parts, there, eqb-true, wins-none_left, or_cases, wins-no_plies, bounded,
-        too_many_outlast)
+    grind (
+      arith,
+      cases_Bool,
+      and_parts,
+      there,
+      eqb-true,
+      wins-none_left,
+      or_cases,
+      wins-no_plies,
+      bounded,
+      too_many_outlast,
+    )
 
 -- the target of a node is on the board of its position
 abbrev pub IsOn : Node × BoardState → Type 0
@@ -69,8 +79,12 @@ pub played_on_board : (node : Node) (pos : BoardState) (p : ℕ) (child : Node �
     → node.turn.target < pos.size * pos.size
     → child_of node pos p ≡ Some child → IsOn child
 played_on_board node pos p child on e =
-    grind (arith, child_free node pos p child.0 child.1 (child_gives node pos p child.0 child.1 e),
-        child_gives node pos p child.0 child.1 e, play_size pos (mover_of node.turn) p child.1)
+    grind (
+      arith,
+      child_free node pos p child.0 child.1 (child_gives node pos p child.0 child.1 e),
+      child_gives node pos p child.0 child.1 e,
+      play_size pos (mover_of node.turn) p child.1,
+    )
 
 -- The claim, with n plies left.
 module _ (n : ℕ) (won : Bool) where
@@ -131,8 +145,13 @@ plays_give : (f : ℕ → Option (Node × BoardState)) (g : ℕ → Bool) (P : N
     → g p ≡ true → f p ≡ Some child → P child
 plays_give f g P zero a p child all low high chosen e = absurd (omega arith)
 plays_give f g P (suc n) a p child all low high chosen e =
-    grind (arith, cases_eq, at_first, at_others,
-        plays_give f g P n (a + 1) p child (at_others f P a (filter g (range_with_len (a + 1) n)) (g a) all))
+    grind (
+      arith,
+      cases_eq,
+      at_first,
+      at_others,
+      plays_give f g P n (a + 1) p child (at_others f P a (filter g (range_with_len (a + 1) n)) (g a) all),
+    )
 
 -- each child of the rows is one of a row
 pub both_rows : (P : Node × BoardState → Type 0) (xs ys : List (Node × BoardState)) → AllByRecursion P xs
@@ -151,8 +170,12 @@ children_on_board : (node : Node) (pos : BoardState) → node.turn.target < pos.
     → AllByRecursion IsOn (children_of node pos)
 unfolding children_of
 children_on_board node pos on =
-    grind (arith, both_rows IsOn (pass_children node pos) (play_children node pos),
-        plays_from (child_of node pos) IsOn, played_on_board node pos)
+    grind (
+      arith,
+      both_rows IsOn (pass_children node pos) (play_children node pos),
+      plays_from (child_of node pos) IsOn,
+      played_on_board node pos,
+    )
 
 module _ (P : Node × BoardState → Type 0) (node : Node) (pos : BoardState)
     (all : AllByRecursion P (children_of node pos)) where

@@ -116,5 +116,10 @@ pub answer_best : (q : ReadingQuestion) (pos : BoardState) (code : ℕ) (at : Op
     → ((more : ℕ) → code < more → more ≤ 3 → attains_code q pos more ≡ false) → (code ≡ 0 → at ≡ None)
     → (code ≢ 0 → at ≡ first_move_of q pos code) → record { code = code; at = at } ≡ answer_of q pos
 answer_best q pos code at about bounded hit miss no_move move =
-    grind (arith, answer_with q pos code at (code_best q pos code about bounded hit miss),
-        code_best q pos code about bounded hit miss, cases_eq code 0, ne_eqb code 0)
+    grind (
+      arith,
+      answer_with q pos code at (code_best q pos code about bounded hit miss),
+      code_best q pos code about bounded hit miss,
+      cases_eq code 0,
+      ne_eqb code 0,
+    )

@@ -45,12 +45,22 @@ tree_on : {q : ReadingQuestion} {pos : BoardState} {n : ℕ} {node : Node} {here
     → q.target < pos.size * pos.size → IsNodeOf q pos n node here → node.turn.target < here.size * here.size
 tree_on on (first code lo hi) = on
 tree_on on (by_play {n} {node} {here} tree undecided p c next new child) =
-    grind (arith, child_free node here p next new (child_gives node here p next new child),
-        child_gives node here p next new child, play_size here (mover_of node.turn) p new, tree_on on tree)
+    grind (
+      arith,
+      child_free node here p next new (child_gives node here p next new child),
+      child_gives node here p next new child,
+      play_size here (mover_of node.turn) p new,
+      tree_on on tree,
+    )
 tree_on on (by_pass tree undecided turn) = tree_on on tree
 tree_on on (by_taking_back {n} {node} {here} tree next new back) =
-    grind (arith, takes_back_gives node here next new back, child_free node here node.turn.target next new,
-        play_size here (mover_of node.turn) node.turn.target new, tree_on on tree)
+    grind (
+      arith,
+      takes_back_gives node here next new back,
+      child_free node here node.turn.target next new,
+      play_size here (mover_of node.turn) node.turn.target new,
+      tree_on on tree,
+    )
 
 -- what is near a target at a node is reached by steps from it
 around_gives : (node : Node) (here : BoardState) (p : ℕ) → node.turn.target < here.size * here.size

@@ -38,8 +38,18 @@ one_more (suc n) node pos h = elim (cases_Bool (is_captured pos node.turn.target
         ∙ one_more n back.0.0 back.0.1 (sym (wins-taken_back n node pos back.0 t back.1) ∙ h)
   ]
   | inr stands ↦
-      grind (arith, cases_Bool, attacker_gives, as_sum, as_next, attacker_from, defender_gives, defender_from,
-          one_more n, one_more n (next_node node (allowance_of node)) (pass pos))
+      grind (
+        arith,
+        cases_Bool,
+        attacker_gives,
+        as_sum,
+        as_next,
+        attacker_from,
+        defender_gives,
+        defender_from,
+        one_more n,
+        one_more n (next_node node (allowance_of node)) (pass pos),
+      )
 ]
 
 -- the child of a legal play, under other allowances
@@ -61,16 +71,22 @@ back_child : {below : Node → BoardState → Type 0} {node : Node} {pos : Board
     → (has_lost_one_stone node pos ≡ true) × (play pos (mover_of node.turn) node.turn.target ≡ Ok child.1)
     × (child.0 ≡ other_child node a d)
 back_child {node = node} {pos = pos} free a d child e =
-    grind (arith, taking_back_gives (with_allowances node a d) pos child e,
-        child_gives (with_allowances node a d) pos node.turn.target child.0 child.1)
+    grind (
+      arith,
+      taking_back_gives (with_allowances node a d) pos child e,
+      child_gives (with_allowances node a d) pos node.turn.target child.0 child.1,
+    )
 
 -- and so there is one under other allowances
 back_child_from : (node : Node) (pos : BoardState) (x y : ℕ) (new : BoardState) → has_lost_one_stone node pos ≡ true
     → play pos (mover_of node.turn) node.turn.target ≡ Ok new
     → taking_back (with_allowances node x y) pos ≡ Some (other_child node x y, new)
 back_child_from node pos x y new lost legal =
-    grind (arith, taking_back_from (with_allowances node x y) pos (other_child node x y, new) lost,
-        child_from (with_allowances node x y) pos node.turn.target (other_child node x y) new)
+    grind (
+      arith,
+      taking_back_from (with_allowances node x y) pos (other_child node x y, new) lost,
+      child_from (with_allowances node x y) pos node.turn.target (other_child node x y) new,
+    )
 
 -- If the defender takes back under the one pair of allowances only where he does under the other, and the attacker wins
 -- the child, he wins.
@@ -82,16 +98,26 @@ same_taken : (n : ℕ) (node : Node) (pos : BoardState) → IsBanFree n node pos
     → attacker_wins m (other_child node x y) new ≡ true)
     → attacker_wins n (with_allowances node x y) pos ≡ true
 same_taken zero node pos free a d x y t h below =
-    grind (arith, some_or_none (taking_back (with_allowances node x y) pos),
-        wins-captured zero (with_allowances node x y) pos t, back_child free x y,
-        both_ways (attacker_wins 0 (with_allowances node a d) pos), wins-none_left (with_allowances node a d) pos,
-        back_child_from node pos a d)
+    grind (
+      arith,
+      some_or_none (taking_back (with_allowances node x y) pos),
+      wins-captured zero (with_allowances node x y) pos t,
+      back_child free x y,
+      both_ways (attacker_wins 0 (with_allowances node a d) pos),
+      wins-none_left (with_allowances node a d) pos,
+      back_child_from node pos a d,
+    )
 same_taken (suc n) node pos free a d x y t h below =
     elim (some_or_none (taking_back (with_allowances node x y) pos)) [
       | inl none ↦ wins-captured (suc n) (with_allowances node x y) pos t none
       | inr back ↦
-          grind (arith, back_child free.1 x y back.0 back.1, wins-taken_back n (with_allowances node a d) pos,
-              back_child_from node pos a d back.0.1, wins-taken_back n (with_allowances node x y) pos back.0 t back.1)
+          grind (
+            arith,
+            back_child free.1 x y back.0 back.1,
+            wins-taken_back n (with_allowances node a d) pos,
+            back_child_from node pos a d back.0.1,
+            wins-taken_back n (with_allowances node x y) pos back.0 t back.1,
+          )
     ]
 
 -- The attacker wins under these allowances exactly where he wins under others.

@@ -184,9 +184,12 @@ pub first_success-found : (n : ℕ) (node : Node) (pos : BoardState) (next p : �
     → ((q : ℕ) → q < next → (cands q && succeeds n node pos q) ≡ false) → ((q : ℕ) → next ≤ q → q < p → cands q ≡ false)
     → cands p ≡ true → true ≡ succeeds n node pos p → Some p ≡ first_success n node pos
 first_success-found n node pos next p cands same before between c t =
-    grind (arith, candidate_on node.turn pos p (sym (same p) ∙ c),
-        first-found (is_candidate node.turn pos) (succeeds n node pos) (pos.size * pos.size) 0 p,
-        none_before cands (succeeds n node pos) next p before between)
+    grind (
+      arith,
+      candidate_on node.turn pos p (sym (same p) ∙ c),
+      first-found (is_candidate node.turn pos) (succeeds n node pos) (pos.size * pos.size) 0 p,
+      none_before cands (succeeds n node pos) next p before between,
+    )
 
 -- none succeeds, where no candidate is left
 pub first_success-none : (n : ℕ) (node : Node) (pos : BoardState) (next : ℕ) (cands : ℕ → Bool)

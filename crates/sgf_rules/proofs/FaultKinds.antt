@@ -99,8 +99,13 @@ boards_are_nodes IllegalPlay h = ((λ e. cc), (λ e. cc))
 of_node : (pos : BoardState) (us : List Use) → IfErr (after_node pos us) IsNodes
 unfolding after_node
 of_node pos us =
-    grind (arith, of_choice IsNodes (list_all (is_readable pos.size) us), of_setup_and_plays pos us, weaker,
-        boards_are_nodes)
+    grind (
+      arith,
+      of_choice IsNodes (list_all (is_readable pos.size) us),
+      of_setup_and_plays pos us,
+      weaker,
+      boards_are_nodes,
+    )
 
 -- nodes one after another
 of_nodes : (nodes : List Node) (pos : BoardState) → IfErr (after_nodes pos nodes) IsNodes

@@ -77,8 +77,12 @@ back_nodes : (ns : List Node) (rest : List Token) (us : List Trees)
     → read_back rest ≡ waiting [] [] [] us → read_back (flat_map spelled_node ns ++ rest) ≡ waiting [] [] ns us
 back_nodes [] rest us e = e
 back_nodes (n ∷ ns) rest us e =
-    grind (arith, append_assoc (spelled_node n) (flat_map spelled_node ns) rest,
-        back_properties n (flat_map spelled_node ns ++ rest) ns us (back_nodes ns rest us e), back_nodes ns rest us e)
+    grind (
+      arith,
+      append_assoc (spelled_node n) (flat_map spelled_node ns) rest,
+      back_properties n (flat_map spelled_node ns ++ rest) ns us (back_nodes ns rest us e),
+      back_nodes ns rest us e,
+    )
 
 mutual
   -- a tree waits in front of the trees behind it

@@ -65,9 +65,19 @@ name_first : (name letters rest : List ℕ) → IsName name letters → begins_w
     → tokens_of (letters ++ rest) ≡ Name name ∷ tokens_of rest
 name_first name [] rest h f = absurd (cc (h.some_capital))
 name_first name (b ∷ ls) rest h f =
-    grind (arith, letters_counted ls rest, letter_other b, token_step b (ls ++ rest) (Name name) (length ls),
-        late_no_blank b, letter_late b, letter_at b (ls ++ rest), take-append_seam ls rest,
-        letters_named name (b ∷ ls) h, drop-append_seam ls rest, and_parts)
+    grind (
+      arith,
+      letters_counted ls rest,
+      letter_other b,
+      token_step b (ls ++ rest) (Name name) (length ls),
+      late_no_blank b,
+      letter_late b,
+      letter_at b (ls ++ rest),
+      take-append_seam ls rest,
+      letters_named name (b ∷ ls) h,
+      drop-append_seam ls rest,
+      and_parts,
+    )
 
 -- the value that bytes say stands before the `]` behind them
 value_shown : (inner value rest : List ℕ) → Says inner value

@@ -83,5 +83,15 @@ pub value_begins : (bytes : List ℕ) → value_len false bytes < length bytes �
 value_begins [] h = absurd (omega arith)
 value_begins (b ∷ []) h = grind (arith, cases_Bool, value_empty, len_ends)
 value_begins (b ∷ (c ∷ cs)) h =
-    grind (arith, cases_Bool, value_empty, taken_more, eqb-true, len_taken, plain_more, len_plain, value_begins cs,
-        value_begins (c ∷ cs))
+    grind (
+      arith,
+      cases_Bool,
+      value_empty,
+      taken_more,
+      eqb-true,
+      len_taken,
+      plain_more,
+      len_plain,
+      value_begins cs,
+      value_begins (c ∷ cs),
+    )

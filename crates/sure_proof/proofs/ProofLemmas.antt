@@ -174,9 +174,12 @@ candidate_there turn pos here p Z good sound on stone attacks candidate same wit
         → (has_many_liberties turn (state pos.size here.cells here.ban) ≡ has_many_liberties turn pos)
         × (is_candidate turn (state pos.size here.cells here.ban) p ≡ true)
     by_other None is all =
-        grind (arith, cells_same Z pos here good sound same all,
-            many_same turn pos.size pos.cells here.cells pos.ban here.ban,
-            candidate_without_ban turn pos.size pos.cells pos.ban here.ban p candidate)
+        grind (
+          arith,
+          cells_same Z pos here good sound same all,
+          many_same turn pos.size pos.cells here.cells pos.ban here.ban,
+          candidate_without_ban turn pos.size pos.cells pos.ban here.ban p candidate,
+        )
     by_other (Some q) is both =
         let its = close_to pos.size pos.cells turn.target in
         let close : SameOn its pos.cells here.cells = λ x inside.

@@ -190,8 +190,14 @@ child_on : (node : Node) (s : ℕ) (a b : List Cell) (x y : Option (ℕ × Colou
 child_on node s a b x y p h bans next first (inl legal) =
     grind (arith, play_by (state s a x), play_by (state s b y), done_on s a b x y, play_done (state s a x), cases_Bool)
 child_on node s a b x y p h bans next first (inr allowed) =
-    grind (arith, play_by (state s a x), play_by (state s b y), done_on s a b x y, free_never_ko (state s a x),
-        cases_Bool)
+    grind (
+      arith,
+      play_by (state s a x),
+      play_by (state s b y),
+      done_on s a b x y,
+      free_never_ko (state s a x),
+      cases_Bool,
+    )
 
 -- the point of a child was empty
 child_empty : (node : Node) (pos : BoardState) (p : ℕ) (next : Node) (new : BoardState) → IsChild node pos p next new

@@ -184,11 +184,27 @@ defence_is_not_refuted q pos code f h = grind (arith, not_before, sure_is_won)
 -- the sure code of an attack is at most its code
 pub attack_code_at_most : (q : ReadingQuestion) (pos : BoardState) → q.kind ≡ Attack → sure_code_of q pos ≤ code_of q pos
 attack_code_at_most q pos kind =
-    grind (arith, cases_Bool, sure_code_another, sure_code_greatest, code_greatest, cases_lt, both_ways,
-        attack_is_attained)
+    grind (
+      arith,
+      cases_Bool,
+      sure_code_another,
+      sure_code_greatest,
+      code_greatest,
+      cases_lt,
+      both_ways,
+      attack_is_attained,
+    )
 
 -- the sure code of a defence is at least its code
 pub defend_code_at_least : (q : ReadingQuestion) (pos : BoardState) → q.kind ≡ Defend → code_of q pos ≤ sure_code_of q pos
 defend_code_at_least q pos kind =
-    grind (arith, cases_Bool, code_another, sure_code_greatest, code_greatest, cases_lt, both_ways,
-        defence_is_not_refuted)
+    grind (
+      arith,
+      cases_Bool,
+      code_another,
+      sure_code_greatest,
+      code_greatest,
+      cases_lt,
+      both_ways,
+      defence_is_not_refuted,
+    )

@@ -100,9 +100,13 @@ pub first_sure-found : (n : ℕ) (node : Node) (pos : BoardState) (next p : ℕ)
     → ((q : ℕ) → next ≤ q → q < p → tried q ≡ false)
     → tried p ≡ true → true ≡ surely_succeeds n node pos p → Some p ≡ first_sure n node pos
 first_sure-found n node pos next p tried same before between c t =
-    grind (arith, tried_on node pos p (sym (same p) ∙ c),
-        first-found (is_tried node pos) (surely_succeeds n node pos) (pos.size * pos.size) 0 p,
-        none_before tried (surely_succeeds n node pos) next p before between, and_from)
+    grind (
+      arith,
+      tried_on node pos p (sym (same p) ∙ c),
+      first-found (is_tried node pos) (surely_succeeds n node pos) (pos.size * pos.size) 0 p,
+      none_before tried (surely_succeeds n node pos) next p before between,
+      and_from,
+    )
 
 -- none succeeds if no point is left
 pub first_sure-none : (n : ℕ) (node : Node) (pos : BoardState) (next : ℕ) (tried : ℕ → Bool)
@@ -171,6 +175,11 @@ pub first_sure_there : (n : ℕ) (node : Node) (pos : BoardState) → is_gone no
     → (p : ℕ) × (first_sure n node pos ≡ Some p) × (is_tried node pos p ≡ true)
     × (some_child (surely_wins n) (child_of node pos p) ≡ true)
 first_sure_there n node pos stands turn sure =
-    grind (arith, sure-attacker n node pos stands turn, there_point (first_sure n node pos),
-        attacker_first n node pos turn,
-        find_gives (is_tried node pos) (surely_succeeds n node pos) (pos.size * pos.size) 0, and_parts)
+    grind (
+      arith,
+      sure-attacker n node pos stands turn,
+      there_point (first_sure n node pos),
+      attacker_first n node pos turn,
+      find_gives (is_tried node pos) (surely_succeeds n node pos) (pos.size * pos.size) 0,
+      and_parts,
+    )

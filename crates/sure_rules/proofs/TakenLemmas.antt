@@ -49,33 +49,58 @@ child_on_board node pos p next new child =
 empty_stays : (pos : BoardState) (c : Colour) (p : ℕ) (new : BoardState) (q : ℕ) → play_free pos c p ≡ Ok new → q ≢ p
     → cell_at pos.cells q ≡ Empty → cell_at new.cells q ≡ Empty
 empty_stays pos c p new q e ne was =
-    grind (arith, cases_lt q (pos.size * pos.size), others_stay pos c p new q e, done_state pos c p new e,
-        beyond_after pos c p q)
+    grind (
+      arith,
+      cases_lt q (pos.size * pos.size),
+      others_stay pos c p new q e,
+      done_state pos c p new e,
+      beyond_after pos c p q,
+    )
 
 -- if the target is taken, and the defender plays elsewhere, it is taken for good
 still_gone : (n : ℕ) (node : Node) (pos : BoardState) → is_attackers node ≡ false → is_gone node pos ≡ true
     → (p : ℕ) (next : Node) (new : BoardState) → target_of node ≢ p → IsChild node pos p next new
     → surely_wins n next new ≡ true
 still_gone n node pos turn gone p next new ne child =
-    grind (arith, child_free node pos p next new child, empty_stays pos (mover_of node.turn) p new (target_of node),
-        sure-captured n, same_cell-true, same_cell-from, none_at_attackers)
+    grind (
+      arith,
+      child_free node pos p next new child,
+      empty_stays pos (mover_of node.turn) p new (target_of node),
+      sure-captured n,
+      same_cell-true,
+      same_cell-from,
+      none_at_attackers,
+    )
 
 -- if he plays at the target's point, he takes back
 by_taking_back : (n : ℕ) (node : Node) (pos : BoardState) (back : Node × BoardState) → is_gone node pos ≡ true
     → taking_back node pos ≡ Some back → surely_wins (suc n) node pos ≡ true → (next : Node) (new : BoardState)
     → IsChild node pos (target_of node) next new → surely_wins n next new ≡ true
 by_taking_back n node pos back gone some sure next new child =
-    grind (arith, taking_back_gives node pos back some, child_from node pos (target_of node) next new child,
-        sure-taken_back n node pos back gone some)
+    grind (
+      arith,
+      taking_back_gives node pos back some,
+      child_from node pos (target_of node) next new child,
+      sure-taken_back n node pos back gone some,
+    )
 
 -- a target that is surely captured, but is not yet taken for good, is so after every reply of the defender
 pub every_reply_fails : (n : ℕ) (node : Node) (pos : BoardState) → is_taken_for_good node pos ≡ false
     → is_attackers node ≡ false → surely_wins (suc n) node pos ≡ true → EveryReplyFails n node pos
 every_reply_fails n node pos kept turn sure =
-    grind (arith, cases_Bool (is_gone node pos), sure_defender_gives n node pos, some_or_none (taking_back node pos),
-        both_ways (is_taken_for_good node pos) kept, sure-captured n (next_node node (allowance_of node)) (pass pos),
-        none_at_attackers (next_node node (allowance_of node)) (pass pos) (ap not turn), cases_eq (target_of node),
-        still_gone n node pos turn, by_taking_back n node pos, and_from)
+    grind (
+      arith,
+      cases_Bool (is_gone node pos),
+      sure_defender_gives n node pos,
+      some_or_none (taking_back node pos),
+      both_ways (is_taken_for_good node pos) kept,
+      sure-captured n (next_node node (allowance_of node)) (pass pos),
+      none_at_attackers (next_node node (allowance_of node)) (pass pos) (ap not turn),
+      cases_eq (target_of node),
+      still_gone n node pos turn,
+      by_taking_back n node pos,
+      and_from,
+    )
 
 -- if it is not taken for good at the attacker's turn, it stands
 pub stands_at_attackers : (node : Node) (pos : BoardState) → is_taken_for_good node pos ≡ false

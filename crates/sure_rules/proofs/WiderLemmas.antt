@@ -125,8 +125,15 @@ WasMoreStones node pos = IsPosition pos × (HasMoreStones node pos ⊎ IsGap nod
 -- it is not taken back
 none_of_more : (node : Node) (pos : BoardState) → WasMoreStones node pos → taking_back (in_wider_tree node) pos ≡ None
 none_of_more node pos was =
-    grind (arith, some_or_none, takes_back_gives, stone_not_empty, some_or_none (taking_back (in_wider_tree node) pos),
-        takes_back_gives (in_wider_tree node) pos, stone_not_empty node.turn.defender)
+    grind (
+      arith,
+      some_or_none,
+      takes_back_gives,
+      stone_not_empty,
+      some_or_none (taking_back (in_wider_tree node) pos),
+      takes_back_gives (in_wider_tree node) pos,
+      stone_not_empty node.turn.defender,
+    )
 
 -- a stone of the defender is no stone of the attacker
 not_attackers : (cell : Cell) (c : Colour) → cell ≡ stone_of c → cell ≢ stone_of (other c)

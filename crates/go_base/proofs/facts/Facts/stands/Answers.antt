@@ -6,8 +6,13 @@ use Rattle.go_base.proofs.facts.Facts.stands.Goals as goal
 -- a position of another size does not agree
 pub returns-then-ne : goal.returns-then-ne
 returns-then-ne c =
-    grind (arith, both_ways false refl, eqb-false c.args.self.now.size c.size.result,
-        size_stands c.args.self.now c.args.position.now, not-true)
+    grind (
+      arith,
+      both_ways false refl,
+      eqb-false c.args.self.now.size c.size.result,
+      size_stands c.args.self.now c.args.position.now,
+      not-true,
+    )
 
 -- nor one where a cell is not as it was seen
 pub returns-then-not-cells_stand : goal.returns-then-not-cells_stand
