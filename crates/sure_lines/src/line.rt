@@ -13,7 +13,7 @@ ghost use Rattle.sure_lines.specs.Replies.{reply_bytes, reply_ends, word_of};
 ghost use Rattle.sure_lines.specs.SureStep.{effect_of, step};
 ghost use Rattle.sure_lines.specs.Texts.{IsTextOf};
 
-use crate::answer::{Answer, succeeded};
+use crate::answer::{Answer, brief_answer};
 use crate::command_names::names_text;
 use crate::heard::{bytes_of, heard, knows_argument};
 use crate::machine::SureMachine;
@@ -61,15 +61,15 @@ impl SureMachine {
         ensures contents { L.contents files.new ≡ L.contents files.old }
     {
         match command {
-            Command::ProtocolVersion => succeeded(b"2"),
-            Command::Name => succeeded(b"gopat_sure"),
-            Command::Version => succeeded(b"1"),
-            Command::KnownCommand(_) => succeeded(word(knows_argument(line))),
+            Command::ProtocolVersion => brief_answer(b"2"),
+            Command::Name => brief_answer(b"gopat_sure"),
+            Command::Version => brief_answer(b"1"),
+            Command::KnownCommand(_) => brief_answer(word(knows_argument(line))),
             Command::ListCommands => grown(names_text(alloc)),
             Command::Quit => Answer::Ended,
             Command::BoardSize(size) => self.resize(size),
             Command::ClearBoard => self.clear(),
-            Command::Komi(_) => succeeded(b""),
+            Command::Komi(_) => brief_answer(b""),
             Command::Play(colour, at) => self.play(Move { colour, at }),
             Command::Undo => self.undo(),
             Command::Attack(p) => self.read(Kind::Attack, p),
