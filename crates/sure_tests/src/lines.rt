@@ -184,6 +184,9 @@ fn shelf(alloc: Global) -> Option<Shelf> {
             .push(Vec::from_slice(alloc, file.bytes).ok()?)
             .ok()?;
     }
+    if names.len() != contents.len() {
+        return None;
+    }
     Some(Shelf::new(names, contents, Vec::new(alloc)))
 }
 
