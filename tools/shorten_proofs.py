@@ -28,7 +28,9 @@ SKIPPED = {"Invariants.antt", "Proof.antt", "Lib.antt"}
 # Names that a body cites and that are no lemmas.
 NO_LEMMAS = set(
     "arith common_steps rules refl sym ap subst cond not true false zero suc pred min max length take drop map set"
-    " get_or replicate reverse absurd inl inr tt eqb ltb leb T is_some is_none fold filter zip position".split()
+    " get_or replicate reverse absurd inl inr tt eqb ltb leb T is_some is_none fold filter zip position pos neg_ℤ negsuc"
+    " nat_lt nat_le nat_eq nat_abs is_ok is_err slice_get codes option_map count_by find remove decimal unwrap_or to_z"
+    " of_z w64 bit_or bit_and vec_len lit< lit≤ ⊎_elim slice_index".split()
 )
 NAME = r"[^\s:(){}\[\],=]+"
 WORD = re.compile(r"[\w][\w\-'’]*")
@@ -79,7 +81,7 @@ def lemmas_of(rows: list[str], indent: int = 0, at: int = 0, end: int | None = N
             inner = behind
             while behind < end and (not rows[behind].strip() or belongs(rows[behind], indent)):
                 behind += 1
-            yield from lemmas_of(rows, indent + 4, inner, behind)
+            yield from lemmas_of(rows, indent + 2, inner, behind)
         elif (found := re.match(rf"(?:pub )?({NAME}) :(?: |$)", row)) and found[1] not in ("abbrev", "record", "data"):
             while behind < end and belongs(rows[behind], indent):
                 behind += 1
@@ -140,10 +142,15 @@ def cited(body: str, lemmas: set[str]) -> list[tuple[str, str]]:
                     break
                 last += 1
             part = tokens[place:last + 1]
-            if any(word.split(".")[0] in bound | {"λ", "let", "_", "elim", "rw", "omega", "grind"} for word in part):
+            no_argument = bound | set("λ let _ elim rw omega grind record { [ , ;".split())
+            if any(word.split(".")[0] in no_argument or word in no_argument for word in part):
                 break
             joined = " ".join(part)
-            words.append(re.sub(r" (?=[)},])|(?<=[({]) ", "", joined))
+            joined = re.sub(r" (?=[)},])|(?<=[({]) |(?<=\)) (?=\.)", "", joined)
+            if joined.startswith("."):
+                words[-1] += joined
+            else:
+                words.append(joined)
             place = last + 1
         if (token, " ".join(words)) not in found:
             found.append((token, " ".join(words)))

@@ -1,5 +1,5 @@
 -- Calls change counts alone, and lower none.
-use Rattle.std.proofs.Common.{ℕ, List, [], ◌∷◌, refl, ◌∙◌, arith}
+use Rattle.std.proofs.Common.{ℕ, List, [], ◌∷◌, refl, arith}
 use Rattle.cons_eval.specs.Meanings.{EnvView, NoneLower, KeepsMeanings}
 
 -- counts that are as before are not lower
@@ -22,8 +22,4 @@ stays_same v = record { meanings = refl; fixed = refl; counts = none_lower_same 
 
 -- one call after another changes counts alone
 pub stays_on : (a b c : EnvView) → KeepsMeanings a b → KeepsMeanings b c → KeepsMeanings a c
-stays_on a b c h k = record {
-  meanings = k.meanings ∙ h.meanings;
-  fixed = k.fixed ∙ h.fixed;
-  counts = none_lower_on a.counts b.counts c.counts h.counts k.counts;
-}
+stays_on a b c h k = grind (arith, none_lower_on)

@@ -1,6 +1,6 @@
 -- What a caller of `eval` owes: a constraint that a pattern keeps may be evaluated, and where each argument that has a
 -- point has one on the board, the arguments of each expression are placed.
-use Rattle.std.proofs.Common.{◌≡◌, true, List, [], ◌∷◌, refl}
+use Rattle.std.proofs.Common.{◌≡◌, true, List, [], ◌∷◌, refl, arith}
 use Rattle.std.proofs.lemmas.Bool.{and_from}
 use Rattle.pat_types.specs.declared.expr.Arg.{Arg}
 use Rattle.pat_types.specs.declared.expr.Expr.{Expr, Num, Call, Not', Neg', Bin'}
@@ -10,9 +10,7 @@ use Rattle.cons_eval.specs.Meanings.{Meanings, is_on_board, are_on_board, are_pl
 args_on_board : (m : Meanings) (args : List Arg) → ((a : Arg) → is_on_board m.position.size (m.point a) ≡ true)
     → are_on_board m.position.size m.point args ≡ true
 args_on_board m [] h = refl
-args_on_board m (a ∷ args) h =
-    and_from (is_on_board m.position.size (m.point a)) (are_on_board m.position.size m.point args) (h a)
-    (args_on_board m args h)
+args_on_board m (a ∷ args) h = grind (arith, and_from, args_on_board m args h)
 
 -- the arguments of an expression, where all points are on the board
 pub all_placed : (m : Meanings) (e : Expr) → ((a : Arg) → is_on_board m.position.size (m.point a) ≡ true)

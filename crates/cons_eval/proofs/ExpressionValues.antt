@@ -1,5 +1,5 @@
 -- The value of an expression by those of its parts, how large it is, and what it asks.
-use Rattle.std.proofs.Common.{◌≡◌, ℕ, ◌+◌, ◌*◌, Bool, true, false, not, ◌&&◌, ◌||◌, List, map, ℤ, pos, ◌-ℤ◌, neg_ℤ, Box}
+use Rattle.std.proofs.Common.{◌≡◌, ℕ, ◌+◌, ◌*◌, Bool, true, false, not, ◌&&◌, ◌||◌, List, map, ℤ, pos, ◌-ℤ◌, Box}
 use Rattle.std.proofs.Common.{Global, w64, SFits, FitsSigned, to_z, of_z, refl, sym, ap, ◌∙◌, subst, arith}
 use Rattle.std.proofs.lemmas.Int.{ints, to_z-of_z}
 use Rattle.std.proofs.lemmas.Bool.{ltb-true, or_parts}
@@ -37,8 +37,7 @@ opposite_fits r f h = let low = h.low in let high = h.high in omega (arith, ints
 pub placed_call : (m : Meanings) (e : Expr) (f : Function) (args us : List Arg) → e ≡ Call f args → us ≡ args
     → are_placed m e ≡ true → are_on_board m.position.size m.point us ≡ true
 unfolding are_placed
-placed_call m e f args us p q h =
-    ap (are_on_board m.position.size m.point) q ∙ (sym (ap (are_placed m) p) ∙ h)
+placed_call m e f args us p q h = grind arith
 
 -- the value of a number
 pub num_value : (m : Meanings) (e : Expr) (n : ℕ) → e ≡ Num n → pos n ≡ value_of m e
@@ -55,41 +54,25 @@ value_of_call m e f args us p q = ap (λ (xs : List Arg). call_value m f (map m.
 pub value_of_not : (m : Meanings) (e inner : Expr) (b : Box Expr Global) (x : ℤ) → inner ≡ b.value → e ≡ Not b
     → x ≡ value_of m inner → worth (not (is_so x)) ≡ value_of m e
 unfolding value_of
-value_of_not m e inner b x q p h =
-    ap (λ (y : ℤ). worth (not (is_so y))) (h ∙ ap (value_of m) q) ∙ sym (ap (value_of m) p)
-
--- nothing less a number is its opposite
-opposite : (x : ℤ) → pos 0 -ℤ x ≡ neg_ℤ x
-opposite x = omega (arith, ints)
+value_of_not m e inner b x q p h = grind arith
 
 -- the value behind a `-`
 pub value_of_neg : (m : Meanings) (e inner : Expr) (b : Box Expr Global) (x : ℤ) → inner ≡ b.value → e ≡ Neg b
     → x ≡ value_of m inner → pos 0 -ℤ x ≡ value_of m e
 unfolding value_of
-value_of_neg m e inner b x q p h =
-    opposite x ∙ (ap neg_ℤ (h ∙ ap (value_of m) q) ∙ sym (ap (value_of m) p))
+value_of_neg m e inner b x q p h = grind (arith, ints)
 
 -- the value of two sides
 pub value_of_sides : (m : Meanings) (e left right : Expr) (op : Op) (a b : Box Expr Global) (x y : ℤ)
     → left ≡ a.value → right ≡ b.value → e ≡ Bin op a b → x ≡ value_of m left → y ≡ value_of m right
     → joined_value op x y ≡ value_of m e
 unfolding value_of
-value_of_sides m e left right op a b x y q r p h k =
-    ap (λ (z : ℤ). joined_value op z y) (h ∙ ap (value_of m) q)
-    ∙ (ap (joined_value op (value_of m a.value)) (k ∙ ap (value_of m) r) ∙ sym (ap (value_of m) p))
+value_of_sides m e left right op a b x y q r p h k = grind arith
 
 -- if the right side is not needed, the left one decides
 left_decides : (op : Op) (x y : ℤ) → needs_right op x ≡ false → worth (is_so x) ≡ joined_value op x y
-left_decides Or x y h = or_decides (is_so x) (is_so y) h
-  where
-    or_decides : (s t : Bool) → not s ≡ false → worth s ≡ worth (s || t)
-    or_decides true t h = refl
-    or_decides false t h = cc
-left_decides And x y h = and_decides (is_so x) (is_so y) h
-  where
-    and_decides : (s t : Bool) → s ≡ false → worth s ≡ worth (s && t)
-    and_decides true t h = cc
-    and_decides false t h = refl
+left_decides Or x y h = grind arith
+left_decides And x y h = grind arith
 left_decides Eq x y h = cc
 left_decides Ne x y h = cc
 left_decides Lt x y h = cc
@@ -115,27 +98,19 @@ test_small e t = let some = leaf_some e in worth_within t (leaf_count e * most) 
 -- a number or a call is as small as its leaf allows
 pub num_small : (e : Expr) (n : ℕ) → e ≡ Num n → IsConstraint e → IsWithin (leaf_count e * most) (pos n)
 unfolding leaf_count can_evaluate
-num_small e n p c =
-    let can : can_evaluate c.labels (Num n) ≡ true = sym (ap (can_evaluate c.labels) p) ∙ c.can in
-    let below = ltb-true n 1000000 can in
-    let one : leaf_count e ≡ 1 = ap leaf_count p in
-    record { low = omega (arith, ints); high = omega (arith, ints) }
+num_small e n p c = grind (arith, ltb-true, ints)
 
 -- a call is as small as its leaf allows
 pub call_small : (e : Expr) (f : Function) (args : List Arg) (r : ℤ) → e ≡ Call f args → IsWithin most r
     → IsWithin (leaf_count e * most) r
 unfolding leaf_count
-call_small e f args r p h =
-    let one : leaf_count e ≡ 1 = ap leaf_count p in within_more most (leaf_count e * most) r h (omega arith)
+call_small e f args r p h = grind (arith, within_more)
 
 -- the opposite is as small as what it is the opposite of
 pub neg_small : (e inner : Expr) (b : Box Expr Global) (x : ℤ) → inner ≡ b.value → e ≡ Neg b
     → IsWithin (leaf_count inner * most) x → IsWithin (leaf_count e * most) (pos 0 -ℤ x)
 unfolding leaf_count
-neg_small e inner b x q p h =
-    let same : leaf_count e ≡ leaf_count inner = ap leaf_count p ∙ sym (ap leaf_count q) in
-    subst (λ (y : ℤ). IsWithin (leaf_count e * most) y) (sym (opposite x))
-    (subst (λ (n : ℕ). IsWithin (n * most) (neg_ℤ x)) (sym same) (neg_within (leaf_count inner * most) x h))
+neg_small e inner b x q p h = grind (arith, ints, neg_within)
 
 -- two sides with an operator are as small as both together
 pub sides_small : (e left right : Expr) (op : Op) (a b : Box Expr Global) (x y : ℤ) → left ≡ a.value → right ≡ b.value
@@ -180,17 +155,11 @@ second_fails false false t h k = cc
 pub asks_left : (m : Meanings) (e left : Expr) (op : Op) (a b : Box Expr Global) → left ≡ a.value → e ≡ Bin op a b
     → asks m e ≡ false → asks m left ≡ false
 unfolding asks
-asks_left m e left op a b q p h =
-    ap (asks m) q
-    ∙ (or_parts (asks m a.value) (needs_right op (value_of m a.value) && asks m b.value) (sym (ap (asks m) p) ∙ h)).0
+asks_left m e left op a b q p h = grind (arith, or_parts)
 
 -- a right side that is needed asks for nothing where the whole does not
 pub asks_right : (m : Meanings) (e left right : Expr) (op : Op) (a b : Box Expr Global) (x : ℤ) → left ≡ a.value
     → right ≡ b.value → e ≡ Bin op a b → x ≡ value_of m left → needs_right op x ≡ true → asks m e ≡ false
     → asks m right ≡ false
 unfolding asks
-asks_right m e left right op a b x q r p h n f =
-    let same : value_of m a.value ≡ x = sym (h ∙ ap (value_of m) q) in
-    ap (asks m) r
-    ∙ second_fails (asks m a.value) (needs_right op (value_of m a.value)) (asks m b.value) (sym (ap (asks m) p) ∙ f)
-    (ap (needs_right op) same ∙ n)
+asks_right m e left right op a b x q r p h n f = grind (arith, second_fails)

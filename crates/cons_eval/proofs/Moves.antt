@@ -1,6 +1,6 @@
 -- Moves in turn, and the moves and the point behind them.
 use Rattle.std.proofs.Common.{◌≡◌, ℕ, zero, suc, ◌+◌, ◌<◌, ◌≤◌, List, [], ◌∷◌, length, map, take, drop, get_or, Option}
-use Rattle.std.proofs.Common.{Some, None, refl, sym, ap, ◌∙◌, arith}
+use Rattle.std.proofs.Common.{Some, None, refl, ap, arith}
 use Rattle.std.proofs.lemmas.List.{drop_more, drop_all}
 use Rattle.std.specs.Option.{option_map}
 use Rattle.pat_types.specs.declared.expr.Arg.{Arg}
@@ -15,8 +15,7 @@ pub next_move : (point : Arg → Option ℕ) (moves : List Arg) (i : ℕ) (d : A
     → after_moves (after_move pos c (point (get_or moves i d))) (other c) (map point (drop (i + 1) moves))
     ≡ after_moves pos c (map point (drop i moves))
 unfolding after_moves
-next_move point moves i d pos c h =
-    sym (ap (λ (ms : List Arg). after_moves pos c (map point ms)) (drop_more moves i d h))
+next_move point moves i d pos c h = grind (arith, drop_more)
 
 -- behind the last move nothing changes
 pub no_move : (point : Arg → Option ℕ) (moves : List Arg) (i : ℕ) (pos : BoardState) (c : Colour) → length moves ≤ i
@@ -38,9 +37,7 @@ last_point point [] k d h = absurd (omega arith)
 last_point point (a ∷ []) zero d h = refl
 last_point point (a ∷ []) (suc k) d h = absurd (omega arith)
 last_point point (m ∷ n ∷ more) zero d h = absurd (omega arith)
-last_point point (m ∷ n ∷ more) (suc k) d h =
-    ap (with_move (point m)) (last_point point (n ∷ more) k d (omega arith))
-    ∙ with_move_map (point m) (map point (take k (n ∷ more))) (point (get_or (n ∷ more) k d))
+last_point point (m ∷ n ∷ more) (suc k) d h = grind (arith, last_point point (n ∷ more) k d, with_move_map)
 
 -- no arguments have no last one
 pub none_last : (point : Arg → Option ℕ) (args : List Arg) → length args < 1 → moves_and_point (map point args) ≡ None

@@ -1,5 +1,5 @@
 -- What holds of an expression and is kept by its parts.
-use Rattle.std.proofs.Common.{◌≡◌, ℕ, ◌+◌, ◌<◌, ◌≤◌, Bool, true, false, ◌&&◌, Box, Global, refl, sym, subst, arith}
+use Rattle.std.proofs.Common.{◌≡◌, ℕ, ◌+◌, ◌<◌, ◌≤◌, Bool, true, false, ◌&&◌, Box, Global, refl, arith}
 use Rattle.pat_types.specs.declared.expr.Op.{Op}
 use Rattle.pat_types.specs.declared.expr.Expr.{Expr, Num, Call, Not', Neg', Bin', Not, Neg, Bin}
 use Rattle.pat_types.specs.Labels.{can_evaluate, leaf_count}
@@ -50,55 +50,26 @@ pub record IsPartOf (part whole : Expr) : Type 0 where
 
 -- an expression that is a part of another is one under every name of the two
 part_along : (part whole p w : Expr) → part ≡ p → whole ≡ w → IsPartOf p w → IsPartOf part whole
-part_along part whole p w e f h =
-    subst (λ (x : Expr). IsPartOf x whole) (sym e) (subst (λ (y : Expr). IsPartOf p y) (sym f) h)
+part_along part whole p w e f h = grind arith
 
 -- what stands behind a `!`
 pub part_of_not : (part whole : Expr) (b : Box Expr Global) → part ≡ b.value → whole ≡ Not b → IsPartOf part whole
 unfolding can_evaluate leaf_count are_placed nodes
-part_of_not part whole b e f = part_along part whole b.value (Not b) e f
-    (record {
-      constraint = λ h. record { labels = h.labels; can = h.can; few = h.few };
-      placed = λ m h. h;
-      smaller = omega arith;
-    })
+part_of_not part whole b e f = grind (arith, part_along)
 
 -- what stands behind a `-`
 pub part_of_neg : (part whole : Expr) (b : Box Expr Global) → part ≡ b.value → whole ≡ Neg b → IsPartOf part whole
 unfolding can_evaluate leaf_count are_placed nodes
-part_of_neg part whole b e f = part_along part whole b.value (Neg b) e f
-    (record {
-      constraint = λ h. record { labels = h.labels; can = h.can; few = h.few };
-      placed = λ m h. h;
-      smaller = omega arith;
-    })
+part_of_neg part whole b e f = grind (arith, part_along)
 
 -- the left side of an operator
 pub left_part : (part whole : Expr) (op : Op) (a b : Box Expr Global) → part ≡ a.value → whole ≡ Bin op a b
     → IsPartOf part whole
 unfolding can_evaluate leaf_count are_placed nodes
-left_part part whole op a b e f = part_along part whole a.value (Bin op a b) e f
-    (record {
-      constraint = λ h. let few = h.few in record {
-        labels = h.labels;
-        can = first_of (can_evaluate h.labels a.value) (can_evaluate h.labels b.value) h.can;
-        few = omega arith;
-      };
-      placed = λ m h. first_of (are_placed m a.value) (are_placed m b.value) h;
-      smaller = let some = nodes_some b.value in omega arith;
-    })
+left_part part whole op a b e f = grind (arith, part_along, first_of, nodes_some)
 
 -- the right side of an operator
 pub right_part : (part whole : Expr) (op : Op) (a b : Box Expr Global) → part ≡ b.value → whole ≡ Bin op a b
     → IsPartOf part whole
 unfolding can_evaluate leaf_count are_placed nodes
-right_part part whole op a b e f = part_along part whole b.value (Bin op a b) e f
-    (record {
-      constraint = λ h. let few = h.few in record {
-        labels = h.labels;
-        can = second_of (can_evaluate h.labels a.value) (can_evaluate h.labels b.value) h.can;
-        few = omega arith;
-      };
-      placed = λ m h. second_of (are_placed m a.value) (are_placed m b.value) h;
-      smaller = let some = nodes_some a.value in omega arith;
-    })
+right_part part whole op a b e f = grind (arith, part_along, second_of, nodes_some)

@@ -12,9 +12,7 @@ use Rattle.cons_eval.specs.Questions.{call_readings, readings_of, one_more, coun
 
 -- questions after questions are counted as both together
 pub counted_on : (a b count : ℕ) → counted b (counted a count) ≡ counted (a + b) count
-counted_on zero b count =
-    let none : b ≡ 0 + b = omega arith in
-    ap (λ (n : ℕ). counted n count) none
+counted_on zero b count = grind arith
 counted_on (suc a) b count =
     let more : suc (a + b) ≡ suc a + b = omega arith in
     counted_on a b (one_more count) ∙ ap (λ (n : ℕ). counted n count) more
@@ -28,8 +26,7 @@ readings_of_num m e n p = sym (ap (readings_of m) p)
 pub readings_of_call : (m : Meanings) (e : Expr) (f : Function) (args us : List Arg) → e ≡ Call f args → us ≡ args
     → call_readings m f (map m.point us) ≡ readings_of m e
 unfolding readings_of
-readings_of_call m e f args us p q =
-    ap (λ (xs : List Arg). call_readings m f (map m.point xs)) q ∙ sym (ap (readings_of m) p)
+readings_of_call m e f args us p q = grind arith
 
 -- a `!` asks for what stands behind it
 pub readings_of_not : (m : Meanings) (e inner : Expr) (b : Box Expr Global) → inner ≡ b.value → e ≡ Not b
@@ -58,19 +55,10 @@ pub readings_of_sides : (m : Meanings) (e left right : Expr) (op : Op) (a b : Bo
     → left ≡ a.value → right ≡ b.value → e ≡ Bin op a b → x ≡ value_of m left → needs_right op x ≡ true
     → readings_of m left + readings_of m right ≡ readings_of m e
 unfolding readings_of
-readings_of_sides m e left right op a b x q r p h n =
-    let same : value_of m a.value ≡ x = sym (h ∙ ap (value_of m) q) in
-    ap (λ (k : ℕ). k + readings_of m right) (ap (readings_of m) q)
-    ∙ (ap (λ (k : ℕ). readings_of m a.value + k) (ap (readings_of m) r)
-    ∙ (with_right (needs_right op (value_of m a.value)) (readings_of m a.value) (readings_of m b.value)
-    (ap (needs_right op) same ∙ n) ∙ sym (ap (readings_of m) p)))
+readings_of_sides m e left right op a b x q r p h n = grind (arith, with_right)
 
 -- if the right side is not needed, they ask for those of the left one
 pub readings_of_left : (m : Meanings) (e left : Expr) (op : Op) (a b : Box Expr Global) (x : ℤ) → left ≡ a.value
     → e ≡ Bin op a b → x ≡ value_of m left → needs_right op x ≡ false → readings_of m left ≡ readings_of m e
 unfolding readings_of
-readings_of_left m e left op a b x q p h n =
-    let same : value_of m a.value ≡ x = sym (h ∙ ap (value_of m) q) in
-    ap (readings_of m) q
-    ∙ (without_right (needs_right op (value_of m a.value)) (readings_of m a.value) (readings_of m b.value)
-    (ap (needs_right op) same ∙ n) ∙ sym (ap (readings_of m) p))
+readings_of_left m e left op a b x q p h n = grind (arith, without_right)

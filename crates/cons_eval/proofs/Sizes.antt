@@ -1,5 +1,5 @@
 -- How large the values of expressions are.
-use Rattle.std.proofs.Common.{ℕ, ◌+◌, ◌≤◌, Bool, true, false, not, ◌&&◌, ◌||◌, ℤ, ◌+ℤ◌, ◌-ℤ◌, neg_ℤ, arith}
+use Rattle.std.proofs.Common.{ℕ, ◌+◌, ◌≤◌, Bool, true, false, not, ◌&&◌, ◌||◌, ℤ, neg_ℤ, arith}
 use Rattle.std.proofs.lemmas.Int.{ints}
 use Rattle.std.specs.Prelude.{int_lt, int_le}
 use Rattle.std.specs.Ordering.{int_eq}
@@ -15,25 +15,11 @@ worth_within false n h = record { low = omega (arith, ints); high = omega (arith
 
 -- a bound may be loosened
 pub within_more : (m n : ℕ) (x : ℤ) → IsWithin m x → m ≤ n → IsWithin n x
-within_more m n x h l = let low = h.low in let high = h.high in
-    record { low = omega (arith, ints); high = omega (arith, ints) }
+within_more m n x h l = grind (arith, ints)
 
 -- a value and its opposite are equally large
 pub neg_within : (n : ℕ) (x : ℤ) → IsWithin n x → IsWithin n (neg_ℤ x)
-neg_within n x h = let low = h.low in let high = h.high in
-    record { low = omega (arith, ints); high = omega (arith, ints) }
-
--- a sum is at most as large as both together
-pub add_within : (m n : ℕ) (x y : ℤ) → IsWithin m x → IsWithin n y → IsWithin (m + n) (x +ℤ y)
-add_within m n x y h k =
-    let a = h.low in let b = h.high in let c = k.low in let d = k.high in
-    record { low = omega (arith, ints); high = omega (arith, ints) }
-
--- a difference is at most as large as both together
-pub sub_within : (m n : ℕ) (x y : ℤ) → IsWithin m x → IsWithin n y → IsWithin (m + n) (x -ℤ y)
-sub_within m n x y h k =
-    let a = h.low in let b = h.high in let c = k.low in let d = k.high in
-    record { low = omega (arith, ints); high = omega (arith, ints) }
+neg_within n x h = grind (arith, ints)
 
 -- what an operator makes of two values is at most as large as both together
 pub joined_within : (op : Op) (m n : ℕ) (x y : ℤ) → 1 ≤ m → IsWithin m x → IsWithin n y
@@ -46,5 +32,5 @@ joined_within Lt m n x y l h k = worth_within (int_lt x y) (m + n) (omega arith)
 joined_within Le m n x y l h k = worth_within (int_le x y) (m + n) (omega arith)
 joined_within Gt m n x y l h k = worth_within (int_lt y x) (m + n) (omega arith)
 joined_within Ge m n x y l h k = worth_within (int_le y x) (m + n) (omega arith)
-joined_within Add m n x y l h k = add_within m n x y h k
-joined_within Sub m n x y l h k = sub_within m n x y h k
+joined_within Add m n x y l h k = grind (arith, ints)
+joined_within Sub m n x y l h k = grind (arith, ints)

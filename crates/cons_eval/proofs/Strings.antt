@@ -1,5 +1,5 @@
 -- The stones of a string, as a set.
-use Rattle.std.proofs.Common.{◌≡◌, ℕ, ◌*◌, ◌<◌, ◌&&◌, Bool, List, ap, ◌∙◌}
+use Rattle.std.proofs.Common.{◌≡◌, ℕ, ◌*◌, ◌<◌, List, arith}
 use Rattle.std.proofs.lemmas.Bool.{lt-ltb}
 use Rattle.std.specs.FinSet as set
 use Rattle.go_rules.specs.declared.Cell.{Cell}
@@ -10,6 +10,4 @@ use Rattle.go_rules.proofs.Sets.{contains-set_below}
 pub contains-string_at : (s : ℕ) (cells : List Cell) (a b : ℕ) → b < s * s
     → set.contains (string_at s cells a) b ≡ is_in_string s cells a b
 unfolding string_at
-contains-string_at s cells a b h =
-    contains-set_below (s * s) (is_in_string s cells a) b
-    ∙ ap (λ (t : Bool). t && is_in_string s cells a b) (lt-ltb b (s * s) h)
+contains-string_at s cells a b h = grind (arith, contains-set_below, lt-ltb)

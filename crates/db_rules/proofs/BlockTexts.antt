@@ -459,6 +459,35 @@ module _ (helpers : List (List ℕ)) where
       })
       (block.colon, block.closed, block.judged)
 
+  -- a line of text stands at the end, by the stage
+  by_text : (stage next : Stage) (front : List KeptLine) (done : List Block) (now : Option Block) (line : KeptLine)
+      → Stands (parts stage front done now) → IsLineOf Other line
+      → table stage Other (slice_index line.bytes 0) ≡ Next next
+      → closing_fault line.number (Some Other) (parts stage front done now) ≡ None
+      → own_fault helpers (parts stage front done now) line Other ≡ None
+      → Goes (parts stage front done now) (placed line next (parts stage front done now) Other) line
+  by_text Start next front done None line stands of_kind e closing own =
+      let s = parts Start front done None in
+      let letter = letter_taken (is_ascii_letter (slice_index line.bytes 0)) next e in
+      subst (λ t. Goes s (placed line t s Other) line) (sym letter.1) (to_front front done line stands (record {
+        other =
+            of_kind;
+        letter = letter.0;
+      }))
+  by_text Start next front done (Some b) line stands of_kind e closing own = absurd stands.fits.1
+  by_text Diagram next front done None line stands of_kind e closing own = absurd (cc stands.fits.0)
+  by_text Diagram next front done (Some b) line stands of_kind e closing own =
+      let s = parts Diagram front done (Some b) in
+      subst (λ t. Goes s (placed line t s Other) line) (next_is Diagram next e)
+      (to_diagram front done b line stands of_kind own)
+  by_text Labels next front done None line stands of_kind e closing own = absurd (cc stands.fits.0)
+  by_text Labels next front done (Some b) line stands of_kind e closing own =
+      let s = parts Labels front done (Some b) in
+      subst (λ t. Goes s (placed line t s Other) line) (next_is Labels next e)
+      (to_constraint front done b line stands of_kind own)
+  by_text Expression next front done now line stands of_kind e closing own = absurd cc
+  by_text Actions next front done now line stands of_kind e closing own = absurd cc
+
   -- a line that the table takes stands at the end, by its kind and the stage
   by_kind : (kind : LineKind) (stage next : Stage) (front : List KeptLine) (done : List Block) (now : Option Block)
       (line : KeptLine)
@@ -506,27 +535,8 @@ module _ (helpers : List (List ℕ)) where
       let block = whole_block line.number stage b stands.fits.0 stands.fits.1 none taken.2 in
       subst (λ t. Goes s (placed line t s Action) line) (sym taken.0)
       (to_actions stage front done b line stands of_kind block)
-  by_kind Other Start next front done None line stands of_kind e closing own =
-      let s = parts Start front done None in
-      let letter = letter_taken (is_ascii_letter (slice_index line.bytes 0)) next e in
-      subst (λ t. Goes s (placed line t s Other) line) (sym letter.1) (to_front front done line stands (record {
-        other =
-            of_kind;
-        letter = letter.0;
-      }))
-  by_kind Other Start next front done (Some b) line stands of_kind e closing own = absurd stands.fits.1
-  by_kind Other Diagram next front done None line stands of_kind e closing own = absurd (cc stands.fits.0)
-  by_kind Other Diagram next front done (Some b) line stands of_kind e closing own =
-      let s = parts Diagram front done (Some b) in
-      subst (λ t. Goes s (placed line t s Other) line) (next_is Diagram next e)
-      (to_diagram front done b line stands of_kind own)
-  by_kind Other Labels next front done None line stands of_kind e closing own = absurd (cc stands.fits.0)
-  by_kind Other Labels next front done (Some b) line stands of_kind e closing own =
-      let s = parts Labels front done (Some b) in
-      subst (λ t. Goes s (placed line t s Other) line) (next_is Labels next e)
-      (to_constraint front done b line stands of_kind own)
-  by_kind Other Expression next front done now line stands of_kind e closing own = absurd cc
-  by_kind Other Actions next front done now line stands of_kind e closing own = absurd cc
+  by_kind Other stage next front done now line stands of_kind e closing own =
+      by_text stage next front done now line stands of_kind e closing own
 
   -- a line without a fault stands at the end
   goes : (s : SoFar) (line : KeptLine) → Stands s → found helpers s line ≡ None → Goes s (after_line s line) line

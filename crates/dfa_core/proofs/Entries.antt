@@ -1,6 +1,6 @@
 -- Entries: rows beside their kinds.
-use Rattle.std.proofs.Common.{◌≡◌, ℕ, zero, suc, ◌+◌, ◌*◌, ◌/◌, ◌%◌, ◌<◌, List, [], ◌∷◌, ◌++◌, length, take, drop}
-use Rattle.std.proofs.Common.{map, get_or, refl, sym, ap, ◌∙◌, subst, arith}
+use Rattle.std.proofs.Common.{◌≡◌, ℕ, zero, suc, ◌+◌, ◌*◌, ◌%◌, ◌<◌, List, [], ◌∷◌, ◌++◌, length, take, drop}
+use Rattle.std.proofs.Common.{map, get_or, refl, sym, ap, ◌∙◌, arith}
 use Rattle.std.specs.List.{All}
 use Rattle.std.proofs.Math.Seq.{take-append_seam}
 use Rattle.std.proofs.lemmas.List.{get_or_default, get_or-map}
@@ -50,15 +50,14 @@ letter_with (suc (suc (suc (suc k)))) low = absurd (omega arith)
 pub targets_within : (t : Flat) (kinds : List RowKind) → HasKinds t kinds → IsAutomaton (rows_in t)
     → All (λ row. row < length (rows_in t)) t.targets
 targets_within t kinds has good i d low =
-    let r : ℕ = i / 4 in
-    let letter = letter_with (i % 4) (omega arith) in
-    let here : 4 * r + letter_number letter.0 ≡ i = omega (arith, letter.1) in
-    let inside : r < length t.depths = omega (arith, has.flat.targets) in
-    let inside_rows : r < length (rows_in t) = omega (arith, inside, length-rows t) in
-    subst (λ row. row < length (rows_in t))
-    (sym (get_or_default t.targets i d 0 low ∙ ap (λ j. get_or t.targets j 0) (sym here)
-    ∙ target-at t has.flat r (letter_number letter.0) inside (letter_below letter.0)))
-    (good.targets r letter.0 inside_rows)
+    grind (
+      arith,
+      letter_with (i % 4),
+      length-rows t,
+      get_or_default t.targets i d 0 low,
+      target-at t has.flat,
+      letter_below,
+    )
 
 -- each entry of an automaton's table is that of a target of its row
 pub entries_are : (t : Flat) (entries : List ℕ) (kinds : List RowKind) → HasEntries t entries kinds
@@ -79,8 +78,7 @@ entries_are t entries kinds has long good = record {
 -- a list that was written whole over another is all that is left of both
 pub written_whole : {X : Type 0} (n : ℕ) (new old : List X) → length new ≡ n
     → take n (new ++ drop (length new) old) ≡ new
-written_whole n new old long = ap (λ k. take k (new ++ drop (length new) old)) (sym long)
-    ∙ take-append_seam new (drop (length new) old)
+written_whole n new old long = grind (arith, take-append_seam)
 
 module _ (targets starts numbers depths entries : List ℕ) (kinds : List RowKind)
     (written : entries ≡ map (entry_in kinds) targets) where
@@ -96,10 +94,7 @@ module _ (targets starts numbers depths entries : List ℕ) (kinds : List RowKin
   -- and each entry is that of its row
   pub closed_entries : HasKinds (flat_with targets starts numbers depths) kinds
       → HasEntries (flat_with (map row_of entries) starts numbers depths) entries kinds
-  closed_entries has = record {
-    with_kinds = subst (λ ts. HasKinds (flat_with ts starts numbers depths) kinds) (sym same_targets) has;
-    each = written ∙ ap (map (entry_in kinds)) (sym same_targets);
-  }
+  closed_entries has = grind (arith, flat_with, same_targets)
 
 -- a row with an even entry accepts nothing
 pub silent_entry : (rows : List Row) (row : ℕ) → entry_with (kind_at rows row) row % 2 ≡ 0

@@ -1,6 +1,6 @@
 -- What the masks of a pattern say of its cells and of its length.
 use Rattle.std.proofs.Common.{◌≡◌, ℕ, ◌+◌, ◌-◌, ◌<◌, ◌≤◌, Bool, true, false, not, ◌&&◌, List, [], ◌∷◌, ◌++◌, length}
-use Rattle.std.proofs.Common.{get_or, refl, sym, ap, ◌∙◌, subst, arith, inl, inr}
+use Rattle.std.proofs.Common.{get_or, refl, sym, ap, ◌∙◌, arith, inl, inr}
 use Rattle.std.proofs.lemmas.Bool.{cases_lt, not-true, not-false}
 use Rattle.std.proofs.lemmas.List.{length_push, get_or_push, get_or_append_left}
 use Rattle.pat_types.specs.declared.letter.Letter.TheVariants.{Friend as LetterFriend, Enemy as LetterEnemy}
@@ -69,8 +69,7 @@ AreMasks-more p i masks more mask before longer is = record {
 -- a slice of all masks of some indices has the masks of as many indices as it is long
 pub AreMasks-slice : (p : Pattern) (count : ℕ) (masks slice : List LetterMask) → AreMasks p count masks
     → slice ≡ masks → AreMasks p (length slice) slice
-AreMasks-slice p count masks slice are same =
-    subst (λ ms. AreMasks p (length ms) ms) (sym same) (subst (λ n. AreMasks p n masks) (sym are.size) are)
+AreMasks-slice p count masks slice are same = grind arith
 
 -- the length below an index past which nothing is drawn is the length of the pattern
 pub length-by_masks : (p : Pattern) (count n : ℕ) (masks slice : List LetterMask) → AreMasks p count masks

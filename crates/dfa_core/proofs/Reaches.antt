@@ -1,6 +1,6 @@
 -- How far from the anchor the cells of a pattern are drawn, and so how long it can be.
 use Rattle.std.proofs.Common.{◌≡◌, ℕ, zero, suc, ◌+◌, ◌*◌, ◌<◌, ◌≤◌, Bool, true, false, nat_lt, max, min, ℤ, pos}
-use Rattle.std.proofs.Common.{negsuc, ◌+ℤ◌, ◌≤ℤ◌, neg_ℤ, nat_abs, refl, ap, arith, inl, inr}
+use Rattle.std.proofs.Common.{negsuc, ◌+ℤ◌, ◌≤ℤ◌, neg_ℤ, nat_abs, refl, ap, arith}
 use Rattle.std.proofs.lemmas.Bool.{cases_Bool, cases_lt, agree_below, agree_below_at, ltb-true}
 use Rattle.std.proofs.lemmas.Int.{ints}
 use Rattle.std.proofs.Math.Nat.{mul-le-mul_left, mul-le-mul_right}
@@ -54,18 +54,17 @@ blank_outside : (p : Pattern) (k i : ℕ) → p.rows ≤ k → p.cols ≤ k → 
     → is_drawn (drawn_along p i) ≡ false
 unfolding drawn_along drawn_at
 blank_outside p k i rows columns past low =
-    elim (cases_Bool (is_drawn (drawn_along p i))) [
-      | inr blank ↦ blank
-      | inl drawn ↦
-          let lines = drawn_strips p (strip_at p.rows p.top p.bottom (pos (anchor_of p).0 +ℤ (offset_at i).0))
-          (strip_at p.cols p.left p.right (pos (anchor_of p).1 +ℤ (offset_at i).1)) drawn in
-          let anchor = anchor_within p in
-          let row = strip_near p.rows (anchor_of p).0 k p.top p.bottom (offset_at i).0
-          (strip_around p.rows p.top p.bottom (pos (anchor_of p).0 +ℤ (offset_at i).0) lines.0) anchor.0 rows in
-          let column = strip_near p.cols (anchor_of p).1 k p.left p.right (offset_at i).1
-          (strip_around p.cols p.left p.right (pos (anchor_of p).1 +ℤ (offset_at i).1) lines.1) anchor.1 columns in
-          absurd (omega (arith, past, index_inside i k low row column))
-    ]
+    grind (
+      arith,
+      cases_Bool (is_drawn (drawn_along p i)),
+      drawn_strips p (strip_at p.rows p.top p.bottom (pos (anchor_of p).0 +ℤ (offset_at i).0)) (strip_at p.cols p.left p.right (pos (anchor_of p).1 +ℤ (offset_at i).1)),
+      anchor_within p,
+      strip_near p.rows (anchor_of p).0 k p.top p.bottom (offset_at i).0,
+      strip_around p.rows p.top p.bottom (pos (anchor_of p).0 +ℤ (offset_at i).0),
+      strip_near p.cols (anchor_of p).1 k p.left p.right (offset_at i).1,
+      strip_around p.cols p.left p.right (pos (anchor_of p).1 +ℤ (offset_at i).1),
+      index_inside i k low,
+    )
 
 -- indices at which nothing is drawn add nothing to the length
 length_below-blanks : (p : Pattern) (n m : ℕ) → n ≤ m → ((i : ℕ) → n ≤ i → i < m → is_drawn (drawn_along p i) ≡ false)
@@ -78,7 +77,4 @@ pub length-inside : (p : Pattern) (k n : ℕ) → k ≡ min (max p.rows p.cols) 
     → n ≡ (2 * k + 1) * (2 * k + 1) → length_below p n ≡ pattern_length p
 unfolding pattern_length
 length-inside p k n is square =
-    elim (cases_lt k largest_offset) [
-      | inr all ↦ grind arith
-      | inl inside ↦ grind (arith, length_below-blanks p, blank_outside p, mul-le-mul_left, mul-le-mul_right)
-    ]
+    grind (arith, cases_lt k largest_offset, length_below-blanks p, blank_outside p, mul-le-mul_left, mul-le-mul_right)

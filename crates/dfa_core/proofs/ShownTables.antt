@@ -25,8 +25,7 @@ module _ (t : Inside) (rows : List Row) (shown : rows_in (lists_of t) ≡ rows)
 
   -- it is the depth of the row
   pub depth_at : get_or t.depths.items r 0 ≡ (row_at rows r).depth
-  depth_at = sym (ap (λ row. row.depth) (row_at-rows (lists_of t) r has_depth))
-      ∙ ap (λ rs. (row_at rs r).depth) shown
+  depth_at = grind (arith, row_at-rows, has_depth)
 
   -- the row has an entry for the target of each letter
   pub has_entry : (k : ℕ) → k < 4 → 4 * r + k < length t.entries.items
@@ -44,5 +43,4 @@ module _ (t : Inside) (rows : List Row) (shown : rows_in (lists_of t) ≡ rows)
 
   -- there the numbers of the rows before have ended
   pub start_at : (n : ℕ) → n ≤ r + 1 → get_or t.starts.items n 0 ≡ begin_of rows n
-  start_at n next = start-counts (lists_of t) good.with_kinds.flat n (omega (arith, has_depth))
-      ∙ ap (λ rs. begin_of rs n) shown
+  start_at n next = grind (arith, start-counts (lists_of t) good.with_kinds.flat n, has_depth, begin_of)

@@ -1,7 +1,7 @@
 -- Every list of patterns has a number of states: the words that are longer than every pattern reach the sink, and the
 -- others are finitely many.
 use Rattle.std.proofs.Common.{◌≡◌, ℕ, zero, suc, ◌+◌, ◌<◌, ◌≤◌, ◌⊎◌, inl, inr, Bool, true, false, cond, eqb, List}
-use Rattle.std.proofs.Common.{[], ◌∷◌, length, map, replicate, get_or, refl, sym, ap, ◌∙◌, arith}
+use Rattle.std.proofs.Common.{[], ◌∷◌, length, map, replicate, get_or, refl, ap, ◌∙◌, arith}
 use Rattle.std.proofs.lemmas.Bool.{cases_eq, cases_lt, eq-eqb, ne_eqb, and_left, lt-leb, true≢false, false≢true}
 use Rattle.std.proofs.lemmas.List.{length-replicate}
 use Rattle.spiral.specs.Spiral.{offset_count}
@@ -70,8 +70,7 @@ module _ {X : Type 0} (f : Word → X) (same_or_not : (x y : X) → (x ≡ y) �
     -- a new value is at no number below n
     new_apart : ((i : ℕ) → i < n → f v ≡ f (t.word i) → ⊥) → (i j : ℕ) → i < n → j ≡ n
         → f (with_last t.word n v i) ≡ f (with_last t.word n v j) → ⊥
-    new_apart new i j low at e =
-        new i low (sym new_value ∙ ap (λ k. f (with_last t.word n v k)) (sym at) ∙ sym e ∙ old_value i low)
+    new_apart new i j low at e = grind (arith, new_value, with_last, old_value)
 
     -- values are apart, and a new one too
     with_last-apart : ((i : ℕ) → i < n → f v ≡ f (t.word i) → ⊥) → (i j : ℕ) → i < suc n → j < suc n
@@ -100,11 +99,7 @@ module _ {X : Type 0} (f : Word → X) (same_or_not : (x y : X) → (x ≡ y) �
   -- m words more
   add_many : (P : Word → Type 0) (v : ℕ → Word) (m : ℕ) → HasSome f P
       → HasSome f (λ w. P w ⊎ ((i : ℕ) × (i < m) × (f w ≡ f (v i))))
-  add_many P v zero some = HasSome-fewer P (λ w. P w
-      ⊎ ((i : ℕ) × (i < 0) × (f w ≡ f (v i)))) (λ w either. elim either [
-        | inl p ↦ p
-        | inr none ↦ absurd (omega (arith, none.1))
-      ]) some
+  add_many P v zero some = grind (arith, HasSome-fewer)
   add_many P v (suc m) some =
       HasSome-fewer (λ w. (P w ⊎ ((i : ℕ) × (i < m) × (f w ≡ f (v i)))) ⊎ (f w ≡ f (v m))) (λ w. P w
       ⊎ ((i : ℕ) × (i < suc m) × (f w ≡ f (v i))))
@@ -186,10 +181,7 @@ some_short same_or_not zero f = (
     all = λ w short. (0, omega arith, ap f (none_short w short));
   },
 )
-some_short same_or_not (suc k) f =
-    one_longer same_or_not k f (some_short same_or_not k (λ w. f (Friend ∷ w)))
-    (some_short same_or_not k (λ w. f (Enemy ∷ w)))
-    (some_short same_or_not k (λ w. f (Empty ∷ w))) (some_short same_or_not k (λ w. f (Off ∷ w)))
+some_short same_or_not (suc k) f = grind (arith, one_longer same_or_not k f, some_short same_or_not k)
 
 -- two lists of Booleans are one or not
 cases_lives : (xs ys : List Bool) → (xs ≡ ys) ⊎ (xs ≡ ys → ⊥)

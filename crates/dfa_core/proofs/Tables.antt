@@ -29,11 +29,7 @@ length-rows t = length-first_rows t (length t.depths)
 first_rows-at : (t : Flat) (n r : ℕ) → r < n → row_at (first_rows t n) r ≡ row_in t r
 first_rows-at t zero r low = absurd (omega arith)
 first_rows-at t (suc n) r low =
-    elim (cases_lt r n) [
-      | inl before ↦ get_or_append_left (first_rows t n) (row_in t n ∷ []) no_row r
-          (omega (arith, length-first_rows t n)) ∙ first_rows-at t n r before
-      | inr last ↦ grind (arith, length-first_rows t, get_or_push)
-    ]
+    grind (arith, cases_lt, get_or_append_left, length-first_rows, first_rows-at t n r, get_or_push)
 
 -- the row with a number is the one that the lists show at it
 pub row_at-rows : (t : Flat) (r : ℕ) → r < length t.depths → row_at (rows_in t) r ≡ row_in t r
@@ -68,35 +64,16 @@ module _ (t : Flat) (ts ns : List ℕ) (d : ℕ) (good : IsFlat t) (four : lengt
 
   -- the rows before are as they were
   old_row : (r : ℕ) → r < length t.depths → row_in more r ≡ row_in t r
-  old_row r low =
-      let targets : part_of more.targets (4 * r) (4 * r + 4) ≡ part_of t.targets (4 * r) (4 * r + 4) =
-      part-old t.targets ts (4 * r) (4 * r + 4) (omega arith) (omega (arith, good.targets)) in
-      let numbers : part_of more.numbers (start_of more r) (start_of more (r + 1))
-      ≡ part_of t.numbers (start_of t r) (start_of t (r + 1)) =
-      ap (λ n. part_of more.numbers n (start_of more (r + 1))) (old_start r (omega arith))
-      ∙ ap (part_of more.numbers (start_of t r)) (old_start (r + 1) (omega arith))
-      ∙ part-old t.numbers ns (start_of t r) (start_of t (r + 1)) (good.ordered r low)
-      (good.within (r + 1) (omega arith)) in
-      let depth : get_or more.depths r 0 ≡ get_or t.depths r 0 = get_or_append_left t.depths (d ∷ []) 0 r low in
-      λ i. record { targets = targets i; numbers = numbers i; depth = depth i }
+  old_row r low = grind (arith, part-old, old_start, get_or_append_left)
 
   -- the row behind them has the new targets, numbers and depth
   new_row : row_in more (length t.depths) ≡ record { targets = ts; numbers = ns; depth = d }
-  new_row =
-      let n : ℕ = length t.depths in
-      let targets : part_of more.targets (4 * n) (4 * n + 4) ≡ ts =
-      part-new t.targets ts (4 * n) (4 * n + 4) good.targets (omega (arith, four)) in
-      let numbers : part_of more.numbers (start_of more n) (start_of more (n + 1)) ≡ ns =
-      part-new t.numbers ns (start_of more n) (start_of more (n + 1)) (sym (old_start n (omega arith) ∙ good.last))
-      (omega (arith, old_start n (omega arith), good.last, new_start, length-append t.numbers ns)) in
-      let depth : get_or more.depths n 0 ≡ d = get_or_push t.depths d 0 n refl in
-      λ i. record { targets = targets i; numbers = numbers i; depth = depth i }
+  new_row = grind (arith, part-new, old_start, new_start, length-append, get_or_push)
 
   -- the first rows are as they were
   old_rows : (n : ℕ) → n ≤ length t.depths → first_rows more n ≡ first_rows t n
   old_rows zero low = refl
-  old_rows (suc n) low = ap (λ rows. rows ++ row_in more n ∷ []) (old_rows n (omega arith))
-      ∙ ap (λ row. first_rows t n ++ row ∷ []) (old_row n (omega arith))
+  old_rows (suc n) low = grind (arith, old_rows n, old_row)
 
   -- one row more comes behind the others
   pub rows_in-more : rows_in more ≡ rows_in t ++ (record { targets = ts; numbers = ns; depth = d }) ∷ []
@@ -108,38 +85,7 @@ module _ (t : Flat) (ts ns : List ℕ) (d : ℕ) (good : IsFlat t) (four : lengt
 
   -- and the lists still belong together
   pub IsFlat-more : IsFlat more
-  IsFlat-more =
-      let count : length more.depths ≡ length t.depths + 1 = length_push t.depths d in
-      record {
-        targets = omega (arith, count, good.targets, four, length-append t.targets ts);
-        starts = omega (arith, count, good.starts, length_push t.starts (length (t.numbers ++ ns)));
-        first = old_start 0 (omega arith) ∙ good.first;
-        last = ap (start_of more) count ∙ new_start;
-        ordered = λ r low. elim (cases_lt r (length t.depths)) [
-          | inl before ↦ omega (
-            arith,
-            old_start r (omega arith),
-            old_start (r + 1) (omega arith),
-            good.ordered r before,
-          )
-          | inr at_end ↦
-              let same : r ≡ length t.depths = omega (arith, count, low) in
-              omega (
-                arith,
-                old_start r (omega arith),
-                good.within r (omega arith),
-                ap (λ n. start_of more (n + 1)) same,
-                new_start,
-                length-append t.numbers ns,
-              )
-        ];
-        within = λ r low. elim (cases_lt (length t.depths) r) [
-          | inl at_end ↦
-              let same : r ≡ length t.depths + 1 = omega (arith, count, low) in
-              omega (arith, ap (start_of more) same, new_start)
-          | inr before ↦ omega (arith, old_start r before, good.within r before, length-append t.numbers ns)
-        ];
-      }
+  IsFlat-more = grind (arith, length_push, length-append, old_start, new_start, cases_lt)
 
 module _ (old new : Flat) (ts mid first second : List ℕ) (d n : ℕ) (good : IsFlat old) (four : length ts ≡ 4)
     (targets : new.targets ≡ old.targets ++ ts)
@@ -151,10 +97,7 @@ module _ (old new : Flat) (ts mid first second : List ℕ) (d n : ℕ) (good : I
 
   -- the four lists that have grown are the table with one row more
   grown : more old ts (first ++ second) d good four ≡ new
-  grown =
-      let begins : old.starts ++ length (old.numbers ++ (first ++ second)) ∷ [] ≡ new.starts =
-      ap (λ k. old.starts ++ k ∷ []) (ap length all_numbers ∙ sym count) ∙ sym starts in
-      λ i. record { targets = sym targets i; starts = begins i; numbers = all_numbers i; depths = sym depths i }
+  grown = grind (arith, all_numbers)
 
   -- where each list has grown by one row, that row comes behind the others, and the lists still belong together
   pub grown-rows : (rows_in new ≡ rows_in old ++ (record { targets = ts; numbers = first ++ second; depth = d }) ∷ [])
@@ -198,23 +141,17 @@ module _ (t : Flat) (good : IsFlat t) where
   -- the list has the numbers of all rows
   pub numbers-all : t.numbers ≡ numbers_of (rows_in t)
   unfolding rows_in
-  numbers-all = sym (first_numbers (length t.depths) (omega arith) ∙ ap (λ n. take n t.numbers) good.last
-      ∙ take_all (length t.numbers) t.numbers (omega arith))
+  numbers-all = grind (arith, first_numbers, take_all)
 
   -- the numbers of a row begin behind those of the rows before
   pub start-counts : (r : ℕ) → r ≤ length t.depths → start_of t r ≡ length (numbers_of (take r (rows_in t)))
   unfolding rows_in
-  start-counts r low =
-      sym (ap (λ rows. length (numbers_of rows)) (take-first_rows (length t.depths) r low)
-      ∙ ap length (first_numbers r low) ∙ length-take-le (start_of t r) t.numbers (good.within r low))
+  start-counts r low = grind (arith, take-first_rows, first_numbers, length-take-le)
 
   -- a target is found by its row and its letter
   pub target-at : (r k : ℕ) → r < length t.depths → k < 4
       → get_or t.targets (4 * r + k) 0 ≡ get_or (row_at (rows_in t) r).targets k 0
-  target-at r k low letter =
-      let four : k < 4 * r + 4 - 4 * r = omega arith in
-      sym (ap (λ row. get_or row.targets k 0) (row_at-rows t r low)
-      ∙ get_or-take (4 * r + 4 - 4 * r) (drop (4 * r) t.targets) k 0 four ∙ get_or-drop (4 * r) t.targets k 0)
+  target-at r k low letter = grind (arith, row_at-rows, get_or-take, get_or-drop)
 
 -- how many numbers the rows before row r have
 abbrev pub begin_of : List Row → ℕ → ℕ
@@ -223,14 +160,11 @@ begin_of rows r = length (numbers_of (take r rows))
 module _ (rows : List Row) (r : ℕ) (low : r < length rows) where
   -- the numbers of a row come behind those of the rows before
   numbers-next : numbers_of (take (r + 1) rows) ≡ numbers_of (take r rows) ++ (row_at rows r).numbers
-  numbers-next = ap numbers_of (take_more rows r no_row low)
-      ∙ flat_map-append (λ row. row.numbers) (take r rows) (row_at rows r ∷ [])
-      ∙ ap (λ ns. numbers_of (take r rows) ++ ns) (append-nil (row_at rows r).numbers)
+  numbers-next = grind (arith, take_more rows r no_row low, flat_map-append, append-nil (row_at rows r).numbers)
 
   -- and before those of the rows behind it
   numbers-front : numbers_of rows ≡ numbers_of (take (r + 1) rows) ++ numbers_of (drop (r + 1) rows)
-  numbers-front = ap numbers_of (sym (take-append-drop (r + 1) rows))
-      ∙ flat_map-append (λ row. row.numbers) (take (r + 1) rows) (drop (r + 1) rows)
+  numbers-front = grind (arith, take-append-drop (r + 1) rows, flat_map-append)
 
   -- so they end where their count and the begin say
   numbers-end : begin_of rows r + length (row_at rows r).numbers ≡ begin_of rows (r + 1)
@@ -242,22 +176,11 @@ module _ (rows : List Row) (r : ℕ) (low : r < length rows) where
 
   -- and within those of all rows
   pub numbers-within : begin_of rows (r + 1) ≤ length (numbers_of rows)
-  numbers-within = omega (
-    arith,
-    ap length numbers-front,
-    length-append (numbers_of (take (r + 1) rows)) (numbers_of (drop (r + 1) rows)),
-  )
+  numbers-within = grind (arith, numbers-front, length-append)
 
   -- the part of all numbers from where a row's begin to where they end is those of the row
   pub numbers-part : part_of (numbers_of rows) (begin_of rows r) (begin_of rows (r + 1)) ≡ (row_at rows r).numbers
-  numbers-part =
-      let part : List ℕ → List ℕ = λ ns. part_of ns (begin_of rows r) (begin_of rows (r + 1)) in
-      ap part numbers-front
-      ∙ part-old (numbers_of (take (r + 1) rows)) (numbers_of (drop (r + 1) rows)) (begin_of rows r)
-      (begin_of rows (r + 1)) numbers-ordered (omega arith)
-      ∙ ap part numbers-next
-      ∙ part-new (numbers_of (take r rows)) (row_at rows r).numbers (begin_of rows r) (begin_of rows (r + 1)) refl
-      numbers-end
+  numbers-part = grind (arith, numbers-front, part-old, numbers-ordered, numbers-next, part-new, numbers-end)
 
 -- a row of the table has a depth
 pub row_below : (t : Flat) (rows : List Row) (r : ℕ) → rows_in t ≡ rows → r < length rows → r < length t.depths

@@ -1,5 +1,5 @@
 -- Where the points of a board stand, one after another.
-use Rattle.std.proofs.Common.{◌≡◌, ℕ, zero, suc, ◌+◌, ◌*◌, ◌/◌, ◌%◌, ◌<◌, ◌≤◌, sym, ap, ◌∙◌, arith}
+use Rattle.std.proofs.Common.{◌≡◌, ℕ, zero, suc, ◌+◌, ◌*◌, ◌/◌, ◌%◌, ◌<◌, ◌≤◌, ap, arith}
 use Rattle.std.proofs.lemmas.Nat.{div-mul-add, mod-mul-add, div-add-mod', div_below, mod_below}
 use Rattle.go_rules.specs.Board.{largest_size}
 use Rattle.go_rules.specs.Transform.{largest_offset}
@@ -22,10 +22,6 @@ pub corner_low : (s m : ℕ) → 0 < s → s ≤ largest_size → m < s * s → 
 corner_low s m some few on = omega (arith, div_below m s s some on, mod_below m s some)
 
 module _ (s m : ℕ) (at : Cursor) (is : at ≡ cursor_at s m) where
-  -- the column of the point
-  column_is : at.column ≡ m % s
-  column_is = ap (λ (c : Cursor). c.column) is
-
   -- where its square begins
   pub corner_is : at.corner ≡ corner_at s m
   corner_is = ap (λ (c : Cursor). c.corner) is
@@ -34,25 +30,12 @@ module _ (s m : ℕ) (at : Cursor) (is : at ≡ cursor_at s m) where
   pub cursor_in_row : at.column + 1 < s
       → record { column = at.column + 1; corner = at.corner + 1 } ≡ cursor_at s (m + 1)
   cursor_in_row low =
-      let below : m % s + 1 < s = omega (arith, column_is) in
-      let next : m / s * s + (m % s + 1) ≡ m + 1 = omega (arith, div-add-mod' m s) in
-      let row : (m + 1) / s ≡ m / s = sym (ap (λ n. n / s) next) ∙ div-mul-add (m / s) s (m % s + 1) below in
-      let column : (m + 1) % s ≡ m % s + 1 = sym (ap (λ n. n % s) next) ∙ mod-mul-add (m / s) s (m % s + 1) below in
-      let at_column : at.column + 1 ≡ (m + 1) % s = omega (arith, column_is, column) in
-      let at_corner : at.corner + 1 ≡ corner_at s (m + 1) = omega (arith, corner_is, row, column) in
-      λ i. record { column = at_column i; corner = at_corner i }
+      grind (arith, div-add-mod' m s, div-mul-add (m / s) s (m % s + 1), mod-mul-add (m / s) s (m % s + 1), corner_is)
 
   -- behind the last point of a row the next row begins
   pub cursor_in_next_row : at.column < s → s ≤ at.column + 1 → (corner : ℕ)
       → corner + at.column ≡ at.corner + padded_side → record { column = 0; corner = corner } ≡ cursor_at s (m + 1)
-  cursor_in_next_row low end corner is_corner =
-      let last : m % s + 1 ≡ s = omega (arith, column_is) in
-      let some : 0 < s = omega arith in
-      let next : (m / s + 1) * s + 0 ≡ m + 1 = grind (arith, div-add-mod' m s, last) in
-      let row : (m + 1) / s ≡ m / s + 1 = sym (ap (λ n. n / s) next) ∙ div-mul-add (m / s + 1) s 0 some in
-      let column : (m + 1) % s ≡ 0 = sym (ap (λ n. n % s) next) ∙ mod-mul-add (m / s + 1) s 0 some in
-      let at_corner : corner ≡ corner_at s (m + 1) = omega (arith, column_is, corner_is, row, column, is_corner) in
-      λ i. record { column = sym column i; corner = at_corner i }
+  cursor_in_next_row low end corner is_corner = grind (arith, div-add-mod', div-mul-add, mod-mul-add, corner_is)
 
   -- the point itself lies behind the beginning of its square
   pub cursor_place : at.corner + (largest_offset * padded_side + largest_offset)

@@ -10,16 +10,15 @@ use Rattle.go_rules.specs.Position.{BoardState}
 use Rattle.go_rules.specs.Transform.{transformations}
 use Rattle.spiral.specs.Spiral.{offset_count}
 use Rattle.match_rules.proofs.Lists.{Contains-map, Contains-map_from, Contains-flat_map, Contains-flat_map_from}
-use Rattle.match_rules.proofs.Lists.{Contains-first, Contains-rest, Contains-nil, AllPairs-flat_map}
+use Rattle.match_rules.proofs.Lists.{Contains-first, Contains-rest, AllPairs-flat_map}
 use Rattle.dfa_core.specs.Words.{Word}
-use Rattle.dfa_core.specs.Automata.{Row, row_at, accepted, AreDistinct, IsAutomaton}
-use Rattle.dfa_core.specs.Entries.{row_of}
+use Rattle.dfa_core.specs.Automata.{Row, accepted, AreDistinct, IsAutomaton}
 use Rattle.dfa_core.proofs.Distinct.{AreDistinct-append}
 use Rattle.dfa_match.specs.declared.Hit.{Hit}
 use Rattle.dfa_match.specs.declared.walks.Walk.{Walk}
 use Rattle.dfa_match.specs.SeenLetters.{seen_at, word_from, word_at}
 use Rattle.dfa_match.specs.Hits.{hits_at, IsHit, IsHitBefore, AreHitsBefore}
-use Rattle.dfa_match.specs.Walks.{anchor_of, given_at, hits_of, IsWalk, AreWalks}
+use Rattle.dfa_match.specs.Walks.{anchor_of, hits_of, AreWalks}
 use Rattle.dfa_match.proofs.SeenWords.{word_length}
 use Rattle.dfa_match.proofs.WordRows.{accepted-at, word_on}
 use Rattle.dfa_match.proofs.ReadBelow.{read_below, before_giving, after_giving, read_cases, read_there, read_none}
@@ -31,8 +30,7 @@ AreDistinct-from_pairs xs apart i j d p q e = grind (arith, cases_lt)
 
 -- distinct elements are no two the same
 pairs_from_distinct : {X : Type 0} (xs : List X) → AreDistinct xs → AllPairs (λ x y. x ≡ y → ⊥) xs
-pairs_from_distinct xs distinct i j d before low e = let same : i ≡ j = distinct i j d (omega arith) low e in
-    omega arith
+pairs_from_distinct xs distinct i j d before low e = grind arith
 
 -- functions that agree on the elements give the same joined list
 flat_map-same : {X Y : Type 0} (f g : X → List Y) (xs : List X) → ((x : X) → Contains xs x → f x ≡ g x)
@@ -60,10 +58,7 @@ module _ (t m : ℕ) where
   -- no hit of the anchor stands there twice
   hits_at-distinct : (numbers : List ℕ) → AreDistinct numbers → AreDistinct (hits_at t m numbers)
   hits_at-distinct numbers distinct i j d p q e =
-      let low : i < length numbers = omega (arith, length-map numbers hit_of) in
-      let low' : j < length numbers = omega (arith, length-map numbers hit_of) in
-      distinct i j 0 low low'
-      (ap (λ h. h.pattern) (sym (get_or-map hit_of numbers i 0 d low) ∙ e ∙ get_or-map hit_of numbers j 0 d low'))
+      grind (arith, length-map numbers hit_of, get_or-map hit_of numbers i 0 d, get_or-map hit_of numbers j 0 d)
 
 module _ (automaton : List Row) (pos : BoardState) (friend : Colour) (t : ℕ) (walks : List Walk)
     (are : AreWalks automaton pos friend t walks) (good : IsAutomaton automaton) where
@@ -83,43 +78,14 @@ module _ (automaton : List Row) (pos : BoardState) (friend : Colour) (t : ℕ) (
   accepted_now w = if nat_le w.letters offset_count
       then accepted automaton (word_at pos friend t (anchor_of pos.size w) w.letters) else []
 
-  -- this is what is given out there
-  given_now : (w : Walk) → IsWalk automaton pos friend t w → given_at automaton w ≡ accepted_now w
-  given_now w is = elim (cases_Bool (nat_le w.letters offset_count)) [
-    | inl few ↦ ap (λ b. cond b (row_at automaton (row_of w.entry)).numbers []) few
-        ∙ ap (λ r. (row_at automaton r).numbers) (is.row (leb-true w.letters offset_count few))
-        ∙ sym (accepted-at automaton (word_at pos friend t (anchor_of pos.size w) w.letters))
-        ∙ sym (ap (λ b. cond b (accepted automaton (word_at pos friend t (anchor_of pos.size w) w.letters)) []) few)
-    | inr past ↦ ap (λ b. cond b (row_at automaton (row_of w.entry)).numbers []) past
-        ∙ sym (ap (λ b. cond b (accepted automaton (word_at pos friend t (anchor_of pos.size w) w.letters)) []) past)
-  ]
-
   -- a number that is accepted there
   now_accepts : (w : Walk) (k : ℕ) → Contains (accepted_now w) k → (w.letters ≤ offset_count)
       × Contains (accepted automaton (word_at pos friend t (anchor_of pos.size w) w.letters)) k
-  now_accepts w k there = elim (cases_Bool (nat_le w.letters offset_count)) [
-    | inl few ↦ (
-      leb-true w.letters offset_count few,
-      subst (λ b. Contains (cond b (accepted automaton (word_at pos friend t (anchor_of pos.size w) w.letters)) []) k)
-          few there,
-    )
-    | inr past ↦ absurd (Contains-nil k (subst
-        (λ b. Contains (cond b (accepted automaton (word_at pos friend t (anchor_of pos.size w) w.letters)) []) k)
-        past there))
-  ]
+  now_accepts w k there = grind (arith, cases_Bool, leb-true)
 
   -- no number is accepted there twice
   now_distinct : (w : Walk) → AreDistinct (accepted_now w)
-  now_distinct w = elim (cases_Bool (nat_le w.letters offset_count)) [
-    | inl few ↦
-        subst
-        (λ b. AreDistinct (cond b (accepted automaton (word_at pos friend t (anchor_of pos.size w) w.letters)) []))
-        (sym few) (good.distinct (word_at pos friend t (anchor_of pos.size w) w.letters))
-    | inr past ↦
-        subst
-        (λ b. AreDistinct (cond b (accepted automaton (word_at pos friend t (anchor_of pos.size w) w.letters)) []))
-        (sym past) (λ i j d low low' e. absurd (omega (arith, low)))
-  ]
+  now_distinct w = grind (arith, cases_Bool)
 
   -- the hits behind the letters of a walk
   abbrev now_at : Walk → List Hit
@@ -127,8 +93,7 @@ module _ (automaton : List Row) (pos : BoardState) (friend : Colour) (t : ℕ) (
 
   -- the hits of the rows where the walks stand are these
   hits_now : hits_of automaton pos.size t walks ≡ flat_map now_at walks
-  hits_now = flat_map-same (λ w. hits_at t (anchor_of pos.size w) (given_at automaton w)) now_at walks
-      (λ w there. ap (hits_at t (anchor_of pos.size w)) (given_now w (are.each w there)))
+  hits_now = grind (arith, flat_map-same, cases_Bool, leb-true, accepted-at)
 
   -- each of them is a hit
   now_sound : t < transformations → (hit : Hit) → Contains (flat_map now_at walks) hit
@@ -214,11 +179,7 @@ module _ (automaton : List Row) (pos : BoardState) (friend : Colour) (t : ℕ) (
   given_cases : (m : ℕ) → (read_below pos.size after_giving walks m ≡ read_below pos.size before_giving walks m + 1)
       ⊎ ((read_below pos.size before_giving walks m ≡ offset_count + 1)
       × (read_below pos.size after_giving walks m ≡ offset_count + 1))
-  given_cases m = elim (read_cases pos.size before_giving walks m) [
-    | inl some ↦ inl (subst (λ k. read_below pos.size after_giving walks k ≡ some.0.letters + 1) some.2
-        (read_there pos.size after_giving walks some.0 are.rising some.1) ∙ ap (λ n. n + 1) (sym some.3))
-    | inr none ↦ inr (none.1, read_none pos.size after_giving walks m none.0)
-  ]
+  given_cases m = grind (arith, read_cases, before_giving, read_below, after_giving, read_there, read_none)
 
   -- a hit that was given out before is one afterwards
   still_before : (hit : Hit) → IsHitBefore automaton pos friend t (read_below pos.size before_giving walks) hit

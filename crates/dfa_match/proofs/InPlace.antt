@@ -21,8 +21,7 @@ pub record MapsInPlace {X : Type 0} (f : X → X) (p : X → Bool) (xs ys : List
 -- where two lists are the same from i on their elements at i are
 pub same_next : {X : Type 0} (xs ys : List X) (i : ℕ) (d : X) → drop i ys ≡ drop i xs → length ys ≡ length xs
     → i < length xs → get_or ys i d ≡ get_or xs i d
-same_next xs ys i d rest long low =
-    ap (λ l. get_or l 0 d) (sym (drop_more ys i d (omega (arith, low, long))) ∙ rest ∙ drop_more xs i d low)
+same_next xs ys i d rest long low = grind (arith, drop_more)
 
 -- two lists that are the same from i on are the same behind i, also if an element before is written
 pub same_more : {X : Type 0} (xs ys : List X) (k i : ℕ) (x : X) → drop i ys ≡ drop i xs → length ys ≡ length xs
@@ -40,35 +39,19 @@ module _ {X : Type 0} {f : X → X} {p : X → Bool} {xs ys : List X} {k i : ℕ
   -- what stays of one element more
   front_more : {b : Bool} → GathersInFront f p xs ys k i → p x ≡ b
       → filter p (map f (take (i + 1) xs)) ≡ take k ys ++ cond b (x ∷ []) []
-  front_more {b} h test = ap (filter p) (map_more f xs i d low)
-      ∙ filter-append p (map f (take i xs)) (f (get_or xs i d) ∷ [])
-      ∙ ap (λ l. l ++ cond (p (f (get_or xs i d))) (f (get_or xs i d) ∷ []) []) (sym h.front)
-      ∙ ap (λ y. take k ys ++ cond (p y) (y ∷ []) []) (sym is) ∙ ap (λ c. take k ys ++ cond c (x ∷ []) []) test
+  front_more {b} h test = grind (arith, map_more f xs i d low, filter-append p (map f (take i xs)))
 
   -- one element more was written, and is counted where it passes
   pub GathersInFront-more : (b : Bool) → GathersInFront f p xs ys k i → k < length ys → p x ≡ b
       → GathersInFront f p xs (set ys k x) (k + bool_byte b) (i + 1)
-  GathersInFront-more true h room passes = record {
-    front = take_more_set ys k x room ∙ sym (front_more h passes);
-    behind = omega (arith, h.behind);
-  }
-  GathersInFront-more false h room fails = record {
-    front = ap (λ n. take n (set ys k x)) none_more ∙ take-set-le k ys k x (omega arith)
-        ∙ sym (front_more h fails ∙ append-nil (take k ys));
-    behind = omega (arith, h.behind);
-  }
-    where
-      none_more : k + bool_byte false ≡ k
-      none_more = omega arith
+  GathersInFront-more true h room passes = grind (arith, take_more_set ys k x room, front_more h passes)
+  GathersInFront-more false h room fails =
+      grind (arith, take-set-le k ys k x, front_more h fails, append-nil (take k ys), bool_byte false)
 
   -- a list with one element more written is mapped in place so far
   pub MapsInPlace-more : {n : ℕ} → MapsInPlace f p xs ys k i → GathersInFront f p xs (set ys k x) n (i + 1)
       → MapsInPlace f p xs (set ys k x) n (i + 1)
-  MapsInPlace-more h gathered = record {
-    gathered = gathered;
-    rest = same_more xs ys k i x h.rest h.long low h.gathered.behind;
-    long = length-set ys k x ∙ h.long;
-  }
+  MapsInPlace-more h gathered = grind (arith, same_more, length-set)
 
 -- an element that fails was written, and the next one will be written over it
 pub FiltersInPlace-over : {X : Type 0} {p : X → Bool} {xs ys : List X} {k i : ℕ} {x : X}

@@ -1,5 +1,5 @@
 -- The numbers of words, as they grow letter by letter.
-use Rattle.std.proofs.Common.{◌≡◌, ℕ, suc, ◌+◌, ◌*◌, ◌^◌, ◌<◌, [], ◌∷◌, ◌++◌, refl, sym, ap, ◌∙◌, arith}
+use Rattle.std.proofs.Common.{◌≡◌, ℕ, ◌+◌, ◌*◌, ◌^◌, ◌<◌, [], ◌∷◌, ◌++◌, refl, arith}
 use Rattle.std.proofs.Math.Nat.{pow-suc, pow-le-pow_right}
 use denote.Enum.Declared.{tag_of}
 use Rattle.dfa_core.specs.contracts.automaton.Seen.{the_type}
@@ -18,16 +18,10 @@ number_push n [] x = refl
 number_push n (y ∷ w) x = number_push (4 * n + letter_number y) w x
 
 module _ (seen : ℕ → Seen) (i : ℕ) where
-  -- a word ends with what is seen at its last index
-  word_push : (n : ℕ) → word_from seen i (n + 1) ≡ word_from seen i n ++ seen (i + n) ∷ []
-  word_push n = word_split seen i n 1 ∙ ap (λ w. word_from seen i n ++ w)
-      (word_from-suc seen (i + n) 0 ∙ ap (λ w. seen (i + n) ∷ w) (word_from-zero seen (suc (i + n))))
-
   -- its number has a digit more
   pub number_more : (n number : ℕ) → number ≡ word_number (word_from seen i n)
       → 4 * number + letter_number (seen (i + n)) ≡ word_number (word_from seen i (n + 1))
-  number_more n number is = ap (λ k. 4 * k + letter_number (seen (i + n))) is
-      ∙ sym (number_push 0 (word_from seen i n) (seen (i + n))) ∙ ap word_number (sym (word_push n))
+  number_more n number is = grind (arith, number_push, word_split, word_from-suc, word_from-zero)
 
 -- a letter's tag is its number
 pub letter_tag : (x : Seen) → tag_of the_type x ≡ letter_number x
@@ -38,10 +32,7 @@ letter_tag Off = refl
 
 -- a number with a digit more is below the next power
 pub number_low : (n number : ℕ) (x : Seen) → number < 4 ^ n → 4 * number + letter_number x < 4 ^ (n + 1)
-number_low n number x low =
-    let one : n + 1 ≡ suc n = omega arith in
-    let next : 4 ^ (n + 1) ≡ 4 ^ n * 4 = ap (λ k. 4 ^ k) one ∙ pow-suc 4 n in
-    omega (arith, low, next, letter_below x)
+number_low n number x low = grind (arith, pow-suc 4 n, letter_below x)
 
 -- the number of a ring has room for its last letter
 pub number_room : (n number : ℕ) → n < ring_letters → number < 4 ^ n → number < 4 ^ 7

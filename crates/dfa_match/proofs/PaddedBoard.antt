@@ -1,6 +1,6 @@
 -- The padded board, as it is filled and read.
 use Rattle.std.proofs.Common.{◌≡◌, ℕ, ◌+◌, ◌*◌, ◌/◌, ◌%◌, ◌<◌, ◌≤◌, zero, suc, cond, Option, Some, None, ℤ, pos, negsuc}
-use Rattle.std.proofs.Common.{◌+ℤ◌, ◌-ℤ◌, ◌≤ℤ◌, neg_ℤ, List, length, replicate, get_or, refl, sym, ap, ◌∙◌, subst}
+use Rattle.std.proofs.Common.{◌+ℤ◌, ◌-ℤ◌, ◌≤ℤ◌, neg_ℤ, List, length, replicate, get_or, refl, sym, ap, ◌∙◌}
 use Rattle.std.proofs.Common.{arith, inl, inr, length-set, get_or-set_same, get_or-set_other}
 use Rattle.std.proofs.Math.ListN.{set}
 use Rattle.std.proofs.lemmas.Int.{ints}
@@ -23,10 +23,6 @@ use Rattle.dfa_match.specs.SeenLetters.{IsPaddedBoardBelow, IsPaddedBoard}
 strip_from : (s : ℕ) (z : ℤ) (k : ℕ) → strip_of s z ≡ Some k → (z ≡ pos k) × (k < s)
 strip_from s (pos n) k e = grind (arith, cases_lt, lt-ltb, pos, le-ltb)
 strip_from s (negsuc n) k e = absurd (let h : ⊥ = cc in h)
-
--- a number below the size is a strip of the board
-strip_there : (s k : ℕ) (z : ℤ) → z ≡ pos k → k < s → strip_of s z ≡ Some k
-strip_there s k z e low = ap (strip_of s) e ∙ ap (λ b. cond b (Some k) None) (lt-ltb k s low)
 
 -- a point has a row and a column
 record HasParts (s : ℕ) (a b : Option ℕ) (q : ℕ) : Type 0 where
@@ -51,23 +47,16 @@ record IsThere (s r c q : ℕ) : Type 0 where
 -- a place of the padded board that has a point stands in that point's row and column
 point_from : (s r c q : ℕ) → padded_point s r c ≡ Some q → IsThere s r c q
 point_from s r c q e =
-    let parts = point_parts s (strip_of s (pos r -ℤ pos largest_offset))
-    (strip_of s (pos c -ℤ pos largest_offset)) q e in
-    let row = strip_from s (pos r -ℤ pos largest_offset) parts.row parts.in_row in
-    let column = strip_from s (pos c -ℤ pos largest_offset) parts.column parts.in_column in
-    let at_row : parts.row ≡ q / s =
-    sym (div-mul-add parts.row s parts.column column.1) ∙ ap (λ n. n / s) parts.number in
-    let at_column : parts.column ≡ q % s =
-    sym (mod-mul-add parts.row s parts.column column.1) ∙ ap (λ n. n % s) parts.number in
-    record {
-      row = omega (arith, ints, row.0, at_row);
-      column = omega (arith, ints, column.0, at_column);
-      below = subst (λ n. n < s * s) parts.number (mul-add-lt parts.row s parts.column s row.1 column.1);
-    }
+    grind (
+      arith,
+      point_parts s (strip_of s (pos r -ℤ pos largest_offset)) (strip_of s (pos c -ℤ pos largest_offset)) q e,
+      strip_from s (pos r -ℤ pos largest_offset),
+      div-mul-add,
+    )
 
 -- behind the margin each point of the board stands in its row and column
 point_there : (s q : ℕ) → 0 < s → q < s * s → padded_point s (q / s + largest_offset) (q % s + largest_offset) ≡ Some q
-point_there s q some low = grind (arith, pos, strip_there, div_below, mod_below, div-add-mod')
+point_there s q some low = grind (arith, lt-ltb, div_below, mod_below, div-add-mod')
 
 -- the row and the column of a point lie on the padded board
 pub row_low : (s q : ℕ) → 0 < s → s ≤ largest_size → q < s * s → q / s + largest_offset < padded_side
@@ -96,16 +85,7 @@ module _ (at : BoardState) (friend : Colour) where
   -- one point more changes nothing that is seen at other places
   below_more : (n : ℕ) (o : Option ℕ) → (o ≡ Some n → ⊥) → seen_below n at friend o ≡ seen_below (n + 1) at friend o
   below_more n None other = refl
-  below_more n (Some q) other =
-      elim (cases_eq q n) [
-        | inl same ↦ absurd (other (ap (λ k. Some k) same))
-        | inr apart ↦ elim (cases_lt q n) [
-          | inl low ↦ ap (λ b. cond b (seen_of friend (cell_at at.cells q)) Off)
-              (lt-ltb q n low ∙ sym (lt-ltb q (n + 1) (omega arith)))
-          | inr high ↦ ap (λ b. cond b (seen_of friend (cell_at at.cells q)) Off)
-              (le-ltb q n high ∙ sym (le-ltb q (n + 1) (omega arith)))
-        ]
-      ]
+  below_more n (Some q) other = grind (arith, cases_eq, cases_lt, lt-ltb, le-ltb)
 
   -- where all points are looked at, each place shows what is seen there
   below_all : (n : ℕ) (o : Option ℕ) → ((q : ℕ) → o ≡ Some q → q < n)

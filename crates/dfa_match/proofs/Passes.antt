@@ -1,5 +1,5 @@
 -- What the steps of a sweep make of the walks and of the hits.
-use Rattle.std.proofs.Common.{◌≡◌, ℕ, ◌+◌, ◌<◌, ◌≤◌, inl, inr, false, List, [], ◌++◌, length, map}
+use Rattle.std.proofs.Common.{◌≡◌, ℕ, ◌+◌, ◌<◌, ◌≤◌, false, List, [], ◌++◌, length, map}
 use Rattle.std.proofs.Common.{filter, get_or, Contains, refl, sym, ap, subst, arith}
 use Rattle.std.specs.List.{All}
 use Rattle.std.proofs.lemmas.List.Elements.{All-contains, All-map, filter_passes}
@@ -9,7 +9,7 @@ use Rattle.go_rules.specs.Transform.{transformations}
 use Rattle.spiral.specs.Spiral.{offset_count}
 use Rattle.match_rules.proofs.Lists.{Contains-map, Contains-filter}
 use Rattle.dfa_core.specs.declared.automaton.Seen.{Seen}
-use Rattle.dfa_core.specs.Automata.{Row, accepted, IsAutomaton, IsDead}
+use Rattle.dfa_core.specs.Automata.{Row, accepted, IsAutomaton}
 use Rattle.dfa_core.specs.Entries.{row_of}
 use Rattle.dfa_shortcuts.specs.Shortcuts.{AreShortcuts}
 use Rattle.dfa_shortcuts.specs.Openings.{AreOpenings}
@@ -60,11 +60,7 @@ module _ (automaton : List Row) (good : IsAutomaton automaton) (pos : BoardState
   ended_silent : (walks : List Walk) (w : Walk) (n : ℕ) → AreWalks automaton pos friend t walks
       → Contains walks w → IsStanding automaton w → goes_on w ≡ false → w.letters ≤ n → n ≤ offset_count
       → (offset_count ≤ w.letters → ⊥) → accepted automaton (word_at pos friend t (anchor_of pos.size w) n) ≡ []
-  ended_silent walks w n are there stands ends more few left = elim (ended_cases automaton w stands ends) [
-    | inl dead ↦ dead_ends automaton pos friend t (anchor_of pos.size w) w.letters n more
-        (subst (IsDead automaton) ((are.each w there).row (omega (arith, more, few))) dead)
-    | inr past ↦ absurd (left past)
-  ]
+  ended_silent walks w n are there stands ends more few left = grind (arith, ended_cases, dead_ends)
 
   -- the walks whose hits were given out and that do not go on are dropped
   pub hits_dropped : (walks : List Walk) (hits : List Hit) → AreWalks automaton pos friend t walks

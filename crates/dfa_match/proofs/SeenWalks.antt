@@ -1,5 +1,5 @@
 -- Walks on a position: each stands where the letters that are seen from its anchor lead.
-use Rattle.std.proofs.Common.{◌≡◌, ℕ, ◌+◌, ◌-◌, ◌*◌, ◌<◌, ◌≤◌, inl, inr, Bool}
+use Rattle.std.proofs.Common.{◌≡◌, ℕ, ◌+◌, ◌-◌, ◌*◌, ◌<◌, ◌≤◌, Bool}
 use Rattle.std.proofs.Common.{List, [], length, get_or, map, filter, Contains, refl, sym, ap, ◌∙◌, subst}
 use Rattle.std.proofs.Common.{arith, pos as plus}
 use Rattle.std.specs.List.{range_with_len}
@@ -19,14 +19,14 @@ use Rattle.dfa_core.specs.declared.automaton.Seen.TheVariants.{Off}
 use Rattle.dfa_core.specs.Automata.{Row, row_at, step_at, reach, reach_from, accepted}
 use Rattle.dfa_core.specs.Entries.{row_of}
 use Rattle.dfa_core.specs.RowKinds.{kind_at}
-use Rattle.dfa_core.specs.Words.{Word, letter_number}
+use Rattle.dfa_core.specs.Words.{letter_number}
 use Rattle.dfa_core.proofs.Entries.{row_of-entry}
 use Rattle.dfa_shortcuts.specs.Shortcuts.{AreShortcuts}
 use Rattle.dfa_shortcuts.specs.Openings.{opening_letters, AreOpenings}
 use Rattle.dfa_match.specs.declared.walks.Walk.{Walk}
 use Rattle.dfa_match.specs.SeenLetters.{seen_at, word_from, word_at, IsPaddedBoard}
 use Rattle.dfa_match.specs.Steps.{corner_at, anchor_at_corner, no_step, AreSteps}
-use Rattle.dfa_match.specs.Walks.{anchor_of, first_walks_of, after_anchor, word_behind}
+use Rattle.dfa_match.specs.Walks.{anchor_of, first_walks_of, after_anchor}
 use Rattle.dfa_match.specs.Walks.{after_opening, after_letters, row_after, IsWalk, AreWalks}
 use Rattle.dfa_match.proofs.PaddedBoard.{letter_seen}
 use Rattle.dfa_match.proofs.StepLists.{offset_at-zero, still}
@@ -107,18 +107,7 @@ module _ (automaton : List Row) (pos : BoardState) (friend : Colour) (t : ℕ) w
     -- a walk that has read the letter of its anchor
     walk_begun : (w : Walk) → IsWalk automaton pos friend t w → w.letters ≡ 0
         → IsWalk automaton pos friend t (after_anchor automaton letters w)
-    walk_begun w is none = record {
-      anchor = is.anchor;
-      corner = is.corner;
-      row = λ few.
-          let letter : Seen = get_or letters (w.corner + no_step) Off in
-          let row : ℕ = step_at automaton (row_of w.entry) letter in
-          row_of-entry (kind_at automaton row) row
-          ∙ ap (λ r. step_at automaton r letter) (is.row (omega (arith, none))
-          ∙ ap (λ i. row_after automaton pos friend t i (anchor_of pos.size w)) none)
-          ∙ ap (step_at automaton (row_after automaton pos friend t 0 (anchor_of pos.size w))) (anchor_seen w is)
-          ∙ row_next automaton pos friend t 0 (anchor_of pos.size w);
-    }
+    walk_begun w is none = grind (arith, row_of-entry, anchor_seen, row_next)
 
     -- before the first letter there is a walk from each point of the board
     pub small_walks : AreWalks automaton pos friend t (first_walks_of automaton pos.size)
@@ -138,50 +127,24 @@ module _ (automaton : List Row) (pos : BoardState) (friend : Colour) (t : ℕ) w
       step_seen m i on few = letter_seen pos friend size letters t m i (get_or steps i 0) (transformed t (offset_at i))
           padded on (keeps_near t low (offset_at i) (offsets_near i few)) refl (are_steps.each i few)
 
-      -- so is the word that is read behind the corner of a walk
-      word_seen : (w : Walk) (n : ℕ) → IsWalk automaton pos friend t w → n ≤ offset_count
-          → word_behind letters steps w.corner n ≡ word_at pos friend t (anchor_of pos.size w) n
-      word_seen w n is few = ap (λ k. word_behind letters steps k n) is.corner
-          ∙ word_from-same (λ i. get_or letters (corner_at pos.size (anchor_of pos.size w) + get_or steps i 0) Off)
-          (seen_at pos friend t (anchor_of pos.size w)) 0 n
-          (λ i none less. step_seen (anchor_of pos.size w) i is.anchor (omega (arith, less)))
-
       -- a walk behind its opening
       pub walk_opened : (openings : List ℕ) (w : Walk) → AreOpenings automaton openings
           → IsWalk automaton pos friend t w → IsWalk automaton pos friend t (after_opening openings steps letters w)
-      walk_opened openings w are is = elim (opening_cases openings steps letters w) [
-        | inl same ↦ subst (IsWalk automaton pos friend t) (sym same) is
-        | inr known ↦
-            let word : Word = word_behind letters steps w.corner opening_letters in
-            let behind = are.each word
-            (word_length (λ i. get_or letters (w.corner + get_or steps i 0) Off) 0 opening_letters) in
-            subst (IsWalk automaton pos friend t) (sym known.0) (record {
-              anchor = is.anchor;
-              corner = is.corner;
-              row = λ few. ap row_of (behind.to known.1)
-                  ∙ row_of-entry (kind_at automaton (reach automaton word)) (reach automaton word)
-                  ∙ ap (reach automaton) (word_seen w opening_letters is few);
-            })
-      ]
+      walk_opened openings w are is = grind (arith, opening_cases, word_length, row_of-entry, word_from-same, step_seen)
 
       -- behind the first letter of an opening nothing is accepted
       pub opening_silent : (openings : List ℕ) (w : Walk) (n : ℕ) → AreOpenings automaton openings
           → IsWalk automaton pos friend t w → w.letters ≡ 1 → 1 < n
           → n ≤ (after_opening openings steps letters w).letters
           → accepted automaton (word_at pos friend t (anchor_of pos.size w) n) ≡ []
-      opening_silent openings w n are is one more few = elim (opening_cases openings steps letters w) [
-        | inl same ↦ absurd (omega (arith, one, more, few, ap (λ (v : Walk). v.letters) same))
-        | inr known ↦
-            let word : Word = word_behind letters steps w.corner opening_letters in
-            let seen : ℕ → Seen = seen_at pos friend t (anchor_of pos.size w) in
-            let within : n ≤ opening_letters = omega (arith, few, ap (λ (v : Walk). v.letters) known.0) in
-            (are.each word
-            (word_length (λ i. get_or letters (w.corner + get_or steps i 0) Off) 0 opening_letters)).silent known.1
-            (word_at pos friend t (anchor_of pos.size w) n) (word_from seen (0 + n) (opening_letters - n))
-            (word_seen w opening_letters is (omega arith)
-            ∙ word_on automaton pos friend t (anchor_of pos.size w) n opening_letters within)
-            (omega (arith, more, word_length seen 0 n))
-      ]
+      opening_silent openings w n are is one more few =
+          grind (
+            arith,
+            word_length,
+            word_from-same,
+            step_seen,
+            word_on automaton pos friend t (anchor_of pos.size w) n opening_letters,
+          )
 
       module _ (entries passed : List ℕ) (are : AreShortcuts automaton entries passed) (w : Walk)
           (is : IsWalk automaton pos friend t w) (on : row_of w.entry < length automaton) where
@@ -198,28 +161,11 @@ module _ (automaton : List Row) (pos : BoardState) (friend : Colour) (t : ℕ) w
             → reach_from automaton (step_at automaton (row_of w.entry) letter_of)
             (word_from (seen_at pos friend t (anchor_of pos.size w)) (w.letters + 1) j)
             ≡ row_after automaton pos friend t (w.letters + 1 + j) (anchor_of pos.size w)
-        row_passed j left =
-            let rest : Word = word_from (seen_at pos friend t (anchor_of pos.size w)) (w.letters + 1) j in
-            ap (λ r. reach_from automaton (step_at automaton r letter_of) rest) (is.row (omega (arith, left)))
-            ∙ ap (λ x. reach_from automaton
-            (step_at automaton (row_after automaton pos friend t w.letters (anchor_of pos.size w)) x) rest)
-            (ap (λ k. get_or letters (k + get_or steps w.letters 0) Off) is.corner
-            ∙ step_seen (anchor_of pos.size w) w.letters is.anchor left)
-            ∙ sym (row_on automaton pos friend t w.letters j (anchor_of pos.size w))
+        row_passed j left = grind (arith, step_seen, row_on)
 
         -- a walk behind a letter and those that are passed over; of one that had read the whole spiral nothing is said
         pub walk_passed : IsWalk automaton pos friend t (after_letters entries passed steps letters w)
-        walk_passed = record {
-          anchor = is.anchor;
-          corner = is.corner;
-          row = λ few.
-              let seen : ℕ → Seen = seen_at pos friend t (anchor_of pos.size w) in
-              let rest : Word = word_from seen (w.letters + 1) passed_of in
-              let row : ℕ = reach_from automaton (step_at automaton (row_of w.entry) letter_of) rest in
-              ap row_of ((are.each (row_of w.entry) letter_of on).to rest
-              (word_length seen (w.letters + 1) passed_of))
-              ∙ row_of-entry (kind_at automaton row) row ∙ row_passed passed_of (omega (arith, few));
-        }
+        walk_passed = grind (arith, word_length, row_of-entry, row_passed passed_of)
 
         -- nothing is accepted between, as far as the spiral goes
         pub letters_silent : (n : ℕ) → n ≤ offset_count → w.letters < n

@@ -21,23 +21,11 @@ module _ (seen : ℕ → Seen) where
 
   -- the letters that are seen first, and those after them
   pub word_split : (i n k : ℕ) → word_from seen i (n + k) ≡ word_from seen i n ++ word_from seen (i + n) k
-  word_split i zero k =
-      let sums : 0 + k ≡ k = omega arith in
-      let place : i ≡ i + 0 = omega arith in
-      ap (word_from seen i) sums ∙ ap (λ j. word_from seen j k) place ∙ ap (λ w. w ++ word_from seen (i + 0) k)
-      (sym (word_from-zero i))
-  word_split i (suc n) k =
-      let sums : suc n + k ≡ suc (n + k) = omega arith in
-      let place : suc i + n ≡ i + suc n = omega arith in
-      ap (word_from seen i) sums ∙ word_from-suc i (n + k) ∙ ap (λ w. seen i ∷ w) (word_split (suc i) n k)
-      ∙ ap (λ j. seen i ∷ (word_from seen (suc i) n ++ word_from seen j k)) place
-      ∙ ap (λ w. w ++ word_from seen (i + suc n) k) (sym (word_from-suc i n))
+  word_split i zero k = grind (arith, word_from-zero)
+  word_split i (suc n) k = grind (arith, word_from-suc i (n + k), word_split (suc i) n k, word_from-suc i n)
 
 -- where the same is seen at each index, the words are the same
 pub word_from-same : (f g : ℕ → Seen) (i n : ℕ) → ((k : ℕ) → i ≤ k → k < i + n → f k ≡ g k)
     → word_from f i n ≡ word_from g i n
 word_from-same f g i zero same = word_from-zero f i ∙ sym (word_from-zero g i)
-word_from-same f g i (suc n) same = word_from-suc f i n
-    ∙ ap (λ x. x ∷ word_from f (suc i) n) (same i (omega arith) (omega arith))
-    ∙ ap (λ w. g i ∷ w) (word_from-same f g (suc i) n (λ k low high. same k (omega arith) (omega arith)))
-    ∙ sym (word_from-suc g i n)
+word_from-same f g i (suc n) same = grind (arith, word_from-suc, word_from-same f g (suc i) n)

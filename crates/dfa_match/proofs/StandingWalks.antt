@@ -1,6 +1,6 @@
 -- Where walks stand, and what they give out there.
-use Rattle.std.proofs.Common.{◌≡◌, ℕ, suc, ◌+◌, ◌*◌, ◌<◌, ◌≤◌, ◌++◌, true, false, not}
-use Rattle.std.proofs.Common.{nat_lt, nat_le, List, [], ◌∷◌, refl, ap, ◌∙◌, subst, arith}
+use Rattle.std.proofs.Common.{◌≡◌, ℕ, suc, ◌+◌, ◌*◌, ◌<◌, ◌≤◌, ◌++◌, true, false}
+use Rattle.std.proofs.Common.{nat_le, List, [], ◌∷◌, refl, ap, ◌∙◌, arith}
 use Rattle.std.proofs.lemmas.Bool.{and_parts, ltb-true}
 use Rattle.std.proofs.lemmas.List.Elements.{All-map}
 use Rattle.std.specs.List.{All, range_with_len}
@@ -15,7 +15,7 @@ use Rattle.dfa_core.specs.Entries.{kind_number, row_of}
 use Rattle.dfa_core.specs.RowKinds.{kind_at}
 use Rattle.dfa_core.proofs.Entries.{row_of-entry}
 use Rattle.dfa_shortcuts.specs.Openings.{unknown}
-use Rattle.dfa_shortcuts.specs.Shortcuts.{is_accepting_entry, is_dead_entry, AreShortcuts}
+use Rattle.dfa_shortcuts.specs.Shortcuts.{is_accepting_entry, AreShortcuts}
 use Rattle.dfa_shortcuts.proofs.EntryRows.{silent_row}
 use Rattle.dfa_shortcuts.proofs.ShortcutRows.{shortcut_row}
 use Rattle.dfa_match.specs.declared.cursor.Cursor.{Cursor}
@@ -59,8 +59,7 @@ standing_after automaton entries passed steps letters w good are standing = grin
 
 -- a walk that goes on has letters left
 pub letters_left : (w : Walk) → goes_on w ≡ true → w.letters < offset_count
-letters_left w going = ltb-true w.letters offset_count
-    (and_parts (not (is_dead_entry w.entry)) (nat_lt w.letters offset_count) going).1
+letters_left w going = grind (arith, ltb-true, and_parts)
 
 -- if nothing is known of the row behind the opening, the walk stays as it was
 pub unopened : (openings steps : List ℕ) (letters : List Seen) (w : Walk)
@@ -70,8 +69,7 @@ unopened openings steps letters w is = grind arith
 -- a walk whose entry is not that of an accepting row stands at one that accepts nothing
 pub silent_standing : (automaton : List Row) (w : Walk) → IsStanding automaton w → is_accepting_entry w.entry ≡ false
     → (row_at automaton (row_of w.entry)).numbers ≡ []
-silent_standing automaton w standing silent =
-    silent_row automaton (row_of w.entry) (subst (λ e. is_accepting_entry e ≡ false) standing.kind silent)
+silent_standing automaton w standing silent = grind (arith, silent_row)
 
 -- a walk at a row that accepts nothing gives out nothing
 pub given_at-silent : (automaton : List Row) (w : Walk) → (row_at automaton (row_of w.entry)).numbers ≡ []
@@ -90,8 +88,7 @@ hits_of-silent automaton s t (w ∷ walks) silent =
 -- walks at the start give out nothing where it accepts nothing
 pub hits_of-start : (automaton : List Row) (s t : ℕ) (walks : List Walk) → All (λ w. row_of w.entry ≡ 0) walks
     → (row_at automaton 0).numbers ≡ [] → hits_of automaton s t walks ≡ []
-hits_of-start automaton s t walks start silent = hits_of-silent automaton s t walks
-    (λ k d low. ap (λ r. (row_at automaton r).numbers) (start k d low) ∙ silent)
+hits_of-start automaton s t walks start silent = grind (arith, hits_of-silent)
 
 -- before their first letter all walks are at the start
 pub first_at_start : (automaton : List Row) (s : ℕ) → All (λ w. row_of w.entry ≡ 0) (first_walks_of automaton s)

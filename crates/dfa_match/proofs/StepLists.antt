@@ -1,6 +1,6 @@
 -- Lists of steps, as they grow and as they are read.
 use Rattle.std.proofs.Common.{◌≡◌, ℕ, ◌+◌, ◌-◌, ◌*◌, ◌<◌, ◌≤◌, ◌++◌, List, [], ◌∷◌, length, get_or}
-use Rattle.std.proofs.Common.{ℤ, pos as plus, refl, sym, ap, ◌∙◌, subst, arith, inl, inr}
+use Rattle.std.proofs.Common.{ℤ, pos as plus, refl, sym, subst, arith, inl, inr}
 use Rattle.std.proofs.lemmas.Bool.{cases_lt}
 use Rattle.std.proofs.lemmas.List.{length_push, get_or_push, get_or_append_left}
 use Rattle.go_rules.specs.Transform.{Offset, transformed}
@@ -13,35 +13,10 @@ steps_none t old = grind arith
 
 module _ (t n : ℕ) (old steps more : List ℕ) (step : ℕ) (before : AreStepsBehind t n old steps)
     (added : more ≡ steps ++ step ∷ []) where
-  -- the steps before stand where they stood
-  stands : (i : ℕ) → i < n → get_or more (length old + i) 0 ≡ get_or steps (length old + i) 0
-  stands i low = ap (λ ss. get_or ss (length old + i) 0) added
-      ∙ get_or_append_left steps (step ∷ []) 0 (length old + i) (omega (arith, before.all, low))
-
-  -- and the new one behind them
-  pushed : get_or more (length old + n) 0 ≡ step
-  pushed = ap (λ ss. get_or ss (length old + n) 0) added
-      ∙ get_or_push steps step 0 (length old + n) (omega (arith, before.all))
-
   -- one step more
   pub steps_more : (n < offset_count → step ≡ step_by (transformed t (offset_at n))) → step ≤ last_step
       → AreStepsBehind t (n + 1) old more
-  steps_more is low_step = record {
-    all = ap length added ∙ length_push steps step ∙ omega (arith, before.all);
-    before = λ k low. ap (λ ss. get_or ss k 0) added
-        ∙ get_or_append_left steps (step ∷ []) 0 k (omega (arith, before.all)) ∙ before.before k low;
-    each = λ i low few. elim (cases_lt i n) [
-      | inl old_one ↦ stands i old_one ∙ before.each i old_one few
-      | inr last ↦ let same : n ≡ i = omega arith in
-          subst (λ j. get_or more (length old + j) 0 ≡ step_by (transformed t (offset_at j))) same
-          (pushed ∙ is (omega (arith, same)))
-    ];
-    past = λ i low. elim (cases_lt i n) [
-      | inl old_one ↦ omega (arith, stands i old_one, before.past i old_one)
-      | inr last ↦ let same : n ≡ i = omega arith in
-          subst (λ j. get_or more (length old + j) 0 ≤ last_step) same (omega (arith, pushed, low_step))
-    ];
-  }
+  steps_more is low_step = grind (arith, length_push, get_or_append_left, cases_lt, get_or_push)
 
 -- the list has the steps of the first n transformations, one after the other
 pub record AreStepsBelow (n : ℕ) (steps : List ℕ) : Type 0 where
@@ -52,19 +27,6 @@ pub record AreStepsBelow (n : ℕ) (steps : List ℕ) : Type 0 where
 
 module _ (n t : ℕ) (old new : List ℕ) (below : AreStepsBelow n old) (same : t ≡ n)
     (behind : AreStepsBehind t step_count old new) where
-  -- with the steps of one transformation more, each has its own
-  each_below : (u i : ℕ) → u < n + 1 → i < offset_count
-      → get_or new (u * step_count + i) 0 ≡ step_by (transformed u (offset_at i))
-  each_below u i low few = elim (cases_lt u n) [
-    | inl old_one ↦ behind.before (u * step_count + i) (omega (arith, below.all, old_one, few))
-        ∙ below.each u i old_one few
-    | inr last ↦
-        let is : u ≡ t = omega (arith, low, last, same) in
-        let place : u * step_count + i ≡ length old + i = omega (arith, below.all, is, same) in
-        ap (λ k. get_or new k 0) place ∙ behind.each i (omega (arith, few)) few
-        ∙ ap (λ v. step_by (transformed v (offset_at i))) (sym is)
-  ]
-
   -- no step of the longer list leads too far
   past_below : (k : ℕ) → k < (n + 1) * step_count → get_or new k 0 ≤ last_step
   past_below k low = elim (cases_lt k (length old)) [
@@ -79,7 +41,7 @@ module _ (n t : ℕ) (old new : List ℕ) (below : AreStepsBelow n old) (same : 
 
   -- the longer list has the steps of one transformation more
   pub steps_below_more : AreStepsBelow (n + 1) new
-  steps_below_more = record { all = omega (arith, behind.all, below.all); each = each_below; past = past_below }
+  steps_below_more = grind (arith, cases_lt, past_below)
 
 -- the first offset leads nowhere
 pub offset_at-zero : offset_at 0 ≡ (plus 0, plus 0)

@@ -1,25 +1,22 @@
 -- Rows where walks stand: dead ones, and those behind anchors, openings and letters.
-use Rattle.std.proofs.Common.{◌≡◌, ◌≢◌, ℕ, ◌+◌, ◌≤◌, ◌⊎◌, inl, inr, true, false}
-use Rattle.std.proofs.Common.{List, get_or, map, filter, refl, sym, subst, arith, nat_lt}
+use Rattle.std.proofs.Common.{◌≡◌, ◌≢◌, ℕ, ◌≤◌, ◌⊎◌, true, false}
+use Rattle.std.proofs.Common.{List, get_or, map, filter, refl, arith}
 use Rattle.std.specs.List.{All}
 use Rattle.std.proofs.lemmas.Bool.{cases_Bool, and_cases, not-false, eqb-true, eqb-false, ltb-false}
 use Rattle.std.proofs.lemmas.List.Elements.{All-map, All-filter}
 use Rattle.spiral.specs.Spiral.{offset_count}
 use Rattle.dfa_core.specs.declared.automaton.Seen.{Seen}
-use Rattle.dfa_core.specs.declared.automaton.Seen.TheVariants.{Off}
 use Rattle.dfa_core.specs.declared.kind.RowKind.{RowKind}
 use Rattle.dfa_core.specs.declared.kind.RowKind.TheVariants.{Plain, Accepting, Dead}
-use Rattle.dfa_core.specs.Automata.{Row, step_at, IsAutomaton, IsDead}
+use Rattle.dfa_core.specs.Automata.{Row, IsAutomaton, IsDead}
 use Rattle.dfa_core.specs.Entries.{entry_with, row_of}
-use Rattle.dfa_core.specs.RowKinds.{kind_at}
 use Rattle.dfa_core.proofs.RowKinds.{kind-dead}
 use Rattle.dfa_shortcuts.specs.Shortcuts.{is_dead_entry, AreShortcuts}
 use Rattle.dfa_shortcuts.specs.Openings.{opening_letters, unknown, AreOpenings}
 use Rattle.dfa_shortcuts.proofs.EntryRows.{entry_of_row}
 use Rattle.dfa_shortcuts.proofs.OpeningRows.{opening_row}
 use Rattle.dfa_match.specs.declared.walks.Walk.{Walk}
-use Rattle.dfa_match.specs.Steps.{no_step}
-use Rattle.dfa_match.specs.Walks.{entry_at_row, after_anchor, goes_on, word_behind}
+use Rattle.dfa_match.specs.Walks.{after_anchor, goes_on, word_behind}
 use Rattle.dfa_match.specs.Walks.{opening_of, after_opening, after_letters, IsStanding}
 use Rattle.dfa_match.proofs.SeenWords.{word_length}
 use Rattle.dfa_match.proofs.StandingWalks.{standing_after}
@@ -30,16 +27,10 @@ dead_kind Plain row entry is dead = absurd (omega (arith, is, eqb-true _ _ dead)
 dead_kind Accepting row entry is dead = absurd (omega (arith, is, eqb-true _ _ dead))
 dead_kind Dead row entry is dead = refl
 
--- a walk with a dead entry stands at a dead row
-dead_row : (automaton : List Row) (w : Walk) → IsStanding automaton w → is_dead_entry w.entry ≡ true
-    → IsDead automaton (row_of w.entry)
-dead_row automaton w stands dead = kind-dead automaton (row_of w.entry)
-    (dead_kind (kind_at automaton (row_of w.entry)) (row_of w.entry) w.entry stands.kind dead)
-
 -- a walk that does not go on stands at a dead row, or has no letters left
 pub ended_cases : (automaton : List Row) (w : Walk) → IsStanding automaton w → goes_on w ≡ false
     → IsDead automaton (row_of w.entry) ⊎ (offset_count ≤ w.letters)
-ended_cases automaton w stands ends = grind (arith, and_cases, nat_lt, dead_row, not-false, ltb-false)
+ended_cases automaton w stands ends = grind (arith, and_cases, kind-dead, dead_kind, not-false, ltb-false)
 
 -- the walk behind an opening that is known
 abbrev pub opened : List ℕ → List ℕ → List Seen → Walk → Walk
@@ -70,23 +61,17 @@ module _ (automaton : List Row) (good : IsAutomaton automaton) where
   -- behind the letter of its anchor a walk stands at a row
   standing_anchor : (letters : List Seen) (w : Walk) → IsStanding automaton w
       → IsStanding automaton (after_anchor automaton letters w)
-  standing_anchor letters w stands =
-      let row : ℕ = step_at automaton (row_of w.entry) (get_or letters (w.corner + no_step) Off) in
-      let entry = entry_of_row automaton row (entry_at_row automaton row)
-      (good.targets (row_of w.entry) (get_or letters (w.corner + no_step) Off) stands.row) refl in
-      record { row = entry.row; kind = entry.kind; corner = stands.corner }
+  standing_anchor letters w stands = grind (arith, entry_of_row)
 
   -- behind its opening a walk stands at a row
   standing_opening : (openings steps : List ℕ) (letters : List Seen) (w : Walk) → AreOpenings automaton openings
       → IsStanding automaton w → IsStanding automaton (after_opening openings steps letters w)
-  standing_opening openings steps letters w are stands = elim (opening_cases openings steps letters w) [
-    | inl same ↦ subst (IsStanding automaton) (sym same) stands
-    | inr known ↦
-        let entry = opening_row automaton openings (word_behind letters steps w.corner opening_letters) good are
-        (word_length (λ i. get_or letters (w.corner + get_or steps i 0) Off) 0 opening_letters) known.1 in
-        subst (IsStanding automaton) (sym known.0)
-        (record { row = entry.row; kind = entry.kind; corner = stands.corner })
-  ]
+  standing_opening openings steps letters w are stands =
+      grind (
+        arith,
+        opening_row automaton openings (word_behind letters steps w.corner opening_letters) good are,
+        word_length,
+      )
 
   -- the walks behind the letters of their anchors stand at rows
   pub begun_standing : (letters : List Seen) (walks : List Walk) → All (IsStanding automaton) walks

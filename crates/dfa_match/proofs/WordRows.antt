@@ -1,10 +1,9 @@
 -- Rows to which the words of a position lead.
 use Rattle.std.proofs.Common.{◌≡◌, ℕ, ◌+◌, ◌-◌, ◌≤◌}
-use Rattle.std.proofs.Common.{List, [], ◌∷◌, ◌++◌, refl, sym, ap, ◌∙◌}
-use Rattle.std.proofs.Common.{arith, suc}
+use Rattle.std.proofs.Common.{List, [], ◌++◌, refl, ap, ◌∙◌}
+use Rattle.std.proofs.Common.{arith}
 use Rattle.go_rules.specs.declared.Colour.{Colour}
 use Rattle.go_rules.specs.Position.{BoardState}
-use Rattle.dfa_core.specs.declared.automaton.Seen.{Seen}
 use Rattle.dfa_core.specs.Automata.{Row, row_at, step_at, reach, reach_from, accepted, IsDead}
 use Rattle.dfa_core.specs.Words.{Word}
 use Rattle.dfa_core.proofs.Walks.{reach_from-push, reach_from-append, reach_from-dead}
@@ -22,8 +21,7 @@ module _ (automaton : List Row) (pos : BoardState) (friend : Colour) (t : ℕ) w
   -- the word of more letters goes on from that of fewer
   pub word_on : (m i n : ℕ) → i ≤ n
       → word_at pos friend t m n ≡ word_at pos friend t m i ++ word_from (seen_at pos friend t m) (0 + i) (n - i)
-  word_on m i n few = let whole : i + (n - i) ≡ n = omega arith in
-      ap (word_from (seen_at pos friend t m) 0) (sym whole) ∙ word_split (seen_at pos friend t m) 0 i (n - i)
+  word_on m i n few = grind (arith, word_split (seen_at pos friend t m) 0 i (n - i))
 
   -- behind a dead row nothing is accepted
   pub dead_ends : (m i n : ℕ) → i ≤ n → IsDead automaton (row_after automaton pos friend t i m)
@@ -39,23 +37,10 @@ module _ (automaton : List Row) (pos : BoardState) (friend : Colour) (t : ℕ) w
   pub row_next : (i m : ℕ)
       → step_at automaton (row_after automaton pos friend t i m)
       (seen_at pos friend t m i) ≡ row_after automaton pos friend t (i + 1) m
-  row_next i m =
-      let seen : ℕ → Seen = seen_at pos friend t m in
-      let here : i ≡ 0 + i = omega arith in
-      let one : word_from seen (0 + i) 1 ≡ seen i ∷ [] = word_from-suc seen (0 + i) 0
-      ∙ ap (λ w. seen (0 + i) ∷ w) (word_from-zero seen (suc (0 + i))) ∙ ap (λ j. seen j ∷ []) (sym here) in
-      sym (ap (reach automaton) (word_split seen 0 i 1 ∙ ap (λ w. word_from seen 0 i ++ w) one)
-      ∙ reach_from-push automaton 0 (word_from seen 0 i) (seen i))
+  row_next i m = grind (arith, word_from-suc, word_from-zero, word_split, reach_from-push)
 
   -- the row of a point after one letter more and further ones
   pub row_on : (i j m : ℕ) → row_after automaton pos friend t (i + 1 + j) m
       ≡ reach_from automaton (step_at automaton (row_after automaton pos friend t i m) (seen_at pos friend t m i))
       (word_from (seen_at pos friend t m) (i + 1) j)
-  row_on i j m =
-      let seen : ℕ → Seen = seen_at pos friend t m in
-      let place : 0 + (i + 1) ≡ i + 1 = omega arith in
-      ap (reach automaton) (word_split seen 0 (i + 1) j)
-      ∙ reach_from-append automaton 0 (word_from seen 0 (i + 1)) (word_from seen (0 + (i + 1)) j)
-      ∙ ap (λ r. reach_from automaton r (word_from seen (0 + (i + 1)) j)) (sym (row_next i m))
-      ∙ ap (λ k. reach_from automaton (step_at automaton (row_after automaton pos friend t i m) (seen i))
-      (word_from seen k j)) place
+  row_on i j m = grind (arith, word_split, reach_from-append, row_next)

@@ -72,10 +72,7 @@ module _ {s : ℕ} {old put after : List Cell} {c : Colour} {p : ℕ} {taken : s
   -- the rules take each of these stones
   taken_is : (q : ℕ) → sets.contains taken q ≡ true → (q < s * s) × (is_taken s put c q ≡ true)
   unfolding taken_at
-  taken_is q t =
-      let parts = and_parts _ _
-      (sym (ap (λ x. sets.contains x q) (plays_taken h) ∙ contains-set_below (s * s) (is_taken s put c) q) ∙ t) in
-      (ltb-true _ _ parts.0, parts.1)
+  taken_is q t = grind (arith, and_parts, plays_taken h, contains-set_below (s * s) (is_taken s put c) q, ltb-true)
 
   -- and these are all
   is_among : (q : ℕ) → q < s * s → is_taken s put c q ≡ true → sets.contains taken q ≡ true
@@ -106,11 +103,7 @@ module _ {s : ℕ} {old put after : List Cell} {c : Colour} {p : ℕ} {taken : s
 
   -- a play without a liberty took nothing
   took_none : liberties s after p ≡ 0 → (k : ℕ) → sets.contains taken k ≡ false
-  took_none z k = elim (cases_Bool (sets.contains taken k)) [
-    | inl t ↦ (let alive = taker_lives k t in
-        absurd (omega (arith, alive, z)))
-    | inr f ↦ f
-  ]
+  took_none z k = grind (arith, cases_Bool, taker_lives)
 
   -- so a play that took something has one
   pub takers_live : taken ≢ sets.empty → liberties s after p ≢ 0

@@ -167,7 +167,5 @@ one_seen s cells p n found h count one = grind (arith, cases_lt 1 n, Searches-co
 pub one_of_each : (s : ℕ) (cells : List Cell) (p stones free : ℕ) (found : Searched) → Searches s cells p 1 found
     → stones ≡ sets.len found.stones → free ≡ sets.len found.liberties
     → (eqb stones 1 && eqb free 1) ≡ (eqb (sets.len (string_at s cells p)) 1 && eqb (liberties s cells p) 1)
-one_of_each s cells p stones free found h counted count = elim (cases_lt 1 free) [
-  | inl more ↦ grind (arith, ne_eqb, and-false)
-  | inr few ↦ grind (arith, Searches-count s cells p 1 free found h count few)
-]
+one_of_each s cells p stones free found h counted count =
+    grind (arith, cases_lt 1 free, ne_eqb, and-false, Searches-count s cells p 1 free found h count)

@@ -1,5 +1,5 @@
 -- What is said of each side of a point, one side after another.
-use Rattle.std.proofs.Common.{◌≡◌, ℕ, ◌+◌, ◌<◌, Some, sym, ap, subst, arith, inl, inr, ◌∙◌}
+use Rattle.std.proofs.Common.{◌≡◌, ℕ, ◌+◌, ◌<◌, Some, sym, subst, arith, ◌∙◌}
 use Rattle.std.proofs.lemmas.Bool.{cases_eq}
 use Rattle.go_base.specs.Sides.{neighbour_at}
 
@@ -11,10 +11,7 @@ module _ (s p n : ℕ) (P : ℕ → Type 0) (before : (k : ℕ) → k < n → (r
   -- what holds of the point that each of the first n sides gives, and of that of the next, holds one side further
   pub each_next : ((r : ℕ) → neighbour_at s p n ≡ Some r → P r)
       → (k : ℕ) → k < n + 1 → (r : ℕ) → neighbour_at s p k ≡ Some r → P r
-  each_next here k l r at = elim (cases_eq k n) [
-    | inl same ↦ here r (ap (neighbour_at s p) (sym same) ∙ at)
-    | inr ne ↦ before k (omega arith) r at
-  ]
+  each_next here k l r at = grind (arith, cases_eq)
 
   -- where the next side gives q, it is enough that it holds of q
   pub each_with : (q : ℕ) → neighbour_at s p n ≡ Some q → P q

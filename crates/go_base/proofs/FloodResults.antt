@@ -1,7 +1,7 @@
 -- A flood finds the string.
-use Rattle.std.proofs.Common.{◌≡◌, ℕ, ◌+◌, ◌-◌, ◌*◌, ◌<◌, ◌≤◌, ◌≢◌, ◌&&◌, true, false, cond, eqb, ltb, Some, List, refl}
+use Rattle.std.proofs.Common.{◌≡◌, ℕ, ◌+◌, ◌-◌, ◌*◌, ◌<◌, ◌≤◌, ◌&&◌, true, false, cond, eqb, ltb, Some, List, refl}
 use Rattle.std.proofs.Common.{sym, ap, subst, arith, inl, inr, ◌⊎◌, ◌∙◌}
-use Rattle.std.proofs.lemmas.Bool.{cases_Bool, cases_eq, eq-eqb, ne_eqb, eqb-true, or_cases, or_left, or_right}
+use Rattle.std.proofs.lemmas.Bool.{cases_eq, eq-eqb, ne_eqb, eqb-true, or_cases, or_left, or_right}
 use Rattle.std.proofs.lemmas.Bool.{both_ways, and_parts, and_from, lt-ltb, false_from_ne_true}
 use Rattle.std.specs.Ordering.{nat_cmp}
 use Rattle.std.specs.FinSet as sets
@@ -32,15 +32,7 @@ len_on_board s stones on =
       contains-set_below (s * s) (sets.contains stones),
       len-set_below (s * s) (sets.contains stones),
       count_below_at_most (s * s) (sets.contains stones),
-      same_tests,
-      and_from,
-      lt-ltb,
-      and_parts,
     )
-
--- no stone came
-pub Finds-none : (s : ℕ) (old wait : sets.FinSet nat_cmp) → Finds s old old wait wait
-Finds-none s old wait = grind arith
 
 -- stones came twice
 pub Finds-more : (s : ℕ) (old mid new wait held waits : sets.FinSet nat_cmp) → Finds s old mid wait held
@@ -54,37 +46,17 @@ Finds-more s old mid new wait held waits a b = record {
   count = (a.count.0 + b.count.0, omega (arith, a.count, b.count), omega (arith, a.count, b.count));
 }
 
--- one that was added is there
-is_there : (old : sets.FinSet nat_cmp) (r : ℕ) {new : sets.FinSet nat_cmp} → new ≡ sets.insert old r
-    → sets.contains new r ≡ true
-is_there old r is = ap (λ t. sets.contains t r) is ∙ contains-insert_nat old r r ∙ or_left _ _ (eq-eqb r r refl)
-
--- and so is all that was there
-still_there : (old : sets.FinSet nat_cmp) (r : ℕ) {new : sets.FinSet nat_cmp} → new ≡ sets.insert old r
-    → (q : ℕ) → sets.contains old q ≡ true → sets.contains new q ≡ true
-still_there old r is q h = ap (λ t. sets.contains t q) is ∙ contains-insert_nat old r q ∙ or_right _ _ h
-
 -- and nothing else is
 there_only : (old : sets.FinSet nat_cmp) (r : ℕ) {new : sets.FinSet nat_cmp} → new ≡ sets.insert old r
     → (q : ℕ) → sets.contains new q ≡ true → (q ≡ r) ⊎ (sets.contains old q ≡ true)
 there_only old r is q h = grind (arith, or_cases, contains-insert_nat, eqb-true)
 
--- a stone came that was not found before, and waits
-Finds-new : (s r : ℕ) (old new wait waits : sets.FinSet nat_cmp) → r < s * s → sets.contains old r ≡ false
-    → sets.contains wait r ≡ false → new ≡ sets.insert old r → waits ≡ sets.insert wait r → Finds s old new wait waits
-Finds-new s r old new wait waits on unfound unseen stones waiting =
-    grind (arith, still_there, there_only, is_there, len-insert_new)
-
 -- a stone came, unless it was found before
 pub Finds-one : (s r : ℕ) (old new wait waits : sets.FinSet nat_cmp) → r < s * s
     → ((q : ℕ) → sets.contains wait q ≡ true → sets.contains old q ≡ true) → new ≡ sets.insert old r
     → waits ≡ cond (sets.contains old r) wait (sets.insert wait r) → Finds s old new wait waits
-Finds-one s r old new wait waits on within stones waiting = elim (cases_Bool (sets.contains old r)) [
-  | inl t ↦ grind (arith, Finds-none s, insert-member)
-  | inr f ↦
-      let unseen = false_from_ne_true (sets.contains wait r) (λ w. both_ways (sets.contains old r) f (within r w)) in
-      Finds-new s r old new wait waits on f unseen stones (rw f at waiting)
-]
+Finds-one s r old new wait waits on within stones waiting =
+    grind (arith, insert-member, contains-insert_nat, len-insert_new)
 
 -- what waits was found, if what waited was
 pub Finds-within : (s : ℕ) (old new wait waits : sets.FinSet nat_cmp) → Finds s old new wait waits
@@ -124,7 +96,7 @@ first_only p r found is h = elim (there_only sets.empty p is r h)
 -- the first stone is found
 pub first_found : (p : ℕ) (found : sets.FinSet nat_cmp) → found ≡ sets.insert sets.empty p
     → sets.contains found p ≡ true
-first_found p found is = is_there sets.empty p is
+first_found p found is = grind (arith, contains-insert_nat, or_left, eq-eqb)
 
 -- at first each stone waits
 pub none_visited : (p q : ℕ) (stones wait : sets.FinSet nat_cmp) → Begins p stones wait
@@ -157,23 +129,12 @@ pub Steps-smaller : (s q most : ℕ) (old new wait held waits : sets.FinSet nat_
     → 2 * (most - sets.len new) + sets.len waits < 2 * (most - sets.len old) + sets.len wait
 Steps-smaller s q most old new wait held waits st member on few = grind (arith, len_on_board, len-remove_member)
 
--- what waited and was not visited waits still
-waits_still : (s q x : ℕ) (old new wait held waits : sets.FinSet nat_cmp) → Steps s q old new wait held waits
-    → sets.contains wait x ≡ true → x ≢ q → sets.contains waits x ≡ true
-waits_still s q x old new wait held waits h w ne = grind (arith, contains-remove_nat, ne_eqb)
-
 -- a stone that waits no longer is the one that was visited, or was found before and waited no longer then
 pub visited_before : (s q x : ℕ) (old new wait held waits : sets.FinSet nat_cmp) → Steps s q old new wait held waits
     → sets.contains new x ≡ true → sets.contains waits x ≡ false
     → (x ≡ q) ⊎ ((sets.contains old x ≡ true) × (sets.contains wait x ≡ false))
 visited_before s q x old new wait held waits h has gone =
-    grind (
-      arith,
-      cases_eq x q,
-      both_ways (sets.contains waits x) gone,
-      false_from_ne_true (sets.contains wait x),
-      waits_still s q x old new wait held waits h,
-    )
+    grind (arith, cases_eq, both_ways, false_from_ne_true, contains-remove_nat, ne_eqb)
 
 -- the neighbours of one more stone came
 pub Flooded-next : (s : ℕ) (cells : List Cell) (own : Cell) (p q : ℕ) (old new wait held waits : sets.FinSet nat_cmp)

@@ -6,7 +6,7 @@ use Rattle.std.proofs.lemmas.Bool.{and_parts, and_from, lt-ltb, ltb-true}
 use Rattle.std.specs.Ordering.{nat_cmp}
 use Rattle.std.specs.FinSet as sets
 use Rattle.go_rules.specs.declared.Cell.{Cell}
-use Rattle.go_rules.specs.declared.Cell.TheVariants.{Empty, Black, White}
+use Rattle.go_rules.specs.declared.Cell.TheVariants.{Empty}
 use Rattle.go_rules.specs.Board.{are_neighbours}
 use Rattle.go_rules.specs.Below.{set_below}
 use Rattle.go_rules.specs.Strings.{cell_at, same_cell, is_stone, is_in_string, is_liberty, liberty_points}
@@ -27,38 +27,18 @@ use Rattle.go_base.proofs.FloodResults.{visited_before}
 use Rattle.go_base.proofs.EachSide.{same_side, each_next, each_with}
 
 module _ (s : ℕ) (cells : List Cell) (test : Cell → Bool) (q : ℕ) where
-  -- no side was visited
-  Gathers-none : (old : sets.FinSet nat_cmp) → Gathers s cells test q 0 old old
-  Gathers-none old = record { kept = λ r h. h; all = λ side l. absurd (omega arith); only = λ r h. inl h }
-
   -- the next side gave nothing, or a point that fails the test
   Gathers-skip : (n : ℕ) (old new : sets.FinSet nat_cmp) → Gathers s cells test q n old new
       → ((r : ℕ) → neighbour_at s q n ≡ Some r → test (cell_at cells r) ≡ true → ⊥)
       → Gathers s cells test q (n + 1) old new
-  Gathers-skip n old new h none = record {
-    kept = h.kept;
-    all = each_next s q n (λ r. test (cell_at cells r) ≡ true → sets.contains new r ≡ true) h.all
-        (λ r at t. absurd (none r at t));
-    only = h.only;
-  }
+  Gathers-skip n old new h none = grind (arith, each_next)
 
   -- the next side gave a point that passes
   Gathers-add : (n r : ℕ) (old new : sets.FinSet nat_cmp) → Gathers s cells test q n old new → q < s * s
       → neighbour_at s q n ≡ Some r → test (cell_at cells r) ≡ true
       → Gathers s cells test q (n + 1) old (sets.insert new r)
-  Gathers-add n r old new h on e t = record {
-    kept = λ x k. contains-insert_nat new r x ∙ or_right _ _ (h.kept x k);
-    all = each_with s q n (λ x. test (cell_at cells x) ≡ true → sets.contains (sets.insert new r) x ≡ true)
-        (λ k l x at t'. contains-insert_nat new r x ∙ or_right _ _ (h.all k l x at t')) r e
-        (λ t'. contains-insert_nat new r r ∙ or_left _ _ (eq-eqb r r refl));
-    only = λ x k. elim (or_cases _ _ (sym (contains-insert_nat new r x) ∙ k)) [
-      | inl f ↦
-          let near = neighbour_at-near s q n r on e in
-          inr (subst (λ y. (y < s * s) × (are_neighbours s q y ≡ true)
-          × (test (cell_at cells y) ≡ true)) (sym (eqb-true x r f)) (near.0, near.1, t))
-      | inr before ↦ h.only x before
-    ];
-  }
+  Gathers-add n r old new h on e t =
+      grind (arith, contains-insert_nat, or_right, each_with, or_left, eq-eqb, or_cases, neighbour_at-near, eqb-true)
 
   -- the next side gave a point, which came where it passes
   Gathers-visit : (n r : ℕ) (old mid new : sets.FinSet nat_cmp) → Gathers s cells test q n old mid → q < s * s
@@ -81,21 +61,12 @@ met_alone false r old new is q h = inl (ap (λ t. sets.contains t q) (sym is) �
 module _ (asked : Bool) (s : ℕ) (cells : List Cell) (own : Cell) (q : ℕ) where
   -- no side was visited
   pub SpreadsOut-none : (old : Found) → SpreadsOut asked s cells own q 0 old old
-  SpreadsOut-none old =
-      record {
-        stones = Gathers-none s cells _ q old.stones;
-        liberties = Gathers-none s cells _ q old.liberties;
-        enemies = Gathers-none s cells _ q old.enemies;
-      }
+  SpreadsOut-none old = grind arith
 
   -- the next side gave nothing
   pub SpreadsOut-skip : (n : ℕ) (old new : Found) → SpreadsOut asked s cells own q n old new
       → ((r : ℕ) → neighbour_at s q n ≡ Some r → ⊥) → SpreadsOut asked s cells own q (n + 1) old new
-  SpreadsOut-skip n old new h none = record {
-    stones = Gathers-skip s cells _ q n old.stones new.stones h.stones (λ r e t. none r e);
-    liberties = Gathers-skip s cells _ q n old.liberties new.liberties h.liberties (λ r e t. none r e);
-    enemies = Gathers-skip s cells _ q n old.enemies new.enemies h.enemies (λ r e t. none r e);
-  }
+  SpreadsOut-skip n old new h none = grind (arith, Gathers-skip)
 
   -- the next side gave a point, which was visited
   pub SpreadsOut-visit : (n r : ℕ) (old mid new : Found) → SpreadsOut asked s cells own q n old mid → q < s * s
@@ -215,12 +186,7 @@ module _ (asked : Bool) (s : ℕ) (cells : List Cell) (own : Cell) (p : ℕ) (fo
     (h : FloodsOut asked s cells own p found wait) (none : wait ≡ sets.empty) where
   -- the point holds a stone
   pub stone_at : is_stone (cell_at cells p) ≡ true
-  stone_at = by_cell (cell_at cells p) (λ e. stone (like ∙ e))
-    where
-      by_cell : (k : Cell) → k ≢ Empty → is_stone k ≡ true
-      by_cell Empty not_empty = absurd (not_empty refl)
-      by_cell Black not_empty = refl
-      by_cell White not_empty = refl
+  stone_at = grind arith
 
   -- the empty points gathered are the liberties
   pub flood_liberties : found.liberties ≡ liberty_points s cells p
@@ -268,24 +234,15 @@ none_at found q e h = both_ways (sets.contains found q)
     (ap (λ t. sets.contains t q) e ∙ sets.contains-empty nat_cmp q) h
 
 module _ (s : ℕ) (cells : List Cell) (p q : ℕ) (foes : sets.FinSet nat_cmp) (e : foes ≡ enemy_points s cells p) where
-  -- a member is a point of the board beside the string that holds an enemy
-  its_parts : (ltb q (s * s) && (is_beside_string s cells p q && is_enemy (cell_at cells p) (cell_at cells q)))
-      ≡ sets.contains foes q
-  its_parts = sym (contains-set_below (s * s)
-      (λ x. is_beside_string s cells p x && is_enemy (cell_at cells p) (cell_at cells x)) q)
-      ∙ ap (λ t. sets.contains t q) (sym e)
-
   -- a member is an enemy next to the string
   pub enemy_beside : sets.contains foes q ≡ true
       → (is_beside_string s cells p q ≡ true) × (is_enemy (cell_at cells p) (cell_at cells q) ≡ true)
-  enemy_beside h = and_parts _ _ (and_parts _ _ (its_parts ∙ h)).1
+  enemy_beside h = grind (arith, and_parts, contains-set_below)
 
   -- a point of the board that is none of them is no enemy next to the string
   pub no_enemy : q < s * s → sets.contains foes q ≡ false → is_beside_string s cells p q ≡ true
       → is_enemy (cell_at cells p) (cell_at cells q) ≡ true → ⊥
-  no_enemy on miss beside enemy =
-      both_ways (sets.contains foes q) miss (sym its_parts
-      ∙ and_from _ _ (lt-ltb q (s * s) on) (and_from _ _ beside enemy))
+  no_enemy on miss beside enemy = grind (arith, both_ways, contains-set_below, and_from, lt-ltb)
 
 -- an enemy next to the string is close to its points
 pub enemy_close : (s : ℕ) (cells : List Cell) (p q : ℕ) (foes : sets.FinSet nat_cmp) → p < s * s

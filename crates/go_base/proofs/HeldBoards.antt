@@ -1,9 +1,8 @@
 -- A board that holds a position, and what a play on it gives.
 use Rattle.std.proofs.Common.{◌≡◌, ℕ, ◌-◌, ◌*◌, arith, length-append, ◌≤◌, ◌<◌, Bool, not, Option, Result, Ok, take}
-use Rattle.std.proofs.Common.{drop, length, refl, sym, ap, subst, ◌∙◌, get_or-take}
+use Rattle.std.proofs.Common.{drop, length, refl, sym, subst, ◌∙◌, get_or-take}
 use Rattle.std.proofs.lemmas.List.{take-append-drop, length-replicate}
 use Rattle.go_rules.specs.Board.{largest_size, largest_points}
-use Rattle.go_base.proofs.SidesOfPoints.{square_small}
 use denote.Enum.Bare.{sameb}
 use Rattle.go_rules.specs.contracts.Cell.{the_type}
 use Rattle.go_rules.specs.declared.Cell.TheVariants.{Empty}
@@ -24,7 +23,6 @@ kept_length : (a : Inside) → HoldsPosition a → a.size ≤ largest_size → l
 kept_length a k small =
     grind (
       arith,
-      square_small a.size small,
       length-replicate (largest_points - a.size * a.size) Empty,
       take-append-drop (a.size * a.size) a.cells,
       length-append (take (a.size * a.size) a.cells) (drop (a.size * a.size) a.cells),
@@ -56,32 +54,16 @@ module _ {pos : BoardState} {old new : Flat} (c : Colour) (p : ℕ) (result : Re
     → IsPosition (board_of old.size (take (old.size * old.size) old.cells))
     → play_free (board_of old.size (take (old.size * old.size) old.cells)) c p
     ≡ played_on old.size (take (new.size * new.size) new.cells) result) where
-  -- the board as the cells of the position
-  board_is : board_of old.size (take (old.size * old.size) old.cells) ≡ board_of pos.size pos.cells
-  board_is = ap (λ n. board_of n (take (old.size * old.size) old.cells)) h.size ∙ ap (board_of pos.size) h.cells
-
-  -- the cells of a position without its ban are a position
-  board_good : IsPosition (board_of pos.size pos.cells)
-  board_good = record {
-    size_at_least = h.position.size_at_least;
-    size_at_most = h.position.size_at_most;
-    cells = h.position.cells;
-    alive = h.position.alive;
-    ban = tt;
-  }
-
   -- the play on the board is the play of the rules
   pub held_free : played_on old.size (take (new.size * new.size) new.cells) result ≡ play_free pos c p
-  held_free = sym (over pos (whole_after old new k h.whole) (subst IsPosition (sym board_is) board_good))
-      ∙ ap (λ b. play_free b c p) board_is ∙ free_board pos c p
+  held_free = grind (arith, whole_after, free_board)
 
 module _ {pos : BoardState} {old new : Flat} (c : Colour) (p : ℕ) (ban : Option (ℕ × Colour)) (h : Holds pos old)
     (k : KeepsRest old new)
     (is : played_on old.size (take (new.size * new.size) new.cells) (Ok ban) ≡ play_free pos c p) where
   -- a play that is done gives the position of the rules
   pub held_done : Ok (position_of (record { size = new.size; ban = ban; cells = new.cells })) ≡ play_free pos c p
-  held_done = ap (λ (n : ℕ). Ok (record { size = n; cells = take (new.size * new.size) new.cells; ban = ban })) k.size
-      ∙ is
+  held_done = grind arith
 
   -- and what is kept of it is the position and the empty rest
   pub held_kept : p < pos.size * pos.size → HoldsPosition (record { size = new.size; ban = ban; cells = new.cells })

@@ -1,9 +1,9 @@
 -- Words that have the bits of two others.
-use Rattle.std.proofs.Common.{◌≡◌, ◌≢◌, ℕ, zero, suc, ◌+◌, ◌/◌, ◌<◌, ◌≤◌, ◌||◌, ◌&&◌}
-use Rattle.std.proofs.Common.{false, eqb, ltb, max, List, length, get_or, bit_or, refl}
+use Rattle.std.proofs.Common.{◌≡◌, ℕ, zero, suc, ◌+◌, ◌/◌, ◌<◌, ◌||◌, ◌&&◌}
+use Rattle.std.proofs.Common.{eqb, ltb, max, List, length, get_or, bit_or, refl}
 use Rattle.std.proofs.Common.{arith, get_or-set_same, get_or-set_other, length-set}
 use Rattle.std.proofs.Math.ListN.{set, get_or-eq_default}
-use Rattle.std.proofs.lemmas.Bool.{cases_eq, cases_lt, lt-ltb, le-ltb}
+use Rattle.std.proofs.lemmas.Bool.{cases_lt, lt-ltb, le-ltb}
 use Rattle.std.proofs.lemmas.Nat.Bits.{bit_at_or, bit_at-lt, bit_at-zero}
 use Rattle.std.specs.Int.{bit_at}
 use Rattle.go_rules.proofs.Tests.{or-false}
@@ -32,10 +32,6 @@ pub record HasBoth (old more : List ℕ) (n : ℕ) (new : List ℕ) : Type 0 whe
 pub both_none : (old more : List ℕ) → length old ≡ set_words → HasBoth old more 0 old
 both_none old more six = record { length = six; bits = λ q. rw (le-ltb (q / 64) 0 (omega arith)) (or-false _) }
 
--- a test that fails for n passes for n + 1 if the number is n, and for each other number is as before
-below_next : (k n : ℕ) → k ≢ n → ltb k (n + 1) ≡ ltb k n
-below_next k n ne = grind (arith, cases_lt, lt-ltb, le-ltb)
-
 -- word n with the bits of both
 abbrev pub with_both : List ℕ → List ℕ → ℕ → List ℕ
 with_both new more n = set new n (bit_or (get_or new n 0) (get_or more n 0))
@@ -43,25 +39,9 @@ with_both new more n = set new n (bit_or (get_or new n 0) (get_or more n 0))
 -- word n has them now
 pub both_next : (old more new : List ℕ) (n : ℕ) → n < set_words → HasBoth old more n new
     → HasBoth old more (n + 1) (with_both new more n)
-both_next old more new n on h =
-    grind (
-      arith,
-      length-set,
-      get_or-set_same,
-      bit_of_both,
-      cases_eq,
-      le-ltb,
-      or-false,
-      lt-ltb,
-      get_or-set_other,
-      below_next,
-    )
-
--- no point past the last word is marked
-none_past : (words : List ℕ) (q : ℕ) → length words ≡ set_words → set_words ≤ q / 64 → is_marked words q ≡ false
-none_past words q six g = grind (arith, get_or-eq_default, bit_at-zero)
+both_next old more new n on h = grind (arith, length-set, get_or-set_same, bit_of_both, get_or-set_other)
 
 -- where every word has them, the words mark what one of the two marks
 pub both_all : (old more new : List ℕ) (n : ℕ) → n ≡ set_words → length more ≡ set_words → HasBoth old more n new
     → (q : ℕ) → is_marked new q ≡ (is_marked old q || is_marked more q)
-both_all old more new n all six h q = grind (arith, cases_lt, lt-ltb, le-ltb, none_past)
+both_all old more new n all six h q = grind (arith, cases_lt, lt-ltb, le-ltb, get_or-eq_default, bit_at-zero)

@@ -77,12 +77,7 @@ module _ (s : ℕ) (cells : List Cell) (q n : ℕ) (found : Searched) (old : set
   -- a string with none or more adds nothing
   pub AddsLast-none : (n ≡ 1 → ⊥) → AddsLast s cells q old old
   unfolding is_only_liberty
-  AddsLast-none other = record {
-    kept = λ l i. i;
-    only = λ l i. inl i;
-    all = λ l i. absurd (other (one_seen s cells q n found h count
-        (eqb-true (liberties s cells q) 1 (and_parts _ _ i).0)));
-  }
+  AddsLast-none other = grind (arith, one_seen, eqb-true, and_parts)
 
 -- after a string's one liberty came, what was found of the string is among those seen
 pub KnowsLast-join : (s : ℕ) (cells : List Cell) (q : ℕ) (seen joined found last new : sets.FinSet nat_cmp) → q < s * s

@@ -1,5 +1,5 @@
 -- Looks follow on one another.
-use Rattle.std.proofs.Common.{◌≡◌, ℕ, Bool, true, List, refl, ◌∙◌}
+use Rattle.std.proofs.Common.{◌≡◌, ℕ, Bool, true, List, refl, arith}
 use Rattle.go_rules.specs.declared.Cell.{Cell}
 use Rattle.go_rules.specs.Position.{BoardState}
 use Rattle.go_base.specs.Views.{Looks}
@@ -12,8 +12,7 @@ module _ {V : Type 0} {cells : V → BoardState → List Cell} {asks : V → V �
   -- what was asked for twice was asked for
   pub Looks-more : ((u v w : V) (S : ℕ → Bool) → asks u v S → asks v w S → asks u w S) → {u v w : V} {S : ℕ → Bool}
       → Looks cells asks u v S → Looks cells asks v w S → Looks cells asks u w S
-  Looks-more law {u} {v} {w} {S} a b =
-      record { asked = law u v w S a.asked b.asked; same = λ pos. b.same pos ∙ a.same pos }
+  Looks-more law {u} {v} {w} {S} a b = grind arith
 
   -- what was asked for in a set was asked for in a larger one
   pub Looks-within : ((u v : V) (S T : ℕ → Bool) → asks u v S → ((q : ℕ) → S q ≡ true → T q ≡ true) → asks u v T)

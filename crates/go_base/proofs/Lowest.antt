@@ -1,6 +1,6 @@
 -- The least member of a set of points, by the words that keep it.
-use Rattle.std.proofs.Common.{◌≡◌, ℕ, ◌+◌, ◌-◌, ◌*◌, ◌/◌, ◌%◌, ◌^◌, ◌<◌, ◌≤◌, true, false, cond, eqb, ltb, List}
-use Rattle.std.proofs.Common.{Option, Some, None, IfSome, IfNone, get_or, refl, sym, ap, arith, inl, inr, ◌∙◌}
+use Rattle.std.proofs.Common.{◌≡◌, ℕ, ◌+◌, ◌-◌, ◌*◌, ◌/◌, ◌%◌, ◌^◌, ◌<◌, ◌≤◌, true, false, cond, ltb, List}
+use Rattle.std.proofs.Common.{Option, Some, None, IfSome, IfNone, get_or, refl, sym, ap, arith, ◌∙◌}
 use Rattle.std.proofs.Math.Nat.{div-div-eq-div-mul, div-le_self}
 use Rattle.std.proofs.lemmas.Nat.{pow-add, div-mul-add, mod-mul-add}
 use Rattle.std.proofs.lemmas.Nat.Bits.{bit_at-zero, bit_at_above, bit_at-trailing_zeros}
@@ -18,10 +18,7 @@ bit_at-shift word from j = grind (arith, div-div-eq-div-mul, pow-add)
 
 -- no bit from the place on is set if nothing is left
 pub nothing_left : (word from : ℕ) → word / 2 ^ from ≡ 0 → (k : ℕ) → from ≤ k → bit_at word k ≡ 0
-nothing_left word from z k h =
-    let e : from + (k - from) ≡ k = omega arith in
-    ap (bit_at word) (sym e) ∙ sym (bit_at-shift word from (k - from)) ∙ ap (λ n. bit_at n (k - from)) z
-    ∙ bit_at-zero (k - from)
+nothing_left word from z k h = grind (arith, bit_at-shift word from (k - from), bit_at-zero (k - from))
 
 -- the lowest bit that is set from a place on
 pub record LowestFrom (word from at : ℕ) : Type 0 where
@@ -51,14 +48,7 @@ module _ (words : List ℕ) (p from bit : ℕ) (low : p ≤ from) (before : (r :
     (misses : (k : ℕ) → from % 64 ≤ k → k < bit → bit_at (get_or words (from / 64) 0) k ≡ 0) (bound : bit ≤ 64) where
   -- no point from p on is marked before the bit
   pub none_before : (r : ℕ) → p ≤ r → r < from / 64 * 64 + bit → is_marked words r ≡ false
-  none_before r l m = elim (cases_lt r from) [
-    | inl below ↦ before r l below
-    | inr above ↦
-        let word : r / 64 ≡ from / 64 = omega arith in
-        let place : from % 64 ≤ r % 64 = omega (arith, word) in
-        let under : r % 64 < bit = omega (arith, word) in
-        ap (λ j. eqb (bit_at (get_or words j 0) (r % 64)) 1) word ∙ ap (λ n. eqb n 1) (misses (r % 64) place under)
-  ]
+  none_before r l m = grind (arith, cases_lt)
 
   -- the bit's point is marked
   pub is_marked-found : bit < 64 → bit_at (get_or words (from / 64) 0) bit ≡ 1
@@ -80,17 +70,11 @@ module _ (words : List ℕ) (p q end : ℕ) (low : p ≤ q)
   -- the first that is marked from p on is q, if q is below the end
   pub first_some : is_marked words q ≡ true → (o : Option ℕ) → o ≡ cond (ltb q end) (Some q) None
       → IsFirstMarked words p end o
-  first_some hit o e = elim (cases_lt q end) [
-    | inl l ↦ rw (e, lt-ltb q end l) (low, l, hit, before)
-    | inr g ↦ rw (e, le-ltb q end g) tt
-  ]
+  first_some hit o e = grind (arith, cases_lt, lt-ltb, le-ltb)
 
   -- and where it is not, none is marked
   pub first_none : (o : Option ℕ) → o ≡ cond (ltb q end) (Some q) None → NoneMarked words p end o
-  first_none o e = elim (cases_lt q end) [
-    | inl l ↦ rw (e, lt-ltb q end l) tt
-    | inr g ↦ rw (e, le-ltb q end g) (λ r l m. before r l (omega arith))
-  ]
+  first_none o e = grind (arith, cases_lt, lt-ltb, le-ltb)
 
 -- a point that is not marked is not in the set
 pub not_member : (words : List ℕ) (r : ℕ) → is_marked words r ≡ false → sets.contains (marked words) r ≡ false

@@ -22,23 +22,10 @@ both_bits (suc zero) (suc (suc b)) h k = absurd (omega arith)
 pub common_bit : (a b k : ℕ) → eqb (bit_at (bit_and a b) k) 1 ≡ (eqb (bit_at a k) 1 && eqb (bit_at b k) 1)
 common_bit a b k = grind (arith, bit_at_and, both_bits, bit_at-lt)
 
--- a bit that is turned round is set exactly if it was not
-turned_bit : (b : ℕ) → b < 2 → eqb (1 - b) 1 ≡ not (eqb b 1)
-turned_bit zero h = refl
-turned_bit (suc zero) h = refl
-turned_bit (suc (suc b)) h = absurd (omega arith)
-
 -- a bit that a word has and another has not
 pub bit_apart : (a b k : ℕ) → b < 2 ^ 64 → k < 64
     → eqb (bit_at (bit_and a (bit_not w64 b)) k) 1 ≡ (eqb (bit_at a k) 1 && not (eqb (bit_at b k) 1))
-bit_apart a b k small low =
-    grind (
-      arith,
-      common_bit a (bit_not w64 b) k,
-      bit_at_not w64 b k small low,
-      turned_bit (bit_at b k) (bit_at-lt b k),
-      bit_at-lt b k,
-    )
+bit_apart a b k small low = grind (arith, common_bit a (bit_not w64 b) k, bit_at_not w64 b k small low)
 
 -- below word n each bit is what the test says of the two old ones, and from there on the words are the first ones
 pub record IsMadeBelow (test : Bool → Bool → Bool) (old more : List ℕ) (n : ℕ) (new : List ℕ) : Type 0 where

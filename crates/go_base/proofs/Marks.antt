@@ -62,18 +62,7 @@ is_marked-with_bit_other words p q h ne =
 pub marked-with_bit : (words : List ℕ) (p : ℕ) → length words ≡ set_words → p < largest_points
     → marked (with_bit words p) ≡ sets.insert (marked words) p
 marked-with_bit words p six h =
-    grind (
-      arith,
-      same_nat_set,
-      contains-marked,
-      cases_eq,
-      eq-eqb,
-      lt-ltb,
-      is_marked-with_bit_same,
-      ne_eqb,
-      is_marked-with_bit_other,
-      contains-insert_nat,
-    )
+    grind (arith, same_nat_set, contains-marked, is_marked-with_bit_same, is_marked-with_bit_other, contains-insert_nat)
 
 -- the code's test of a bit is that of the definition
 pub marked_bit : (words : List ℕ) (p : ℕ)
@@ -203,11 +192,7 @@ len-remove_member s p member =
       contains-insert_nat (sets.remove s p) p,
       contains-remove_nat s p,
       len-insert_new (sets.remove s p) p,
-      contains-remove_nat s p p,
-      eq-eqb p p refl,
       same_nat_set,
-      cases_eq,
-      ne_eqb,
     )
 
 -- a set without a member is the empty one

@@ -4,7 +4,7 @@ use Rattle.std.proofs.Common.{sym, ap, subst, arith, inl, inr, ◌∙◌}
 use Rattle.std.proofs.Math.ListN.{set}
 use Rattle.std.specs.List.{range_with_len}
 use Rattle.std.proofs.lemmas.List.FromFn.{get_or-map-range_with_len}
-use Rattle.std.proofs.lemmas.Bool.{cases_Bool, cases_eq, both_ways, and_parts, and_from, or_cases, eqb-true}
+use Rattle.std.proofs.lemmas.Bool.{cases_Bool, cases_eq, both_ways, and_from, eqb-true}
 use Rattle.std.specs.Ordering.{nat_cmp}
 use Rattle.std.specs.FinSet as sets
 use Rattle.go_rules.specs.declared.Cell.{Cell}
@@ -15,9 +15,9 @@ use Rattle.go_rules.specs.Strings.{cell_at, is_stone, same_cell, is_in_string, P
 use Rattle.go_rules.specs.Neighbourhood.{whole_strings_of, neighbourhood_of}
 use Rattle.go_rules.specs.Position.{other, stone_of}
 use Rattle.go_rules.proofs.Counts.{any_below_gives, any_below_from}
-use Rattle.go_rules.proofs.Paths.{same_cell-true, IsInString-from_test, is_is_in_string-from_fact}
+use Rattle.go_rules.proofs.Paths.{IsInString-from_test, is_is_in_string-from_fact}
 use Rattle.go_rules.proofs.Links.{path_same, path_keeps}
-use Rattle.go_rules.proofs.Plays.{stone_is, enemy_differs, at_put_same, at_put_other}
+use Rattle.go_rules.proofs.Plays.{stone_is, at_put_same, at_put_other}
 use Rattle.go_rules.proofs.StringMembers.{string_self}
 use Rattle.go_base.specs.Views.{alone}
 use Rattle.go_base.specs.Takes.{near_taken}
@@ -84,10 +84,6 @@ module _ {s : ℕ} {old put after : List Cell} {c : Colour} {p : ℕ} {taken : s
   put_here : cell_at put p ≡ stone_of c
   put_here = ap (λ t. cell_at t p) h.put_is ∙ at_put_same old p (stone_of c) (omega (arith, h.whole, h.on_board))
 
-  -- each other point is as before
-  put_there : (q : ℕ) → q ≢ p → cell_at old q ≡ cell_at put q
-  put_there q ne = sym (ap (λ t. cell_at t q) h.put_is ∙ at_put_other old p q (stone_of c) ne)
-
   -- a neighbour is close
   close_side : (q : ℕ) → q < s * s → are_neighbours s p q ≡ true → neighbourhood_of s old (alone p) q ≡ true
   close_side q on n = close_next s old (alone p) p q on (whole_self s old (alone p) p h.on_board (alone_self p)) n
@@ -96,30 +92,20 @@ module _ {s : ℕ} {old put after : List Cell} {c : Colour} {p : ℕ} {taken : s
   pub twice_taken : (r : ℕ) → near_taken s put c p r ≡ true → twice s old p r ≡ true
   unfolding near_taken
   twice_taken r t =
-      let found = any_below_gives (s * s) _ t in
-      let both = and_parts _ _ found.2 in
-      let close = close_side found.0 found.1 both.0 in
-      elim (or_cases _ _ both.1) [
-        | inl e ↦ close_again s old (alone p) r (subst (λ x. neighbourhood_of s old (alone p) x ≡ true)
-            (sym (eqb-true r found.0 e)) close)
-        | inr f ↦
-            let parts = and_parts _ _ f in
-            let enemy = same_cell-true _ _ parts.0 in
-            close_point s old (neighbourhood_of s old (alone p)) found.0 close r
-            (close_moves s put old found.0 found.1
-            (λ x w. put_there x (λ e. enemy_differs c
-            (sym (path_same s put found.0 w ∙ enemy) ∙ ap (cell_at put) e ∙ put_here))) r parts.1)
-      ]
+      grind (
+        arith,
+        any_below_gives (s * s),
+        close_side,
+        close_again s old (alone p) r,
+        close_point s old (neighbourhood_of s old (alone p)),
+        close_moves s put old,
+        at_put_other,
+        put_here,
+      )
 
   -- the stones of c that stand after the play stood before it, but for the one at p
   stood : (y : ℕ) → y < s * s → y ≢ p → cell_at after y ≡ stone_of c → cell_at old y ≡ stone_of c
-  stood y on ne e =
-      let at = ap (λ t. cell_at t y) h.after_is ∙ get_or-map-range_with_len _ 0 (s * s) y y Empty on (omega arith) in
-      elim (cases_Bool (sets.contains taken y)) [
-        | inl t ↦ absurd (both_ways (is_stone Empty) refl
-            (ap is_stone (sym (at ∙ ap (λ b. cond b Empty (cell_at put y)) t) ∙ e) ∙ stone_is c))
-        | inr f ↦ put_there y ne ∙ sym (at ∙ ap (λ b. cond b Empty (cell_at put y)) f) ∙ e
-      ]
+  stood y on ne e = grind (arith, get_or-map-range_with_len, cases_Bool, both_ways, stone_is, at_put_other)
 
   -- where the string of the played stone goes
   joined : cell_at after p ≡ stone_of c → {y : ℕ} → Path s after p y → (y ≡ p) ⊎ Joined s old c p y
@@ -153,8 +139,7 @@ module _ {s : ℕ} {old put after : List Cell} {c : Colour} {p : ℕ} {taken : s
 
   -- a stone that the play joins is in the string of a neighbour of p
   whole_joined : (y : ℕ) → Joined s old c p y → whole_strings_of s old (neighbourhood_of s old (alone p)) y ≡ true
-  whole_joined y j = whole_string s old (neighbourhood_of s old (alone p)) j.x y j.x_on
-      (close_side j.x j.x_on j.x_near) j.inside
+  whole_joined y j = grind (arith, whole_string, close_side)
 
   -- a point of the string of the played stone is p, or was joined by it
   own_cases : (y : ℕ) → whole_strings_of s after (alone p) y ≡ true → (y ≡ p) ⊎ Joined s old c p y

@@ -1,6 +1,6 @@
 -- What a play on a board gives, by the cells that it left.
-use Rattle.std.proofs.Common.{◌≡◌, ◌≢◌, ℕ, ◌*◌, ◌<◌, false, cond, Option, List, Ok, Err, length, map, sym, ap, subst}
-use Rattle.std.proofs.Common.{◌∙◌}
+use Rattle.std.proofs.Common.{◌≡◌, ◌≢◌, ℕ, ◌*◌, ◌<◌, false, cond, Option, List, Ok, Err, map, sym, ap, subst}
+use Rattle.std.proofs.Common.{◌∙◌, arith}
 use Rattle.std.proofs.Math.ListN.{set, length-set}
 use Rattle.std.specs.List.{range_with_len}
 use Rattle.std.specs.Ordering.{nat_cmp}
@@ -11,7 +11,7 @@ use Rattle.go_rules.specs.declared.Colour.{Colour}
 use Rattle.go_rules.specs.declared.Illegal.TheVariants.{Suicide}
 use Rattle.go_rules.specs.Strings.{cell_at, is_stone, liberties}
 use Rattle.go_rules.specs.Position.{IsPosition, stone_of, board_of}
-use Rattle.go_rules.specs.Play.{taken_at, cells_after, ban_after, play_free}
+use Rattle.go_rules.specs.Play.{taken_at, ban_after, play_free}
 use Rattle.go_rules.proofs.Plays.{taken_beside, empty_from, after_from}
 use Rattle.go_rules.proofs.Results.{put_on, after_on, free_suicide, free_done}
 use Rattle.go_base.specs.Takes.{TakenBeside}
@@ -36,15 +36,9 @@ module _ {s : ℕ} {old put after : List Cell} {c : Colour} {p : ℕ} {taken : s
   pub plays_taken : taken ≡ taken_at s put c
   plays_taken = h.taken_is plays_beside
 
-  -- the cells with the stone put are as many as before
-  plays_length : length put ≡ s * s
-  plays_length = ap length h.put_is ∙ length-set old p (stone_of c) ∙ h.good.cells
-
   -- the cells afterwards are those of the rules
   pub plays_after : after ≡ after_on (board_of s old) c p
-  plays_after = h.after_is ∙ ap (λ n. map (λ q. cond (sets.contains taken q) Empty (cell_at put q))
-      (range_with_len 0 n)) (sym plays_length)
-      ∙ after_from s put c taken plays_taken plays_length ∙ ap (λ t. cells_after s t c) h.put_is
+  plays_after = grind (arith, length-set, after_from, plays_taken)
 
   -- a stone without a liberty is suicide by the rules
   pub plays_suicide : liberties s after p ≡ 0 → play_free (board_of s old) c p ≡ Err Suicide
@@ -55,11 +49,4 @@ module _ {s : ℕ} {old put after : List Cell} {c : Colour} {p : ℕ} {taken : s
       → ((put : List Cell) → taken ≡ taken_at s put c → ban ≡ ban_after s put after c p)
       → play_free (board_of s old) c p ≡ Ok (record { size = s; cells = after; ban = ban })
   plays_done ban nz b =
-      sym (free_done (board_of s old) c p h.is_empty (λ z. nz (ap (λ t. liberties s t p) plays_after ∙ z)))
-      ∙ ap (λ (t : List Cell). Ok (record {
-        size = s;
-        cells = t;
-        ban = ban_after s (put_on (board_of s old) c p) t c p;
-      })) (sym plays_after)
-      ∙ ap (λ (t : Option (ℕ × Colour)). Ok (record { size = s; cells = after; ban = t }))
-      (sym (b (put_on (board_of s old) c p) (plays_taken ∙ ap (λ t. taken_at s t c) h.put_is)))
+      grind (arith, free_done (board_of s old) c p h.is_empty, plays_after, put_on (board_of s old) c p, plays_taken)

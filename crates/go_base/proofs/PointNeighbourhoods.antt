@@ -46,8 +46,7 @@ module _ (s : ℕ) (cells : List Cell) (S : ℕ → Bool) where
 -- a neighbourhood is within its own neighbourhood
 pub close_again : (s : ℕ) (cells : List Cell) (S : ℕ → Bool) (q : ℕ) → neighbourhood_of s cells S q ≡ true
     → neighbourhood_of s cells (neighbourhood_of s cells S) q ≡ true
-close_again s cells S q h =
-    close_self s cells (neighbourhood_of s cells S) q (neighbourhood_of-on_board s cells S q h) h
+close_again s cells S q h = grind (arith, close_self, neighbourhood_of-on_board)
 
 -- a point of the board is in the neighbourhood of itself
 pub close_alone : (s : ℕ) (cells : List Cell) (p q : ℕ) → p < s * s → alone p q ≡ true

@@ -20,22 +20,11 @@ pub record PutOn (cell : Cell) (points : sets.FinSet nat_cmp) (old new : List Ce
 pub PutOn-none : (cell : Cell) (points : sets.FinSet nat_cmp) (old : List Cell) → PutOn cell points old old 0
 PutOn-none cell points old = record { done = λ k l. absurd (omega arith); rest = λ k l. refl }
 
--- no member stands between the next point and this one
-PutOn-jump : (cell : Cell) (points : sets.FinSet nat_cmp) (old new : List Cell) (n m : ℕ) → n ≤ m
-    → PutOn cell points old new n → ((k : ℕ) → n ≤ k → k < m → sets.contains points k ≡ false)
-    → PutOn cell points old new m
-PutOn-jump cell points old new n m l h none = grind (arith, cases_lt)
-
--- the cell was put on a point of the set
-PutOn-hit : (cell : Cell) (points : sets.FinSet nat_cmp) (old new : List Cell) (n : ℕ) → PutOn cell points old new n
-    → n < length new → sets.contains points n ≡ true → PutOn cell points old (set new n cell) (n + 1)
-PutOn-hit cell points old new n h i t = grind (arith, cases_eq, get_or-set_same, get_or-set_other)
-
 -- after the put on the next member, the cell stands on each member up to it
 pub PutOn-next : (cell : Cell) (points : sets.FinSet nat_cmp) (old new : List Cell) (n m : ℕ) → n ≤ m
     → PutOn cell points old new n → ((k : ℕ) → n ≤ k → k < m → sets.contains points k ≡ false)
     → m < length new → sets.contains points m ≡ true → PutOn cell points old (set new m cell) (m + 1)
-PutOn-next cell points old new n m l h none i t = grind (arith, PutOn-hit, PutOn-jump)
+PutOn-next cell points old new n m l h none i t = grind (arith, cases_eq, get_or-set_same, get_or-set_other, cases_lt)
 
 -- no member is left
 pub PutOn-all : (cell : Cell) (points : sets.FinSet nat_cmp) (old new : List Cell) (n m : ℕ)

@@ -1,6 +1,6 @@
 -- One set added to another point by point.
 use Rattle.std.proofs.Common.{◌≡◌, ℕ, ◌+◌, ◌<◌, ◌≤◌, ◌||◌, ◌&&◌, Bool, true, false, ltb, refl, sym, arith, inl, inr}
-use Rattle.std.proofs.Common.{◌⊎◌, ◌∙◌}
+use Rattle.std.proofs.Common.{◌∙◌}
 use Rattle.std.proofs.lemmas.Bool.{cases_eq, cases_lt, eq-eqb, ne_eqb, lt-ltb, le-ltb}
 use Rattle.std.specs.Ordering.{nat_cmp}
 use Rattle.std.specs.Cmp.{nat_cmp_total}
@@ -16,31 +16,17 @@ JoinedBelow old more n new = (r : ℕ) → sets.contains new r ≡ (sets.contain
 pub joined_none : (old more : sets.FinSet nat_cmp) → JoinedBelow old more 0 old
 joined_none old more r = rw (le-ltb r 0 (omega arith)) (or-false _)
 
--- a number is n, or below n + 1 exactly if it is below n
-joined_step : (old more : sets.FinSet nat_cmp) (n : ℕ) (r : ℕ) → r ≡ n ⊎ (ltb r (n + 1) ≡ ltb r n)
-joined_step old more n r = grind (arith, cases_eq, cases_lt, lt-ltb, le-ltb)
-
 -- a test or one that passes passes
 or-true : (a : Bool) → (a || true) ≡ true
 or-true true = refl
 or-true false = refl
 
--- the member n came
-joined_add : (old more new : sets.FinSet nat_cmp) (n : ℕ) → JoinedBelow old more n new → sets.contains more n ≡ true
-    → JoinedBelow old more (n + 1) (sets.insert new n)
-joined_add old more new n h hit r =
-    grind (arith, contains-insert_nat, joined_step, eq-eqb, lt-ltb, or-true, cases_eq, ne_eqb)
-
--- no member stands between the next point and this one
-joined_jump : (old more new : sets.FinSet nat_cmp) (n m : ℕ) → n ≤ m → JoinedBelow old more n new
-    → ((k : ℕ) → n ≤ k → k < m → sets.contains more k ≡ false) → JoinedBelow old more m new
-joined_jump old more new n m l h none r = grind (arith, cases_lt, lt-ltb, le-ltb)
-
 -- the next member came
 pub joined_next : (old more new : sets.FinSet nat_cmp) (n m : ℕ) → n ≤ m → JoinedBelow old more n new
     → ((k : ℕ) → n ≤ k → k < m → sets.contains more k ≡ false) → sets.contains more m ≡ true
     → JoinedBelow old more (m + 1) (sets.insert new m)
-joined_next old more new n m l h none hit = joined_add old more new m (joined_jump old more new n m l h none) hit
+joined_next old more new n m l h none hit =
+    grind (arith, contains-insert_nat, cases_eq, cases_lt, lt-ltb, le-ltb, eq-eqb, or-true, ne_eqb)
 
 -- if no member is left, all of the other set came
 pub joined_all : (old more new : sets.FinSet nat_cmp) (n : ℕ) → JoinedBelow old more n new

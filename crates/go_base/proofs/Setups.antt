@@ -34,15 +34,11 @@ pub dead_from : (s : ℕ) (cells : List Cell) (p n : ℕ) → is_stone (cell_at 
     → n ≡ 0 → is_dead_at s cells p ≡ true
 dead_from s cells p n stone counted none = and_from _ _ stone (eq-eqb (liberties s cells p) 0 (sym counted ∙ none))
 
--- a stone of a string with a liberty is not
-not_dead : (s : ℕ) (cells : List Cell) (p : ℕ) → 0 < liberties s cells p → is_dead_at s cells p ≡ false
-not_dead s cells p some = grind (arith, ne_eqb, and-false)
-
 -- nor is any stone of its string
 alive_with : (s : ℕ) (cells : List Cell) (p q : ℕ) → p < s * s → 0 < liberties s cells p → IsInString s cells p q
     → is_dead_at s cells q ≡ false
 alive_with s cells p q on some its =
-    grind (arith, liberties_some, path_on_board, not_dead, liberties_from, liberty_moves, string_back_in_words)
+    grind (arith, liberties_some, path_on_board, ne_eqb, and-false, liberties_from, liberty_moves, string_back_in_words)
 
 -- what the set of a string's stones has is in the string
 in_string_at : (s : ℕ) (cells : List Cell) (p q : ℕ) → sets.contains (string_at s cells p) q ≡ true
@@ -53,7 +49,7 @@ in_string_at s cells p q h = IsInString-from_test s cells p q
 
 -- the point that a search begins at is alive where it sees a liberty
 pub alive_seen : (s : ℕ) (cells : List Cell) (p n : ℕ) → n ≡ liberties s cells p → n ≢ 0 → is_dead_at s cells p ≡ false
-alive_seen s cells p n counted ne = not_dead s cells p (omega (arith, counted, ne))
+alive_seen s cells p n counted ne = grind (arith, ne_eqb, and-false)
 
 -- no point is in the empty set
 pub AreAlive-none : (s : ℕ) (cells : List Cell) (alive : sets.FinSet nat_cmp) → alive ≡ sets.empty

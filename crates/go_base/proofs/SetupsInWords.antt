@@ -1,7 +1,7 @@
 -- What is set up, in words.
 use Rattle.std.proofs.Common.{◌≡◌, ◌≢◌, ℕ, ◌*◌, ◌<◌, ◌&&◌, ◌↔◌, true, false, List, Some, None, refl, sym, ap, subst}
 use Rattle.std.proofs.Common.{◌∙◌, arith, inl, inr, length}
-use Rattle.std.proofs.lemmas.Bool.{cases_Bool, cases_eq, both_ways, eqb-true, and_parts, and_from}
+use Rattle.std.proofs.lemmas.Bool.{cases_Bool, both_ways, eqb-true, and_parts, and_from}
 use Rattle.std.proofs.lemmas.List.FromFn.{get_or-map-range_with_len, length-map-range_with_len}
 use Rattle.std.specs.Ordering.{nat_cmp}
 use Rattle.std.specs.FinSet as sets
@@ -14,7 +14,7 @@ use Rattle.go_rules.proofs.Counts.{any_below_gives, any_below_from, any_below_no
 use Rattle.go_rules.proofs.Links.{liberties_some, liberties_from}
 use Rattle.go_base.specs.Setups.{is_dead_at, has_dead_string, have_common_point, cell_among, cells_with, setup_of}
 use Rattle.go_base.specs.Setups.{CannotBeSetUp, both, dead}
-use Rattle.go_base.proofs.Setups.{setup_common, setup_dead, setup_done, one_dead, dead_from, alive_from}
+use Rattle.go_base.proofs.Setups.{setup_common, setup_dead, setup_done, one_dead, alive_from}
 
 -- what the setup gives: no point is in both sets, no string is dead, and the position is that of the stones
 record IsSetUp (s : ℕ) (black white : sets.FinSet nat_cmp) (pos : BoardState) : Type 0 where
@@ -91,12 +91,6 @@ is_position s black white pos sized h =
 not_empty : (cell : Cell) → is_stone cell ≡ true → cell ≢ Empty
 not_empty cell h e = both_ways (is_stone cell) (ap is_stone e) h
 
--- a cell that is not empty has a stone
-stone_there : (cell : Cell) → cell ≢ Empty → is_stone cell ≡ true
-stone_there Empty ne = absurd (ne refl)
-stone_there Black ne = refl
-stone_there White ne = refl
-
 -- a string that is dead has no liberty
 no_liberty : (s : ℕ) (cells : List Cell) (p l : ℕ) → p < s * s → is_dead_at s cells p ≡ true → IsLiberty s cells p l → ⊥
 no_liberty s cells p l on is lib = grind (arith, and_parts, eqb-true, liberties_from)
@@ -128,15 +122,11 @@ refused_from s black white (both p on b w) = sym (setup_common s black white
 refused_from s black white (dead p on stone none) =
     grind (
       arith,
-      cases_Bool (have_common_point s black white),
       setup_common s black white,
       setup_dead s black white,
       one_dead s,
-      dead_from s,
       cell_with s black white p on,
       liberties_some s,
-      stone_there,
-      cases_eq,
     )
 
 -- the two are the same

@@ -16,10 +16,6 @@ are_one_apart-from : (a b : ℕ) → (a ≡ b + 1) ⊎ (b ≡ a + 1) → are_one
 are_one_apart-from a b (inl e) = or_left _ _ (eq-eqb _ _ e)
 are_one_apart-from a b (inr e) = or_right _ _ (eq-eqb _ _ e)
 
--- of numbers that pass the test one follows the other
-are_one_apart-true : (a b : ℕ) → are_one_apart a b ≡ true → (a ≡ b + 1) ⊎ (b ≡ a + 1)
-are_one_apart-true a b h = elim (or_cases _ _ h) [ inl e ↦ inl (eqb-true _ _ e) | inr e ↦ inr (eqb-true _ _ e) ]
-
 -- points of one row whose columns follow one another are neighbours
 next_in_row : (s p q : ℕ) → p / s ≡ q / s → are_one_apart (p % s) (q % s) ≡ true → are_neighbours s p q ≡ true
 unfolding are_neighbours
@@ -35,7 +31,7 @@ next_cases : (s p q : ℕ) → are_neighbours s p q ≡ true
     → ((p / s ≡ q / s) × ((p % s ≡ q % s + 1) ⊎ (q % s ≡ p % s + 1)))
     ⊎ ((p % s ≡ q % s) × ((p / s ≡ q / s + 1) ⊎ (q / s ≡ p / s + 1)))
 unfolding are_neighbours
-next_cases s p q h = grind (arith, or_cases, and_parts, eqb-true, are_one_apart-true)
+next_cases s p q h = grind (arith, or_cases, and_parts, eqb-true)
 
 -- a board that has a point has a row
 has_rows : (s p : ℕ) → p < s * s → 0 < s
@@ -46,26 +42,9 @@ row_down : (s p : ℕ) → 0 < s → ((p + s) / s ≡ p / s + 1) × ((p + s) % s
 row_down s p pos =
     row_column s (p + s) (p / s + 1) (p % s) (mod_below p s pos) (omega (arith, div-add-mod' p s))
 
--- q = p - s, one row above
-above : (s p : ℕ) → p < s * s → s ≤ p → (p - s < s * s) × (are_neighbours s p (p - s) ≡ true)
-above s p on l = grind (arith, row_down, has_rows, next_in_column, are_one_apart-from)
-
--- q = p + s, one row below
-below : (s p : ℕ) → p < s * s → are_neighbours s p (p + s) ≡ true
-below s p on = grind (arith, row_down, has_rows, next_in_column, are_one_apart-from)
-
 -- the point before one that is not first in its row is its neighbour
 left : (s p : ℕ) → p < s * s → (p % s ≡ 0 → ⊥) → (p - 1 < s * s) × (are_neighbours s p (p - 1) ≡ true)
-left s p on l =
-    grind (
-      arith,
-      mod_below p s (has_rows s p on),
-      has_rows s p on,
-      row_column s (p - 1) (p / s) (p % s - 1),
-      div-add-mod' p s,
-      are_one_apart-from (p % s) ((p - 1) % s),
-      next_in_row s p (p - 1),
-    )
+left s p on l = grind (arith, row_column s (p - 1) (p / s) (p % s - 1), next_in_row s p (p - 1))
 
 -- the point after one that is not last in its row is its neighbour
 right : (s p : ℕ) → p < s * s → (p % s + 1 ≡ s → ⊥) → (p + 1 < s * s) × (are_neighbours s p (p + 1) ≡ true)
@@ -95,8 +74,10 @@ last_side s p side = grind (arith, ne_eqb)
 -- What a side gives is a neighbour on the board.
 pub neighbour_at-near : (s p side q : ℕ) → p < s * s → neighbour_at s p side ≡ Some q
     → (q < s * s) × (are_neighbours s p q ≡ true)
-neighbour_at-near s p zero q h e = grind (arith, given_unless, above, ltb-false)
-neighbour_at-near s p (suc zero) q h e = grind (arith, given_if, ltb-true, below)
+neighbour_at-near s p zero q h e =
+    grind (arith, given_unless, row_down, has_rows, next_in_column, are_one_apart-from, ltb-false)
+neighbour_at-near s p (suc zero) q h e =
+    grind (arith, given_if, ltb-true, row_down, has_rows, next_in_column, are_one_apart-from)
 neighbour_at-near s p (suc (suc zero)) q h e = grind (arith, given_unless, left, eqb-false)
 neighbour_at-near s p (suc (suc (suc side))) q h e =
     let at = given_unless (eqb (p % s + 1) s) (p + 1) q (sym (last_side s p side) ∙ e) in
@@ -146,11 +127,11 @@ near_from s p q small h = (h.0, omega (arith, square_small s small, h.0), h.1)
 
 -- the point above is a neighbour
 pub near_above : (s t p : ℕ) → t ≡ s → s ≤ largest_size → p < s * s → t ≤ p → IsNear s p (p - t)
-near_above s t p e small h l = let l' : s ≤ p = rw e at l in rw e (near_from s p (p - s) small (above s p h l'))
+near_above s t p e small h l = grind (arith, near_from, row_down, has_rows, next_in_column, are_one_apart-from)
 
 -- the point below is a neighbour
 pub near_below : (s t p : ℕ) → t ≡ s → s ≤ largest_size → p < s * s → p + t < t * t → IsNear s p (p + t)
-near_below s t p e small h l = let l' = rw e at l in rw e (near_from s p (p + s) small (l', below s p h))
+near_below s t p e small h l = grind (arith, near_from, row_down, has_rows, next_in_column, are_one_apart-from)
 
 -- the point to the left is a neighbour
 pub near_left : (s t p : ℕ) → t ≡ s → s ≤ largest_size → p < s * s → (p % t ≡ 0 → ⊥) → IsNear s p (p - 1)

@@ -41,11 +41,6 @@ pub on_board_with : (s : ℕ) (old new : sets.FinSet nat_cmp) → ((r : ℕ) →
     → (r : ℕ) → sets.contains new r ≡ true → r < s * s
 on_board_with s old new before came r h = elim (came r h) [ inl there ↦ before r there | inr on ↦ on ]
 
--- the next side gave nothing that is taken
-Takes-skip : (s : ℕ) (put : List Cell) (c : Colour) (p n : ℕ) (taken : sets.FinSet nat_cmp) → Takes s put c p n taken
-    → ((r : ℕ) → neighbour_at s p n ≡ Some r → is_taken s put c r ≡ true → ⊥) → Takes s put c p (n + 1) taken
-Takes-skip s put c p n taken h none = grind arith
-
 -- what is in the set of a string is a stone of it
 string_gives : (s : ℕ) (cells : List Cell) (r q : ℕ) → sets.contains (string_at s cells r) q ≡ true
     → IsInString s cells r q
@@ -87,16 +82,13 @@ Takes-add s put c p n r taken new h on e t is =
 pub Takes-next : (s : ℕ) (put : List Cell) (c : Colour) (p n r : ℕ) (taken new : sets.FinSet nat_cmp)
     → Takes s put c p n taken → r < s * s → neighbour_at s p n ≡ Some r
     → new ≡ cond (is_taken s put c r) (sets.union taken (string_at s put r)) taken → Takes s put c p (n + 1) new
-Takes-next s put c p n r taken new h on e is = elim (cases_Bool (is_taken s put c r)) [
-  | inl t ↦ Takes-add s put c p n r taken new h on e t
-      (is ∙ ap (λ b. cond b (sets.union taken (string_at s put r)) taken) t)
-  | inr f ↦ grind (arith, Takes-skip, both_ways, same_side)
-]
+Takes-next s put c p n r taken new h on e is =
+    grind (arith, cases_Bool (is_taken s put c r), Takes-add s put c p n r taken new h on e, both_ways, same_side)
 
 -- the next side gave nothing
 pub Takes-nothing : (s : ℕ) (put : List Cell) (c : Colour) (p n : ℕ) (taken : sets.FinSet nat_cmp)
     → Takes s put c p n taken → ((r : ℕ) → neighbour_at s p n ≡ Some r → ⊥) → Takes s put c p (n + 1) taken
-Takes-nothing s put c p n taken h none = Takes-skip s put c p n taken h (λ r e t. none r e)
+Takes-nothing s put c p n taken h none = grind arith
 
 -- after the four sides all that the rules take is there
 pub Takes-all : (s : ℕ) (put : List Cell) (c : Colour) (p n : ℕ) (taken : sets.FinSet nat_cmp) → p < s * s → 4 ≤ n

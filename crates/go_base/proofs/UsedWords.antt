@@ -3,7 +3,7 @@ use Rattle.std.proofs.Common.{◌≡◌, ◌≢◌, ℕ, ◌+◌, ◌*◌, ◌/�
 use Rattle.std.proofs.Common.{arith, inl, inr, ◌∙◌, bit_and, bit_or, ◌^◌}
 use Rattle.std.proofs.lemmas.Bool.{cases_Bool, cases_eq, cases_lt, both_ways, eqb-true}
 use Rattle.std.proofs.lemmas.Nat.{div-mul-add, mod-mul-add}
-use Rattle.std.proofs.lemmas.Nat.Bits.{bit_at-zero, bit_at-lt, bit_at_and, bit_at_set_same, bit_at_set_other}
+use Rattle.std.proofs.lemmas.Nat.Bits.{bit_at-zero, bit_at_and, bit_at_set_same, bit_at_set_other}
 use Rattle.std.proofs.lemmas.Nat.Bits.{bit_at_clear_same, bit_at_clear_other}
 use Rattle.std.specs.Int.{bit_at, bit_not, w16}
 use Rattle.go_rules.specs.Board.{largest_points}
@@ -69,45 +69,19 @@ pub IsNoteOf-last : (old new : List ℕ) (used p : ℕ) → IsNoteOf old used �
     → ((q : ℕ) → q ≢ p → is_marked new q ≡ is_marked old q)
     → ((q : ℕ) → q / 64 ≡ p / 64 → is_marked new q ≡ false) → IsNoteOf new (without_word used (p / 64))
 IsNoteOf-last old new used p is on here elsewhere none =
-    grind (
-      arith,
-      bit_at_clear_other w16,
-      bit_at_clear_same w16,
-      both_ways,
-      cases_eq,
-      bit_at_and,
-      bit_at-lt,
-      other_point,
-    )
+    grind (arith, bit_at_clear_other w16, bit_at_clear_same w16, bit_at_and)
 
 module _ (words : List ℕ) (used first next : ℕ) (is : IsNoteOf words used)
     (rest : (k : ℕ) → first % 64 ≤ k → k < 64 → bit_at (get_or words (first / 64) 0) k ≡ 0)
     (unused : (k : ℕ) → first / 64 + 1 ≤ k → k < next → bit_at used k ≡ 0) where
   -- no point is marked from the first on in its own word, nor in a word up to the next one in use
   none_until : (r : ℕ) → first ≤ r → r / 64 < next → is_marked words r ≡ false
-  none_until r low under = elim (cases_Bool (is_marked words r)) [
-    | inl hit ↦ elim (cases_eq (r / 64) (first / 64)) [
-      | inl here ↦
-          let zero = rest (r % 64) (omega (arith, here, low)) (omega arith) in
-          let one : bit_at (get_or words (first / 64) 0) (r % 64) ≡ 1 =
-          ap (λ i. bit_at (get_or words i 0) (r % 64)) (sym here) ∙ eqb-true _ 1 hit in
-          absurd (omega (arith, zero, one))
-      | inr ne ↦
-          let zero = unused (r / 64) (omega (arith, ne, low)) under in
-          let one = is.noted r hit in
-          absurd (omega (arith, zero, one))
-    ]
-    | inr miss ↦ miss
-  ]
+  none_until r low under = grind (arith, cases_Bool, cases_eq, eqb-true)
 
   module _ (bit : ℕ) (noted : bit_at used next ≡ 1) (bound : bit ≤ 64) (beyond : first / 64 + 1 ≤ next)
       (misses : (k : ℕ) → 0 ≤ k → k < bit → bit_at (get_or words next 0) k ≡ 0) where
-    -- a word in use has a bit
-    has_bit : bit < 64
-    has_bit = grind (arith, cases_lt, eqb-true)
-
     -- the lowest bit of the next word in use is that of the first point that is marked
     pub first_in_next : (bit < 64 → bit_at (get_or words next 0) bit ≡ 1)
         → (first ≤ next * 64 + bit) × (next * 64 + bit < largest_points) × (is_marked words (next * 64 + bit) ≡ true)
         × ((r : ℕ) → first ≤ r → r < next * 64 + bit → is_marked words r ≡ false)
-    first_in_next hit = grind (arith, is_marked-at, has_bit, cases_lt)
+    first_in_next hit = grind (arith, is_marked-at, cases_lt, eqb-true)

@@ -1,6 +1,6 @@
 -- The bits of a word: without the lowest, the first of them, and those of points.
 use Rattle.std.proofs.Common.{◌≡◌, ℕ, ◌+◌, ◌-◌, ◌*◌, ◌/◌, ◌%◌, ◌^◌, ◌<◌, List, bit_and, get_or}
-use Rattle.std.proofs.Common.{eqb, min, refl, sym, ap, arith, inl, inr, ◌∙◌}
+use Rattle.std.proofs.Common.{eqb, sym, ap, arith, inl, inr, ◌∙◌}
 use Rattle.std.proofs.Math.Nat.{min-le_left, min-le_right, div-add-mod, mod-lt, mod-eq_of_lt, mul_comm}
 use Rattle.std.proofs.lemmas.Bool.{cases_eq, cases_lt}
 use Rattle.std.proofs.lemmas.Nat.{and_le_r, pow_pos}
@@ -38,15 +38,10 @@ before_above word k i above hit =
           ∙ sym (ap (λ n. bit_at n i) parts ∙ bit_at_cat_high high i low i small (omega arith))
     ]
 
--- of two ones the less is one
-min-ones : (a b : ℕ) → a ≡ 1 → b ≡ 1 → min a b ≡ 1
-min-ones a b one other = rw (one, other) refl
-
 -- if no bit below a set one is set, each bit of the word that is not left is that one
 pub without_lowest-one : (word k i : ℕ) → bit_at word k ≡ 1 → ((j : ℕ) → j < k → bit_at word j ≡ 0)
     → bit_at word i ≡ 1 → bit_at (without_lowest word) i ≡ 0 → i ≡ k
-without_lowest-one word k i lowest misses hit clear =
-    grind (arith, cases_lt, cases_eq, before_above, bit_at_and, min-ones)
+without_lowest-one word k i lowest misses hit clear = grind (arith, cases_lt, cases_eq, before_above, bit_at_and)
 
 -- the first n bits of a word
 abbrev pub first_bits : ℕ → ℕ → ℕ
@@ -63,7 +58,7 @@ first_bits-only word n k small hit =
 
 -- and each of the word's that stands below n is one of them
 pub first_bits-kept : (word n k : ℕ) → n < 64 → k < n → bit_at word k ≡ 1 → bit_at (first_bits word n) k ≡ 1
-first_bits-kept word n k small below hit = grind (arith, bit_and, first_ones, bit_at_and, min-ones, bit_at_ones)
+first_bits-kept word n k small below hit = grind (arith, bit_and, first_ones, bit_at_and, bit_at_ones)
 
 -- a point is marked where its bit is set in the word that begins at or before it
 pub is_marked-in_word : (words : List ℕ) (base k : ℕ) → base % 64 ≡ 0 → k < 64

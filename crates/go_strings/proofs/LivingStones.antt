@@ -73,22 +73,12 @@ module _ {s : ℕ} {cells : List Cell} {c : Colour} {p : ℕ} (h : Puts s cells 
   -- a friend without another liberty gives no life
   pub dead_friend : (q : ℕ) → cell_at cells q ≡ stone_of c → without (liberty_points s cells q) p ≡ sets.empty
       → IsDeadSide s cells c p q
-  dead_friend q own none =
-      let stone : is_stone (cell_at cells q) ≡ true = ap is_stone own ∙ stone_is c in
-      record {
-        stone = stone;
-        no_other = λ _. none;
-        stays = own_not_taken s (set cells p (stone_of c)) c q (at_q h q (not_p h q stone) ∙ own);
-      }
+  dead_friend q own none = grind (arith, stone_is, own_not_taken, at_q, not_p)
 
   -- an enemy with another liberty gives none
   pub dead_enemy : (q l : ℕ) → q < s * s → cell_at cells q ≡ stone_of (other c)
       → sets.contains (without (liberty_points s cells q) p) l ≡ true → IsDeadSide s cells c p q
-  dead_enemy q l on enemy some = record {
-    stone = ap is_stone enemy ∙ stone_is (other c);
-    no_other = λ own. absurd (enemy_differs c (sym enemy ∙ own));
-    stays = enemy_kept h q l on enemy some;
-  }
+  dead_enemy q l on enemy some = grind (arith, stone_is, enemy_differs, enemy_kept)
 
   -- if no side gives life, the stone is dead
   pub dead_all : (n : ℕ) → 4 ≤ n → AreDeadSides s cells c p n → IsDead s cells c p

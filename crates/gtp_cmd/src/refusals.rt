@@ -21,11 +21,11 @@ pub enum RefuseText {
     VertexEmpty,
     /// There is no memory for a reply that grows: `out of memory`.
     OutOfMemory,
-    /// The file of a game record cannot be loaded: `cannot load file`.
+    /// The file that the command names, a game record or a proof, cannot be loaded: `cannot load file`.
     CannotLoadFile,
     /// The text is no game record, for the reason with this number: `bad sgf kind 5`.
     BadSgf(u8),
-    /// The proof has more than 60,000 bytes: `proof too long`.
+    /// The proof has more bytes than the program prints: `proof too long`.
     ProofTooLong,
     /// The stones at the two vertices have different colours: `colours differ`.
     ColoursDiffer,

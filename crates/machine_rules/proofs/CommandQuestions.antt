@@ -1,16 +1,11 @@
 -- What a line asks of the readings, by the command that it names.
 use Rattle.std.proofs.Common.{◌≡◌, ℕ, Bool, true, false, cond, List, [], ◌∷◌, Option, Some, None, drop, refl, sym, ap}
-use Rattle.std.proofs.Common.{◌∙◌}
+use Rattle.std.proofs.Common.{◌∙◌, arith}
 use Rattle.std.specs.Option.{option_map}
 use Rattle.gtp_rules.specs.Lines.{RawLine, Line, TooLong}
 use Rattle.gtp_cmd.specs.Words.{cleaned, words_of, id_of}
-use Rattle.gtp_cmd.specs.Vertices.{vertex_of}
-use Rattle.gtp_cmd.specs.Colours.{colour_of}
-use Rattle.gtp_cmd.specs.Komi.{komi_of}
-use Rattle.gtp_cmd.specs.Words.{number_of}
 use Rattle.gtp_cmd.specs.Commands.{named, asked, called, said, said_with, parsed_words, parsed_of, command_of}
-use Rattle.gtp_cmd.specs.Commands.{first_argument, known_of, size_of, move_of, depths_of, claim_of, points_of}
-use Rattle.gtp_cmd.specs.Spans.{spans_of, first_span, whole_span}
+use Rattle.gtp_cmd.specs.Spans.{spans_of}
 use Rattle.gtp_cmd.specs.declared.spans.Span.{Span}
 use Rattle.gtp_cmd.specs.declared.commands.CommandName.{CommandName}
 use Rattle.gtp_cmd.specs.declared.commands.CommandName.TheVariants as name
@@ -63,68 +58,37 @@ module _ (machine : Machine) where
   fits_command name.ProtocolVersion id s words spans = tt
   fits_command name.Name id s words spans = tt
   fits_command name.Version id s words spans = tt
-  fits_command name.KnownCommand id s words spans = fits_asked command.KnownCommand (Some name.KnownCommand) (λ _. tt)
-      id (known_of words)
+  fits_command name.KnownCommand id s words spans = grind (arith, fits_asked)
   fits_command name.ListCommands id s words spans = tt
   fits_command name.Quit id s words spans = tt
-  fits_command name.BoardSize id s words spans =
-      fits_asked (λ n. command.BoardSize (size_of n)) (Some name.BoardSize) (λ _. tt) id
-      (first_argument number_of words)
+  fits_command name.BoardSize id s words spans = grind (arith, fits_asked)
   fits_command name.ClearBoard id s words spans = tt
-  fits_command name.Komi id s words spans = fits_asked command.Komi (Some name.Komi) (λ _. tt) id
-      (first_argument komi_of words)
+  fits_command name.Komi id s words spans = grind (arith, fits_asked)
   fits_command name.GetKomi id s words spans = tt
-  fits_command name.Play id s words spans = fits_asked (λ m. command.Play m.0 m.1) (Some name.Play) (λ _. tt) id
-      (move_of s words)
+  fits_command name.Play id s words spans = grind (arith, fits_asked)
   fits_command name.Undo id s words spans = tt
   fits_command name.ShowBoard id s words spans = tt
-  fits_command name.IsLegal id s words spans = fits_asked (λ m. command.IsLegal m.0 m.1) (Some name.IsLegal) (λ _. tt)
-      id (move_of s words)
-  fits_command name.AllLegal id s words spans = fits_asked command.AllLegal (Some name.AllLegal) (λ _. tt) id
-      (first_argument colour_of words)
-  fits_command name.CountLib id s words spans = fits_asked command.CountLib (Some name.CountLib) (λ _. tt) id
-      (first_argument (vertex_of s) words)
-  fits_command name.FindLib id s words spans = fits_asked command.FindLib (Some name.FindLib) (λ _. tt) id
-      (first_argument (vertex_of s) words)
-  fits_command name.Captures id s words spans = fits_asked command.Captures (Some name.Captures) (λ _. tt) id
-      (first_argument colour_of words)
-  fits_command name.Attack id s words spans =
-      fits_asked command.Attack (Some name.Attack)
-      (λ p. fits_where (has_stone machine p) (key_at machine Attack p) (Some name.Attack) refl) id
-      (first_argument (vertex_of s) words)
-  fits_command name.Defend id s words spans =
-      fits_asked command.Defend (Some name.Defend)
-      (λ p. fits_where (has_stone machine p) (key_at machine Defend p) (Some name.Defend) refl) id
-      (first_argument (vertex_of s) words)
-  fits_command name.Depths id s words spans = fits_asked (λ d. command.Depths d.0 d.1) (Some name.Depths) (λ _. tt) id
-      (depths_of words)
-  fits_command name.MatchPatterns id s words spans =
-      fits_asked command.MatchPatterns (Some name.MatchPatterns) (λ _. refl) id (first_argument colour_of words)
+  fits_command name.IsLegal id s words spans = grind (arith, fits_asked)
+  fits_command name.AllLegal id s words spans = grind (arith, fits_asked)
+  fits_command name.CountLib id s words spans = grind (arith, fits_asked)
+  fits_command name.FindLib id s words spans = grind (arith, fits_asked)
+  fits_command name.Captures id s words spans = grind (arith, fits_asked)
+  fits_command name.Attack id s words spans = grind (arith, fits_asked, fits_where)
+  fits_command name.Defend id s words spans = grind (arith, fits_asked, fits_where)
+  fits_command name.Depths id s words spans = grind (arith, fits_asked)
+  fits_command name.MatchPatterns id s words spans = grind (arith, fits_asked)
   fits_command name.ListPatterns id s words spans = tt
-  fits_command name.LoadSgf id s words spans =
-      fits_asked command.LoadSgf (Some name.LoadSgf) (λ _. tt) id (first_span spans)
-  fits_command name.AttackProof id s words spans =
-      fits_asked command.AttackProof (Some name.AttackProof) (λ _. tt) id (first_argument (vertex_of s) words)
-  fits_command name.DefendProof id s words spans =
-      fits_asked command.DefendProof (Some name.DefendProof) (λ _. tt) id (first_argument (vertex_of s) words)
-  fits_command name.CheckProof id s words spans =
-      fits_asked (λ q. command.CheckProof q.attack q.target q.code (whole_span (drop 3 spans))) (Some name.CheckProof)
-      (λ _. tt) id (claim_of s words)
-  fits_command name.Connect id s words spans =
-      fits_asked (λ m. command.Connect m.0 m.1) (Some name.Connect) (λ _. tt) id (points_of s words)
-  fits_command name.Disconnect id s words spans =
-      fits_asked (λ m. command.Disconnect m.0 m.1) (Some name.Disconnect) (λ _. tt) id (points_of s words)
-  fits_command name.GenMove id s words spans =
-      fits_asked command.GenMove (Some name.GenMove) (λ _. fits_full (is_full machine)) id
-      (first_argument colour_of words)
-  fits_command name.RegGenMove id s words spans =
-      fits_asked command.RegGenMove (Some name.RegGenMove) (λ _. refl) id (first_argument colour_of words)
-  fits_command name.HelperOff id s words spans =
-      fits_asked command.HelperOff (Some name.HelperOff) (λ _. tt) id (first_span spans)
-  fits_command name.HelperCalls id s words spans =
-      fits_asked command.HelperCalls (Some name.HelperCalls) (λ _. tt) id (first_span spans)
-  fits_command name.HelperDrop id s words spans =
-      fits_asked command.HelperDrop (Some name.HelperDrop) (λ _. tt) id (first_span spans)
+  fits_command name.LoadSgf id s words spans = grind (arith, fits_asked)
+  fits_command name.AttackProof id s words spans = grind (arith, fits_asked)
+  fits_command name.DefendProof id s words spans = grind (arith, fits_asked)
+  fits_command name.CheckProof id s words spans = grind (arith, fits_asked)
+  fits_command name.Connect id s words spans = grind (arith, fits_asked)
+  fits_command name.Disconnect id s words spans = grind (arith, fits_asked)
+  fits_command name.GenMove id s words spans = grind (arith, fits_asked, fits_full)
+  fits_command name.RegGenMove id s words spans = grind (arith, fits_asked)
+  fits_command name.HelperOff id s words spans = grind (arith, fits_asked)
+  fits_command name.HelperCalls id s words spans = grind (arith, fits_asked)
+  fits_command name.HelperDrop id s words spans = grind (arith, fits_asked)
 
   -- a name with its words
   fits_called : (id : Option ℕ) (s : ℕ) (n : Option CommandName) (words : List (List ℕ)) (spans : List Span)

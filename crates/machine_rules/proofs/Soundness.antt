@@ -1,45 +1,34 @@
 -- What every step keeps: a refused line keeps the machine, what may stand in place of a reply is a refusal that keeps
 -- it but for the calls of helpers, and only a success ends the session.
 use Rattle.std.proofs.Common.{◌≡◌, ℕ, Bool, true, false, cond, List, [], ◌∷◌, map, Option, None, Some, Result, Ok, Err}
-use Rattle.std.proofs.Common.{get_or, arith, refl, sym, ap, subst, ◌∙◌, ◌&&◌}
+use Rattle.std.proofs.Common.{arith, refl, sym, ap, subst, ◌∙◌, ◌&&◌}
 use Rattle.gtp_rules.specs.Lines.{RawLine, Line, TooLong}
 use Rattle.gtp_rules.specs.Steps.{Step}
 use Rattle.gtp_rules.specs.Transcript.{IsTotal}
-use Rattle.go_rules.specs.declared.Colour.{Colour}
 use Rattle.go_rules.specs.declared.Move.{Move}
-use Rattle.go_rules.specs.Strings.{cell_at, is_stone, same_cell}
-use Rattle.gtp_cmd.specs.Replies.{success_text}
 use Rattle.gtp_cmd.specs.declared.commands.Parsed.{Parsed}
 use Rattle.gtp_cmd.specs.declared.commands.Parsed.TheVariants as parsed
 use Rattle.gtp_cmd.specs.declared.refusals.RefuseText.{RefuseText}
-use Rattle.gtp_cmd.specs.declared.refusals.RefuseText.TheVariants.{VertexEmpty, ColoursDiffer}
-use Rattle.helpers.specs.Totals.{asks_over}
-use Rattle.match_rules.specs.Conditions.{all_yes}
-use Rattle.match_engine.specs.HelperCalls.{plays_of}
-use Rattle.machine_rules.specs.Machine.{Machine, position_of}
+use Rattle.gtp_cmd.specs.declared.refusals.RefuseText.TheVariants.{VertexEmpty}
+use Rattle.machine_rules.specs.Machine.{Machine}
 use Rattle.machine_rules.specs.Matcher.{Matcher}
 use Rattle.machine_rules.specs.Calls.{AreSameButCalls}
-use Rattle.machine_rules.specs.Effects.{Excuse, Effect, refused, succeeded, growing, fallback, replied}
+use Rattle.machine_rules.specs.Effects.{Excuse, Effect, refused, succeeded, fallback, replied}
 use Rattle.machine_rules.specs.Files.{Contents, IsContents}
-use Rattle.machine_rules.specs.Heard.{heard, bytes_in, word_at}
-use Rattle.machine_rules.specs.HelperCommands.{of_helper}
+use Rattle.machine_rules.specs.Heard.{heard, bytes_in}
 use Rattle.machine_rules.specs.LinkCommands.{linked, linkage_at, linkage_text}
 use Rattle.machine_rules.specs.LinkQuestions.{have_one_colour, asks_link_at, asks_link_of, asks_link_of_parsed}
 use Rattle.machine_rules.specs.LinkQuestions.{asks_link_of_line}
 use Rattle.connect_rules.specs.declared.question.LinkQuestion.{LinkQuestion}
-use Rattle.machine_rules.specs.ProofCommands.{proved}
-use Rattle.machine_rules.specs.RecordCommands.{is_utf8, recorded, loaded, loaded_by}
+use Rattle.machine_rules.specs.RecordCommands.{recorded}
 use Rattle.sgf_rules.specs.declared.kind.FaultKind.{FaultKind}
-use Rattle.sgf_rules.specs.Game.{game_of}
 use Rattle.connect_rules.specs.declared.question.LinkKind.{LinkKind}
 use Rattle.connect_rules.specs.declared.question.LinkKind.TheVariants.{Connect, Disconnect}
 use Rattle.go_rules.specs.Position.{BoardState}
-use Rattle.read_rules.specs.declared.question.Kind.{Kind}
 use Rattle.machine_rules.specs.Loads.{Load, load_in, IsFileOf}
-use Rattle.machine_rules.specs.BoardCommands.{resized, played, taken_back, of_stone}
-use Rattle.machine_rules.specs.MatchingCommands.{after_asking, advised}
+use Rattle.machine_rules.specs.BoardCommands.{resized, taken_back}
 use Rattle.machine_rules.specs.Step.{Input, effect_of, parsed_step, step_on, step}
-use Rattle.machine_rules.specs.Counting.{has_stone, is_read, is_parsed_read, is_read_line}
+use Rattle.machine_rules.specs.Counting.{is_read, is_parsed_read, is_read_line}
 use Rattle.machine_rules.specs.ReadingCommands.{answer_text, reading_of}
 use Rattle.machine_rules.specs.Soundness.{IsRefusal, IsSuccess, AreExcuses, IsSound}
 use Rattle.machine_rules.proofs.QuietHelpers.{raised-quiet}
@@ -49,8 +38,7 @@ use Rattle.read_rules.specs.declared.question.Kind.TheVariants.{Attack, Defend}
 
 -- a success is no refusal
 pub success_apart : (bytes more : List ℕ) → bytes ≡ 61 ∷ more → IsRefusal bytes → ⊥
-success_apart bytes more success refusal = let same : 61 ≡ 63 = ap (λ l. get_or l 0 0)
-    (sym success ∙ refusal.1) in omega (arith, same)
+success_apart bytes more success refusal = grind arith
 
 -- each of these excuses leaves the machine as it was, but for the calls of helpers
 abbrev KeepMachine : Machine → List Excuse → Type 0
@@ -67,40 +55,16 @@ record IsKind (old : Machine) (effect : Effect) : Type 0 where
 module _ (old : Machine) where
   -- a refusal
   refused-kind : (text : RefuseText) → IsKind old (refused old text)
-  refused-kind text = record {
-    refused = λ _ _. refl;
-    excuses = tt;
-    ended = λ ends. absurd (let same : false ≡ true = ends in cc);
-  }
+  refused-kind text = grind arith
 
   -- a success
   succeeded-kind : (result : List ℕ) (next : Machine) → IsKind old (succeeded result next)
-  succeeded-kind result next = record {
-    refused = λ text none. absurd (let same : None ≡ Some text = none in cc);
-    excuses = tt;
-    ended = λ ends. absurd (let same : false ≡ true = ends in cc);
-  }
-
-  -- a growing reply
-  growing-kind : (effect : Effect) (next : Machine) → AreSameButCalls old next → IsKind old effect
-      → IsKind old (growing next effect)
-  growing-kind effect next same kind =
-      record { refused = kind.refused; excuses = (same, kind.excuses); ended = kind.ended }
+  succeeded-kind result next = grind arith
 
   -- one of two
   cond-kind : (b : Bool) (x y : Effect) → IsKind old x → IsKind old y → IsKind old (cond b x y)
   cond-kind true x y first second = first
   cond-kind false x y first second = second
-
-  -- a growing success
-  grown-kind : (result : List ℕ) (next : Machine) → IsKind old (growing old (succeeded result next))
-  grown-kind result next = growing-kind (succeeded result next) old refl (succeeded-kind result next)
-
-  -- what is told of a stone
-  stone-kind : (p : ℕ) (effect : Effect) → IsKind old effect → IsKind old (of_stone old p effect)
-  stone-kind p effect kind =
-      cond-kind (is_stone (cell_at (position_of old).cells p)) effect (refused old VertexEmpty) kind
-      (refused-kind VertexEmpty)
 
   -- a new size
   resized-kind : (size : Option ℕ) → IsKind old (resized old size)
@@ -112,94 +76,48 @@ module _ (old : Machine) where
   taken_back-kind [] = refused-kind _
   taken_back-kind (move ∷ moves) = succeeded-kind [] _
 
-  -- a move
-  played-kind : (move : Move) → IsKind old (played old move)
-  played-kind move =
-      cond-kind _ _ _ (cond-kind _ _ _ (refused-kind _) (grown-kind [] _)) (refused-kind _)
-
   -- a game record, or its fault
   recorded-kind : (found : Result BoardState FaultKind) → IsKind old (recorded old found)
   recorded-kind (Ok board) = succeeded-kind [] _
   recorded-kind (Err kind) = refused-kind _
 
-  -- a file that is loaded
-  loaded_by-kind : (name file : List ℕ) → IsKind old (loaded_by old name file)
-  loaded_by-kind name file =
-      let read = recorded-kind (game_of file) in
-      let whole : IsKind old (loaded old file) =
-      record { refused = read.refused; excuses = (refl, tt); ended = read.ended } in
-      growing-kind _ old refl (cond-kind (is_utf8 name) _ _ whole (refused-kind _))
-
-  -- a printed proof
-  proved-kind : (kind : Kind) (p : ℕ) → IsKind old (proved old kind p)
-  proved-kind kind p = stone-kind p _ (growing-kind _ old refl
-      (cond-kind _ _ _ (succeeded-kind _ old) (refused-kind _)))
-
-  -- a connection
-  linked-kind : (kind : LinkKind) (a b : ℕ) → IsKind old (linked old kind a b)
-  linked-kind kind a b =
-      stone-kind a _ (stone-kind b _ (cond-kind _ _ _ (succeeded-kind _ old) (refused-kind _)))
-
-  -- what is done of a helper
-  helper-kind : (name : List ℕ) (effect : Effect) → IsKind old effect → IsKind old (of_helper old name effect)
-  helper-kind name effect kind = growing-kind _ old refl (cond-kind _ _ _ kind (refused-kind _))
-
   module _ (matcher : Matcher) where
-    -- the machine after its helpers were asked is the same but for their calls
-    asking-same : (friend : Colour) → AreSameButCalls old (after_asking matcher old friend)
-    asking-same friend =
-        let plays = plays_of matcher.patterns (matcher.matches all_yes old friend) in
-        ap (λ helpers. record old { helpers = helpers })
-        (raised-quiet (asks_over old.helpers plays (position_of old) friend) old.helpers)
-
-    -- what helpers were asked for
-    advised-kind : (friend : Colour) (result : List ℕ) (next : Machine)
-        → IsKind old (advised old (after_asking matcher old friend) result next)
-    advised-kind friend result next =
-        growing-kind (growing (after_asking matcher old friend) (succeeded result next)) old refl
-        (growing-kind (succeeded result next) (after_asking matcher old friend) (asking-same friend)
-        (succeeded-kind result next))
-
     -- each command
     effect-kind : (input : Input) (c : Command) → IsKind old (effect_of matcher old input c)
     effect-kind input command.ProtocolVersion = succeeded-kind _ old
     effect-kind input command.Name = succeeded-kind _ old
     effect-kind input command.Version = succeeded-kind _ old
     effect-kind input (command.KnownCommand known) = succeeded-kind _ old
-    effect-kind input command.ListCommands = grown-kind _ old
-    effect-kind input command.Quit = record {
-      refused = λ text none. absurd (let same : None ≡ Some text = none in cc);
-      excuses = tt;
-      ended = λ _. (refl, refl);
-    }
+    effect-kind input command.ListCommands = grind (arith, succeeded-kind)
+    effect-kind input command.Quit = grind arith
     effect-kind input (command.BoardSize size) = resized-kind size
     effect-kind input command.ClearBoard = succeeded-kind [] _
     effect-kind input (command.Komi komi) = succeeded-kind [] _
     effect-kind input command.GetKomi = succeeded-kind _ old
-    effect-kind input (command.Play c at) = played-kind _
+    effect-kind input (command.Play c at) = grind (arith, cond-kind, refused-kind, succeeded-kind)
     effect-kind input command.Undo = taken_back-kind old.moves
-    effect-kind input command.ShowBoard = grown-kind _ old
+    effect-kind input command.ShowBoard = grind (arith, succeeded-kind)
     effect-kind input (command.IsLegal c at) = succeeded-kind _ old
-    effect-kind input (command.AllLegal c) = grown-kind _ old
-    effect-kind input (command.CountLib p) = stone-kind p _ (succeeded-kind _ old)
-    effect-kind input (command.FindLib p) = stone-kind p _ (grown-kind _ old)
+    effect-kind input (command.AllLegal c) = grind (arith, succeeded-kind)
+    effect-kind input (command.CountLib p) = grind (arith, cond-kind, refused-kind, succeeded-kind)
+    effect-kind input (command.FindLib p) = grind (arith, cond-kind, refused-kind, succeeded-kind)
     effect-kind input (command.Captures c) = succeeded-kind _ old
-    effect-kind input (command.Attack p) = stone-kind p _ (succeeded-kind _ old)
-    effect-kind input (command.Defend p) = stone-kind p _ (succeeded-kind _ old)
+    effect-kind input (command.Attack p) = grind (arith, cond-kind, refused-kind, succeeded-kind)
+    effect-kind input (command.Defend p) = grind (arith, cond-kind, refused-kind, succeeded-kind)
     effect-kind input (command.Depths plies wide) = succeeded-kind [] _
-    effect-kind input (command.MatchPatterns friend) = advised-kind friend _ _
-    effect-kind input command.ListPatterns = grown-kind _ old
-    effect-kind input (command.LoadSgf span) = loaded_by-kind (word_at input.line span) input.file
-    effect-kind input (command.AttackProof p) = proved-kind Attack p
-    effect-kind input (command.DefendProof p) = proved-kind Defend p
-    effect-kind input (command.CheckProof attack p code span) = stone-kind p _ (succeeded-kind _ old)
-    effect-kind input (command.Connect a b) = linked-kind Connect a b
-    effect-kind input (command.Disconnect a b) = linked-kind Disconnect a b
-    effect-kind input (command.GenMove friend) = cond-kind _ _ _ (refused-kind _) (advised-kind friend _ _)
-    effect-kind input (command.RegGenMove friend) = advised-kind friend _ _
-    effect-kind input (command.HelperOff span) = helper-kind _ _ (succeeded-kind [] _)
-    effect-kind input (command.HelperCalls span) = helper-kind _ _ (succeeded-kind _ old)
-    effect-kind input (command.HelperDrop span) = helper-kind _ _ (succeeded-kind [] _)
+    effect-kind input (command.MatchPatterns friend) = grind (arith, raised-quiet, succeeded-kind)
+    effect-kind input command.ListPatterns = grind (arith, succeeded-kind)
+    effect-kind input (command.LoadSgf span) = grind (arith, recorded-kind, cond-kind, refused-kind)
+    effect-kind input (command.AttackProof p) = grind (arith, cond-kind, refused-kind, succeeded-kind)
+    effect-kind input (command.DefendProof p) = grind (arith, cond-kind, refused-kind, succeeded-kind)
+    effect-kind input (command.CheckProof attack p code span) = grind (arith, cond-kind, refused-kind, succeeded-kind)
+    effect-kind input (command.Connect a b) = grind (arith, cond-kind, refused-kind, succeeded-kind)
+    effect-kind input (command.Disconnect a b) = grind (arith, cond-kind, refused-kind, succeeded-kind)
+    effect-kind input (command.GenMove friend) = grind (arith, cond-kind, refused-kind, raised-quiet, succeeded-kind)
+    effect-kind input (command.RegGenMove friend) = grind (arith, raised-quiet, succeeded-kind)
+    effect-kind input (command.HelperOff span) = grind (arith, cond-kind, refused-kind, succeeded-kind)
+    effect-kind input (command.HelperCalls span) = grind (arith, cond-kind, refused-kind, succeeded-kind)
+    effect-kind input (command.HelperDrop span) = grind (arith, cond-kind, refused-kind, succeeded-kind)
 
 -- the excuses behind an id are refusals that keep the machine so
 excuses-succeeded : (old : Machine) (id : Option ℕ) (excuses : List Excuse) → KeepMachine old excuses
@@ -210,9 +128,7 @@ excuses-succeeded old id (excuse ∷ excuses) kept = ((_, refl), kept.0, excuses
 -- a refusal behind an id keeps the machine
 refusal-kept : (old : Machine) (id : Option ℕ) (refusal : Option RefuseText) (effect : Effect) → IsKind old effect
     → effect.refusal ≡ refusal → IsRefusal (replied id effect).reply → effect.next ≡ old
-refusal-kept old id None effect kind is reply =
-    absurd (success_apart (success_text id effect.result) _ refl
-    (subst (λ r. IsRefusal (replied id (record effect { refusal = r })).reply) is reply))
+refusal-kept old id None effect kind is reply = grind (arith, success_apart)
 refusal-kept old id (Some text) effect kind is reply = kind.refused text is
 
 -- the reply to a command, by what it does
@@ -231,13 +147,8 @@ replied-sound old id effect kind = record {
 -- the answer to what a line says
 parsed_step-sound : (matcher : Matcher) (old : Machine) (input : Input) (p : Parsed)
     → IsSound old (parsed_step matcher old input p)
-parsed_step-sound matcher old input parsed.Nothing = record {
-  refused = λ _. refl;
-  excuses = tt;
-  ended = λ ends. absurd (let same : false ≡ true = ends in cc);
-}
-parsed_step-sound matcher old input (parsed.Refused id text) =
-    replied-sound old id (refused old text) (refused-kind old text)
+parsed_step-sound matcher old input parsed.Nothing = grind arith
+parsed_step-sound matcher old input (parsed.Refused id text) = grind (arith, replied-sound, refused-kind)
 parsed_step-sound matcher old input (parsed.Command id c) =
     replied-sound old id (effect_of matcher old input c) (effect-kind old matcher input c)
 
@@ -245,14 +156,12 @@ parsed_step-sound matcher old input (parsed.Command id c) =
 step_on-sound : (matcher : Matcher) (old : Machine) (file : List ℕ) (line : RawLine)
     → IsSound old (step_on matcher old file line)
 unfolding step_on
-step_on-sound matcher old file line =
-    parsed_step-sound matcher old (record { line = bytes_in line; file = file }) (heard old line)
+step_on-sound matcher old file line = grind (arith, parsed_step-sound)
 
 -- every step
 pub step-sound : (matcher : Matcher) (contents : Contents) (old : Machine) (line : RawLine) (given : Step Machine)
     → step matcher contents old line given → IsSound old given
-step-sound matcher contents old line given (file, of, is) =
-    subst (IsSound old) (sym is) (step_on-sound matcher old file line)
+step-sound matcher contents old line given (file, of, is) = grind (arith, step_on-sound)
 
 -- a text that a file may have whose contents are these, where they are told
 some_text : (told : Option (List ℕ)) → (file : List ℕ) × IsContents told file
@@ -298,16 +207,13 @@ read-heard m (Line text) = refl
 read-line_on : (matcher : Matcher) (old : Machine) (file : List ℕ) (line : RawLine) → is_read_line old line ≡ true
     → (id : Option ℕ) × (text : List ℕ) × (step_on matcher old file line ≡ replied id (succeeded text old))
 unfolding step_on
-read-line_on matcher old file line reads =
-    read-parsed matcher old (record { line = bytes_in line; file = file }) (heard old line)
-    (sym (read-heard old line) ∙ reads)
+read-line_on matcher old file line reads = grind (arith, read-parsed, read-heard)
 
 -- a line that asks for a reading and is answered with a code is told some text, and the machine stays
 pub read-line : (matcher : Matcher) (contents : Contents) (old : Machine) (line : RawLine) (given : Step Machine)
     → step matcher contents old line given → is_read_line old line ≡ true
     → (id : Option ℕ) × (text : List ℕ) × (given ≡ replied id (succeeded text old))
-read-line matcher contents old line given (file, of, is) reads =
-    let said = read-line_on matcher old file line reads in (said.0, said.1, is ∙ said.2)
+read-line matcher contents old line given (file, of, is) reads = grind (arith, read-line_on matcher old file line reads)
 
 -- what is tested one after another passes where all of it does
 all-pass : {T : Type 0} (a b c : Bool) (kept first second third : T) → (a && (b && c)) ≡ true
@@ -325,10 +231,7 @@ was-passed false x y is = absurd (let none : None ≡ Some y = is in cc)
 -- a question about two stones of one colour is answered with a result, which has no excuse
 pub linked-succeeded : (old : Machine) (kind : LinkKind) (a b : ℕ) → have_one_colour old a b ≡ true
     → linked old kind a b ≡ succeeded (linkage_text old.base.size (linkage_at old kind a b)) old
-linked-succeeded old kind a b one = all-pass (has_stone old a) (has_stone old b)
-    (same_cell (cell_at (position_of old).cells a) (cell_at (position_of old).cells b))
-    (succeeded (linkage_text old.base.size (linkage_at old kind a b)) old) (refused old VertexEmpty)
-    (refused old VertexEmpty) (refused old ColoursDiffer) one
+linked-succeeded old kind a b one = grind (arith, all-pass)
 
 -- a question about a connection that is asked is answered with some text, and the machine stays
 link-at : (old : Machine) (kind : LinkKind) (a b : ℕ) (q : LinkQuestion) → asks_link_at old kind a b ≡ Some q

@@ -1,6 +1,6 @@
 -- One match more about which helpers are asked.
 use Rattle.std.proofs.Common.{◌≡◌, ℕ, ◌+◌, ◌<◌, Bool, List, [], ◌∷◌, ◌++◌, length, take, get_or, slice_get}
-use Rattle.std.proofs.Common.{Some, sym, ap, ◌∙◌}
+use Rattle.std.proofs.Common.{Some, sym, ap, ◌∙◌, arith}
 use Rattle.std.proofs.lemmas.List.{take_more, map-append}
 use Rattle.go_rules.specs.declared.Colour.{Colour}
 use Rattle.go_rules.specs.Position.{BoardState}
@@ -12,7 +12,7 @@ use Rattle.helpers.specs.Totals.{asks_over}
 use Rattle.helpers.proofs.CallTotals.{answer_over-more, asked_over-more}
 use Rattle.match_rules.specs.declared.found.Match.{Match}
 use Rattle.match_engine.specs.AutomatonMatches.{is_agreed_at}
-use Rattle.match_engine.specs.HelperCalls.{names_of, plays_of, after_matches}
+use Rattle.match_engine.specs.HelperCalls.{plays_of, after_matches}
 
 module _ (slots : List SlotState) (patterns : List Pattern) (board : BoardState) (friend : Colour) (old : List Match)
     (n : ℕ)
@@ -31,11 +31,7 @@ module _ (slots : List SlotState) (patterns : List Pattern) (board : BoardState)
   -- the plays up to this one
   plays_more : plays_of patterns (take n old) ++ (helper_names p.items, z.at) ∷ []
       ≡ plays_of patterns (take (n + 1) old)
-  plays_more =
-      ap (λ o. plays_of patterns (take n old) ++ (names_of o, z.at) ∷ []) (sym number)
-      ∙ ap (λ y. plays_of patterns (take n old) ++ (names_of (slice_get patterns y.pattern), y.at) ∷ []) read
-      ∙ sym (ap (plays_of patterns) (take_more old n z low)
-      ∙ map-append (λ y. (names_of (slice_get patterns y.pattern), y.at)) (take n old) (get_or old n z ∷ []))
+  plays_more = grind (arith, take_more old n z low, map-append)
 
   -- the calls are those about the matches up to this one
   pub calls_are : after ≡ after_matches slots patterns (take (n + 1) old) board friend

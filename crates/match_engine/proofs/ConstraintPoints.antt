@@ -1,5 +1,5 @@
 -- The arguments of a constraint that have a point have one on the board.
-use Rattle.std.proofs.Common.{◌≡◌, ℕ, ◌*◌, ◌<◌, true, Option, Some, None, refl, pos, ◌-ℤ◌}
+use Rattle.std.proofs.Common.{◌≡◌, ℕ, ◌*◌, ◌<◌, true, Option, Some, None, refl, arith}
 use Rattle.std.proofs.lemmas.Bool.{lt-ltb}
 use Rattle.go_rules.specs.Position.{BoardState}
 use Rattle.go_rules.specs.declared.Colour.{Colour}
@@ -11,7 +11,6 @@ use Rattle.pat_types.specs.declared.expr.Expr.{Expr}
 use Rattle.cons_eval.specs.Readings.{Codes}
 use Rattle.cons_eval.specs.Meanings.{is_on_board, are_placed}
 use Rattle.cons_eval.proofs.Callers.{all_placed}
-use Rattle.match_rules.specs.Fits.{place_of_cell}
 use Rattle.match_rules.specs.Conditions.{label_with, place_of_label, place_of_argument, meanings_at}
 use Rattle.match_engine.proofs.Places.{placed_on}
 
@@ -24,9 +23,7 @@ module _ (p : Pattern) (s t m : ℕ) (star : m < s * s) where
   -- a label that lies on the board has its point there
   label_on : (o : Option LabelAt) → is_on_board s (place_of_label p s t m o) ≡ true
   label_on None = refl
-  label_on (Some l) =
-      on_if_there s (place_of_cell p s t m (pos l.row) (pos l.col))
-      (λ q at. placed_on s t m (pos l.row -ℤ pos p.star.0, pos l.col -ℤ pos p.star.1) q at)
+  label_on (Some l) = grind (arith, on_if_there, placed_on)
 
   -- so has each argument
   argument_on : (a : Arg) → is_on_board s (place_of_argument p s t m a) ≡ true

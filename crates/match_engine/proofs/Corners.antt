@@ -58,19 +58,9 @@ module _ (p : Pattern) (s t m : ℕ) where
       }) in
       ap is_some found.1
 
-  -- where the first letter lies on the board, the last decides
-  pub last_decides : t < transformations → is_on 0 0 ≡ true → is_on (p.rows - 1) (p.cols - 1) ≡ lies_on_board p s t m
-  last_decides low first =
-      same_tests (is_on (p.rows - 1) (p.cols - 1)) (lies_on_board p s t m)
-      (λ last. on_all (between_corners low first last))
-      (λ all. on_each all (p.rows - 1) (p.cols - 1) (omega (arith, p.diagram.rows_from))
-      (omega (arith, p.diagram.columns_from)))
-
   -- where the first letter does not, the diagram does not
   pub first_decides : is_on 0 0 ≡ false → false ≡ lies_on_board p s t m
-  first_decides first =
-      same_tests false (lies_on_board p s t m) (λ e. absurd (false≢true e))
-      (λ all. sym first ∙ on_each all 0 0 (omega (arith, p.diagram.rows_from)) (omega (arith, p.diagram.columns_from)))
+  first_decides first = grind (arith, same_tests, false≢true, on_each)
 
 -- the place of the cell in row r and column c of the diagram, with the anchor's cell at a under t
 abbrev pub from_anchor : Pattern → ℕ → ℕ → ℕ → ℕ → ℕ → Option ℕ
@@ -93,9 +83,7 @@ module _ (p : Pattern) (s t a : ℕ) (low : t < transformations) where
   pub broken_first : (o : Option ℕ) → place_of_star p s t a ≡ o → from_anchor p s t a 0 0 ≡ None
       → None ≡ star_if_whole p s t o
   broken_first None star off = refl
-  broken_first (Some m) star off =
-      ap (λ b. cond b (Some m) None)
-      (first_decides p s t m (ap is_some (cell_from_anchor m 0 0 star ∙ off)))
+  broken_first (Some m) star off = grind (arith, first_decides, cell_from_anchor)
 
   -- if the last letter lies off the board, the diagram is not whole
   pub broken_last : (o : Option ℕ) → place_of_star p s t a ≡ o → from_anchor p s t a (p.rows - 1) (p.cols - 1) ≡ None
@@ -113,6 +101,4 @@ module _ (p : Pattern) (s t a : ℕ) (low : t < transformations) where
       → from_anchor p s t a (p.rows - 1) (p.cols - 1) ≡ Some y → o ≡ star_if_whole p s t o
   whole_between None x y star first last = refl
   whole_between (Some m) x y star first last =
-      ap (λ b. cond b (Some m) None)
-      (sym (ap is_some (cell_from_anchor m (p.rows - 1) (p.cols - 1) star ∙ last))
-      ∙ last_decides p s t m low (ap is_some (cell_from_anchor m 0 0 star ∙ first)))
+      grind (arith, cell_from_anchor, same_tests, on_all, between_corners, on_each)

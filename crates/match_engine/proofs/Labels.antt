@@ -1,11 +1,11 @@
 -- The labels of a pattern lie in its diagram.
-use Rattle.std.proofs.Common.{◌≡◌, ℕ, ◌<◌, Bool, true, cond, eqb, ltb, List, [], ◌∷◌, Some, sym, ap, ◌∙◌, subst, inl}
-use Rattle.std.proofs.Common.{inr}
+use Rattle.std.proofs.Common.{◌≡◌, ℕ, ◌<◌, Bool, true, ltb, List, [], ◌∷◌, Some}
+use Rattle.std.proofs.Common.{arith}
 use Rattle.std.specs.List.{list_all}
 use Rattle.std.proofs.lemmas.Bool.{cases_Bool, and_parts, ltb-true}
 use Rattle.std.proofs.lemmas.Option.{none-some, same_Some}
 use Rattle.pat_types.specs.declared.pattern.LabelAt.{LabelAt}
-use Rattle.pat_types.specs.Labels.{is_in, are_apart, are_labels}
+use Rattle.pat_types.specs.Labels.{are_labels}
 use Rattle.match_rules.specs.Conditions.{label_with}
 
 -- a label that is found passes what each label passes
@@ -13,21 +13,13 @@ found_in : (test : LabelAt → Bool) (letter : ℕ) (labels : List LabelAt) (l :
     → label_with letter labels ≡ Some l → list_all test labels ≡ true → test l ≡ true
 found_in test letter [] l found all = absurd (none-some l found)
 found_in test letter (k ∷ labels) l found all =
-    let parts = and_parts (test k) (list_all test labels) all in
-    elim (cases_Bool (eqb k.letter letter)) [
-      | inl here ↦ subst (λ x. test x ≡ true) (same_Some k l
-          (sym (ap (λ b. cond b (Some k) (label_with letter labels)) here) ∙ found)) parts.0
-      | inr later ↦ found_in test letter labels l
-          (sym (ap (λ b. cond b (Some k) (label_with letter labels)) later) ∙ found) parts.1
-    ]
+    grind (arith, and_parts, cases_Bool, same_Some, found_in test letter labels l)
 
 module _ (rows cols letter : ℕ) (labels : List LabelAt) (l : LabelAt) (found : label_with letter labels ≡ Some l)
     (are : are_labels rows cols labels ≡ true) where
   -- it lies in one of the rows and in one of the columns
   inside : (ltb l.row rows ≡ true) × (ltb l.col cols ≡ true)
-  inside = and_parts (ltb l.row rows) (ltb l.col cols)
-      (found_in (is_in rows cols) letter labels l found
-      (and_parts (list_all (is_in rows cols) labels) (are_apart labels) are).0)
+  inside = grind (arith, and_parts, found_in)
 
   -- the label lies in one of the rows
   pub label_row : l.row < rows

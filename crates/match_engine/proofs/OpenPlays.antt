@@ -1,5 +1,5 @@
 -- Plays whose stone has an empty neighbour at once.
-use Rattle.std.proofs.Common.{◌≡◌, ◌≢◌, ℕ, ◌*◌, ◌<◌, true, false, cond, ap, subst, ◌∙◌, arith, is_ok}
+use Rattle.std.proofs.Common.{◌≡◌, ℕ, ◌*◌, ◌<◌, true, false, ap, ◌∙◌, arith, is_ok}
 use Rattle.std.proofs.lemmas.Bool.Decides.{nat_tests}
 use Rattle.go_rules.specs.declared.Cell.TheVariants.{Empty}
 use Rattle.go_rules.specs.declared.Colour.{Colour}
@@ -22,20 +22,11 @@ module _ (pos : BoardState) (c : Colour) (p q : ℕ) (good : IsPosition pos) (on
     (beside : IsEmptyBeside pos p q) where
   -- behind the play a stone of its colour stands there
   stone_after : cell_at (after_on pos c p) p ≡ stone_of c
-  stone_after =
-      let put : cell_at (put_on pos c p) p ≡ stone_of c =
-      at_put_same pos.cells p (stone_of c) (omega (arith, on, good.cells)) in
-      at_after pos.size (put_on pos c p) c p on
-      ∙ ap (λ b. cond b Empty (cell_at (put_on pos c p) p)) (own_not_taken pos.size (put_on pos c p) c p put) ∙ put
+  stone_after = grind (arith, put_on, at_put_same, at_after, own_not_taken)
 
   -- and the point beside it is empty still
   empty_after : cell_at (after_on pos c p) q ≡ Empty
-  empty_after =
-      let apart : q ≢ p = λ same. not_beside pos.size p
-      (subst (λ k. are_neighbours pos.size p k ≡ true) same beside.near) in
-      let put : cell_at (put_on pos c p) q ≡ Empty = at_put_other pos.cells p q (stone_of c) apart ∙ beside.is_empty in
-      at_after pos.size (put_on pos c p) c q beside.on_board
-      ∙ ap (λ b. cond b Empty (cell_at (put_on pos c p) q)) (empty_not_taken pos.size (put_on pos c p) c q put) ∙ put
+  empty_after = grind (arith, not_beside, put_on, at_put_other, at_after, empty_not_taken)
 
 -- a play on an empty point that no ban is on, with an empty point beside it, is legal
 pub open_is_legal : (pos : BoardState) (c : Colour) (p q : ℕ) → IsPosition pos → p < pos.size * pos.size

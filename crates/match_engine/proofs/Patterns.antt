@@ -10,7 +10,7 @@ use Rattle.go_rules.specs.Position.{BoardState}
 use Rattle.go_rules.specs.Transform.{transformations}
 use Rattle.spiral.specs.Spiral.{place_at}
 use Rattle.pat_types.specs.declared.pattern.Pattern.{Pattern}
-use Rattle.pat_types.specs.Cells.{drawn_at, anchor_of}
+use Rattle.pat_types.specs.Cells.{anchor_of}
 use Rattle.dfa_core.specs.Automata.{Row}
 use Rattle.dfa_core.specs.States.{IsAutomatonOf}
 use Rattle.dfa_match.specs.declared.Hit.{Hit}
@@ -18,7 +18,7 @@ use Rattle.dfa_match.specs.Fitting.{FitsAt, IsFit}
 use Rattle.dfa_match.proofs.Bounds.{anchor_within}
 use Rattle.dfa_match.proofs.FitHits.{fit_from_hit, hit_from_fit}
 use Rattle.match_rules.specs.declared.found.Match.{Match}
-use Rattle.match_rules.specs.Fits.{place_of_cell, drawn_fits, fits}
+use Rattle.match_rules.specs.Fits.{place_of_cell, fits}
 use Rattle.cons_eval.specs.Readings.{Codes}
 use Rattle.match_rules.specs.Conditions.{Advice, all_yes, is_allowed, do_helpers_agree, is_agreed}
 use Rattle.match_rules.specs.Match.{is_match, matches_of}
@@ -56,15 +56,11 @@ module _ (p : Pattern) (board : BoardState) (friend : Colour) (t m a : ℕ) (low
 
   -- a pattern that fits at its anchor fits at its star
   fits_at_star : FitsAt p board friend t a → fits p board friend t m ≡ true
-  fits_at_star at =
-      all_cells p board friend t m
-      (λ r c. ap (drawn_fits (drawn_at p r c) board friend) (sym (same_place r c)) ∙ at.cells r c)
+  fits_at_star at = grind (arith, all_cells, same_place)
 
   -- a pattern that fits at its star fits at its anchor
   fits_at_anchor : fits p board friend t m ≡ true → FitsAt p board friend t a
-  fits_at_anchor is = record {
-    cells = λ r c. ap (drawn_fits (drawn_at p r c) board friend) (same_place r c) ∙ each_cell p board friend t m is r c;
-  }
+  fits_at_anchor is = grind (arith, same_place, each_cell)
 
 module _ (code : Codes) (advice : Advice) (patterns : List Pattern) (automaton : List Row) (board : BoardState)
     (friend : Colour) (accepts : IsAutomatonOf patterns automaton) where
@@ -212,8 +208,7 @@ module _ (code : Codes) (patterns : List Pattern) (automaton : List Row) (board 
       → now ≡ automaton_matches code all_yes automaton patterns board friend
       → last ≡ filter (λ z. is_agreed_at advice board friend (slice_get patterns z.pattern) z) now
       → last ≡ automaton_matches code advice automaton patterns board friend
-  if_agreed advice now last is kept =
-      kept ∙ ap (filter (λ z. is_agreed_at advice board friend (slice_get patterns z.pattern) z)) is ∙ agreed advice
+  if_agreed advice now last is kept = grind (arith, agreed)
 
   -- what was found is of a pattern of the list, at a point of the board
   pub found-there : (z : Match) → Contains (found_by automaton patterns board friend) z → IsFoundThere patterns board z

@@ -1,6 +1,6 @@
 -- Where offsets lead, one after another and between two others.
-use Rattle.std.proofs.Common.{◌≡◌, ℕ, ◌+◌, ◌*◌, ◌/◌, ◌%◌, ◌<◌, ◌⊎◌, inl, inr, Option, Some, None, cond, ltb}
-use Rattle.std.proofs.Common.{refl, sym, ap, ◌∙◌, subst, arith, ℤ, pos, negsuc, ◌+ℤ◌, ◌≤ℤ◌, neg_ℤ}
+use Rattle.std.proofs.Common.{◌≡◌, ℕ, ◌+◌, ◌*◌, ◌/◌, ◌%◌, ◌<◌, ◌⊎◌, inl, inr, Option, Some, None}
+use Rattle.std.proofs.Common.{refl, sym, ap, ◌∙◌, arith, ℤ, pos, negsuc, ◌+ℤ◌, ◌≤ℤ◌, neg_ℤ}
 use Rattle.std.proofs.lemmas.Bool.{cases_eq, ltb-true, lt-ltb}
 use Rattle.std.proofs.lemmas.Int.{ints}
 use Rattle.std.proofs.lemmas.Nat.{mul-add-lt, div-mul-add, mod-mul-add, div_below, mod_below, div-add-mod'}
@@ -24,16 +24,7 @@ MovesSums t = (d e : Offset) → ((transformed t (sum_of d e)).0 ≡ (transforme
 
 -- every transformation moves sums as it moves each
 moves_sums : (t : ℕ) → t < transformations → MovesSums t
-moves_sums =
-    each_of_eight MovesSums
-    (λ d e. (refl, refl))
-    (λ d e. (refl, neg-add d.0 e.0))
-    (λ d e. (neg-add d.0 e.0, neg-add d.1 e.1))
-    (λ d e. (neg-add d.1 e.1, refl))
-    (λ d e. (refl, neg-add d.1 e.1))
-    (λ d e. (neg-add d.1 e.1, neg-add d.0 e.0))
-    (λ d e. (neg-add d.0 e.0, refl))
-    (λ d e. (refl, refl))
+moves_sums = grind (arith, each_of_eight, neg-add)
 
 -- t leaves the offset (0, 0) where it is
 abbrev KeepsNone : ℕ → Type 0
@@ -89,13 +80,8 @@ pub record IsPlaced (s t m : ℕ) (d : Offset) (a : ℕ) : Type 0 where
 
 -- a strip that is there is on the board
 strip_of-Some : (s : ℕ) (z : ℤ) (n : ℕ) → strip_of s z ≡ Some n → (z ≡ pos n) × (n < s)
-strip_of-Some s (pos k) n e = let parts = cond_some (ltb k s) k n e in
-    (ap pos parts.1, subst (λ j. j < s) parts.1 (ltb-true k s parts.0))
+strip_of-Some s (pos k) n e = grind (arith, cond_some, ltb-true)
 strip_of-Some s (negsuc k) n e = absurd (none-some n e)
-
--- a strip on the board is there
-strip_of-at : (s : ℕ) (z : ℤ) (n : ℕ) → z ≡ pos n → n < s → strip_of s z ≡ Some n
-strip_of-at s z n e l = ap (strip_of s) e ∙ ap (λ b. cond b (Some n) None) (lt-ltb n s l)
 
 -- a point that is there stands in a row and a column
 point_of-Some : (s a : ℕ) (row column : Option ℕ) → point_of s row column ≡ Some a
@@ -109,34 +95,21 @@ module _ (s t m : ℕ) where
   pub placed-Some : (d : Offset) (a : ℕ) → place_at s t m d ≡ Some a → IsPlaced s t m d a
   unfolding place_at
   placed-Some d a e =
-      let p = point_of-Some s a (strip_of s (pos (m / s) +ℤ (transformed t d).0))
-      (strip_of s (pos (m % s) +ℤ (transformed t d).1)) e in
-      let row = strip_of-Some s (pos (m / s) +ℤ (transformed t d).0) p.0 p.2 in
-      let column = strip_of-Some s (pos (m % s) +ℤ (transformed t d).1) p.1 p.3 in
-      record {
-        row = p.0;
-        column = p.1;
-        row_is = row.0;
-        column_is = column.0;
-        row_on = row.1;
-        column_on = column.1;
-        point = p.4;
-      }
+      grind (
+        arith,
+        point_of-Some s a (strip_of s (pos (m / s) +ℤ (transformed t d).0)) (strip_of s (pos (m % s) +ℤ (transformed t d).1)) e,
+        strip_of-Some s (pos (m / s) +ℤ (transformed t d).0),
+        strip_of-Some s (pos (m % s) +ℤ (transformed t d).1),
+      )
 
   -- the point in that row and column is what the offset leads to
   pub place_at-at : (d : Offset) (a : ℕ) → IsPlaced s t m d a → place_at s t m d ≡ Some a
   unfolding place_at
-  place_at-at d a p =
-      ap (λ o. point_of s o (strip_of s (pos (m % s) +ℤ (transformed t d).1)))
-      (strip_of-at s (pos (m / s) +ℤ (transformed t d).0) p.row p.row_is p.row_on)
-      ∙ ap (point_of s (Some p.row)) (strip_of-at s
-      (pos (m % s) +ℤ (transformed t d).1) p.column p.column_is p.column_on)
-      ∙ ap Some p.point
+  place_at-at d a p = grind (arith, lt-ltb)
 
   -- an offset leads to a point of the board
   pub placed_on : (d : Offset) (a : ℕ) → place_at s t m d ≡ Some a → a < s * s
-  placed_on d a e = let p = placed-Some d a e in
-      subst (λ n. n < s * s) p.point (mul-add-lt p.row s p.column s p.row_on p.column_on)
+  placed_on d a e = grind (arith, placed-Some d a e, mul-add-lt)
 
 -- from a strip reached by one part, another part leads where the sum of both leads
 next_strip : (h r : ℕ) (x y w : ℤ) → pos h +ℤ x ≡ pos r → w ≡ x +ℤ y → pos r +ℤ y ≡ pos h +ℤ w
@@ -164,10 +137,7 @@ place_at-sum s t m d e a low there =
 
 -- a board with a point has a row
 some_row : (s p : ℕ) → p < s * s → 0 < s
-some_row s p h = elim (cases_eq s 0) [
-  | inl e ↦ absurd (let z : p < 0 * 0 = rw e at h in omega arith)
-  | inr ne ↦ omega arith
-]
+some_row s p h = grind (arith, cases_eq)
 
 -- by the offset (0, 0) a strip leads to itself
 same_strip : (n : ℕ) (z : ℤ) → z ≡ pos 0 → pos n +ℤ z ≡ pos n
@@ -199,27 +169,13 @@ strip_within s (negsuc n) low high = absurd (omega (arith, ints, low))
 -- a strip between two strips of the board is one
 strip_between : (s h b c : ℕ) (x y z : ℤ) → pos h +ℤ x ≡ pos b → b < s → pos h +ℤ z ≡ pos c → c < s → IsBetween x y z
     → IsStrip s (pos h +ℤ y)
-strip_between s h b c x y z e k f l (inl up) =
-    strip_within s (pos h +ℤ y) (omega (arith, ints, e, f, up.0, up.1)) (omega (arith, ints, e, f, k, l, up.0, up.1))
-strip_between s h b c x y z e k f l (inr down) =
-    strip_within s (pos h +ℤ y) (omega (arith, ints, e, f, down.0, down.1))
-    (omega (arith, ints, e, f, k, l, down.0, down.1))
+strip_between s h b c x y z e k f l (inl up) = grind (arith, strip_within, ints)
+strip_between s h b c x y z e k f l (inr down) = grind (arith, strip_within, ints)
 
 -- an offset that leads to a row and a column of the board leads to a point
 placed : (s t m : ℕ) (e : Offset) → IsStrip s (pos (m / s) +ℤ (transformed t e).0)
     → IsStrip s (pos (m % s) +ℤ (transformed t e).1) → (q : ℕ) × (place_at s t m e ≡ Some q)
-placed s t m e row column = (
-  row.0 * s + column.0,
-  place_at-at s t m e (row.0 * s + column.0) (record {
-    row = row.0;
-    column = column.0;
-    row_is = row.1;
-    column_is = column.1;
-    row_on = row.2;
-    column_on = column.2;
-    point = refl;
-  }),
-)
+placed s t m e row column = grind (arith, place_at-at s t m e (row.0 * s + column.0))
 
 -- what lies between two offsets that lead to points leads to a point
 pub placed_between : (s t m a b : ℕ) (d e f : Offset) → t < transformations → place_at s t m d ≡ Some a

@@ -1,5 +1,5 @@
 -- What is remembered of plays, and what a play says.
-use Rattle.std.proofs.Common.{◌≡◌, ℕ, Bool, true, false, cond, nat_eq, Ok, Err, refl, sym, ap, ◌∙◌}
+use Rattle.std.proofs.Common.{◌≡◌, ℕ, Bool, true, false, cond, nat_eq, Ok, Err, refl, ◌∙◌, arith}
 use Rattle.std.specs.Ordering.{nat_cmp}
 use Rattle.std.specs.FinSet as set
 use Rattle.go_rules.specs.declared.Colour.{Colour}
@@ -14,7 +14,7 @@ use Rattle.read_rules.specs.declared.question.Kind.TheVariants.{Attack}
 use Rattle.read_rules.specs.Answer.{answer_of}
 use Rattle.read_rules.proofs.RuleLemmas.{code-answer_of}
 use Rattle.cons_eval.specs.Readings.{Codes, code_at}
-use Rattle.cons_eval.specs.Functions.{after_play, is_safe_move}
+use Rattle.cons_eval.specs.Functions.{is_safe_move}
 use Rattle.match_engine.specs.declared.plays.Plays.{Plays}
 use Rattle.match_engine.specs.ReadingDepths.{ReadingDepths, asked_at}
 use Rattle.match_engine.specs.Readings.{codes_at}
@@ -37,24 +37,19 @@ stone_there White some = refl
 pub read_code : (depths : ReadingDepths) (kind : Kind) (pos : BoardState) (p code : ℕ)
     → (cell_at pos.cells p ≡ Empty → ⊥) → code ≡ (answer_of (asked_at depths pos kind p) pos).code
     → code ≡ code_at (codes_at depths) kind pos p
-read_code depths kind pos p code some is =
-    answer_codes depths kind pos p code is
-    ∙ sym (ap (λ b. cond b (codes_at depths kind pos p) 0) (stone_there (cell_at pos.cells p) some))
+read_code depths kind pos p code some is = grind (arith, answer_codes, stone_there)
 
 module _ (code : Codes) (board : BoardState) (c : Colour) where
   -- a legal play is safe where the code of an attack on its stone is 0
   pub safe_after : (m n : ℕ) (next : BoardState) → play board c m ≡ Ok next → n ≡ code_at code Attack next m
       → nat_eq n 0 ≡ is_safe_move code board c m
   unfolding is_safe_move
-  safe_after m n next legal is =
-      ap (λ k. nat_eq k 0) is ∙ sym
-      (ap (after_play false (λ (after : BoardState). nat_eq (code_at code Attack after m) 0)) legal)
+  safe_after m n next legal is = grind arith
 
   -- an illegal play is not
   pub safe_never : (m : ℕ) (reason : Illegal) → play board c m ≡ Err reason → false ≡ is_safe_move code board c m
   unfolding is_safe_move
-  safe_never m reason illegal =
-      sym (ap (after_play false (λ (after : BoardState). nat_eq (code_at code Attack after m) 0)) illegal)
+  safe_never m reason illegal = grind arith
 
   -- what is known of the question whether c's play at a point is legal and safe, is remembered of the plays
   remembered : (plays : Plays) → Knows (is_safe_move code board c) (record { asked = plays.asked; holds = plays.safe })

@@ -1,5 +1,5 @@
 -- A question that was read is found again while the facts of its answer hold and few other questions were read.
-use Rattle.std.proofs.Common.{◌≡◌, ◌∙◌, ℕ, suc, ◌≤◌, ◌⊎◌, arith, inl, inr, refl, sym, ap, subst, true, rules}
+use Rattle.std.proofs.Common.{◌≡◌, ◌∙◌, ℕ, suc, ◌≤◌, ◌⊎◌, arith, inl, inr, refl, sym, subst, true, rules}
 use Rattle.std.proofs.Common.{Option, Some, None, IfSome}
 use Rattle.go_rules.specs.Position.{BoardState, IsPosition}
 use Rattle.go_base.specs.Facts.{Fact, SizeIs, CellIs, BanIs, IsFactOf}
@@ -7,20 +7,13 @@ use Rattle.read_rules.specs.declared.question.Answer.{Answer}
 use Rattle.read_rules.specs.ActiveArea.{InActiveArea, AgreeOn, IsAboutOne}
 use Rattle.read_cache.specs.Variants.{Stands}
 use Rattle.read_cache.specs.Kept.{Kept, HoldsOfEach}
-use Rattle.read_cache.specs.Keeping.{Keeping, IsKeptFirst, WasAsked, WasKept, WasFresh, raised}
+use Rattle.read_cache.specs.Keeping.{Keeping, IsKeptFirst, WasKept, WasFresh}
 use Rattle.read_cache.specs.declared.variants.Variant.{Variant}
-use Rattle.read_cache.proofs.KeepingLemmas.{WasAsked-answered}
 use Rattle.read_cache.proofs.LastingVariants.{IsAmongFirst, of_first, IsAmongFirst-stands, IsAmongFirst-kept}
 use Rattle.read_cache.proofs.LastingVariants.{IsAmongFirst-found, IsAmongFirst-first, IsAmongFirst-again}
 use Rattle.match_engine.specs.declared.keys.Key.{Key}
 use Rattle.match_engine.specs.Keys.{same_key, same_key-is}
-use Rattle.match_engine.specs.Readings.{ReadingsView, Rests, HasRead, MayTry}
-
--- after one reading its question was asked, whatever was tried for it
-WasAsked-read : (key : Key) (pos : BoardState) (answer : Answer) (old new : ReadingsView)
-    → HasRead key pos answer old new → WasAsked same_key key Rests pos answer old.answers new.answers
-WasAsked-read key pos answer old new has =
-    WasAsked-answered same_key key Rests (MayTry key pos) pos answer new.last old.answers new.answers has.read
+use Rattle.match_engine.specs.Readings.{ReadingsView, Rests, HasRead}
 
 -- a question equals itself
 same_key-self : (q : Key) → same_key q q ≡ true
@@ -37,11 +30,7 @@ IsFactOf-agree S a b (BanIs p c forbidden) agree near is = sym (agree.bans p c n
 Stands-agree : (key : Key) (variant : Variant Answer) (a b : BoardState) → Rests key variant → Stands a variant
     → IsPosition b
     → AgreeOn (InActiveArea key.question a) a b → Stands b variant
-Stands-agree key variant a b rests stands sound agree = record {
-  sound = sound;
-  each = λ fact seen. IsFactOf-agree (InActiveArea key.question a) a b fact agree (rests.near a stands fact seen)
-      (stands.each fact seen);
-}
+Stands-agree key variant a b rests stands sound agree = grind (arith, IsFactOf-agree (InActiveArea key.question a) a b)
 
 -- an answer to the question that stands on the position and rests on its facts is among its first n, and the question
 -- among the first n
@@ -51,22 +40,12 @@ pub record IsAtHand (key : Key) (pos : BoardState) (n : ℕ) (kept : Kept Key An
   pub stands : Stands pos variant
   pub among : IsAmongFirst same_key key variant n kept
 
--- a count that was raised is not 0
-raised-some : (count : ℕ) → raised count 1 ≡ 0 → ⊥
-raised-some count none = omega (arith, none)
-
 -- where no keeping was refused, an answer was kept first, or it had been kept
 kept_cases : (key : Key) (pos : BoardState) (answer : Answer) (old new : ReadingsView) → HasRead key pos answer old new
     → new.answers.refused ≡ 0
     → IsKeptFirst same_key key Rests pos answer old.answers new.answers
     ⊎ WasKept same_key key pos answer old.answers new.answers
-kept_cases key pos answer old new has none = elim (WasAsked-read key pos answer old new has) [
-  | inl fresh ↦ elim fresh.keeping [
-    | inl first ↦ inl first
-    | inr refused ↦ absurd (raised-some old.answers.refused (sym refused.refused ∙ none))
-  ]
-  | inr kept ↦ inr kept
-]
+kept_cases key pos answer old new has none = grind arith
 
 -- an answer that is kept first is at hand
 IsAtHand-fresh : (key : Key) (pos : BoardState) (answer : Answer) (old new : Keeping Key Answer)
@@ -144,19 +123,10 @@ IsAtHand-kept key pos n here answer old new hand sound agree has =
 pub HasRead-capacity : (key : Key) (pos : BoardState) (answer : Answer) (old new : ReadingsView)
     → HasRead key pos answer old new
     → new.answers.kept.1 ≡ old.answers.kept.1
-HasRead-capacity key pos answer old new has = elim (WasAsked-read key pos answer old new has) [
-  | inl fresh ↦ elim fresh.keeping [
-    | inl first ↦ ap (λ (k : Kept Key Answer). k.1) first.kept
-    | inr refused ↦ ap (λ (k : Kept Key Answer). k.1) refused.kept
-  ]
-  | inr kept ↦ ap (λ (k : Kept Key Answer). k.1) kept.found.new_is
-]
+HasRead-capacity key pos answer old new has = grind arith
 
 -- where no keeping is counted as refused after a reading, none was before
 pub HasRead-refused : (key : Key) (pos : BoardState) (answer : Answer) (old new : ReadingsView)
     → HasRead key pos answer old new
     → new.answers.refused ≡ 0 → old.answers.refused ≡ 0
-HasRead-refused key pos answer old new has none = elim (kept_cases key pos answer old new has none) [
-  | inl first ↦ sym first.refused ∙ none
-  | inr kept ↦ sym kept.refused ∙ none
-]
+HasRead-refused key pos answer old new has none = grind (arith, kept_cases)

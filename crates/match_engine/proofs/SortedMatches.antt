@@ -50,10 +50,6 @@ rising_by_rank ranks true_ranks order i j d l k =
     omega (arith, at_i, at_j, order i j 0 l on)
 
 module _ {X : Type 0} where
-  -- the empty list has no two elements
-  AreDistinct-nil : AreDistinct {X = X} []
-  AreDistinct-nil i j d l k e = absurd (omega arith)
-
   -- one element more in front, which the list does not have
   AreDistinct-front : (y : X) (ys : List X) → (Contains ys y → ⊥) → AreDistinct ys → AreDistinct (y ∷ ys)
   AreDistinct-front y ys new distinct zero zero d l k e = refl
@@ -68,7 +64,7 @@ module _ {X Y : Type 0} (f : X → Option Y) where
   pub AreDistinct-filter_map : (xs : List X)
       → ((x w : X) (y : Y) → Contains xs x → Contains xs w → f x ≡ Some y → f w ≡ Some y → x ≡ w) → AreDistinct xs
       → AreDistinct (filter_map f xs)
-  AreDistinct-filter_map [] one distinct = AreDistinct-nil
+  AreDistinct-filter_map [] one distinct = grind arith
   AreDistinct-filter_map (x ∷ xs) one distinct =
       by (f x) refl (AreDistinct-filter_map xs
       (λ v w y in_v in_w e g. one v w y (Contains-rest x xs v in_v) (Contains-rest x xs w in_w) e g)

@@ -90,8 +90,7 @@ module _ {Y : Type 0} where
   -- what a function gives is in the list of what it gives
   given_first : (o : Option Y) (zs : List Y) (z : Y) → Contains (cons_option o zs) z → (o ≡ Some z) ⊎ Contains zs z
   given_first None zs z there = inr there
-  given_first (Some y) zs z there =
-      elim (Contains-cons_cases y zs z there) [ inl first ↦ inl (ap Some first) | inr later ↦ inr later ]
+  given_first (Some y) zs z there = grind (arith, Contains-cons_cases)
 
   -- what a list has is there with what a function gives before it
   given_later : (o : Option Y) (zs : List Y) (z : Y) → Contains zs z → Contains (cons_option o zs) z
@@ -102,18 +101,14 @@ module _ {X Y : Type 0} where
   -- what is in a mapped list comes from an element
   pub Contains-map : (f : X → Y) (xs : List X) (z : Y) → Contains (map f xs) z → (x : X) × Contains xs x × (f x ≡ z)
   Contains-map f [] z there = absurd (Contains-nil z there)
-  Contains-map f (x ∷ xs) z there = elim (Contains-cons_cases (f x) (map f xs) z there) [
-    | inl first ↦ (x, Contains-first x xs x refl, first)
-    | inr later ↦ let rest = Contains-map f xs z later in (rest.0, Contains-rest x xs rest.0 rest.1, rest.2)
-  ]
+  Contains-map f (x ∷ xs) z there =
+      grind (arith, Contains-cons_cases, Contains-first, Contains-map f xs z, Contains-rest)
 
   -- what an element is mapped to is in the mapped list
   pub Contains-map_from : (f : X → Y) (xs : List X) (x : X) → Contains xs x → Contains (map f xs) (f x)
   Contains-map_from f [] x there = absurd (Contains-nil x there)
-  Contains-map_from f (w ∷ xs) x there = elim (Contains-cons_cases w xs x there) [
-    | inl first ↦ Contains-first (f w) (map f xs) (f x) (ap f first)
-    | inr later ↦ Contains-rest (f w) (map f xs) (f x) (Contains-map_from f xs x later)
-  ]
+  Contains-map_from f (w ∷ xs) x there =
+      grind (arith, Contains-cons_cases, Contains-first, Contains-rest, Contains-map_from f xs x)
 
   -- what is in lists that are joined is in one of them
   pub Contains-flat_map : (f : X → List Y) (xs : List X) (z : Y) → Contains (flat_map f xs) z
@@ -137,36 +132,22 @@ module _ {X Y : Type 0} where
   pub Contains-filter_map : (f : X → Option Y) (xs : List X) (z : Y) → Contains (filter_map f xs) z
       → (x : X) × Contains xs x × (f x ≡ Some z)
   Contains-filter_map f [] z there = absurd (Contains-nil z there)
-  Contains-filter_map f (x ∷ xs) z there = elim (given_first (f x) (filter_map f xs) z there) [
-    | inl first ↦ (x, Contains-first x xs x refl, first)
-    | inr later ↦ let rest = Contains-filter_map f xs z later in (rest.0, Contains-rest x xs rest.0 rest.1, rest.2)
-  ]
+  Contains-filter_map f (x ∷ xs) z there =
+      grind (arith, given_first, Contains-first, Contains-filter_map f xs z, Contains-rest)
 
   -- what a function gives for an element is in the list of what it gives
   pub Contains-filter_map_from : (f : X → Option Y) (xs : List X) (x : X) (z : Y) → Contains xs x → f x ≡ Some z
       → Contains (filter_map f xs) z
   Contains-filter_map_from f [] x z there e = absurd (Contains-nil x there)
-  Contains-filter_map_from f (w ∷ xs) x z there e = elim (Contains-cons_cases w xs x there) [
-    | inl first ↦ subst (λ o. Contains (cons_option o (filter_map f xs)) z) (sym (ap f first ∙ e))
-        (Contains-first z (filter_map f xs) z refl)
-    | inr later ↦ given_later (f w) (filter_map f xs) z (Contains-filter_map_from f xs x z later e)
-  ]
+  Contains-filter_map_from f (w ∷ xs) x z there e =
+      grind (arith, Contains-cons_cases, Contains-first, given_later, Contains-filter_map_from f xs x z)
 
 module _ {X : Type 0} (test : X → Bool) where
   -- what passes a filter is in the list, and passes the test
   pub Contains-filter : (xs : List X) (z : X) → Contains (filter test xs) z → Contains xs z × (test z ≡ true)
   Contains-filter [] z there = absurd (Contains-nil z there)
   Contains-filter (x ∷ xs) z there =
-      let later : Contains (filter test xs) z → Contains (x ∷ xs) z × (test z ≡ true) = λ here. let rest =
-      Contains-filter xs z here in (Contains-rest x xs z rest.0, rest.1) in
-      elim (cases_Bool (test x)) [
-        | inr fails ↦ later (subst (λ b. Contains (cond b (x ∷ filter test xs) (filter test xs)) z) fails there)
-        | inl passes ↦ elim (Contains-cons_cases x (filter test xs) z
-            (subst (λ b. Contains (cond b (x ∷ filter test xs) (filter test xs)) z) passes there)) [
-              | inl first ↦ (Contains-first x xs z first, sym (ap test first) ∙ passes)
-              | inr here ↦ later here
-            ]
-      ]
+      grind (arith, Contains-filter xs z, Contains-rest, cases_Bool, Contains-cons_cases, Contains-first)
 
   -- an element that passes the test passes the filter
   pub Contains-filter_from : (xs : List X) (z : X) → Contains xs z → test z ≡ true → Contains (filter test xs) z
@@ -184,12 +165,7 @@ module _ {X : Type 0} (test : X → Bool) where
   -- where a test passes each element of a list
   pub passes_each : (xs : List X) → list_all test xs ≡ true → (z : X) → Contains xs z → test z ≡ true
   passes_each [] e z there = absurd (Contains-nil z there)
-  passes_each (x ∷ xs) e z there =
-      let parts = and_parts (test x) (list_all test xs) e in
-      elim (Contains-cons_cases x xs z there) [
-        | inl first ↦ sym (ap test first) ∙ parts.0
-        | inr later ↦ passes_each xs parts.1 z later
-      ]
+  passes_each (x ∷ xs) e z there = grind (arith, and_parts, Contains-cons_cases, passes_each xs)
 
   -- a list passes whose elements all pass
   pub passes_all : (xs : List X) → ((z : X) → Contains xs z → test z ≡ true) → list_all test xs ≡ true
@@ -201,10 +177,7 @@ module _ {X : Type 0} (test : X → Bool) where
 -- the numbers of a range
 pub Contains-range : (a n k : ℕ) → Contains (range_with_len a n) k → (a ≤ k) × (k < a + n)
 Contains-range a zero k there = absurd (Contains-nil k there)
-Contains-range a (suc n) k there = elim (Contains-cons_cases a (range_with_len (a + 1) n) k there) [
-  | inl first ↦ (omega (arith, first), omega (arith, first))
-  | inr later ↦ let rest = Contains-range (a + 1) n k later in (omega (arith, rest.0), omega (arith, rest.1))
-]
+Contains-range a (suc n) k there = grind (arith, Contains-cons_cases, Contains-range (a + 1) n k)
 
 -- a range has its numbers
 pub Contains-range_from : (a n k : ℕ) → a ≤ k → k < a + n → Contains (range_with_len a n) k
@@ -234,34 +207,15 @@ module _ {X : Type 0} where
   pub Contains-enumerate : (a : ℕ) (xs : List X) (z : ℕ × X) → Contains (enumerate_from a xs) z
       → (a ≤ z.0) × (slice_get xs (z.0 - a) ≡ Some z.1)
   Contains-enumerate a [] z there = absurd (Contains-nil z there)
-  Contains-enumerate a (x ∷ xs) z there = elim (Contains-cons_cases (a, x) (enumerate_from (a + 1) xs) z there) [
-    | inl first ↦
-        let none : z.0 - a ≡ 0 = omega (arith, ap (λ (w : ℕ × X). w.0) first) in (
-          omega (arith, ap (λ (w : ℕ × X). w.0) first),
-          ap (slice_get (x ∷ xs)) none ∙ ap Some (ap (λ (w : ℕ × X). w.1) first),
-        )
-    | inr later ↦
-        let rest = Contains-enumerate (a + 1) xs z later in
-        let next : z.0 - a ≡ suc (z.0 - (a + 1)) = omega (arith, rest.0) in
-        (omega (arith, rest.0), ap (slice_get (x ∷ xs)) next ∙ rest.1)
-  ]
+  Contains-enumerate a (x ∷ xs) z there = grind (arith, Contains-cons_cases, Contains-enumerate (a + 1) xs z)
 
   -- the element at a place is numbered by it
   pub Contains-enumerate_from : (a : ℕ) (xs : List X) (i : ℕ) (x : X) → slice_get xs i ≡ Some x
       → Contains (enumerate_from a xs) (a + i, x)
   Contains-enumerate_from a [] i x e = absurd (none-some x e)
-  Contains-enumerate_from a (w ∷ xs) zero x e =
-      let none : a ≡ a + 0 = omega arith in
-      Contains-first (a, w) (enumerate_from (a + 1) xs) (
-        a + 0,
-        x,
-      ) (ap (λ v. (a, v)) (same_Some w x e) ∙ ap (λ n. (n, x)) none)
+  Contains-enumerate_from a (w ∷ xs) zero x e = grind (arith, Contains-first, same_Some)
   Contains-enumerate_from a (w ∷ xs) (suc i) x e =
-      let sums : a + 1 + i ≡ a + suc i = omega arith in
-      Contains-rest (a, w) (enumerate_from (a + 1) xs) (
-        a + suc i,
-        x,
-      ) (subst (λ n. Contains (enumerate_from (a + 1) xs) (n, x)) sums (Contains-enumerate_from (a + 1) xs i x e))
+      grind (arith, Contains-rest, Contains-enumerate_from (a + 1) xs i x e)
 
   -- the numbers of numbered elements rise
   pub enumerate_rises : (a : ℕ) (xs : List X) → AllPairs (λ y z. y.0 < z.0) (enumerate_from a xs)

@@ -26,18 +26,7 @@ one_way y z (inr (e, inr (h, a))) (inr (f, inr (g, b))) = omega arith
 
 -- of two matches one comes before the other, or they are the same
 pub which_first : (y z : Match) → ComesBefore y z ⊎ ((y ≡ z) ⊎ ComesBefore z y)
-which_first y z = by (cases_order y.pattern z.pattern) (cases_order y.transform z.transform) (cases_order y.at z.at)
-  where
-    by : (y.pattern ≡ z.pattern) ⊎ ((y.pattern < z.pattern) ⊎ (z.pattern < y.pattern))
-        → (y.transform ≡ z.transform) ⊎ ((y.transform < z.transform) ⊎ (z.transform < y.transform))
-        → (y.at ≡ z.at) ⊎ ((y.at < z.at) ⊎ (z.at < y.at)) → ComesBefore y z ⊎ ((y ≡ z) ⊎ ComesBefore z y)
-    by (inr (inl a)) t m = inl (inl a)
-    by (inr (inr a)) t m = inr (inr (inl a))
-    by (inl e) (inr (inl a)) m = inl (inr (e, inl a))
-    by (inl e) (inr (inr a)) m = inr (inr (inr (sym e, inl a)))
-    by (inl e) (inl f) (inr (inl a)) = inl (inr (e, inr (f, a)))
-    by (inl e) (inl f) (inr (inr a)) = inr (inr (inr (sym e, inr (sym f, a))))
-    by (inl e) (inl f) (inl g) = inr (inl (λ i. record { pattern = e i; transform = f i; at = g i }))
+which_first y z = grind (arith, cases_order)
 
 -- a match that comes before one that comes before a third comes before the third
 pub before_both : (x y z : Match) → ComesBefore x y → ComesBefore y z → ComesBefore x z

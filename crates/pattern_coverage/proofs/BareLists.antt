@@ -1,6 +1,6 @@
 -- Lists of bare patterns that grow by one pattern after another.
 use Rattle.std.proofs.Common.{◌≡◌, ℕ, ◌<◌, ◌+◌, List, [], ◌∷◌, ◌++◌, length, take, get_or}
-use Rattle.std.proofs.Common.{sym, ap, ◌∙◌, subst, arith}
+use Rattle.std.proofs.Common.{arith}
 use Rattle.std.proofs.lemmas.List.{take_more, length_push}
 use Rattle.pat_types.specs.declared.pattern.Pattern.{Pattern}
 use Rattle.pattern_coverage.specs.Bare.{IsBare, AreBare}
@@ -19,7 +19,4 @@ pub AreBare-next : (patterns bare more : List Pattern) (i : ℕ) (p b : Pattern)
     → p ≡ get_or patterns i p → AreBare (take i patterns) bare → IsBare p b → more ≡ bare ++ b ∷ []
     → AreBare (take (i + 1) patterns) more
 AreBare-next patterns bare more i p b low read are is now =
-    subst (AreBare (take (i + 1) patterns)) (sym now)
-    (subst (λ all. AreBare all (bare ++ b ∷ []))
-    (sym (take_more patterns i p low ∙ ap (λ q. take i patterns ++ q ∷ []) (sym read)))
-    (AreBare-more p b (take i patterns) bare are is))
+    grind (arith, take_more patterns i p low, AreBare-more p b (take i patterns) bare are is)

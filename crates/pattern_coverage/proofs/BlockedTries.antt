@@ -1,20 +1,17 @@
 -- The tries that end at the move: those at empty points where it is not legal, if the diagram fits.
 use Rattle.std.proofs.Common.{◌≡◌, ℕ, ◌+◌, ◌*◌, ◌<◌, ◌≤◌, Bool, true, false, not, ◌&&◌, eqb, List, map}
 use Rattle.std.proofs.Common.{filter}
-use Rattle.std.proofs.Common.{[], ◌∷◌, ◌++◌, length, get_or, count_by, Contains, Some, refl, sym, ap, ◌∙◌, subst, arith}
+use Rattle.std.proofs.Common.{length, get_or, count_by, Contains, Some, refl, sym, ap, ◌∙◌, subst, arith}
 use Rattle.std.proofs.Common.{pos, ◌-ℤ◌}
-use Rattle.std.specs.List.{flat_map, range_with_len, All}
+use Rattle.std.specs.List.{range_with_len, All}
 use Rattle.std.proofs.lemmas.Grind.{flat_map-append}
 use Rattle.std.proofs.lemmas.List.{append-nil}
 use Rattle.std.proofs.lemmas.List.Elements.{Contains-get_or}
 use Rattle.std.proofs.lemmas.List.FromFn.{length-range_with_len}
 use Rattle.std.proofs.lemmas.List.Sums.{length-filter, count_by-le-length}
-use Rattle.std.proofs.lemmas.Bool.{eq-eqb, ne_eqb, false≢true}
+use Rattle.std.proofs.lemmas.Bool.{ne_eqb}
 use Rattle.std.proofs.Math.Bool.{and-false}
 use Rattle.std.proofs.lemmas.Int.{ints}
-use Rattle.std.proofs.lemmas.Nat.{mul-add-lt}
-use Rattle.std.proofs.lemmas.Option.{same_Some}
-use Rattle.go_rules.specs.declared.Cell.{Cell}
 use Rattle.go_rules.specs.declared.Cell.TheVariants.{Empty}
 use Rattle.go_rules.specs.declared.Colour.{Colour}
 use Rattle.go_rules.specs.Position.{BoardState}
@@ -22,15 +19,10 @@ use Rattle.go_rules.specs.Play.{is_legal}
 use Rattle.go_rules.specs.Strings.{cell_at, same_cell}
 use Rattle.go_rules.specs.Transform.{transformations}
 use Rattle.spiral.specs.Spiral.{place_at}
-use Rattle.pat_types.specs.declared.letter.Letter.{Letter}
-use Rattle.pat_types.specs.declared.letter.Letter.TheVariants.{Friend, Enemy, FriendOrEmpty, EnemyOrEmpty, Any, Star}
-use Rattle.pat_types.specs.declared.letter.Letter.TheVariants.{Empty as empty}
 use Rattle.pat_types.specs.declared.pattern.Pattern.{Pattern}
-use Rattle.pat_types.specs.Diagrams.{is_star}
-use Rattle.pat_types.specs.Letters.{admits}
 use Rattle.pat_types.specs.Marks.{count_of}
 use Rattle.read_rules.specs.declared.depths.Depths.{Depths}
-use Rattle.match_rules.specs.Fits.{letter_at, fits}
+use Rattle.match_rules.specs.Fits.{fits}
 use Rattle.match_rules.specs.Conditions.{Advice}
 use Rattle.match_rules.proofs.InWords.{each_cell, letter_from_cell}
 use Rattle.match_rules.proofs.Lists.{Contains-map, Contains-flat_map, Contains-below, Contains-filter}
@@ -41,32 +33,7 @@ use Rattle.pattern_coverage.proofs.ListCounts.{count-append, count-same, count-f
 use Rattle.pattern_coverage.proofs.ListCounts.{range-next}
 use Rattle.pattern_coverage.proofs.Parts.{part-diagram, part-move, part-late}
 
--- a letter that is a star is the star
-the_star : (l : Letter) → is_star l ≡ true → l ≡ Star
-the_star Star is = refl
-the_star Friend is = absurd (false≢true is)
-the_star Enemy is = absurd (false≢true is)
-the_star empty is = absurd (false≢true is)
-the_star FriendOrEmpty is = absurd (false≢true is)
-the_star EnemyOrEmpty is = absurd (false≢true is)
-the_star Any is = absurd (false≢true is)
-
--- a star admits only an empty point
-star_admits : (l : Letter) (cell : Cell) (friend : Colour) → l ≡ Star → admits l cell friend ≡ true
-    → same_cell cell Empty ≡ true
-star_admits l cell friend is passes = sym (ap (λ k. admits k cell friend) is) ∙ passes
-
 module _ (p : Pattern) where
-  -- the star's letter is the star
-  pub star_letter : letter_at p p.star.0 p.star.1 ≡ Star
-  star_letter =
-      let low : p.star.0 * p.cols + p.star.1 < p.cols * p.rows =
-      mul-add-lt p.star.0 p.cols p.star.1 p.rows p.diagram.star_row p.diagram.star_column in
-      let within : p.star.0 * p.cols + p.star.1 < p.rows * p.cols = grind (arith, low) in
-      the_star (letter_at p p.star.0 p.star.1)
-      (p.diagram.one_star (p.star.0 * p.cols + p.star.1) within
-      ∙ eq-eqb (p.star.0 * p.cols + p.star.1) (p.star.0 * p.cols + p.star.1) refl)
-
   module _ (board : BoardState) (friend : Colour) (t m : ℕ) (low : t < transformations)
       (on : m < board.size * board.size) where
     -- the star lies at its own point
@@ -81,12 +48,11 @@ module _ (p : Pattern) where
     -- a diagram fits only with its star on an empty point
     pub star_empty : fits p board friend t m ≡ true → same_cell (cell_at board.cells m) Empty ≡ true
     star_empty whole =
-        let letter = letter_from_cell p board friend t m p.star.0 p.star.1 p.diagram.star_row p.diagram.star_column
-        (each_cell p board friend t m whole (pos p.star.0) (pos p.star.1)) in
-        let there : letter.point ≡ m = same_Some letter.point m (sym letter.place ∙ star_place) in
-        ap (λ q. same_cell (cell_at board.cells q) Empty) (sym there)
-        ∙ star_admits (letter_at p p.star.0 p.star.1) (cell_at board.cells letter.point) friend star_letter
-        letter.admitted
+        grind (
+          arith,
+          letter_from_cell p board friend t m p.star.0 p.star.1 p.diagram.star_row p.diagram.star_column (each_cell p board friend t m whole (pos p.star.0) (pos p.star.1)),
+          star_place,
+        )
 
     -- a try ends at the move exactly if its diagram fits at an empty point where the friend may not play
     pub ends_at_move : (d : Depths) (advice : Advice)
@@ -149,16 +115,6 @@ blocked_ends d advice p board friend =
     let within = try_within (count_of p.mark) board.size try there in
     ends_at_move p board friend try.0 try.1 (omega (arith, within.0, count_within p.mark)) within.1 d advice)
 
--- one transformation more
-pub count-transform : (f : ℕ × ℕ → Bool) (n : ℕ) (points : List ℕ)
-    → count_by f (tries_among (n + 1) points) ≡ count_by f (tries_among n points) + count_by (λ m. f (n, m)) points
-count-transform f n points =
-    ap (λ ts. count_by f (flat_map (λ t. map (λ m. (t, m)) points) ts)) (range-next n)
-    ∙ ap (count_by f) (flat_map-append (λ t. map (λ m. (t, m)) points) (range_with_len 0 n) (n ∷ []))
-    ∙ count-append f (tries_among n points) (map (λ m. (n, m)) points ++ [])
-    ∙ ap (λ tries. count_by f (tries_among n points) + count_by f tries) (append-nil (map (λ m. (n, m)) points))
-    ∙ ap (λ k. count_by f (tries_among n points) + k) (count-map f (λ m. (n, m)) points)
-
 -- the blocked points lie on the board
 pub blocked-on_board : (test : ℕ → Bool) (n : ℕ) → All (λ m. m < n) (filter test (range_with_len 0 n))
 blocked-on_board test n k d low =
@@ -179,9 +135,4 @@ pub fits-next : (f : ℕ × ℕ → Bool) (n : ℕ) (points : List ℕ) (before 
     → more ≡ count_by (λ m. f (n, m)) points → after ≡ before + more
     → (after ≡ count_by f (tries_among (n + 1) points)) × (after ≤ (n + 1) * length points)
 fits-next f n points before more after was low is now =
-    let most = count_by-le-length (λ m. f (n, m)) points in
-    let less : more ≤ length points = subst (λ k. k ≤ length points) (sym is) most in (
-      now ∙ ap (λ k. k + more) was ∙ ap (λ k. count_by f (tries_among n points) + k) is
-          ∙ sym (count-transform f n points),
-      grind (arith, low, less, now),
-    )
+    grind (arith, count_by-le-length, range-next, flat_map-append, count-append, append-nil, count-map)

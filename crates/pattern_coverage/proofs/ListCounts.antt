@@ -92,24 +92,15 @@ range-next n =
     let one_more : n + 1 ≡ suc n = omega arith in
     ap (range_with_len 0) one_more ∙ range-more 0 n ∙ ap (λ k. range_with_len 0 n ++ k ∷ []) (omega arith)
 
--- of the first numbers those that pass a test, and the next one if it passes
-pub filtered-next : (test : ℕ → Bool) (n : ℕ) → filter test (range_with_len 0 (n + 1))
-    ≡ filter test (range_with_len 0 n) ++ cond (test n) (n ∷ []) []
-filtered-next test n = ap (filter test) (range-next n) ∙ filter-append test (range_with_len 0 n) (n ∷ [])
-
 -- a list of those that pass is longer by the next number, which passes
 pub filtered-longer : (test : ℕ → Bool) (n : ℕ) (old new : List ℕ) → test n ≡ true
     → old ≡ filter test (range_with_len 0 n) → new ≡ old ++ n ∷ [] → new ≡ filter test (range_with_len 0 (n + 1))
-filtered-longer test n old new passes was now =
-    now ∙ ap (λ l. l ++ n ∷ []) was
-    ∙ ap (λ b. filter test (range_with_len 0 n) ++ cond b (n ∷ []) []) (sym passes) ∙ sym (filtered-next test n)
+filtered-longer test n old new passes was now = grind (arith, range-next, filter-append)
 
 -- a list of those that pass stays, if the next number fails
 pub filtered-same : (test : ℕ → Bool) (n : ℕ) (old new : List ℕ) → test n ≡ false
     → old ≡ filter test (range_with_len 0 n) → new ≡ old → new ≡ filter test (range_with_len 0 (n + 1))
-filtered-same test n old new fails was now =
-    now ∙ was ∙ sym (append-nil (filter test (range_with_len 0 n)))
-    ∙ ap (λ b. filter test (range_with_len 0 n) ++ cond b (n ∷ []) []) (sym fails) ∙ sym (filtered-next test n)
+filtered-same test n old new fails was now = grind (arith, append-nil, range-next, filter-append)
 
 -- a sum that fits is not cut
 pub sum_fits : (a b sum : ℕ) → sum ≡ min (a + b) (2 ^ 64 - 1) → a + b < 2 ^ 64 → sum ≡ a + b

@@ -1,7 +1,7 @@
 -- How many matches of a pattern of a list pass a test: as many as its tries.
 use Rattle.std.proofs.Common.{◌≡◌, ℕ, zero, suc, ◌+◌, ◌*◌, ◌<◌, Bool, false, ◌&&◌, eqb, List, []}
 use Rattle.std.proofs.Common.{◌∷◌}
-use Rattle.std.proofs.Common.{map, filter, count_by, Some, slice_get, refl, sym, ap, ◌∙◌, arith}
+use Rattle.std.proofs.Common.{map, count_by, Some, slice_get, refl, sym, ap, ◌∙◌, arith}
 use Rattle.std.specs.List.{flat_map, range_with_len, enumerate_from}
 use Rattle.std.proofs.lemmas.Bool.{eq-eqb, ne_eqb}
 use Rattle.std.proofs.Math.Bool.{and-false}
@@ -23,10 +23,7 @@ module _ (q : ℕ → ℕ → Bool) (n s : ℕ) where
     -- under one transformation
     under : (t : ℕ) → count_by is_counted (matches_under (test t) number t s)
         ≡ count_by (λ m. test t m && (eqb number n && q t m)) (range_with_len 0 (s * s))
-    under t =
-        count-map is_counted (λ m. record { pattern = number; transform = t; at = m })
-        (filter (test t) (range_with_len 0 (s * s)))
-        ∙ count-filter (λ m. eqb number n && q t m) (test t) (range_with_len 0 (s * s))
+    under t = grind (arith, count-map, count-filter)
 
     -- the matches of this pattern are its tries that pass both tests
     of_this : (p : Pattern) → number ≡ n → count_by is_counted (matches_of_one test number p s)
@@ -61,38 +58,16 @@ module _ (q : ℕ → ℕ → Bool) (n s : ℕ) where
     -- no pattern behind the number is counted
     later : (patterns : List Pattern) (i : ℕ) → n < i → count_by is_counted (from i patterns) ≡ 0
     later [] i low = refl
-    later (x ∷ patterns) i low =
-        count-append is_counted (matches_of_one (test i x) i x s) (from (i + 1) patterns)
-        ∙ ap (λ k. k + count_by is_counted (from (i + 1) patterns))
-        (of_other (test i x) i x (λ same. omega (arith, low, same)))
-        ∙ ap (λ k. 0 + k) (later patterns (i + 1) (omega (arith, low)))
+    later (x ∷ patterns) i low = grind (arith, count-append, of_other, later patterns (i + 1))
 
     -- the pattern at a place behind the first number
     counted_from : (patterns : List Pattern) (i j : ℕ) (p : Pattern) → slice_get patterns j ≡ Some p → i + j ≡ n
         → count_by is_counted (from i patterns)
         ≡ count_by (λ try. test n p try.0 try.1 && q try.0 try.1) (tries_of p s)
     counted_from [] i j p there is = absurd (none-some p there)
-    counted_from (x ∷ patterns) i zero p there is =
-        let first : i ≡ n = omega (arith, is) in
-        count-append is_counted (matches_of_one (test i x) i x s) (from (i + 1) patterns)
-        ∙ ap (λ k. k + count_by is_counted (from (i + 1) patterns)) (of_this (test i x) i x first)
-        ∙ ap (λ k. count_by (λ try. test i x try.0 try.1 && q try.0 try.1) (tries_of x s) + k)
-        (later patterns (i + 1) (omega (arith, first)))
-        ∙ none_more (count_by (λ try. test i x try.0 try.1 && q try.0 try.1) (tries_of x s))
-        ∙ ap (λ k. count_by (λ try. test k x try.0 try.1 && q try.0 try.1) (tries_of x s)) first
-        ∙ ap (λ y. count_by (λ try. test n y try.0 try.1 && q try.0 try.1) (tries_of y s)) (same_Some x p there)
-      where
-        none_more : (k : ℕ) → k + 0 ≡ k
-        none_more k = omega arith
+    counted_from (x ∷ patterns) i zero p there is = grind (arith, count-append, of_this, later, same_Some)
     counted_from (x ∷ patterns) i (suc j) p there is =
-        count-append is_counted (matches_of_one (test i x) i x s) (from (i + 1) patterns)
-        ∙ ap (λ k. k + count_by is_counted (from (i + 1) patterns))
-        (of_other (test i x) i x (λ same. omega (arith, is, same)))
-        ∙ none_before (count_by is_counted (from (i + 1) patterns))
-        ∙ counted_from patterns (i + 1) j p there (omega (arith, is))
-      where
-        none_before : (k : ℕ) → 0 + k ≡ k
-        none_before k = omega arith
+        grind (arith, count-append, of_other, counted_from patterns (i + 1) j p there)
 
     -- the matches of the pattern with the number that pass the test are its tries that pass both tests
     pub counted : (patterns : List Pattern) (p : Pattern) → slice_get patterns n ≡ Some p

@@ -10,10 +10,8 @@ module _ {A B : Type 0} (R : A → B → Type 0) (x : A) (y : B) (is : R x y) wh
       → (b : B) × (slice_get (ys ++ y ∷ []) n ≡ Some b) × R a b
   paired-more [] [] same each zero a there = (y, refl, subst (λ o. R o y) (same_Some x a there) is)
   paired-more [] [] same each (suc n) a there = absurd (none-some a there)
-  paired-more [] (c ∷ ys) same each n a there =
-      absurd (let long : length (c ∷ ys) ≡ 0 = same in omega (arith, long))
-  paired-more (z ∷ xs) [] same each n a there =
-      absurd (let long : 0 ≡ length (z ∷ xs) = same in omega (arith, long))
+  paired-more [] (c ∷ ys) same each n a there = grind arith
+  paired-more (z ∷ xs) [] same each n a there = grind arith
   paired-more (z ∷ xs) (c ∷ ys) same each zero a there = each zero a there
   paired-more (z ∷ xs) (c ∷ ys) same each (suc n) a there =
       paired-more xs ys (omega (arith, same)) (λ k. each (suc k)) n a there

@@ -1,5 +1,5 @@
 -- Ends that are counted one after another.
-use Rattle.std.proofs.Common.{inl, inr, ◌≡◌, ℕ, ◌+◌, ◌-◌, ◌<◌, ◌≤◌, ◌^◌, Bool, true, false, ◌&&◌, cond, eqb, List, []}
+use Rattle.std.proofs.Common.{inl, inr, ◌≡◌, ℕ, ◌+◌, ◌-◌, ◌<◌, ◌≤◌, ◌^◌, true, false, ◌&&◌, cond, eqb, List, []}
 use Rattle.std.proofs.Common.{◌∷◌, ◌++◌, length, get_or, count_by, min, Some, slice_get, slice_index, refl, sym, ap}
 use Rattle.std.proofs.Common.{◌∙◌, subst, arith}
 use Rattle.std.proofs.Common.{set as set_at, length-set}
@@ -16,40 +16,20 @@ use Rattle.pattern_coverage.proofs.ListCounts.{count-append, count-cons}
 -- a count that goes as far as a u64, and one more
 one_more : (n before after : ℕ) → before ≡ min n (2 ^ 64 - 1) → after ≡ min (before + 1) (2 ^ 64 - 1)
     → after ≡ min (n + 1) (2 ^ 64 - 1)
-one_more n before after was now = elim (cases_lt n (2 ^ 64 - 1)) [
-  | inl low ↦
-      let same : before ≡ n = was ∙ min-eq_left (omega (arith, low)) in
-      now ∙ ap (λ k. min (k + 1) (2 ^ 64 - 1)) same
-  | inr high ↦
-      let full : before ≡ 2 ^ 64 - 1 = was ∙ min-eq_right (omega (arith, high)) in
-      now ∙ min-eq_right (omega (arith, full)) ∙ sym (min-eq_right (omega (arith, high)))
-]
+one_more n before after was now = grind (arith, cases_lt, min-eq_left, min-eq_right)
 
 module _ (ends : List End) (end : End) where
-  -- the ends at a part of a pattern, with one end more
-  counted-next : (place part : ℕ) → count_by (λ e. eqb e.pattern place && eqb e.part part) (ends ++ end ∷ [])
-      ≡ count_by (λ e. eqb e.pattern place && eqb e.part part) ends
-      + cond (eqb end.pattern place && eqb end.part part) 1 0
-  counted-next place part =
-      let test : End → Bool = λ e. eqb e.pattern place && eqb e.part part in
-      let last : count_by test (end ∷ []) ≡ cond (test end) 1 0 + 0 = count-cons test end [] in
-      count-append test ends (end ∷ []) ∙ ap (λ n. count_by test ends + n) (last ∙ omega arith)
-
   -- an end at another part, or of another pattern
   counted-same : (place part : ℕ) → (eqb end.pattern place && eqb end.part part) ≡ false
       → count_by (λ e. eqb e.pattern place && eqb e.part part) (ends ++ end ∷ [])
       ≡ count_by (λ e. eqb e.pattern place && eqb e.part part) ends
-  counted-same place part other =
-      counted-next place part
-      ∙ ap (λ b. count_by (λ e. eqb e.pattern place && eqb e.part part) ends + cond b 1 0) other ∙ omega arith
+  counted-same place part other = grind (arith, count-cons, count-append)
 
   -- an end at this part of this pattern
   counted-more : (place part : ℕ) → (eqb end.pattern place && eqb end.part part) ≡ true
       → count_by (λ e. eqb e.pattern place && eqb e.part part) (ends ++ end ∷ [])
       ≡ count_by (λ e. eqb e.pattern place && eqb e.part part) ends + 1
-  counted-more place part same =
-      counted-next place part
-      ∙ ap (λ b. count_by (λ e. eqb e.pattern place && eqb e.part part) ends + cond b 1 0) same
+  counted-more place part same = grind (arith, count-cons, count-append)
 
   module _ (counts : List PartCounts) (are : IsTallyOf ends counts) where
     -- an end of a pattern that has no place changes no count

@@ -1,10 +1,10 @@
 -- What is kept stays right.
-use Rattle.std.proofs.Common.{◌≡◌, ◌∙◌, inl, inr, sym, ap, subst, Bool, true, List, [], ◌∷◌, ◌++◌, ℕ}
-use Rattle.std.proofs.Common.{suc, ◌+◌, length, take, drop, length-append, lit≤, arith, Some}
+use Rattle.std.proofs.Common.{◌≡◌, inl, inr, subst, Bool, true, List, [], ◌∷◌, ◌++◌, ℕ}
+use Rattle.std.proofs.Common.{◌+◌, length, take, drop, length-append, arith, Some}
 use Rattle.std.proofs.lemmas.List.{length-take}
 use Rattle.std.specs.Map.{lookup}
 use Rattle.lru.proofs.CallerLemmas.{Contains-take}
-use Rattle.lru.proofs.Splits.{Contains-cons, Contains-nil}
+use Rattle.lru.proofs.Splits.{Contains-cons}
 use Rattle.go_rules.specs.Position.{BoardState}
 use Rattle.read_cache.specs.Kept.{Kept, IsRight, AreVariants, IsSound, put_first}
 use Rattle.read_cache.specs.declared.variants.Variant.{Variant}
@@ -28,12 +28,7 @@ module _ {A : Type 0} (meaning : BoardState → A) where
       (is : front ≡ found ∷ take i vs ++ drop (i + 1) vs) where
     -- the front has as many as the variants
     as_many : length front ≡ length vs
-    as_many =
-        let one = length-append (take i vs) (drop (i + 1) vs) in
-        let all = length-append (take i vs) (found ∷ drop (i + 1) vs) in
-        let same : suc (length (take i vs ++ drop (i + 1) vs)) ≡ length (take i vs ++ found ∷ drop (i + 1) vs) =
-        omega (arith, one, all) in
-        ap length is ∙ same ∙ sym (ap length at)
+    as_many = grind (arith, length-append)
 
     -- the variants with one of them brought to the front are these variants
     pub AreVariants-brought : AreVariants meaning vs → AreVariants meaning front
@@ -57,11 +52,4 @@ module _ {A : Type 0} (meaning : BoardState → A) where
 
   -- one variant that is right
   pub AreVariants-alone : (v : Variant A) → IsRight meaning v → AreVariants meaning (v ∷ [])
-  AreVariants-alone v right = record {
-    right = λ w there. elim (Contains-cons v [] w there) [
-      | inl same ↦ subst (IsRight meaning) same right
-      | inr none ↦ absurd (Contains-nil w none)
-    ];
-    some = lit≤ tt;
-    few = lit≤ tt;
-  }
+  AreVariants-alone v right = grind arith

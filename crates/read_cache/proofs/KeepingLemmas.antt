@@ -1,5 +1,5 @@
 -- What holds after questions were asked through a cache.
-use Rattle.std.proofs.Common.{◌≡◌, ◌∙◌, Bool, true, Option, Some, None, IfSome, IfNone, inl, inr, sym, subst, arith}
+use Rattle.std.proofs.Common.{◌≡◌, Bool, true, Option, Some, None, IfSome, IfNone, inl, inr, sym, subst, arith}
 use Rattle.go_rules.specs.Position.{BoardState}
 use Rattle.read_cache.specs.declared.variants.Variant.{Variant}
 use Rattle.read_cache.specs.Kept.{Kept, HoldsOfEach, IsFound, kept_first}
@@ -8,11 +8,7 @@ use Rattle.read_cache.proofs.Each.{HoldsOfEach-found, HoldsOfEach-kept, found_ho
 
 -- questions after questions
 pub Follows-trans : {Q A : Type 0} (a b c : Keeping Q A) → Follows a b → Follows b c → Follows a c
-Follows-trans a b c first next = record {
-  capacity = next.capacity ∙ first.capacity;
-  fresh = omega (arith, first.fresh, next.fresh);
-  refused = omega (arith, first.refused, next.refused);
-}
+Follows-trans a b c first next = grind arith
 
 module _ {Q A : Type 0} (Rests : Q → Variant A → Type 0) (eq : Q → Q → Bool) (one : (p q : Q) → eq p q ≡ true → p ≡ q)
     (q : Q) (old new : Kept Q A) (rest : HoldsOfEach Rests old) where
@@ -32,14 +28,7 @@ module _ {Q A : Type 0} (Rests : Q → Variant A → Type 0) (eq : Q → Q → B
   pub RestsOn-found : (pos : BoardState) (answer : Option A) → IfSome answer (IsFound eq q pos old new)
       → IfSome answer (RestsOn Rests q pos)
   RestsOn-found pos None found = found
-  RestsOn-found pos (Some answer) found =
-      let variant = found.brought.first.found in
-      record {
-        facts = variant.facts;
-        holds = found.brought.first.stands;
-        rests = subst (λ a. Rests q (record { facts = variant.facts; answer = a })) (sym found.answer_is)
-            (found_holds Rests eq one q pos old new answer rest found);
-      }
+  RestsOn-found pos (Some answer) found = grind (arith, found_holds Rests eq one q pos old new answer rest found)
 
 -- a question that was answered was asked
 pub WasAsked-answered : {Q A E : Type 0} (eq : Q → Q → Bool) (q : Q) (Rests : Q → Variant A → Type 0)

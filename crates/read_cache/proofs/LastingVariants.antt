@@ -1,7 +1,7 @@
 -- A question that was just used stays among the first that are kept, and the variant that was used among its first
 -- ones, while few others are used.
-use Rattle.std.proofs.Common.{◌≡◌, ◌∙◌, inl, inr, sym, ap, subst, refl, cond, Contains, List, [], ◌∷◌, ◌++◌, ℕ, zero}
-use Rattle.std.proofs.Common.{suc, ◌+◌, ◌-◌, ◌≤◌, take, drop, Bool, true, false, Option, Some, None}
+use Rattle.std.proofs.Common.{◌≡◌, ◌∙◌, inl, inr, sym, ap, subst, cond, Contains, List, [], ◌∷◌, ◌++◌, ℕ, zero}
+use Rattle.std.proofs.Common.{suc, ◌+◌, ◌-◌, ◌≤◌, take, drop, Bool, true, false, Option, Some, None, arith}
 use Rattle.std.proofs.lemmas.List.{take-take}
 use Rattle.std.specs.Option.{option_map_or}
 use Rattle.std.specs.Map.{lookup, lookup_entry, remove_entry}
@@ -49,16 +49,13 @@ module _ {K V : Type 0} (test : K → Bool) where
       → lookup test (take (suc n) es) ≡ Some v
   lookup-more zero es v found = absurd (let none : None ≡ Some v = found in cc)
   lookup-more (suc n) [] v found = found
-  lookup-more (suc n) (e ∷ es) v found =
-      found_still (test e.0) (Some e.1) (lookup test (take (suc n) es)) (lookup test (take n es)) v
-      (lookup-more n es v) found
+  lookup-more (suc n) (e ∷ es) v found = grind (arith, found_still, lookup-more n es v)
 
   -- and among all
   lookup-all : (n : ℕ) (es : List (K × V)) (v : V) → lookup test (take n es) ≡ Some v → lookup test es ≡ Some v
   lookup-all zero es v found = absurd (let none : None ≡ Some v = found in cc)
   lookup-all (suc n) [] v found = found
-  lookup-all (suc n) (e ∷ es) v found = found_still (test e.0) (Some e.1) (lookup test es) (lookup test (take n es)) v
-      (lookup-all n es v) found
+  lookup-all (suc n) (e ∷ es) v found = grind (arith, found_still, lookup-all n es v)
 
   -- taking out an entry that another test passes moves none back
   lookup-removed : (other : K → Bool) → ((k : K) → other k ≡ true → test k ≡ false)
@@ -67,23 +64,12 @@ module _ {K V : Type 0} (test : K → Bool) where
   lookup-removed other apart zero es v found = found
   lookup-removed other apart (suc n) [] v found = found
   lookup-removed other apart (suc n) (e ∷ es) v found =
-      (elim (other e.0) as
-      (λ y. other e.0 ≡ y → lookup test (take (suc n) (cond y es (e ∷ remove_entry other es))) ≡ Some v) [
-        | true ↦ λ passes. lookup-more n es v
-            (sym (ap (λ b. cond b (Some e.1) (lookup test (take n es))) (apart e.0 passes)) ∙ found)
-        | false ↦ λ fails. found_still (test e.0) (Some e.1) (lookup test (take n (remove_entry other es)))
-            (lookup test (take n es)) v
-            (lookup-removed other apart n es v) found
-      ]) refl
+      grind (arith, lookup-more, found_still, lookup-removed other apart n es v)
 
 -- a question that equals one of two questions that differ differs from the other
 apart : {Q : Type 0} (eq : Q → Q → Bool) → ((p q : Q) → eq p q ≡ true → p ≡ q) → ((q : Q) → eq q q ≡ true) → (p q r : Q)
     → eq p q ≡ false → eq p r ≡ true → eq q r ≡ false
-apart eq one self p q r other same = (elim (eq q r) as (λ b. eq q r ≡ b → b ≡ false) [
-  | true ↦ λ is. absurd (let both : q ≡ p = one q r is ∙ sym (one p r same) in
-      let said : eq p q ≡ true = subst (λ x. eq p x ≡ true) (sym both) (self p) in cc)
-  | false ↦ λ is. refl
-]) refl
+apart eq one self p q r other same = grind arith
 
 module _ {Q A : Type 0} (eq : Q → Q → Bool) where
   -- the question is among the first n that are kept, and the variant among its first n
@@ -121,8 +107,7 @@ module _ {Q A : Type 0} (eq : Q → Q → Bool) where
     put_there : (q : Q) (vs : List (Variant A)) (old : Kept Q A) (n : ℕ) (o : Option (Q × List (Variant A)))
         → lookup_entry (eq q) old.0 ≡ o
         → lookup (eq q) (take (suc n) (after q vs old o)) ≡ Some vs
-    put_there q vs old n None none = ap (λ b. cond b (Some vs) (lookup (eq q) (take n (take (old.1 - 1) old.0))))
-        (self q)
+    put_there q vs old n None none = grind arith
     put_there q vs old n (Some e) there =
         ap (λ b. cond b (Some vs) (lookup (eq q) (take n (remove_entry (eq q) old.0))))
         (Contains-lookup_entry (eq q) old.0 e there).1
@@ -131,21 +116,14 @@ module _ {Q A : Type 0} (eq : Q → Q → Bool) where
     pub IsAmongFirst-put : (q : Q) (vs : List (Variant A)) (old : Kept Q A) (n : ℕ) (v : Variant A)
         → Contains (take (suc n) vs) v
         → IsAmongFirst q v (suc n) (put_first eq q vs old)
-    IsAmongFirst-put q vs old n v there = record {
-      variants = vs;
-      question = put_there q vs old n (lookup_entry (eq q) old.0) refl;
-      variant = there;
-    }
+    IsAmongFirst-put q vs old n v there = grind (arith, put_there)
 
     -- another question is put first, and this one moves back by one place at most
     moved : (p q : Q) (vs : List (Variant A)) (old : Kept Q A) (n : ℕ) (ws : List (Variant A)) → eq p q ≡ false
         → n ≤ old.1 - 1
         → lookup (eq q) (take n old.0) ≡ Some ws → (o : Option (Q × List (Variant A))) → lookup_entry (eq p) old.0 ≡ o
         → lookup (eq q) (take (suc n) (after p vs old o)) ≡ Some ws
-    moved p q vs old n ws other room found None none =
-        ap (λ b. cond b (Some vs) (lookup (eq q) (take n (take (old.1 - 1) old.0))))
-        (apart eq one self p q p other (self p))
-        ∙ ap (lookup (eq q)) (take-take n (old.1 - 1) old.0 room) ∙ found
+    moved p q vs old n ws other room found None none = grind (arith, apart, take-take)
     moved p q vs old n ws other room found (Some e) there =
         ap (λ b. cond b (Some vs) (lookup (eq q) (take n (remove_entry (eq p) old.0))))
         (apart eq one self p q e.0 other (Contains-lookup_entry (eq p) old.0 e there).1)
@@ -155,22 +133,13 @@ module _ {Q A : Type 0} (eq : Q → Q → Bool) where
     IsAmongFirst-other : (p q : Q) (vs : List (Variant A)) (old : Kept Q A) (n : ℕ) (v : Variant A) → eq p q ≡ false
         → n ≤ old.1 - 1
         → IsAmongFirst q v n old → IsAmongFirst q v (suc n) (put_first eq p vs old)
-    IsAmongFirst-other p q vs old n v other room among = record {
-      variants = among.variants;
-      question = moved p q vs old n among.variants other room among.question (lookup_entry (eq p) old.0) refl;
-      variant = Contains-more n among.variants v among.variant;
-    }
+    IsAmongFirst-other p q vs old n v other room among = grind (arith, moved, Contains-more)
 
     -- a question was put first, with variants that hold this one where it is this question
     either : (p q : Q) (vs : List (Variant A)) (old : Kept Q A) (n : ℕ) (v : Variant A) → n ≤ old.1 - 1
         → IsAmongFirst q v n old
         → (p ≡ q → Contains (take (suc n) vs) v) → IsAmongFirst q v (suc n) (put_first eq p vs old)
-    either p q vs old n v room among there =
-        (elim (eq p q) as (λ b. eq p q ≡ b → IsAmongFirst q v (suc n) (put_first eq p vs old)) [
-          | true ↦ λ is. subst (λ x. IsAmongFirst q v (suc n) (put_first eq x vs old)) (sym (one p q is))
-              (IsAmongFirst-put q vs old n v (there (one p q is)))
-          | false ↦ λ is. IsAmongFirst-other p q vs old n v is room among
-        ]) refl
+    either p q vs old n v room among there = grind (arith, IsAmongFirst-put, IsAmongFirst-other)
 
     -- the variant of a question that is kept goes first
     pub IsAmongFirst-kept : (p q : Q) (w v : Variant A) (old : Kept Q A) (n : ℕ) → n ≤ 3 → n ≤ old.1 - 1
@@ -205,8 +174,4 @@ module _ {Q A : Type 0} (eq : Q → Q → Bool) where
     pub IsAmongFirst-again : (q : Q) (pos : BoardState) (old new : Kept Q A) (answer : A)
         (found : IsFound eq q pos old new answer)
         → IsAmongFirst q found.brought.first.found 1 new
-    IsAmongFirst-again q pos old new answer found =
-        let first = found.brought.first.found in
-        subst (IsAmongFirst q first 1) (sym found.new_is)
-        (IsAmongFirst-put q found.front old 0 first
-        (subst (λ vs. Contains (take 1 vs) first) (sym found.brought.front_is) (Contains-head first [])))
+    IsAmongFirst-again q pos old new answer found = grind (arith, IsAmongFirst-put)

@@ -1,6 +1,6 @@
 -- A kept variant that stands, and how it comes to stand first.
 use Rattle.std.proofs.Common.{◌≡◌, ◌∙◌, ap, sym, subst, refl, Bool, Contains, List, ◌∷◌, ◌++◌, ℕ, ◌+◌, ◌-◌}
-use Rattle.std.proofs.Common.{take, drop, Option, Some, None}
+use Rattle.std.proofs.Common.{take, drop, Option, Some, None, arith}
 use Rattle.std.specs.Option.{option_map, option_map_or}
 use Rattle.std.specs.Map.{lookup, lookup_entry, remove_entry}
 use Rattle.std.proofs.lemmas.List.Elements.{Contains-append_right}
@@ -64,8 +64,7 @@ module _ {Q A : Type 0} (eq : Q → Q → Bool) (q : Q) (old : Kept Q A) (place 
         → ((found : Variant A) → slice ≡ take place slice ++ found ∷ drop (place + 1) slice
         → front ≡ found ∷ take place slice ++ drop (place + 1) slice)
         → front ≡ front_of eq q old place at
-    front_is slice front is brought =
-        subst (IsFront front) (is ∙ sym same_variants) brought at.found at.there
+    front_is slice front is brought = grind (arith, same_variants)
 
     -- they are right still
     pub front_are : (front : List (Variant A)) (meaning : BoardState → A) → front ≡ front_of eq q old place at
@@ -76,11 +75,7 @@ module _ {Q A : Type 0} (eq : Q → Q → Bool) (q : Q) (old : Kept Q A) (place 
 
   -- where the variant is the first already, the front is the variants
   pub front_first : (at : HasAt eq q old place) → place ≡ 0 → front_of eq q old place at ≡ at.variants
-  front_first at zero =
-      let vs = at.variants in
-      let family : ℕ → Type 0 =
-      λ n. vs ≡ take n vs ++ at.found ∷ drop (n + 1) vs → at.found ∷ take n vs ++ drop (n + 1) vs ≡ vs in
-      subst family (sym zero) sym at.there
+  front_first at zero = grind arith
 
 module _ {Q A : Type 0} (eq : Q → Q → Bool) (k : Q) where
   module _ (qs : List (Q × List (Variant A))) (cap : ℕ) (vs : List (Variant A))
@@ -94,9 +89,7 @@ module _ {Q A : Type 0} (eq : Q → Q → Bool) (k : Q) where
         → option_map_or (λ e. e ∷ remove_entry (eq k) qs) o qs
         ≡ option_map_or (λ e. (e.0, vs) ∷ remove_entry (eq k) qs) o ((k, vs) ∷ take (cap - 1) qs)
     by_entry None is = absurd (let no = of_entry None is in cc)
-    by_entry (Some e) is =
-        let same : e.1 ≡ vs = (let some = of_entry (Some e) is in cc) in
-        ap (λ v. (e.0, v) ∷ remove_entry (eq k) qs) same
+    by_entry (Some e) is = grind (arith, of_entry (Some e) is)
 
     -- a question that is promoted is put first with the variants that it has
     promoted_put : (promoted (eq k) qs, cap) ≡ put_first eq k vs (qs, cap)
@@ -106,8 +99,7 @@ module _ {Q A : Type 0} (eq : Q → Q → Bool) (k : Q) where
   pub promoted_first : (es : List (Q × List (Variant A))) (cap : ℕ) (old : Kept Q A) → (es, cap) ≡ old
       → (vs : List (Variant A)) → variants_of eq k old ≡ Some vs
       → (promoted (eq k) es, cap) ≡ put_first eq k vs old
-  promoted_first es cap old is vs there =
-      promoted_put es cap vs (ap (variants_of eq k) is ∙ there) ∙ ap (put_first eq k vs) is
+  promoted_first es cap old is vs there = grind (arith, promoted_put)
 
   -- what is kept stays right
   pub IsSound-promoted : (meaning : Q → BoardState → A) (es : List (Q × List (Variant A))) → IsSound meaning es

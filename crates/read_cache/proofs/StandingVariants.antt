@@ -13,11 +13,7 @@ use Rattle.read_cache.specs.declared.variants.Variant.{Variant}
 -- the variant at the place of the first that stands is this one
 pub found_at : {A : Type 0} {pos : BoardState} {variants : List (Variant A)} {i : ℕ}
     (first : IsFirstStanding pos variants i) (d : Variant A) → get_or variants i d ≡ first.found
-found_at {variants} {i} first d =
-    let none : i - i ≡ 0 = omega arith in
-    ap (λ vs. get_or vs i d) first.there ∙ get_or-append_right (take i variants)
-    (first.found ∷ drop (i + 1) variants) i i d (length-take-le i variants (le_of_lt first.within)) (le_refl i)
-    ∙ ap (λ n. get_or (first.found ∷ drop (i + 1) variants) n d) none
+found_at {variants} {i} first d = grind (arith, get_or-append_right, length-take-le, le_of_lt, le_refl)
 
 -- the answer that is read at the place is that of the first that stands
 pub answer_at : {A : Type 0} {pos : BoardState} {slice vs : List (Variant A)} {i : ℕ} (first : IsFirstStanding pos vs i)
@@ -67,9 +63,7 @@ module _ {Q A : Type 0} (eq : Q → Q → Bool) (q : Q) (pos : BoardState) (old 
   -- none of the kept variants stands
   pub IsMissing-by : (items slice : List (Variant A)) → variants_of eq q old ≡ Some items → slice ≡ items
       → NoneStands pos slice → IsMissing eq q pos old
-  IsMissing-by items slice kept is none = record {
-    none = λ variants there. subst (NoneStands pos) (is ∙ (let same = sym kept ∙ there in cc)) none;
-  }
+  IsMissing-by items slice kept is none = grind arith
 
   -- there are none
   pub IsMissing-none : variants_of eq q old ≡ None → IsMissing eq q pos old

@@ -1,7 +1,7 @@
 -- What the search for Approach finds on a position.
-use Rattle.std.proofs.Common.{◌≡◌, ◌∙◌, ℕ, ◌*◌, ◌<◌, ◌≤◌, ◌&&◌, ◌||◌, Bool, true, false, not, eqb, leb, ltb, List}
+use Rattle.std.proofs.Common.{◌≡◌, ◌∙◌, ℕ, ◌*◌, ◌<◌, ◌≤◌, ◌&&◌, ◌||◌, Bool, true, not, eqb, ltb, List}
 use Rattle.std.proofs.Common.{refl, sym, ap, arith, inl, inr}
-use Rattle.std.proofs.lemmas.Bool.{cases_Bool, or_cases, and_parts, and_from, eqb-true, eq-eqb, ltb-true, lt-ltb, le-leb}
+use Rattle.std.proofs.lemmas.Bool.{or_cases, and_parts, and_from, eqb-true, eq-eqb, ltb-true, lt-ltb, le-leb}
 use Rattle.std.specs.Ordering.{nat_cmp}
 use Rattle.std.specs.FinSet as sets
 use Rattle.go_rules.specs.declared.Cell.{Cell}
@@ -11,7 +11,7 @@ use Rattle.go_rules.specs.Strings.{is_liberty, liberties}
 use Rattle.go_rules.proofs.Counts.{any_below_gives, any_below_from, any_below_same, count_below_at_most}
 use Rattle.go_rules.proofs.Paths.{IsLiberty-from_test}
 use Rattle.go_rules.proofs.Sets.{contains-insert_nat, contains-set_below, len-set_below, same_nat_set}
-use Rattle.go_rules.proofs.Tests.{same_tests, and-false, or-false}
+use Rattle.go_rules.proofs.Tests.{same_tests, or-false}
 use Rattle.go_base.specs.Surroundings.{is_only_liberty}
 use Rattle.go_base.proofs.Marks.{contains-remove_nat}
 use Rattle.wider_rules.specs.Cramped.{foe_of, is_reached, takes_some, is_cramped}
@@ -27,8 +27,7 @@ all_few s cells q p = grind (arith, from_none, le-leb, count_below_at_most)
 pub liberties_of_all : (s : ℕ) (cells : List Cell) (points : sets.FinSet nat_cmp) (p : ℕ)
     → any_below (s * s) (λ q. sets.contains points q && is_few_liberty 0 (s * s) s cells q p)
     ≡ any_below (s * s) (λ q. sets.contains points q && is_liberty s cells q p)
-liberties_of_all s cells points p =
-    any_below_same (s * s) _ _ (λ q on. ap (λ b. sets.contains points q && b) (all_few s cells q p))
+liberties_of_all s cells points p = grind (arith, any_below_same, all_few)
 
 -- a set of one point has it alone
 has_alone : (none alone : sets.FinSet nat_cmp) (l k : ℕ) → none ≡ sets.empty → alone ≡ sets.insert none l
@@ -66,20 +65,7 @@ module _ (s : ℕ) (cells : List Cell) (own : Cell) (l : ℕ) where
       → sets.contains new x ≡ is_reached s cells own l x
   unfolding is_reached
   reached_is x friends empties all rest new are free its taken e =
-      let its_own = any_below (s * s) (λ q. holds_next s cells own l q && is_liberty s cells q x) in
-      joined rest empties new x e
-      ∙ ap (λ b. sets.contains rest x || b) (free x)
-      ∙ ap (λ b. b || holds_next s cells Empty l x)
-      (ap (λ t. sets.contains t x) taken ∙ contains-remove_nat all l x
-      ∙ ap (λ b. not (eqb x l) && b)
-      (its ∙ any_below_same (s * s) _ _ (λ q on. ap (λ b. b && is_liberty s cells q x) (are q)))
-      ∙ turned (not (eqb x l)) its_own)
-    where
-      turned : (a b : Bool) → (a && b) ≡ (b && a)
-      turned true true = refl
-      turned true false = refl
-      turned false true = refl
-      turned false false = refl
+      grind (arith, joined rest empties new x e, contains-remove_nat all l x, any_below_same (s * s))
 
   -- what it reaches is on the board
   reached_on : (x : ℕ) → is_reached s cells own l x ≡ true → x < s * s
@@ -110,17 +96,14 @@ module _ (s : ℕ) (cells : List Cell) (own : Cell) (l : ℕ) where
       → x ≡ any_below (s * s) (λ q. sets.contains foes q && is_only_liberty s cells q l)
       → x ≡ takes_some s cells own l
   unfolding takes_some
-  takes_is x foes are e =
-      e ∙ any_below_same (s * s) _ _ (λ q on. ap (λ b. b && is_only_liberty s cells q l) (are q))
+  takes_is x foes are e = grind (arith, any_below_same)
 
   -- it is cramped by what it reaches and takes
   pub cramped_is : (n : ℕ) (few takes : Bool) (found : sets.FinSet nat_cmp)
       → ((x : ℕ) → sets.contains found x ≡ is_reached s cells own l x) → n ≡ sets.len found → few ≡ ltb n 2
       → takes ≡ takes_some s cells own l → (few && not takes) ≡ is_cramped s cells own l
   unfolding is_cramped
-  cramped_is n few takes found is count room takes_it =
-      ap (λ b. b && not takes) (room ∙ ap (λ k. ltb k 2) (count ∙ reached_count found is))
-      ∙ ap (λ b. ltb (count_below (s * s) (is_reached s cells own l)) 2 && not b) takes_it
+  cramped_is n few takes found is count room takes_it = grind (arith, reached_count)
 
 -- going over the points of the board finds those that pass
 pub found_below : (m n q : ℕ) (test : ℕ → Bool) → m ≤ n

@@ -1,6 +1,6 @@
 -- A text that is a proof of a code is about the code of the question.
 use Rattle.std.proofs.Common.{◌≡◌, ◌∙◌, ℕ, ◌*◌, ◌<◌, ◌≤◌, Bool, true, false, not, cond, eqb, List, [], ◌∷◌, Some, None}
-use Rattle.std.proofs.Common.{Option, is_some, refl, sym, ap, subst, inl, inr, arith}
+use Rattle.std.proofs.Common.{Option, is_some, refl, ap, arith}
 use Rattle.std.specs.Prelude.{MatchOption}
 use Rattle.std.specs.List.{AllByRecursion}
 use Rattle.std.specs.Str.{bytes_eq}
@@ -9,11 +9,11 @@ use Rattle.std.proofs.lemmas.Bool.{cases_eq, cases_lt, both_ways, eqb-true, eq-e
 use Rattle.go_rules.specs.Position.{BoardState}
 use Rattle.read_rules.specs.declared.question.ReadingQuestion.{ReadingQuestion}
 use Rattle.read_rules.specs.GameTree.{attacker_wins}
-use Rattle.read_rules.specs.Answer.{is_attack, first_node, attains_code, is_about, code_of, answer_of}
+use Rattle.read_rules.specs.Answer.{is_attack, first_node, attains_code, is_about, answer_of}
 use Rattle.read_rules.proofs.RuleLemmas.{code_greatest, code-answer_of}
-use Rattle.read_proof.specs.Tokens.{Word, words_in}
+use Rattle.read_proof.specs.Tokens.{Word}
 use Rattle.read_proof.specs.Proves.{proves}
-use Rattle.read_proof.specs.ProofOf.{codes_down_to, claim_under, letter_of, proves_under, proves_all, IsProofOf}
+use Rattle.read_proof.specs.ProofOf.{claim_under, letter_of, proves_under, proves_all, IsProofOf}
 use Rattle.read_proof.proofs.SoundLemmas.{proved_sound}
 
 -- The question on the position, and the code of which a text is a proof.
@@ -56,53 +56,11 @@ module _ (q : ReadingQuestion) (pos : BoardState) (code : ℕ) (on : q.target < 
       e
       (λ between first rest. (told_under more words between first, told_all others between left rest))
 
-  -- each code from 3 down to this one, or to 1, is told
-  told_from : AllByRecursion IsTold (codes_down_to code) → (more : ℕ) → code ≤ more → 0 < more → more ≤ 3
-      → IsTold more
-  told_from all more least some most = by (eqb code 3) (eqb code 2) refl refl all
-    where
-      by : (three two : Bool) → eqb code 3 ≡ three → eqb code 2 ≡ two
-          → AllByRecursion IsTold (cond three (3 ∷ []) (cond two (3 ∷ (2 ∷ [])) (3 ∷ (2 ∷ (1 ∷ []))))) → IsTold more
-      by true two e3 e2 all =
-          let is = eqb-true code 3 e3 in
-          let here : more ≡ 3 = omega (arith, is) in
-          subst IsTold (sym here) all.0
-      by false true e3 e2 all = let is = eqb-true code 2 e2 in elim (cases_eq more 3) [
-        | inl three ↦ subst IsTold (sym three) all.0
-        | inr other ↦ let here : more ≡ 2 = omega (arith, is) in subst IsTold (sym here) all.1.0
-      ]
-      by false false e3 e2 all = elim (cases_eq more 3) [
-        | inl three ↦ subst IsTold (sym three) all.0
-        | inr other ↦ elim (cases_eq more 2) [
-          | inl two ↦ subst IsTold (sym two) all.1.0
-          | inr third ↦ let here : more ≡ 1 = omega arith in subst IsTold (sym here) all.1.1.0
-        ]
-      ]
-
-  -- the code of the question is the one that is told
-  code_told : is_about q pos ≡ true → code ≤ 3
-      → ((more : ℕ) → code ≤ more → 0 < more → more ≤ 3 → IsTold more) → code_of q pos ≡ code
-  code_told about most told =
-      let best = code_greatest q pos about in
-      elim (cases_eq (code_of q pos) code) [
-        | inl same ↦ same
-        | inr ne ↦ absurd (elim (cases_lt (code_of q pos) code) [
-          | inl below ↦ both_ways (attains_code q pos code) (best.greatest code below most)
-              (told code (omega arith) (omega (arith, below)) most ∙ eq-eqb code code refl)
-          | inr above ↦
-              let some : 0 < code_of q pos = omega (arith, above, ne) in
-              both_ways (attains_code q pos (code_of q pos))
-              (told (code_of q pos) above some best.bounded ∙ ne_eqb (code_of q pos) code ne)
-              (best.attained (λ none. omega (arith, none, some)))
-        ])
-      ]
-
   -- a text that is a proof of the code is about the code of the question
   pub code_sound : (text : List ℕ) → is_about q pos ≡ true → code ≤ 3 → IsProofOf q pos code text
       → (answer_of q pos).code ≡ code
   code_sound text about most proof =
-      code-answer_of q pos ∙ code_told about most
-      (told_from (told_all (codes_down_to code) (words_in text) [] proof))
+      grind (arith, code-answer_of, code_greatest, cases_eq, cases_lt, both_ways, eq-eqb, ne_eqb, eqb-true, told_all)
 
 -- where nothing is there, what is said of nothing holds
 pub none_gives : {X : Type 0} (o : Option X) (P : Type 0) (Q : X → Type 0) (none : Bool) → MatchOption o P Q

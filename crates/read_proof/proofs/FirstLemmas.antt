@@ -27,10 +27,10 @@ use Rattle.read_proof.specs.declared.token.Token.TheVariants.{Each}
 use Rattle.read_proof.specs.Tokens.{Word}
 use Rattle.read_proof.specs.Proves.{has_too_many, is_settled, is_wanted, move_may_prove, each_may_prove, passed}
 use Rattle.read_proof.specs.Proves.{can_take_back, child_after, child_behind}
-use Rattle.read_proof.specs.Proves.{pass_children, play_children, children_of, at_child, at_each, proves}
+use Rattle.read_proof.specs.Proves.{children_of, at_child, at_each, proves}
 use Rattle.read_proof.specs.FirstProof.{move_word, write_child, write_each, write_move, write_back, first_words}
 use Rattle.read_proof.specs.FirstProof.{BeginsWithFirstMove}
-use Rattle.read_proof.proofs.SoundLemmas.{both_rows, made_by, passed_by, behind_standing, IsSo}
+use Rattle.read_proof.proofs.SoundLemmas.{made_by, passed_by, behind_standing, IsSo}
 use Rattle.read_proof.proofs.ChildLemmas.{after_candidate, after_pass}
 use Rattle.read_proof.proofs.StepLemmas.{by_word, settled_word, move_decides}
 use Rattle.read_proof.proofs.PrintLemmas.{said_settled, said_each, said_move, is_word, move_is_word}
@@ -56,11 +56,7 @@ each_child_is : (P : Node × BoardState → Type 0) (node : Node) (pos : BoardSt
     → AllByRecursion P (children_of node pos)
 unfolding children_of
 each_child_is P node pos by_pass by_play =
-    grind (
-      arith,
-      both_rows P (pass_children node pos) (play_children node pos),
-      chosen_from (child_of node pos) (is_candidate node.turn pos) P by_play (pos.size * pos.size) 0,
-    )
+    grind (arith, chosen_from (child_of node pos) (is_candidate node.turn pos) P by_play (pos.size * pos.size) 0)
 
 -- The board has s rows.
 module _ (s : ℕ) where

@@ -1,5 +1,5 @@
 -- What is found by going over the points of the board: points that pass a test with one of them.
-use Rattle.std.proofs.Common.{◌≡◌, ◌∙◌, ℕ, ◌*◌, ◌<◌, ◌≤◌, ◌&&◌, ◌||◌, Bool, true, false, eqb, ltb, List}
+use Rattle.std.proofs.Common.{◌≡◌, ◌∙◌, ℕ, ◌*◌, ◌<◌, ◌≤◌, ◌&&◌, ◌||◌, Bool, true, false, eqb, List}
 use Rattle.std.proofs.Common.{Option, Some, None, refl, sym, ap, arith}
 use Rattle.std.specs.Prelude.{IfSome, IfNone, MatchOption}
 use Rattle.std.specs.Ordering.{nat_cmp}
@@ -55,17 +55,7 @@ pub only_one : (s : ℕ) (cells : List Cell) (q l n : ℕ) (libs : sets.FinSet n
     → (l < s * s) × ((p : ℕ) → is_only_liberty s cells q p ≡ eqb p l)
 unfolding is_only_liberty is_liberty
 only_one s cells q l n libs its counted one has =
-    grind (
-      arith,
-      eqb-true n 1 one,
-      contains-liberty_points s cells q,
-      len-liberty_points s cells q,
-      ltb-true l (s * s),
-      one_member libs l,
-      and_parts,
-      same_tests,
-      eq-eqb,
-    )
+    grind (arith, contains-liberty_points s cells q, len-liberty_points s cells q, one_member libs l)
 
 -- a set that a point was added to has the points that it had and that one
 pub found_add : (new old : sets.FinSet nat_cmp) (p r : ℕ) (b : Bool) → new ≡ sets.insert old p → b ≡ true
@@ -89,19 +79,13 @@ module _ (s : ℕ) (cells : List Cell) (cell : Cell) (S : ℕ → Bool) where
   pub beside_true : (p : ℕ) (b : Bool) → p < s * s → b ≡ any_below (s * s) (λ l. S l && are_neighbours s l p)
       → b ≡ true → same_cell (cell_at cells p) cell ≡ stands_beside s cells cell S p
   unfolding stands_beside
-  beside_true p b on e t =
-      and_true (same_cell (cell_at cells p) cell)
-      ∙ ap (λ x. same_cell (cell_at cells p) cell && x) (sym t ∙ e)
-      ∙ ap (λ x. x && same_cell (cell_at cells p) cell && any_below (s * s) (λ l. S l && are_neighbours s l p))
-      (sym (lt-ltb p (s * s) on))
+  beside_true p b on e t = grind (arith, and_true, lt-ltb)
 
   -- a point that is not beside the set fails it
   pub beside_false : (p : ℕ) (b : Bool) → b ≡ any_below (s * s) (λ l. S l && are_neighbours s l p) → b ≡ false
       → stands_beside s cells cell S p ≡ false
   unfolding stands_beside
-  beside_false p b e f =
-      ap (λ x. (ltb p (s * s) && same_cell (cell_at cells p) cell) && x) (sym e ∙ f)
-      ∙ and-false (ltb p (s * s) && same_cell (cell_at cells p) cell)
+  beside_false p b e f = grind (arith, and-false)
 
   -- the points of the board that pass are those that were found
   pub beside_found : (n r : ℕ) → s * s ≤ n → any_below n (λ k. eqb r k && stands_beside s cells cell S k)

@@ -1,5 +1,5 @@
 -- What the search for further candidates finds here, in the words of the one on a trial board, whose lemmas it cites.
-use Rattle.std.proofs.Common.{◌≡◌, ◌∙◌, ℕ, ◌*◌, ◌&&◌, ◌||◌, Bool, true, false, eqb, ltb, List, refl, sym, ap, arith}
+use Rattle.std.proofs.Common.{◌≡◌, ◌∙◌, ℕ, ◌*◌, ◌&&◌, ◌||◌, Bool, true, false, ltb, List, refl, sym, ap, arith}
 use Rattle.std.proofs.lemmas.Bool.{and_parts, and_from, eqb-true, eq-eqb, leb-true, le-leb}
 use Rattle.std.specs.Ordering.{nat_cmp}
 use Rattle.std.specs.FinSet as sets
@@ -37,8 +37,7 @@ only_between s cells r p = grind (arith, same_tests, and_parts, leb-true, eq-eqb
 pub lasts : (s : ℕ) (cells : List Cell) (points : sets.FinSet nat_cmp) (p : ℕ)
     → any_below (s * s) (λ r. sets.contains points r && is_few_liberty 1 1 s cells r p)
     ≡ any_below (s * s) (λ r. sets.contains points r && is_only_liberty s cells r p)
-lasts s cells points p = any_below_same (s * s) _ _
-    (λ r on. ap (λ b. sets.contains points r && b) (only_between s cells r p))
+lasts s cells points p = grind (arith, any_below_same, only_between)
 
 -- two tests joined are two others if each is
 either : {a b x y : Bool} → a ≡ x → b ≡ y → (a || b) ≡ (x || y)

@@ -1,5 +1,5 @@
 -- The question of a call, by its parts.
-use Rattle.std.proofs.Common.{◌≡◌, ◌≢◌, ℕ, true, refl, arith}
+use Rattle.std.proofs.Common.{◌≡◌, ◌≢◌, ℕ, true, arith}
 use Rattle.go_rules.specs.declared.Cell.{Cell}
 use Rattle.go_rules.specs.declared.Cell.TheVariants.{Empty}
 use Rattle.go_rules.specs.declared.Colour.{Colour}
@@ -14,8 +14,7 @@ use Rattle.read_rules.proofs.AnswerLemmas.{stone-colour, about_from}
 -- a question on a stone of a position is about the position
 pub about_asked : (tree : Tree) (pos : BoardState) (kind : Kind) (t plies wide : ℕ) → cell_at pos.cells t ≢ Empty
     → is_about (asked_in tree pos kind t plies wide) pos ≡ true
-about_asked tree pos kind t plies wide stone =
-    about_from (asked_in tree pos kind t plies wide) pos refl (stone-colour (cell_at pos.cells t) stone)
+about_asked tree pos kind t plies wide stone = grind (arith, about_from, stone-colour)
 
 -- the question of a kind about a stone of this colour on a board of this size
 abbrev stone_asked : Tree → Kind → ℕ → ℕ → ℕ → ℕ → Colour → ReadingQuestion

@@ -1,10 +1,10 @@
 -- What is proved at a node is so: by the word, by the children, and by induction on the plies.
-use Rattle.std.proofs.Common.{◌≡◌, ◌∙◌, ℕ, zero, suc, ◌+◌, ◌*◌, ◌/◌, ◌<◌, ◌≤◌, Bool, true, false, ◌&&◌, ◌||◌, cond, ltb}
-use Rattle.std.proofs.Common.{List, [], ◌∷◌, ◌++◌, Option, Some, None, is_some, not, refl, sym, ap, subst}
-use Rattle.std.proofs.Common.{inl, inr, arith, add-one}
+use Rattle.std.proofs.Common.{◌≡◌, ◌∙◌, ℕ, zero, suc, ◌+◌, ◌*◌, ◌<◌, ◌≤◌, Bool, true, false, ◌&&◌, cond}
+use Rattle.std.proofs.Common.{List, [], ◌∷◌, ◌++◌, Option, Some, None, is_some, not, refl, sym, ap}
+use Rattle.std.proofs.Common.{arith, add-one}
 use Rattle.std.specs.List.{filter_map, cons_option, filter, range_with_len, AllByRecursion}
 use Rattle.std.proofs.lemmas.Option.{option_and_then_some}
-use Rattle.std.proofs.lemmas.Bool.{cases_Bool, cases_eq, and_parts, or_cases, both_ways, eqb-true, ltb-true, not-true}
+use Rattle.std.proofs.lemmas.Bool.{cases_Bool, and_parts, or_cases, both_ways, ltb-true, not-true}
 use Rattle.go_rules.specs.Position.{BoardState}
 use Rattle.go_rules.specs.Strings.{liberties}
 use Rattle.read_rules.proofs.CandidateLaws.{candidate_on}
@@ -16,9 +16,9 @@ use Rattle.read_rules.specs.declared.question.Spot.TheVariants.{At, Pass}
 use Rattle.read_rules.specs.GameTree.{is_captured, has_many_liberties, attacker_wins, child_of, taking_back}
 use Rattle.read_rules.specs.Rules.{IsChild, EachChildWins}
 use Rattle.read_rules.proofs.RuleLemmas.{attacker_gives, attacker_from, defender_gives, defender_from, child_gives}
-use Rattle.read_rules.proofs.RuleLemmas.{child_from, many_gives, there, taking_back_gives}
+use Rattle.read_rules.proofs.RuleLemmas.{child_from, many_gives, taking_back_gives}
 use Rattle.read_rules.proofs.WinLemmas.{wins-captured, wins-no_plies, wins-none_left, wins-taken_back}
-use Rattle.read_rules.specs.Bound.{outlasts, outlasts_at}
+use Rattle.read_rules.specs.Bound.{outlasts_at}
 use Rattle.read_rules.proofs.LibertyLemmas.{bounded, to_attacker, to_defender, many_outlast, child_free, play_size}
 use Rattle.read_proof.specs.declared.token.Token.{Token}
 use Rattle.read_proof.specs.declared.token.Token.TheVariants.{Settled, Move, Each}
@@ -32,19 +32,7 @@ too_many_outlast : (n : ℕ) (node : Node) (pos : BoardState) → has_too_many n
     → outlasts_at node.turn n (liberties pos.size pos.cells node.turn.target) ≡ true
 unfolding has_too_many
 too_many_outlast n node pos h =
-    let l = liberties pos.size pos.cells node.turn.target in
-    let many = has_many_liberties node.turn pos in
-    elim (cases_Bool node.turn.attacker_to_play) [
-      | inl t ↦ ap (λ b. outlasts node.turn.tree b n node.turn.wide l) t
-          ∙ elim (or_cases _ _ (sym (ap (λ b. cond b (ltb ((n + 1) / 2) l || many) (ltb (n / 2) l)) t) ∙ h)) [
-            | inl more ↦ to_attacker node.turn.tree n node.turn.wide l (inl (ltb-true _ _ more))
-            | inr much ↦ many_outlast node.turn n pos
-                (many_gives node.turn pos much)
-          ]
-      | inr f ↦ ap (λ b. outlasts node.turn.tree b n node.turn.wide l) f
-          ∙ to_defender node.turn.tree n node.turn.wide l (inl (ltb-true _ _
-          (sym (ap (λ b. cond b (ltb ((n + 1) / 2) l || many) (ltb (n / 2) l)) f) ∙ h)))
-    ]
+    grind (arith, cases_Bool, or_cases, to_attacker, ltb-true, many_outlast, many_gives, to_defender)
 
 -- a child to which the defender takes back is there, or not
 none_there : (o : Option (Node × BoardState)) → not (is_some o) ≡ true → o ≡ None
@@ -56,19 +44,7 @@ settled_sound : (n : ℕ) (won : Bool) (node : Node) (pos : BoardState) → node
     → is_settled n won node pos ≡ true → attacker_wins n node pos ≡ won
 unfolding is_settled
 settled_sound n true node pos on h = grind (arith, and_parts, wins-captured, none_there)
-settled_sound n false node pos on h =
-    grind (
-      arith,
-      cases_Bool,
-      and_parts,
-      there,
-      eqb-true,
-      wins-none_left,
-      or_cases,
-      wins-no_plies,
-      bounded,
-      too_many_outlast,
-    )
+settled_sound n false node pos on h = grind (arith, wins-none_left, wins-no_plies, bounded, too_many_outlast)
 
 -- the target of a node is on the board of its position
 abbrev pub IsOn : Node × BoardState → Type 0
@@ -82,7 +58,6 @@ played_on_board node pos p child on e =
     grind (
       arith,
       child_free node pos p child.0 child.1 (child_gives node pos p child.0 child.1 e),
-      child_gives node pos p child.0 child.1 e,
       play_size pos (mover_of node.turn) p child.1,
     )
 
@@ -114,24 +89,11 @@ pub plays_from : (f : ℕ → Option (Node × BoardState)) (P : Node × BoardSta
 plays_from f P h [] = tt
 plays_from f P h (p ∷ ps) = grind (arith, plays_from f P h ps)
 
--- what holds of each child of a row holds of its first
-first_child : (P : Node × BoardState → Type 0) (o : Option (Node × BoardState)) (more : List (Node × BoardState))
-    (child : Node × BoardState) → AllByRecursion P (cons_option o more) → o ≡ Some child → P child
-first_child P None more child all e = absurd (let w = e in cc)
-first_child P (Some first) more child all e = let same : first ≡ child = cc in subst P same all.0
-
 -- and of those behind it
 other_children : (P : Node × BoardState → Type 0) (o : Option (Node × BoardState)) (more : List (Node × BoardState))
     → AllByRecursion P (cons_option o more) → AllByRecursion P more
 other_children P None more all = all
 other_children P (Some first) more all = all.1
-
--- what holds of each child after the plays at a row of points holds of the child that the first gives, if it is chosen
-at_first : (f : ℕ → Option (Node × BoardState)) (P : Node × BoardState → Type 0) (a : ℕ) (more : List ℕ)
-    (child : Node × BoardState) (b : Bool) → AllByRecursion P (filter_map f (cond b (a ∷ more) more)) → b ≡ true
-    → f a ≡ Some child → P child
-at_first f P a more child true all chosen is = first_child P (f a) (filter_map f more) child all is
-at_first f P a more child false all chosen is = absurd (let w = chosen in cc)
 
 -- and of each child after the plays at those behind it
 at_others : (f : ℕ → Option (Node × BoardState)) (P : Node × BoardState → Type 0) (a : ℕ) (more : List ℕ) (b : Bool)
@@ -145,13 +107,7 @@ plays_give : (f : ℕ → Option (Node × BoardState)) (g : ℕ → Bool) (P : N
     → g p ≡ true → f p ≡ Some child → P child
 plays_give f g P zero a p child all low high chosen e = absurd (omega arith)
 plays_give f g P (suc n) a p child all low high chosen e =
-    grind (
-      arith,
-      cases_eq,
-      at_first,
-      at_others,
-      plays_give f g P n (a + 1) p child (at_others f P a (filter g (range_with_len (a + 1) n)) (g a) all),
-    )
+    grind (arith, plays_give f g P n (a + 1) p child (at_others f P a (filter g (range_with_len (a + 1) n)) (g a) all))
 
 -- each child of the rows is one of a row
 pub both_rows : (P : Node × BoardState → Type 0) (xs ys : List (Node × BoardState)) → AllByRecursion P xs
@@ -169,24 +125,14 @@ each_row P (x ∷ xs) ys all = let rest = each_row P xs ys all.1 in ((all.0, res
 children_on_board : (node : Node) (pos : BoardState) → node.turn.target < pos.size * pos.size
     → AllByRecursion IsOn (children_of node pos)
 unfolding children_of
-children_on_board node pos on =
-    grind (
-      arith,
-      both_rows IsOn (pass_children node pos) (play_children node pos),
-      plays_from (child_of node pos) IsOn,
-      played_on_board node pos,
-    )
+children_on_board node pos on = grind (arith, plays_from (child_of node pos) IsOn, played_on_board node pos)
 
 module _ (P : Node × BoardState → Type 0) (node : Node) (pos : BoardState)
     (all : AllByRecursion P (children_of node pos)) where
   -- what holds of each child holds of that after the defender's pass
   pass_holds : node.turn.attacker_to_play ≡ false → P (passed node pos)
   unfolding children_of
-  pass_holds turn = by node.turn.attacker_to_play turn (each_row P (pass_children node pos) (play_children node pos) all).0
-    where
-      by : (turn : Bool) → turn ≡ false → AllByRecursion P (cond turn [] (passed node pos ∷ [])) → P (passed node pos)
-      by true e row = absurd (let w = e in cc)
-      by false e row = row.0
+  pass_holds turn = grind (arith, each_row)
 
   -- and of that after each candidate that can be played
   play_holds : (p : ℕ) (next : Node) (new : BoardState) → is_candidate node.turn pos p ≡ true
@@ -249,37 +195,18 @@ module _ (n : ℕ) (node : Node) (pos : BoardState) (stands : is_captured pos no
   more : (b : Bool) → attacker_wins (n + 1) node pos ≡ b → attacker_wins (suc n) node pos ≡ b
   more b h = sym (ap (λ m. attacker_wins m node pos) (add-one n)) ∙ h
 
-  -- the next number is the sum of the definitions
-  less : (b : Bool) → attacker_wins (suc n) node pos ≡ b → attacker_wins (n + 1) node pos ≡ b
-  less b h = ap (λ m. attacker_wins m node pos) (add-one n) ∙ h
-
   -- where each child has the claim that the side to play does not want, so has the node
   each_decides : (won : Bool) → is_wanted won node ≡ false → AllByRecursion (IsSo n won) (children_of node pos)
       → attacker_wins (suc n) node pos ≡ won
   each_decides true movers all =
-      let turn = attackers_turn node.turn.attacker_to_play movers in
-      more true (defender_from n node pos stands turn (record {
-        passed = pass_holds (IsSo n true) node pos all turn;
-        played = λ p next new candidate child. play_holds (IsSo n true) node pos all p next new candidate child;
-      }))
-    where
-      attackers_turn : (turn : Bool) → cond turn true false ≡ false → turn ≡ false
-      attackers_turn true e = absurd (let w = e in cc)
-      attackers_turn false e = refl
+      grind (
+        arith,
+        defender_from n node pos stands,
+        pass_holds (IsSo n true) node pos all,
+        play_holds (IsSo n true) node pos all,
+      )
   each_decides false movers all =
-      let turn = defenders_turn node.turn.attacker_to_play movers in
-      elim (cases_Bool (attacker_wins (suc n) node pos)) [
-        | inr lost ↦ lost
-        | inl wins ↦
-            let child = (attacker_gives n node pos stands turn (less true wins)).1 in
-            absurd (both_ways (attacker_wins n child.next child.new)
-            (play_holds (IsSo n false) node pos all child.point child.next child.new child.candidate child.child)
-            child.wins)
-      ]
-    where
-      defenders_turn : (turn : Bool) → cond turn false true ≡ false → turn ≡ true
-      defenders_turn true e = refl
-      defenders_turn false e = absurd (let w = e in cc)
+      grind (arith, attacker_gives n node pos stands, play_holds (IsSo n false) node pos all)
 
   -- where the child after one of its moves has the claim that the side to play wants, so has the node
   move_decides : (won : Bool) (spot : Spot) (child : Node × BoardState) → is_wanted won node ≡ true
@@ -287,40 +214,10 @@ module _ (n : ℕ) (node : Node) (pos : BoardState) (stands : is_captured pos no
       → child_after node pos spot ≡ Some child → IsSo n won child → attacker_wins (suc n) node pos ≡ won
   unfolding child_after
   move_decides true (At p) child movers few e so =
-      let turn = attackers_turn node.turn.attacker_to_play movers in
-      let made = made_by (is_candidate node.turn pos p) (child_of node pos p) child e in
-      more true (attacker_from n node pos stands turn (
-        sym (ap (λ b. b && has_many_liberties node.turn pos) turn) ∙ few,
-        record {
-          point = p;
-          next = child.0;
-          new = child.1;
-          candidate = made.0;
-          child = child_gives node pos p child.0 child.1 made.1;
-          wins = so;
-        },
-      ))
-    where
-      attackers_turn : (turn : Bool) → cond turn true false ≡ true → turn ≡ true
-      attackers_turn true e = refl
-      attackers_turn false e = absurd (let w = e in cc)
-  move_decides true Pass child movers few e so =
-      absurd (no_turn node.turn.attacker_to_play movers (passed_by node.turn.attacker_to_play (passed node pos) child e).0)
-    where
-      no_turn : (turn : Bool) → cond turn true false ≡ true → turn ≡ false → ⊥
-      no_turn true m e = let w = e in cc
-      no_turn false m e = let w = m in cc
+      grind (arith, attacker_from n node pos stands, child_gives node pos p child.0 child.1)
+  move_decides true Pass child movers few e so = grind (arith, passed_by)
   move_decides false spot child movers few e so =
-      let turn = defenders_turn node.turn.attacker_to_play movers in
-      elim (cases_Bool (attacker_wins (suc n) node pos)) [
-        | inr lost ↦ lost
-        | inl wins ↦ absurd (both_ways (attacker_wins n child.0 child.1) so
-            (won_after n node pos spot child e (defender_gives n node pos stands turn (less true wins))))
-      ]
-    where
-      defenders_turn : (turn : Bool) → cond turn false true ≡ true → turn ≡ false
-      defenders_turn true e = absurd (let w = e in cc)
-      defenders_turn false e = refl
+      grind (arith, cases_Bool, both_ways, won_after, defender_gives, add-one)
 
 -- what a proof begins with decides how it goes on
 begins : (P : Type 0) (settled : Bool) (move : Spot → List Word → Option (List Word))
@@ -363,12 +260,8 @@ may_each_parts won node pos h = let parts = and_parts _ _ h in (not-true _ parts
 move_sound : (n : ℕ) (won : Bool) (node : Node) (pos : BoardState) (spot : Spot) (child : Node × BoardState)
     → move_may_prove won node pos ≡ true → child_behind node pos spot ≡ Some child → IsSo n won child
     → attacker_wins (suc n) node pos ≡ won
-move_sound n won node pos spot child may e so = elim (cases_Bool (is_captured pos node.turn.target)) [
-  | inl taken ↦ wins-taken_back n node pos child taken (behind_taken node pos spot child taken e) ∙ so
-  | inr stands ↦
-      let parts = may_move_parts won node pos may stands in
-      move_decides n node pos stands won spot child parts.0 parts.1 (sym (behind_standing node pos spot stands) ∙ e) so
-]
+move_sound n won node pos spot child may e so =
+    grind (arith, cases_Bool, wins-taken_back, behind_taken, may_move_parts, move_decides, behind_standing)
 
 -- what is proved at a node by words is so
 pub proved_sound : (n : ℕ) (won : Bool) → IsSound n won

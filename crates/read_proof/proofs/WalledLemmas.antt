@@ -1,5 +1,5 @@
 -- Whether a point is walled in, by the points at its sides.
-use Rattle.std.proofs.Common.{◌≡◌, ◌∙◌, ℕ, ◌*◌, ◌<◌, ◌≤◌, ◌&&◌, Bool, true, false, not, List, Some, ap, refl, inl, inr}
+use Rattle.std.proofs.Common.{◌≡◌, ℕ, ◌*◌, ◌<◌, ◌≤◌, ◌&&◌, true, false, not, List, Some, ap}
 use Rattle.std.proofs.Common.{arith}
 use Rattle.std.proofs.lemmas.Bool.{cases_Bool, and_from, not_from_false}
 use Rattle.go_rules.specs.declared.Cell.{Cell}
@@ -26,16 +26,4 @@ module _ (s : ℕ) (cells : List Cell) (t : ℕ) (c : Colour) (on : t < s * s) w
   pub walled : (n : ℕ) → 4 ≤ n
       → ((k q : ℕ) → k < n → neighbour_at s t k ≡ Some q → same_cell (cell_at cells q) (stone_of c) ≡ true)
       → is_walled_in s cells t c ≡ true
-  walled n four each = not_from_false _ (any_below_false (s * s)
-      (λ r. are_neighbours s t r && not (same_cell (cell_at cells r) (stone_of c)))
-      (λ q q_on. elim (cases_Bool (are_neighbours s t q)) [
-        | inl near ↦
-            let side = neighbour_at-all s t q on q_on near in
-            let holds = each side.0 q (omega (arith, side.1, four)) side.2 in
-            ap (λ b. are_neighbours s t q && not b) holds ∙ no_more (are_neighbours s t q)
-        | inr far ↦ ap (λ b. b && not (same_cell (cell_at cells q) (stone_of c))) far
-      ]))
-    where
-      no_more : (b : Bool) → (b && false) ≡ false
-      no_more true = refl
-      no_more false = refl
+  walled n four each = grind (arith, not_from_false, any_below_false, cases_Bool, neighbour_at-all)

@@ -1,10 +1,10 @@
 -- What a play leaves of a string.
 use Rattle.std.proofs.Common.{◌≡◌, ◌≢◌, ℕ, ◌*◌, ◌<◌, Bool, true, false, cond, List}
-use Rattle.std.proofs.Common.{refl, sym, ap, ◌∙◌, set}
+use Rattle.std.proofs.Common.{refl, ap, ◌∙◌, set, arith}
 use Rattle.go_rules.specs.declared.Cell.{Cell}
-use Rattle.go_rules.specs.declared.Cell.TheVariants.{Empty, Black, White}
+use Rattle.go_rules.specs.declared.Cell.TheVariants.{Empty}
 use Rattle.go_rules.specs.declared.Colour.{Colour}
-use Rattle.go_rules.specs.Strings.{cell_at, is_stone, Path, start, IsInString, IsLiberty}
+use Rattle.go_rules.specs.Strings.{cell_at, is_stone, Path, start, IsLiberty}
 use Rattle.go_rules.specs.Position.{stone_of}
 use Rattle.go_rules.specs.Play.{cells_after, is_taken}
 use Rattle.go_rules.proofs.Links.{path_same, path_on, path_back, path_keeps, liberties_from}
@@ -18,33 +18,9 @@ module _ (s : ℕ) (cells : List Cell) (c : Colour) (p : ℕ) (was_empty : cell_
   abbrev put : List Cell
   put = set cells p (stone_of c)
 
-  -- no stone of the string is at the point of the play
-  apart : (q : ℕ) → IsInString s cells t q → q ≢ p
-  apart q inside e = stone_not_empty (cell_at cells t) inside.stone
-      (sym (path_same s cells t inside.path) ∙ ap (cell_at cells) e ∙ was_empty)
-    where
-      stone_not_empty : (k : Cell) → is_stone k ≡ true → k ≡ Empty → ⊥
-      stone_not_empty Empty h e = cc
-      stone_not_empty Black h e = cc
-      stone_not_empty White h e = cc
-
   -- the string and its liberty stand after the stone was put
   pub put_liberty : (l : ℕ) → IsLiberty s cells t l → l ≢ p → IsLiberty s put t l
-  put_liberty l lib ne = record {
-    on_board = lib.on_board;
-    is_empty = at_put_other cells p l (stone_of c) ne ∙ lib.is_empty;
-    beside = (
-      lib.beside.0,
-      record {
-        stone = ap is_stone (at_put_other cells p t (stone_of c)
-            (apart t (record { stone = lib.beside.1.stone; path = start }))) ∙ lib.beside.1.stone;
-        path = path_keeps s cells put t (λ x path.
-            at_put_other cells p x (stone_of c) (apart x (record { stone = lib.beside.1.stone; path = path })))
-            lib.beside.1.path;
-      },
-      lib.beside.2,
-    );
-  }
+  put_liberty l lib ne = grind (arith, at_put_other, path_same, path_keeps)
 
   -- no stone of the string is taken
   pub after_liberty : (l : ℕ) → IsLiberty s cells t l → l ≢ p → IsLiberty s (cells_after s put c) t l

@@ -1,7 +1,7 @@
 -- What a reading under one code finds, and which answer the codes come to.
 use Rattle.std.proofs.Common.{◌≡◌, ◌≢◌, ◌∙◌, ℕ, zero, suc, ◌-◌, ◌<◌, ◌≤◌, Bool, true, false, not, cond, Option, None}
 use Rattle.std.proofs.Common.{is_some, ap, sym, refl, arith, eq-eqb}
-use Rattle.std.proofs.lemmas.Bool.{cases_Bool, cases_eq, ne_eqb, and_parts, and_from}
+use Rattle.std.proofs.lemmas.Bool.{cases_Bool, and_parts, and_from}
 use Rattle.go_rules.specs.declared.Cell.{Cell}
 use Rattle.go_rules.specs.declared.Cell.TheVariants.{Empty, Black, White}
 use Rattle.go_rules.specs.declared.Colour.{Colour}
@@ -94,8 +94,7 @@ about_from q pos size stone = and_from _ _ (eq-eqb q.size pos.size size) (same_c
 -- the question attains a code exactly where the side to play has a good move at its first node
 pub attained_by : (q : ReadingQuestion) (pos : BoardState) (code : ℕ) → q.plies ≢ 0 → is_captured pos q.target ≡ false
     → attains_code q pos code ≡ is_some (good_move (q.plies - 1) (first_node q code) pos)
-attained_by q pos code ne h =
-    sym (reads q pos code (good_move (q.plies - 1) (first_node q code) pos) ne h refl).attained
+attained_by q pos code ne h = grind (arith, reads)
 
 -- a code that is attained, where no greater one is, is the code of the question
 code_best : (q : ReadingQuestion) (pos : BoardState) (code : ℕ) → is_about q pos ≡ true → code ≤ 3
@@ -116,10 +115,4 @@ pub answer_best : (q : ReadingQuestion) (pos : BoardState) (code : ℕ) (at : Op
     → ((more : ℕ) → code < more → more ≤ 3 → attains_code q pos more ≡ false) → (code ≡ 0 → at ≡ None)
     → (code ≢ 0 → at ≡ first_move_of q pos code) → record { code = code; at = at } ≡ answer_of q pos
 answer_best q pos code at about bounded hit miss no_move move =
-    grind (
-      arith,
-      answer_with q pos code at (code_best q pos code about bounded hit miss),
-      code_best q pos code about bounded hit miss,
-      cases_eq code 0,
-      ne_eqb code 0,
-    )
+    grind (arith, answer_with q pos code at (code_best q pos code about bounded hit miss))

@@ -48,7 +48,6 @@ tree_on on (by_play {n} {node} {here} tree undecided p c next new child) =
     grind (
       arith,
       child_free node here p next new (child_gives node here p next new child),
-      child_gives node here p next new child,
       play_size here (mover_of node.turn) p new,
       tree_on on tree,
     )

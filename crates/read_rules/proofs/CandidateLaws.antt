@@ -131,11 +131,6 @@ backfills_from pos target l p on w =
     (and_from _ _ (is_liberty-from_fact pos.size pos.cells target l on w.liberty)
     (ap (leaves_only l p) w.legal ∙ only_from w.new.size w.new.cells l p w.in_atari its)))
 
--- a backfilling move is a point of the board
-pub backfilled_on : (pos : BoardState) (target l p : ℕ) → IsBackfilledAt pos target l p → p < pos.size * pos.size
-backfilled_on pos target l p w =
-    subst (λ n. p < n * n) (size_played pos (attacker_of (cell_at pos.cells target)) l w.new w.legal) w.last.on_board
-
 -- p is a wide move, by the test
 abbrev by_wide : BoardState → ℕ → ℕ → ℕ → Bool
 by_wide pos target k p =
@@ -245,14 +240,11 @@ stated turn = record {
 -- a candidate is a point of the board
 pub candidate_on : (turn : Turn) (pos : BoardState) (p : ℕ)
     → is_candidate turn pos p ≡ true → p < pos.size * pos.size
-candidate_on turn pos p h = elim (by_test turn pos p h) [
-  | of_further is further ↦
-      further_on pos.size pos.cells turn.target p (ltb 0 turn.wide) turn.attacker_to_play further
-  | of_four four ↦ elim (four_gives (stated turn) pos p four) [
-    | fills lib ↦ lib.on_board
-    | looks_wide some few l lib near ↦ near.on_board
-    | takes q taken ↦ taken.last.on_board
-    | backfills some l w ↦ backfilled_on pos turn.target l p w
-    | goes_further is further ↦ absurd (let w = is in cc)
-  ]
-]
+candidate_on turn pos p h =
+    grind (
+      arith,
+      by_test turn pos p h,
+      further_on pos.size pos.cells turn.target p (ltb 0 turn.wide) turn.attacker_to_play,
+      four_gives (stated turn) pos p,
+      size_played,
+    )

@@ -100,10 +100,8 @@ same_taken : (n : ℕ) (node : Node) (pos : BoardState) → IsBanFree n node pos
 same_taken zero node pos free a d x y t h below =
     grind (
       arith,
-      some_or_none (taking_back (with_allowances node x y) pos),
       wins-captured zero (with_allowances node x y) pos t,
       back_child free x y,
-      both_ways (attacker_wins 0 (with_allowances node a d) pos),
       wins-none_left (with_allowances node a d) pos,
       back_child_from node pos a d,
     )

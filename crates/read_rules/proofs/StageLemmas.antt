@@ -1,5 +1,5 @@
 -- The candidates by stages, and by the sets of points that are gathered for them.
-use Rattle.std.proofs.Common.{◌≡◌, ℕ, ◌*◌, ◌&&◌, ◌||◌, Bool, true, false, ltb, List, refl, sym, ap, ◌∙◌, arith}
+use Rattle.std.proofs.Common.{◌≡◌, ℕ, ◌*◌, ◌&&◌, ◌||◌, Bool, true, false, ltb, List, refl, ap, ◌∙◌, arith}
 use Rattle.std.proofs.lemmas.Bool.{and_parts, and_from}
 use Rattle.std.specs.Ordering.{nat_cmp}
 use Rattle.std.specs.FinSet as sets
@@ -54,8 +54,7 @@ pub later_further : (turn : Turn) (here : BoardState) (p : ℕ) (wide further : 
     && is_further (ltb 0 turn.wide) turn.attacker_to_play here.size here.cells turn.target p)
     → (wide || further) ≡ is_later_candidate turn here p
 unfolding is_later_candidate
-later_further turn here p wide further ew ef =
-    ap (λ y. y || further) ew ∙ ap (λ y. (ltb 0 turn.wide && is_wide_by_liberties here turn.target p) || y) ef
+later_further turn here p wide further ew ef = grind arith
 
 -- in the stated tree the later candidates are those by the target's liberties with a wide ply
 pub later_stated : (turn : Turn) (here : BoardState) (p : ℕ) (wide : Bool) → turn.tree ≡ Stated
@@ -129,33 +128,13 @@ module _ (here : BoardState) (target p : ℕ) (libs : sets.FinSet nat_cmp)
 module _ (turn : Turn) (here : BoardState) (p : ℕ) (libs last : sets.FinSet nat_cmp)
     (el : libs ≡ liberty_points here.size here.cells turn.target)
     (et : sets.contains last p ≡ is_last_liberty_of_enemy here.size here.cells turn.target p) where
-  -- with the later candidates these are the candidates
-  in_stages : (later : Bool) → later ≡ is_later_candidate turn here p
-      → ((sets.contains last p || sets.contains libs p) || later) ≡ is_candidate turn here p
-  in_stages later is =
-      ap (λ y. (y || sets.contains libs p) || later) et
-      ∙ ap (λ y. (is_last_liberty_of_enemy here.size here.cells turn.target p || y) || later)
-      (has_liberty here.size here.cells turn.target p libs el)
-      ∙ turned (is_last_liberty_of_enemy here.size here.cells turn.target p) (is_liberty here.size here.cells turn.target p) later
-      ∙ ap (λ y. (is_liberty here.size here.cells turn.target p
-      || is_last_liberty_of_enemy here.size here.cells turn.target p) || y) is
-      ∙ sym (candidate_stages turn here p)
-    where
-      turned : (a b w : Bool) → ((a || b) || w) ≡ ((b || a) || w)
-      turned true true w = refl
-      turned true false w = refl
-      turned false true w = refl
-      turned false false w = refl
-
   -- if there may be no later candidates, these are the candidates
   pub candidate_plain : (x : Bool) → has_later_candidates turn ≡ false
       → x ≡ (sets.contains last p || sets.contains libs p)
       → x ≡ is_candidate turn here p
-  candidate_plain x none ex =
-      ex ∙ or_false (sets.contains last p || sets.contains libs p)
-      ∙ in_stages false (sym (later_none turn here p none))
+  candidate_plain x none ex = grind (arith, or_false, has_liberty, candidate_stages, later_none)
 
   -- together with the later candidates they are the candidates
   pub candidate_later : (x later : Bool) → later ≡ is_later_candidate turn here p
       → x ≡ ((sets.contains last p || sets.contains libs p) || later) → x ≡ is_candidate turn here p
-  candidate_later x later is ex = ex ∙ in_stages later is
+  candidate_later x later is ex = grind (arith, has_liberty, candidate_stages)

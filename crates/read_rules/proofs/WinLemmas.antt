@@ -52,13 +52,6 @@ lost_child : (n : ℕ) (child : Option (Node × BoardState))
 lost_child n None = refl
 lost_child n (Some child) = refl
 
--- no move saves the target exactly where each child is lost
-all-first : (n : ℕ) (f : ℕ → Option (Node × BoardState)) (ps : List ℕ)
-    → is_none (find (λ p. some_child (λ s pos. not (attacker_wins n s pos)) (f p)) ps)
-    ≡ list_all (λ p. each_child (attacker_wins n) (f p)) ps
-all-first n f ps = none-first (λ p. some_child (λ s pos. not (attacker_wins n s pos)) (f p))
-    (λ p. each_child (attacker_wins n) (f p)) ps (λ p. lost_child n (f p))
-
 -- there is no child, or there is one
 pub some_or_none : (o : Option (Node × BoardState)) → (o ≡ None) ⊎ ((child : Node × BoardState) × (o ≡ Some child))
 some_or_none None = inl refl
@@ -137,25 +130,13 @@ unfolding by_turn
 defender_none many true first all e = ap not (some-at_point first) ∙ e
 defender_none many false first all e = refl
 
--- at the attacker's turn some point succeeds exactly where he wins some child
-attacker_first : (n : ℕ) (node : Node) (pos : BoardState) → node.turn.attacker_to_play ≡ true
-    → is_some (first_success n node pos)
-    ≡ list_any (λ p. some_child (attacker_wins n) (child_of node pos p)) (candidates_of node.turn pos)
-attacker_first n node pos e = grind (arith, any-first)
-
--- at the defender's turn none succeeds exactly where the attacker wins each child
-defender_first : (n : ℕ) (node : Node) (pos : BoardState) → node.turn.attacker_to_play ≡ false
-    → is_none (first_success n node pos)
-    ≡ list_all (λ p. each_child (attacker_wins n) (child_of node pos p)) (candidates_of node.turn pos)
-defender_first n node pos e = grind (arith, all-first n (child_of node pos) (candidates_of node.turn pos))
-
 -- the attacker wins at his turn exactly where he has a good move
 pub wins-attacker_move : (n : ℕ) (node : Node) (pos : BoardState) → is_captured pos node.turn.target ≡ false → n ≢ 0
     → node.turn.attacker_to_play ≡ true
     → attacker_wins n node pos ≡ is_some (good_move (n - 1) node pos)
 wins-attacker_move zero node pos h ne e = absurd (ne refl)
 wins-attacker_move (suc n) node pos h ne e =
-    grind (arith, wins-attacker, good_move-by_turn, by_turn, attacker_some, attacker_first)
+    grind (arith, wins-attacker, good_move-by_turn, by_turn, attacker_some, any-first)
 
 -- and at the defender's turn exactly where the defender has none
 pub wins-defender_move : (n : ℕ) (node : Node) (pos : BoardState) → is_captured pos node.turn.target ≡ false → n ≢ 0
@@ -163,7 +144,7 @@ pub wins-defender_move : (n : ℕ) (node : Node) (pos : BoardState) → is_captu
     → attacker_wins n node pos ≡ is_none (good_move (n - 1) node pos)
 wins-defender_move zero node pos h ne e = absurd (ne refl)
 wins-defender_move (suc n) node pos h ne e =
-    grind (arith, wins-defender, good_move-by_turn, by_turn, defender_none, defender_first)
+    grind (arith, wins-defender, good_move-by_turn, by_turn, defender_none, none-first, lost_child)
 
 -- no point before p is a candidate that succeeds, where none before the next one is, and between them stands no
 -- candidate
@@ -188,7 +169,6 @@ first_success-found n node pos next p cands same before between c t =
       arith,
       candidate_on node.turn pos p (sym (same p) ∙ c),
       first-found (is_candidate node.turn pos) (succeeds n node pos) (pos.size * pos.size) 0 p,
-      none_before cands (succeeds n node pos) next p before between,
     )
 
 -- none succeeds, where no candidate is left

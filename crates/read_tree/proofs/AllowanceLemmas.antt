@@ -1,6 +1,6 @@
 -- Sets of ko allowances, and the node under each of them.
 use Rattle.std.proofs.Common.{◌≡◌, ◌≢◌, ℕ, suc, ◌-◌, ◌*◌, ◌⊎◌, Bool, true, false, not, ◌&&◌, ◌||◌, cond, Option, Some}
-use Rattle.std.proofs.Common.{None, is_some, refl, sym, ap, subst, ◌∙◌, arith, inl, inr}
+use Rattle.std.proofs.Common.{None, is_some, refl, sym, ap, subst, ◌∙◌, arith}
 use mathlib.Core.Bool.{beq}
 use Rattle.std.proofs.lemmas.Bool.{cases_Bool, both_ways, or_left, or_right}
 use Rattle.go_rules.specs.Position.{BoardState}
@@ -122,12 +122,6 @@ found_as : (a b y : Bool) → a ≡ true → y ≡ b → y ≡ (a && b)
 found_as true b y h e = e
 found_as false b y h e = cc
 
--- where the own allowance alone passes
-pub IsFiltered-own : (attacker : Bool) (asked : Allowances) (there : Bool) (test : Ko → Bool)
-    → has asked (own_ko attacker) ≡ true → there ≡ test (own_ko attacker)
-    → ((ko : Ko) → ko ≢ own_ko attacker → test ko ≡ false) → IsFiltered asked (own_where attacker there) test
-IsFiltered-own attacker asked there test h e none = grind (arith, found_not, found_as)
-
 -- what is found after a play by the own allowance alone is told of the asked
 pub told_allowed : (n : ℕ) (turn : Turn) (here new : BoardState) (p : ℕ) (asked : Allowances) (way : Bool)
     → let own = own_ko turn.attacker_to_play in has asked own ≡ true
@@ -135,7 +129,7 @@ pub told_allowed : (n : ℕ) (turn : Turn) (here new : BoardState) (p : ℕ) (as
     × ((ko : Ko) → ko ≢ own → child_of (under turn ko) here p ≡ None)
     → way ≡ has_way turn.attacker_to_play (attacker_wins n (under (next_turn turn) neither_may) new)
     → IsFiltered asked (own_where turn.attacker_to_play way) (λ ko. succeeds n (under turn ko) here p)
-told_allowed n turn here new p asked way own made is = grind (arith, IsFiltered-own, suits_child, suits_none)
+told_allowed n turn here new p asked way own made is = grind (arith, found_not, found_as, suits_child, suits_none)
 
 -- Each pass of the walk over the candidates.
 pub left_first : (n : ℕ) (turn : Turn) (here : BoardState) (candidate tried : ℕ → Bool) (asked : Allowances)
@@ -170,37 +164,14 @@ module _ (n : ℕ) (turn : Turn) (here : BoardState) (candidate tried now : ℕ 
     (asked missing good : Allowances) (left : IsLeft n turn here candidate tried asked missing)
     (cand : candidate p ≡ true) (one_more : (q : ℕ) → now q ≡ true → (q ≡ p) ⊎ (tried q ≡ true))
     (tells : IsFiltered missing good (λ ko. succeeds n (under turn ko) here p)) where
-  -- none that was tried gives what is still missing
-  still_missing : (ko : Ko) → has (without missing good) ko ≡ true → (q : ℕ) → now q ≡ true
-      → (candidate q && succeeds n (under turn ko) here q) ≡ false
-  still_missing ko h q was =
-      let parts = and_parts_not _ _ (sym (has-without missing good ko) ∙ h) in
-      let fails = told_fails (has missing ko) _ (has good ko) (tells.each ko) parts.0 parts.1 in
-      elim (one_more q was) [
-        | inl e ↦ and_false_right (candidate q) _ (ap (succeeds n (under turn ko) here) e ∙ fails)
-        | inr before ↦ left.none ko parts.0 q before
-      ]
-
   -- what is missing no longer is given by p, or by one before
   no_longer : (ko : Ko) → has asked ko ≡ true → has (without missing good) ko ≡ false
       → (q : ℕ) × (candidate q ≡ true) × (succeeds n (under turn ko) here q ≡ true)
-  no_longer ko a m = elim (cases_Bool (has missing ko)) [
-    | inr f ↦ left.given ko a f
-    | inl t ↦ (
-      p,
-      cand,
-      told_passes (has missing ko) _ (has good ko) (tells.each ko) t
-          (sym (has-without missing good ko) ∙ m),
-    )
-  ]
+  no_longer ko a m = grind (arith, cases_Bool, told_passes, has-without)
 
   -- what it gives is no longer missing
   pub left_next : IsLeft n turn here candidate now asked (without missing good)
-  left_next = record {
-    asked_for = λ ko h. left.asked_for ko (and_parts_not _ _ (sym (has-without missing good ko) ∙ h)).0;
-    none = still_missing;
-    given = no_longer;
-  }
+  left_next = grind (arith, and_parts_not, has-without, told_fails, and_false_right, no_longer)
 
 -- a node under no allowance is one of the trees
 pub neither_nodes : {q : ReadingQuestion} {root here : BoardState} {n : ℕ} {turn : Turn}
@@ -246,15 +217,11 @@ pub fewer_nodes : {q : ReadingQuestion} {root here : BoardState} {n : ℕ} {turn
     → AreNodesOf q root n turn fewer here
 fewer_nodes fewer tree h = record { each = λ ko a. tree.each ko (h ko a) }
 
--- what is left of a set without another was in the set
-pub without_less : (a b : Allowances) (ko : Ko) → has (without a b) ko ≡ true → has a ko ≡ true
-without_less a b ko h = (and_parts_not _ _ (sym (has-without a b ko) ∙ h)).0
-
 -- a node of the allowances that another set leaves of those asked
 pub left_nodes : {q : ReadingQuestion} {root here : BoardState} {n : ℕ} {turn : Turn} {asked missing : Allowances}
     (found : Allowances) → AreNodesOf q root n turn asked here → missing ≡ without asked found
     → AreNodesOf q root n turn missing here
-left_nodes {asked} found tree is = grind (arith, without_less)
+left_nodes {asked} found tree is = grind (arith, and_parts_not, has-without)
 
 -- where the first test gives the second
 pub and_true : (a b : Bool) → (a ≡ true → b ≡ true) → a ≡ (a && b)
@@ -328,8 +295,7 @@ has_none attacker_may = refl
 -- nothing is found of the asked where no allowance passes the test
 pub IsFiltered-none : (asked : Allowances) (test : Ko → Bool) → ((ko : Ko) → test ko ≡ false)
     → IsFiltered asked (record { defender = false; neither = false; attacker = false }) test
-IsFiltered-none asked test h =
-    record { each = λ ko. has_none ko ∙ sym (and_false_right (has asked ko) (test ko) (h ko)) }
+IsFiltered-none asked test h = grind (arith, has_none, and_false_right)
 
 -- all are there
 pub has_all : (ko : Ko) → has all_three ko ≡ true

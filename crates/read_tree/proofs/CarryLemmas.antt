@@ -1,6 +1,6 @@
 -- The target's liberties after an attacker's play that does not take it: those before, but for the point of the play.
 use Rattle.std.proofs.Common.{◌≡◌, ◌≢◌, ℕ, ◌*◌, ◌<◌, ◌&&◌, Bool, true, not, cond, eqb, List, length, Option, Some, None}
-use Rattle.std.proofs.Common.{IfSome, Ok, refl, sym, ap, subst, ◌∙◌, inl, inr, set}
+use Rattle.std.proofs.Common.{IfSome, Ok, refl, sym, ap, subst, ◌∙◌, inl, inr, set, arith}
 use Rattle.std.proofs.lemmas.Bool.{cases_eq, eq-eqb, ne_eqb, and_parts, and_from, both_ways}
 use Rattle.std.specs.Ordering.{nat_cmp}
 use Rattle.std.specs.FinSet as sets
@@ -62,10 +62,7 @@ module _ (pos : BoardState) (c : Colour) (p : ℕ) (new : BoardState) (t : ℕ)
 
   -- the stone that was put stands
   stands : cell_at new.cells p ≡ stone_of c
-  stands =
-      let there = at_put_same pos.cells p (stone_of c) (subst (λ n. p < n) (sym whole) p_on) in
-      ap (λ cells. cell_at cells p) cells_are ∙ at_after s put c p p_on
-      ∙ ap (λ b. cond b Empty (cell_at put p)) (own_not_taken s put c p there) ∙ there
+  stands = grind (arith, at_put_same, cells_are, at_after, own_not_taken)
 
   -- a point that holds what t holds is not that of the play, and was so before
   apart : (x : ℕ) → cell_at new.cells x ≡ cell_at new.cells t → x ≢ p
@@ -79,26 +76,17 @@ module _ (pos : BoardState) (c : Colour) (p : ℕ) (new : BoardState) (t : ℕ)
         (ap is_stone (sym taken.1 ∙ same ∙ enemy) ∙ stone_is (other c)))
   ]
 
-  -- the string of t stood before
-  stood : {x : ℕ} → Path s new.cells t x → Path s pos.cells t x
-  stood path = path_keeps s new.cells pos.cells t
-      (λ x w. was x (path_on_board s new.cells t on w) (path_same s new.cells t w)) path
-
   -- the stone that is put changes no other point
   put_as : (x : ℕ) → x ≢ p → cell_at put x ≡ cell_at pos.cells x
   put_as x ne = at_put_other pos.cells p x (stone_of c) ne
 
   -- and with the stone put
   stood_put : {x : ℕ} → Path s new.cells t x → Path s put t x
-  stood_put path = path_keeps s new.cells put t
-      (λ x w. let same = path_same s new.cells t w in
-      put_as x (apart x same) ∙ was x (path_on_board s new.cells t on w) same) path
+  stood_put path = grind (arith, path_keeps, path_same, put_as, apart, was, path_on_board)
 
   -- t was not taken
   not_taken : is_taken s put c t ≡ true → ⊥
-  not_taken h = both_ways (is_stone Empty) refl
-      (ap is_stone (sym (ap (λ b. cond b Empty (cell_at put t)) h) ∙ sym (at_after s put c t on)
-      ∙ ap (λ cells. cell_at cells t) (sym cells_are) ∙ enemy) ∙ stone_is (other c))
+  not_taken h = grind (arith, both_ways, at_after, cells_are, stone_is)
 
   -- a point beside the string that is empty now was empty before: a stone that was taken there would have been of the
   -- string
@@ -120,23 +108,11 @@ module _ (pos : BoardState) (c : Colour) (p : ℕ) (new : BoardState) (t : ℕ)
 
   -- so a liberty after the play was one before
   was_liberty : (q : ℕ) → IsLiberty s new.cells t q → IsLiberty s pos.cells t q
-  was_liberty q lib = record {
-    on_board = lib.on_board;
-    is_empty = was_empty q lib.beside.0 lib.on_board lib.beside.1.path lib.beside.2 lib.is_empty;
-    beside = (
-      lib.beside.0,
-      record {
-        stone = ap is_stone (was t on refl) ∙ lib.beside.1.stone;
-        path = stood lib.beside.1.path;
-      },
-      lib.beside.2,
-    );
-  }
+  was_liberty q lib = grind (arith, was_empty, was, path_keeps, path_on_board, path_same)
 
   -- and is not the point of the play
   not_played : (q : ℕ) → IsLiberty s new.cells t q → q ≢ p
-  not_played q lib e = both_ways (is_stone Empty) refl
-      (ap is_stone (sym lib.is_empty ∙ ap (cell_at new.cells) e ∙ stands) ∙ stone_is c)
+  not_played q lib e = grind (arith, both_ways, stands, stone_is)
 
   -- one before that is not the point of the play is one after it
   is_still : (q : ℕ) → IsLiberty s pos.cells t q → q ≢ p → IsLiberty s new.cells t q
@@ -157,20 +133,6 @@ module _ (pos : BoardState) (c : Colour) (p : ℕ) (new : BoardState) (t : ℕ)
     where
       self : (x : ℕ) → eqb x x ≡ true
       self x = eq-eqb x x refl
-
--- what is known before, without the point of the play, is what is known after it
-pub carried_set : (pos : BoardState) (c : Colour) (p : ℕ) (new : BoardState) (t n : ℕ)
-    (known next : sets.FinSet nat_cmp) → length pos.cells ≡ pos.size * pos.size → pos.size ≡ n
-    → p < n * n → t < n * n → play_free pos c p ≡ Ok new → cell_at new.cells t ≡ stone_of (other c)
-    → known ≡ liberty_points n pos.cells t
-    → ((q : ℕ) → sets.contains next q ≡ (sets.contains known q && not (eqb q p))) → next ≡ liberty_points n new.cells t
-carried_set pos c p new t n known next whole size p_on on legal enemy is without = same_nat_set _ _ (λ q.
-    without q ∙ ap (λ k. sets.contains k q && not (eqb q p)) is
-    ∙ ap (λ b. b && not (eqb q p)) (contains-liberty_points n pos.cells t q)
-    ∙ ap (λ m. is_liberty m pos.cells t q && not (eqb q p)) (sym size)
-    ∙ carried pos c p new t whole (subst (λ m. p < m * m) (sym size) p_on)
-    (subst (λ m. t < m * m) (sym size) on) legal enemy q
-    ∙ ap (λ m. is_liberty m new.cells t q) size ∙ sym (contains-liberty_points n new.cells t q))
 
 -- an attacker's child comes of a play of the attacker's colour
 pub made_free : (turn : Turn) (ko : Ko) (here : BoardState) (p : ℕ) (next : Node) (new : BoardState)
@@ -198,12 +160,8 @@ pub carries : (Agreed : BoardState → Type 0) (turn : Turn) (p : ℕ) (known : 
     → IfSome next (λ found. (pos : BoardState) → Agreed pos
     → found ≡ liberty_points pos.size (new pos).cells turn.target)
 carries Agreed turn p known here new None h played = tt
-carries Agreed turn p known here new (Some next) h played = λ pos a.
-    let w = h pos a in
-    let f = played pos a in
-    carried_set (here pos) (other turn.defender) p
-    (new pos) turn.target pos.size known next f.whole f.size f.point_on f.target_on (f.legal w.attacks)
-    (w.enemy ∙ ap stone_of (sym (other_twice turn.defender))) f.known_is w.next_is
+carries Agreed turn p known here new (Some next) h played =
+    grind (arith, same_nat_set, contains-liberty_points, carried, other_twice)
 
 -- what is carried along after a play that leads to a node under some allowance is what the looks afterwards know
 pub carried_on : {L : Type 0} {shows : L → BoardState} {seen : L → Fact → Bool} {old made next : Trying L} {turn : Turn}

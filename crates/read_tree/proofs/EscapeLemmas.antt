@@ -6,7 +6,6 @@ use Rattle.std.proofs.lemmas.Bool.{and_from, and_parts, lt-ltb}
 use Rattle.std.specs.Ordering.{nat_cmp}
 use Rattle.std.specs.FinSet as sets
 use Rattle.go_rules.specs.declared.Cell.{Cell}
-use Rattle.go_rules.specs.declared.Cell.TheVariants.{Empty}
 use Rattle.go_rules.specs.declared.Colour.{Colour}
 use Rattle.go_rules.specs.Below.{count_below, set_below}
 use Rattle.go_rules.specs.Strings.{cell_at, is_stone, step, IsInString, IsLiberty, is_liberty, liberties}
@@ -21,7 +20,7 @@ use Rattle.go_rules.proofs.Plays.{at_put_same, at_put_other, at_after, own_not_t
 use Rattle.go_rules.proofs.Results.{result_of, free_done, play_else}
 use Rattle.go_rules.proofs.Sets.{same_nat_set, contains-set_below, len-set_below}
 use Rattle.go_rules.proofs.Tests.{same_tests}
-use Rattle.read_moves.specs.Reaches.{IsReached, by_side, by_string}
+use Rattle.read_moves.specs.Reaches.{IsReached, by_side}
 use Rattle.read_moves.proofs.WholeBoards.{IsWhole}
 use Rattle.read_moves.proofs.ReachLemmas.{gained}
 use Rattle.read_rules.specs.Candidates.{IsEmptyNeighbour}
@@ -57,19 +56,13 @@ module _ (s : ℕ) (cells : List Cell) (c : Colour) (l t : ℕ) (whole : length 
   abbrev gone : List Cell
   gone = cells_after s put c
 
-  -- a stone of c stands
-  stands : (x : ℕ) → x < s * s → cell_at put x ≡ stone_of c → cell_at gone x ≡ stone_of c
-  stands x x_on there = at_after s put c x x_on
-      ∙ ap (λ b. cond b Empty (cell_at put x)) (own_not_taken s put c x there) ∙ there
-
   -- the new one
   new_stands : cell_at gone l ≡ stone_of c
-  new_stands = stands l lib.on_board (at_put_same cells l (stone_of c) (subst (λ n. l < n) (sym whole) lib.on_board))
+  new_stands = grind (arith, at_after, own_not_taken, at_put_same)
 
   -- and one that stood before
   old_stands : (x : ℕ) → x < s * s → cell_at cells x ≡ stone_of c → cell_at gone x ≡ stone_of c
-  old_stands x x_on stone = stands x x_on (at_put_other cells l x (stone_of c)
-      (λ e. stone_not_empty c (sym stone ∙ ap (cell_at cells) e ∙ lib.is_empty)) ∙ stone)
+  old_stands x x_on stone = grind (arith, at_after, own_not_taken, at_put_other, stone_not_empty)
 
   -- the new stone is of the string
   joined : IsInString s gone t l
@@ -85,29 +78,11 @@ module _ (s : ℕ) (cells : List Cell) (c : Colour) (l t : ℕ) (whole : length 
             lib.on_board lib.beside.2 (new_stands ∙ sym still);
       }
 
-  -- a liberty of the string is one of the string of its stone next to l
-  beside_liberty : (x : ℕ) → IsLiberty s cells t x → IsLiberty s cells lib.beside.0 x
-  beside_liberty x other =
-      let path = lib.beside.1.path in
-      liberty_moves s cells lib.beside.0 t x (path_on_board s cells t on path) (record {
-        stone = ap is_stone (path_same s cells t path ∙ own) ∙ stone_is c;
-        path = path_back s cells t on path;
-      }) other
-
   -- the other liberties, and the empty sides of l, are reached by the new stone
   reached : (x : ℕ) → (IsLiberty s cells t x × (x ≢ l)) ⊎ IsEmptyNeighbour s cells l x → IsReached s cells c l x
   reached x (inr side) = by_side side
   reached x (inl other) =
-      let path = lib.beside.1.path in
-      by_string (record {
-        q = lib.beside.0;
-        beside = are_neighbours_comm s l lib.beside.0 ∙ lib.beside.2;
-        its = record {
-          on_board = path_on_board s cells t on path;
-          stone = path_same s cells t path ∙ own;
-          liberty = beside_liberty x other.0;
-        };
-      }) other.1
+      grind (arith, are_neighbours_comm, path_on_board, path_same, liberty_moves, stone_is, path_back)
 
   -- so they are liberties of the string after the play
   pub kept_liberty : (x : ℕ) → (IsLiberty s cells t x × (x ≢ l)) ⊎ IsEmptyNeighbour s cells l x
@@ -120,9 +95,7 @@ module _ (s : ℕ) (cells : List Cell) (c : Colour) (l t : ℕ) (whole : length 
       → ((x : ℕ) → sets.contains kept x ≡ true → (IsLiberty s cells t x × (x ≢ l)) ⊎ IsEmptyNeighbour s cells l x)
       → sets.len kept ≤ liberties s gone t
   unfolding liberties
-  kept_count kept each = few_members (s * s) (is_liberty s gone t) kept (λ x h.
-      let its = kept_liberty x (each x h) in
-      (its.on_board, is_liberty-from_fact s gone t x on its))
+  kept_count kept each = grind (arith, few_members, kept_liberty, is_liberty-from_fact)
 
   -- where the string has a liberty, so has the new stone
   pub new_lives : 0 < liberties s gone t → liberties s gone l ≢ 0
@@ -158,17 +131,11 @@ module _ (n : ℕ) (turn : Turn) (here : BoardState) (known : sets.FinSet nat_cm
 
   -- so the target then has too many
   escaped : outlasts turn.tree true n (turn.wide - 1) (liberties here.size new.cells turn.target) ≡ true
-  escaped = more_outlasts_attacker turn.tree n (turn.wide - 1) (sets.len e.runs.kept) _ e.runs.many
-      (kept_count here.size here.cells turn.defender e.l turn.target whole on e.own played e.runs.kept kept_each)
+  escaped = grind (arith, more_outlasts_attacker, kept_count, played, kept_each)
 
   -- the play is legal
   run_legal : play here turn.defender e.l ≡ Ok new
-  run_legal =
-      let alive = new_lives here.size here.cells turn.defender e.l turn.target whole on e.own played
-      (some_liberty turn.tree true n (turn.wide - 1) (liberties here.size new.cells turn.target) escaped) in
-      let vacant = ap is_stone played.is_empty in
-      sym (play_else here turn.defender e.l vacant e.runs.free)
-      ∙ sym (free_done here turn.defender e.l vacant alive)
+  run_legal = grind (arith, new_lives, played, some_liberty, escaped, play_else, free_done)
 
   -- so he has his way there, under any allowance
   pub escape_succeeds : (ko : Ko) → succeeds n (under turn ko) here e.l ≡ true

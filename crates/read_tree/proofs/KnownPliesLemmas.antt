@@ -1,6 +1,6 @@
 -- What the attacker has with some plies he has with more, so what is known of a node by its plies stays true.
 use Rattle.std.proofs.Common.{◌≡◌, ℕ, zero, suc, ◌≤◌, Bool, true, false, nat_lt, Option, Some, None, is_some}
-use Rattle.std.proofs.Common.{subst, arith, inl, inr, find}
+use Rattle.std.proofs.Common.{subst, arith, find}
 use Rattle.std.specs.Prelude.{List, [], ◌∷◌}
 use Rattle.std.proofs.lemmas.Bool.{both_ways, cases_Bool, ltb-true, ltb-false, not-true}
 use Rattle.go_rules.specs.declared.Colour.{Colour}
@@ -21,22 +21,11 @@ pub with_more : {won : ℕ → Bool} → IsMonotone won → (m n : ℕ) → n �
 with_more {won} mono zero n few h =
     let none : n ≡ 0 = omega (arith, few) in
     subst (λ k. won k ≡ true) none h
-with_more {won} mono (suc m) n few h = elim (cases_Bool (nat_lt m n)) [
-  | inl last ↦
-      let same : n ≡ suc m = omega (arith, few, ltb-true m n last) in
-      subst (λ k. won k ≡ true) same h
-  | inr less ↦
-      let fewer : n ≤ m = ltb-false m n less in
-      mono.more m (with_more mono m n fewer h)
-]
+with_more {won} mono (suc m) n few h = grind (arith, cases_Bool, ltb-true, ltb-false, with_more mono m n)
 
 -- and what he has not with m plies he has not with n, which are no more
 pub with_fewer : {won : ℕ → Bool} → IsMonotone won → (m n : ℕ) → n ≤ m → won m ≡ false → won n ≡ false
 with_fewer {won} mono m n few h = grind (arith, cases_Bool (won n), both_ways (won m) h, with_more mono m n few)
-
--- nothing known is true
-pub nothing_true : (won : ℕ → Bool) → IsTrueKnown won (record { won_from = None; lost_below = 0 })
-nothing_true won = grind (arith, both_ways)
 
 -- it is true that he has his way with these plies and more
 pub won_true : {won : ℕ → Bool} {known : KnownPlies} (n : ℕ) → IsMonotone won → IsTrueKnown won known
@@ -77,4 +66,4 @@ pub nothing_known : {seen : Fact → Bool} {tree : Tree} {target : ℕ} {defende
     → entry.neither ≡ record { won_from = None; lost_below = 0 }
     → entry.attacker ≡ record { won_from = None; lost_below = 0 }
     → IsTrueEntry seen tree target defender entry
-nothing_known {seen} {tree} {target} {defender} entry d n a = grind (arith, of_three, nothing_true)
+nothing_known {seen} {tree} {target} {defender} entry d n a = grind (arith, of_three, both_ways)

@@ -1,7 +1,6 @@
 -- Nodes under whatever ko allowances: what the reader tells of one, and the walk over its moves.
 use Rattle.std.proofs.Common.{◌≡◌, ◌∙◌, ℕ, zero, suc, ◌+◌, ◌<◌, Bool, true, false, ◌&&◌, ◌||◌, nat_lt, ap, sym, refl}
 use Rattle.std.proofs.Common.{arith, eqb, subst, not, cond, Option, None, Some, is_some}
-use Rattle.std.specs.Option.{option_map}
 use mathlib.Core.Bool.{beq}
 use Rattle.std.proofs.lemmas.Bool.{ltb-true, lt-ltb, or_right}
 use Rattle.std.specs.Prelude.{List}
@@ -15,7 +14,7 @@ use Rattle.go_rules.specs.Strings.{liberties}
 use Rattle.go_rules.specs.Play.{pass}
 use Rattle.read_rules.specs.declared.question.Spot.{Spot}
 use Rattle.read_rules.specs.declared.question.Spot.TheVariants.{Pass}
-use Rattle.read_rules.specs.GameTree.{attacker_wins, has_many_liberties, child_of, next_node, allowance_of, succeeds}
+use Rattle.read_rules.specs.GameTree.{attacker_wins, has_many_liberties, next_node, allowance_of, succeeds}
 use Rattle.read_rules.specs.GameTree.{pass_saves, first_success, first_move, at_point}
 use Rattle.read_rules.specs.GoodMoves.{is_barred, good_move}
 use Rattle.read_tree.specs.Steps.{has_way}
@@ -108,17 +107,12 @@ module _ (n : ℕ) (node : Node) (here : BoardState) where
   pub play_made : (p : ℕ) (next : Node) (new : BoardState) (child : Option Node) (won : Bool)
       → LeadsTo node here p child new → child ≡ Some next → won ≡ attacker_wins n next new
       → beq won node.turn.attacker_to_play ≡ succeeds n node here p
-  play_made p next new child won leads is e =
-      way_by node.turn.attacker_to_play won ∙ ap (has_way node.turn.attacker_to_play) e
-      ∙ suits_child n node.turn.attacker_to_play (child_of node here p) next new
-      (leads ∙ ap (option_map (λ (m : Node). (m, new))) is)
+  play_made p next new child won leads is e = grind (arith, way_by, suits_child)
 
   -- one that cannot be made does not
   pub play_refused : (p : ℕ) (new : BoardState) (child : Option Node) → LeadsTo node here p child new → child ≡ None
       → false ≡ succeeds n node here p
-  play_refused p new child leads is =
-      sym (suits_none n node.turn.attacker_to_play (child_of node here p)
-      (leads ∙ ap (option_map (λ (m : Node). (m, new))) is))
+  play_refused p new child leads is = grind (arith, suits_none)
 
   -- the attacker does not pass
   pub no_pass : node.turn.attacker_to_play ≡ true → false ≡ pass_saves n node here
@@ -127,8 +121,7 @@ module _ (n : ℕ) (node : Node) (here : BoardState) where
   -- the defender's pass saves the target where the attacker does not win after it
   pub pass_made : (won : Bool) → node.turn.attacker_to_play ≡ false
       → won ≡ attacker_wins n (next_node node (allowance_of node)) (pass here) → not won ≡ pass_saves n node here
-  pass_made won e is =
-      ap not is ∙ sym (ap (λ b. not b && not (attacker_wins n (next_node node (allowance_of node)) (pass here))) e)
+  pass_made won e is = grind arith
 
   -- the pass comes first
   pub first_pass : true ≡ pass_saves n node here → Some Pass ≡ first_move n node here

@@ -65,10 +65,4 @@ module _ {L : Type 0} {shows : L → BoardState} {seen : L → Fact → Bool} {o
       {entries later : List Entry} (left : Allowances) → IsReady shows seen old turn n asked points entries
       → has_some left ≡ true → IsTrueTableAt (seen new.look) turn later
       → IsReady shows seen new turn n left points later
-  ready_after {turn} {points} left ready some table = record {
-    room = rw stays.moves ready.room;
-    target = point_after turn.target ready.target;
-    some = some;
-    liberties = liberties_after turn.target points ready.liberties;
-    table = table;
-  }
+  ready_after {turn} {points} left ready some table = grind (arith, point_after, liberties_after)

@@ -1,6 +1,6 @@
 -- The looks at a node of a question's trees whose target stands: they lie in the question's active area.
 use Rattle.std.proofs.Common.{◌≡◌, ◌⊎◌, ℕ, suc, ◌*◌, ◌<◌, ◌&&◌, ◌||◌, Bool, true, false, List, ap, inl, inr}
-use Rattle.std.proofs.Common.{◌∙◌, refl, arith, sym, subst}
+use Rattle.std.proofs.Common.{◌∙◌, refl, arith}
 use Rattle.std.proofs.lemmas.Bool.{and_from, and_parts, or_cases, or_left, or_right, eqb-true, eq-eqb}
 use Rattle.std.specs.Ordering.{nat_cmp}
 use Rattle.std.specs.FinSet as sets
@@ -77,28 +77,18 @@ undecided_node ready told agrees nodes und = ready_node ready told agrees nodes 
 -- What is looked at there.
 module _ {q : ReadingQuestion} {root here : BoardState} {n s : ℕ} {turn : Turn}
     (node : IsStandingNode q root here n s turn) where
-  -- the target's point is in the area
-  target_in : (p : ℕ) → p ≡ turn.target → InActiveArea q root p
-  target_in p e =
-      area_target q root here n (under turn node.ko) node.tree s node.size node.inside node.stands p e
-
   -- its neighbourhood
   beside_in : (p : ℕ) → neighbourhood_of s here.cells (alone turn.target) p ≡ true → InActiveArea q root p
   beside_in p h = area_once q root here n (under turn node.ko) node.tree s node.size node.inside node.stands p h
 
-  -- where its candidates are looked for
-  candidates_in : (p : ℕ) → near_candidates s here.cells turn.target p ≡ true → InActiveArea q root p
-  candidates_in p h =
-      area_candidates q root here n (under turn node.ko) node.tree s node.size node.inside node.stands p h
-
   -- the sides of its liberties
   sides_in : (known : sets.FinSet nat_cmp) → known ≡ liberty_points s here.cells turn.target → (r : ℕ)
       → any_below (s * s) (λ l. sets.contains known l && neighbours_of s l r) ≡ true → InActiveArea q root r
-  sides_in known is r h = candidates_in r (near_liberties s here.cells turn.target node.inside known r is h)
+  sides_in known is r h = grind (arith, area_candidates, near_liberties)
 
   -- a look at the target's point lies in the area
   pub near_target : {a b : Fact → Bool} → AddsIn a b (alone turn.target) → AddsNear a b (InActiveArea q root)
-  near_target looks = AddsNear-in (InActiveArea q root) looks (λ p h. target_in p (eqb-true p turn.target h))
+  near_target looks = grind (arith, area_target, eqb-true)
 
   -- looks beside the target do
   pub near_beside : {a b : Fact → Bool} → AddsIn a b (neighbourhood_of s here.cells (alone turn.target))
@@ -108,19 +98,17 @@ module _ {q : ReadingQuestion} {root here : BoardState} {n s : ℕ} {turn : Turn
   -- looks for candidates do
   pub near_wide : {a b : Fact → Bool} → AddsIn a b (near_candidates s here.cells turn.target)
       → AddsNear a b (InActiveArea q root)
-  near_wide looks = AddsNear-in (InActiveArea q root) looks candidates_in
+  near_wide looks = grind (arith, area_candidates)
 
   -- looks for captures do
   pub near_captures : {a b : Fact → Bool} → AddsIn a b (neighbourhood_twice s here.cells turn.target)
       → AddsNear a b (InActiveArea q root)
-  near_captures looks = AddsNear-in (InActiveArea q root) looks (λ p h.
-      candidates_in p (near_twice s here.cells turn.target node.inside p h))
+  near_captures looks = grind (arith, area_candidates, near_twice)
 
   -- the looks of a play at a candidate do
   pub near_play : {a b : Fact → Bool} (p : ℕ) → is_candidate turn here p ≡ true
       → AddsIn a b (neighbourhood_twice s here.cells p) → AddsNear a b (InActiveArea q root)
-  near_play p candidate looks = AddsNear-in (InActiveArea q root) looks (λ r h.
-      area_play q root here n (under turn node.ko) node.tree s node.size node.inside node.stands p r candidate h)
+  near_play p candidate looks = grind (arith, area_play)
 
   -- looks at the sides of the target's liberties do
   pub near_sides : {a b : Fact → Bool} (known : sets.FinSet nat_cmp) → known ≡ liberty_points s here.cells turn.target
@@ -158,8 +146,7 @@ module _ {q : ReadingQuestion} {root here : BoardState} {n s : ℕ} {turn : Turn
   -- what is looked at there or at the target's point lies in the area
   pub near_or_at : {a b : Fact → Bool} → AddsNear a b (λ p. (p ≡ turn.target) ⊎ InActiveArea q root p)
       → AddsNear a b (InActiveArea q root)
-  near_or_at looks = AddsNear-mono (λ p. (p ≡ turn.target) ⊎ InActiveArea q root p) (InActiveArea q root) looks
-      (λ p h. elim h [ inl e ↦ target_in p e | inr i ↦ i ])
+  near_or_at looks = grind (arith, area_target)
 
   -- a look at the target, and then those at a child
   pub near_child : {a b c : Fact → Bool} → AddsIn a b (alone turn.target)
@@ -194,34 +181,24 @@ lost_node {pos} {turn} {asked} s told agrees moves target some nodes lost =
 -- What is looked at there.
 module _ {q : ReadingQuestion} {root here : BoardState} {n s : ℕ} {turn : Turn}
     (node : IsLostNode q root here n s turn) where
-  -- what a play at the target's point looks at lies in the area
-  loss_in : (p : ℕ) → neighbourhood_twice s here.cells turn.target p ≡ true → InActiveArea q root p
-  loss_in p h = area_loss q root here n (under turn node.ko) node.tree node.lost p
-      (subst (λ m. neighbourhood_twice m here.cells turn.target p ≡ true) (sym node.size) h)
-
   -- and so do its looks
   pub near_loss : {a b : Fact → Bool} → AddsIn a b (neighbourhood_twice s here.cells turn.target)
       → AddsNear a b (InActiveArea q root)
-  near_loss looks = AddsNear-in (InActiveArea q root) looks loss_in
+  near_loss looks = grind (arith, area_loss)
 
   -- looks beside the target's point do
   pub near_loss_sides : {a b : Fact → Bool} → AddsIn a b (neighbours_of s turn.target)
       → AddsNear a b (InActiveArea q root)
-  near_loss_sides looks = AddsNear-in (InActiveArea q root) looks (λ p h. loss_in p
-      (close_again s here.cells (alone turn.target) p (beside_point s here.cells turn.target node.inside p h)))
+  near_loss_sides looks = grind (arith, area_loss, close_again, beside_point)
 
   -- the target's point lies in the area
   target_lost : (p : ℕ) → p ≡ turn.target → InActiveArea q root p
-  target_lost p e = loss_in p (close_again s here.cells (alone turn.target) p
-      (close_alone s here.cells turn.target p node.inside (eq-eqb p turn.target e)))
+  target_lost p e = grind (arith, area_loss, close_again, close_alone, eq-eqb)
 
   -- a look at the target, and then those at the node where it was taken back
   pub near_back : {a b c : Fact → Bool} → AddsIn a b (alone turn.target)
       → AddsNear b c (λ p. (p ≡ turn.target) ⊎ InActiveArea q root p) → AddsNear a c (InActiveArea q root)
-  near_back first below = AddsNear-trans
-      (AddsNear-in (InActiveArea q root) first (λ p h. target_lost p (eqb-true p turn.target h)))
-      (AddsNear-mono (λ p. (p ≡ turn.target) ⊎ InActiveArea q root p) (InActiveArea q root) below
-      (λ p h. elim h [ inl e ↦ target_lost p e | inr i ↦ i ]))
+  near_back first below = grind (arith, target_lost, eqb-true)
 
 -- a look at the target's point lies there
 pub near_cell : {a b : Fact → Bool} (t : ℕ) (S : ℕ → Type 0) → AddsIn a b (alone t)

@@ -27,15 +27,10 @@ use Rattle.std.proofs.lemmas.Bool.{ltb-true}
 use Rattle.std.proofs.Common.{nat_lt, arith}
 use Rattle.trial_board.specs.declared.changes.Changes.{Changes}
 
--- a true entry stays true while more is seen
-entry_more : {seen more : Fact → Bool} {tree : Tree} {target : ℕ} {defender : Colour} (entry : Entry)
-    → IsTrueEntry seen tree target defender entry → Grows seen more → IsTrueEntry more tree target defender entry
-entry_more entry t grows = record { each = λ pos a. t.each pos (agrees_before grows a) }
-
 -- a table that is true stays true while more is seen
 pub table_more : {seen more : Fact → Bool} {tree : Tree} {target : ℕ} {defender : Colour} {table : List Entry}
     → IsTrueTable seen tree target defender table → Grows seen more → IsTrueTable more tree target defender table
-table_more {seen} {more} {tree} {target} {defender} {table} t grows = grind (arith, entry_more)
+table_more {seen} {more} {tree} {target} {defender} {table} t grows = grind arith
 
 -- an entry of a true table is true
 pub entry_true : {seen : Fact → Bool} {tree : Tree} {target : ℕ} {defender : Colour} (table : List Entry) (i : ℕ)
@@ -113,16 +108,6 @@ joined true good asked found test k f h = search rules
 joined false good true found test k f h = search rules
 joined false good false found test k f h = cc
 
--- what was asked is known where nothing of it is missing
-nothing_missing : (asked known : Allowances) → has_some (without asked known) ≡ false
-    → (ko : Ko) → has asked ko ≡ true → has known ko ≡ true
-nothing_missing asked known none ko h = grind (arith, in_other, has-without, none_of)
-
--- and where what was missing is known too
-all_known : (asked known missing : Allowances) → missing ≡ without asked known
-    → (ko : Ko) → has asked ko ≡ true → has (either known missing) ko ≡ true
-all_known asked known missing e ko h = grind (arith, has_either, has-without)
-
 -- what was known before, and what was found of the rest, is true
 more_true : {seen more : Fact → Bool} {tree : Tree} {target : ℕ} {defender : Colour} {node : AttackerNode}
     {before : Verdict}
@@ -182,7 +167,7 @@ pub told_before : {seen : Fact → Bool} (turn : Turn) (node : AttackerNode) (ve
     → has_some missing ≡ false → found ≡ both asked verdict.good
     → IsFiltered asked found (λ ko. is_some (first_success node.plies (under turn ko) here))
 told_before turn node verdict asked missing found pos here t a attacks wide at e none is =
-    grind (arith, told_by, nothing_missing)
+    grind (arith, told_by, in_other, has-without, none_of)
 
 -- and where what was missing was found
 pub told_after : {seen : Fact → Bool} (turn : Turn) (node : AttackerNode) (before verdict : Verdict)
@@ -196,7 +181,7 @@ pub told_after : {seen : Fact → Bool} (turn : Turn) (node : AttackerNode) (bef
     → found ≡ both asked verdict.good
     → IsFiltered asked found (λ ko. is_some (first_success node.plies (under turn ko) here))
 told_after turn node before verdict asked missing good found pos here t a attacks wide at e same is =
-    grind (arith, told_by, all_known)
+    grind (arith, told_by, has_either, has-without)
 
 -- what was known before, and what the reading found of the rest, is true of the node after the moves
 pub read_true : {seen more : Fact → Bool} (turn : Turn) (node : AttackerNode) (before verdict : Verdict)

@@ -1,5 +1,5 @@
 -- The attacker takes a target by its only liberty, where the ban lets him play there.
-use Rattle.std.proofs.Common.{◌≡◌, ◌≢◌, ℕ, suc, ◌*◌, ◌<◌, true, false, cond, List, length, refl, sym, ap, subst, ◌∙◌}
+use Rattle.std.proofs.Common.{◌≡◌, ◌≢◌, ℕ, suc, ◌*◌, ◌<◌, true, false, cond, List, length, refl, sym, ap, ◌∙◌}
 use Rattle.std.proofs.Common.{arith, add-one, set, inl, inr, ◌||◌, eqb, Ok}
 use Rattle.std.proofs.lemmas.Bool.{or_cases, or_right, and_parts, and_from, lt-ltb}
 use Rattle.std.specs.FinSet as sets
@@ -47,18 +47,9 @@ module _ (s : ℕ) (cells : List Cell) (c : Colour) (l t : ℕ) (whole : length 
   abbrev put : List Cell
   put = set cells l (stone_of c)
 
-  -- the stone that was put is at l
-  put_at : cell_at put l ≡ stone_of c
-  put_at = at_put_same cells l (stone_of c) (subst (λ n. l < n) (sym whole) lib.on_board)
-
-  -- a stone of the enemy is not at l
-  apart : (q : ℕ) → cell_at cells q ≡ stone_of (other c) → q ≢ l
-  apart q h e = stone_not_empty (other c) (sym h ∙ ap (cell_at cells) e ∙ lib.is_empty)
-
   -- the string of t is taken by the play at l
   taken : is_taken s put c t ≡ true
-  taken = taken_by_words s put c t
-      (only_liberty_captures s cells c l t whole (record { its = lib; only = only }) enemy)
+  taken = grind (arith, taken_by_words, only_liberty_captures)
 
   -- what is taken is empty
   gone : (q : ℕ) → q < s * s → is_taken s put c q ≡ true → cell_at (cells_after s put c) q ≡ Empty
@@ -70,13 +61,11 @@ module _ (s : ℕ) (cells : List Cell) (c : Colour) (l t : ℕ) (whole : length 
 
   -- the string of t is whole when the stone was put
   string_put : (q : ℕ) → Path s cells t q → Path s put t q
-  string_put q path = path_keeps s cells put t
-      (λ y way. at_put_other cells l y (stone_of c) (apart y (path_same s cells t way ∙ enemy))) path
+  string_put q path = grind (arith, path_keeps, at_put_other, stone_not_empty, path_same)
 
   -- the stone at l stands after the play
   stone_stays : cell_at (cells_after s put c) l ≡ stone_of c
-  stone_stays = at_after s put c l lib.on_board
-      ∙ ap (λ b. cond b Empty (cell_at put l)) (own_not_taken s put c l put_at) ∙ put_at
+  stone_stays = grind (arith, at_after, own_not_taken, at_put_same)
 
   -- a stone beside t of its colour goes with it
   pub beside_gone : (q : ℕ) → q < s * s → are_neighbours s t q ≡ true → cell_at cells q ≡ stone_of (other c)
@@ -99,8 +88,7 @@ module _ (s : ℕ) (cells : List Cell) (c : Colour) (l t : ℕ) (whole : length 
 
   -- so the stone at l has a liberty
   pub stone_lives : liberties s (cells_after s put c) l ≢ 0
-  stone_lives z =
-      let some = liberties_from s (cells_after s put c) l lib.beside.0 lib.on_board freed_beside in omega arith
+  stone_lives z = grind (arith, liberties_from, freed_beside)
 
 -- the other colour of the other colour is the colour
 pub other_twice : (c : Colour) → other (other c) ≡ c

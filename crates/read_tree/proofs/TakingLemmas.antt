@@ -17,7 +17,7 @@ use Rattle.go_rules.specs.Board.{are_neighbours}
 use Rattle.go_rules.specs.Neighbourhood.{neighbourhood_of}
 use Rattle.go_rules.specs.Strings.{cell_at, same_cell, is_stone, liberties, liberty_points, is_liberty}
 use Rattle.go_rules.specs.Position.{BoardState, IsPosition, other, stone_of, is_banned}
-use Rattle.go_rules.specs.Play.{play, play_free}
+use Rattle.go_rules.specs.Play.{play_free}
 use Rattle.go_rules.proofs.Cells.{eq_is_same_cell}
 use Rattle.go_rules.proofs.Counts.{any_below_from, any_below_false}
 use Rattle.go_rules.proofs.Links.{liberties_some, liberties_from}
@@ -108,11 +108,6 @@ walled_from : (s : ℕ) (cells : List Cell) (t : ℕ) (c : Colour)
 walled_from s cells t c all =
     grind (arith, not_from_false, any_below_false, cases_Bool, and_parts, both_ways, not-true, same_cell-from)
 
--- each neighbour of a point that is walled in by c holds a stone of c
-walled_gives : (s : ℕ) (cells : List Cell) (t : ℕ) (c : Colour) → is_walled_in s cells t c ≡ true → (q : ℕ) → q < s * s
-    → are_neighbours s t q ≡ true → cell_at cells q ≡ stone_of c
-walled_gives s cells t c h q on near = grind (arith, cases_Bool, same_cell-true, both_ways, not_walled, same_cell-from)
-
 -- a cell that is not empty and holds no stone of one colour holds one of the other
 third_cell : (cell : Cell) (d : Colour) → (cell ≡ Empty → ⊥) → (cell ≡ stone_of d → ⊥) → cell ≡ stone_of (other d)
 third_cell Empty d empty own = absurd (empty refl)
@@ -137,19 +132,6 @@ module _ (s : ℕ) (cells : List Cell) (p : ℕ) (d : Colour) (none first now : 
       → sets.contains now x ≡ true
   own_found x on near e = two x ∙ or_right (sets.contains first x) _ (next_from s cells stone p x on (e ∙ sym its) near)
 
-  -- no other was
-  found_parts : (x : ℕ) → sets.contains now x ≡ true → (x < s * s) × (are_neighbours s p x ≡ true)
-      × (cell_at cells x ≡ stone_of (other d) → ⊥)
-  found_parts x h = elim (or_cases (sets.contains first x) (holds_next s cells stone p x) (sym (two x) ∙ h)) [
-    | inl f ↦ elim (or_cases (sets.contains none x) (holds_next s cells Empty p x) (sym (one x) ∙ f)) [
-      | inl n ↦ absurd (both_ways (sets.contains none x) (none_in none x nothing) n)
-      | inr e ↦ let w = next_parts s cells Empty p x e in
-          (w.0, w.2, λ same. stone_not_empty (other d) (sym same ∙ w.1))
-    ]
-    | inr o ↦ let w = next_parts s cells stone p x o in
-        (w.0, w.2, λ same. enemy_differs d (sym same ∙ w.1 ∙ its))
-  ]
-
   -- so p is walled in by the other colour exactly where none was found
   pub walled_by : (o : Option ℕ) (P : ℕ → Type 0) → ((x : ℕ) → P x → sets.contains now x ≡ true) → IfSome o P
       → IfNone o ((x : ℕ) → 0 ≤ x → sets.contains now x ≡ false) → is_none o ≡ is_walled_in s cells p (other d)
@@ -158,8 +140,7 @@ module _ (s : ℕ) (cells : List Cell) (p : ℕ) (d : Colour) (none first now : 
       (λ e. both_ways (sets.contains now q) (none_left q (omega arith)) (empty_found q on near e))
       (λ e. both_ways (sets.contains now q) (none_left q (omega arith)) (own_found q on near e))))
   walled_by (Some q) P has some none_left =
-      let w = found_parts q (has q some) in
-      sym (not_walled s cells p (other d) q w.0 w.1 w.2)
+      grind (arith, or_cases, both_ways, none_in, next_parts, stone_not_empty, enemy_differs, not_walled)
 
 -- The empty point t of a position is walled in by the enemies of d.
 module _ (here : BoardState) (d : Colour) (t : ℕ) (sound : IsPosition here) (on : t < here.size * here.size)
@@ -167,10 +148,10 @@ module _ (here : BoardState) (d : Colour) (t : ℕ) (sound : IsPosition here) (o
     (walled : is_walled_in here.size here.cells t (other d) ≡ true) where
   -- a stone of d there reaches nothing
   none_reached : (x : ℕ) → IsReached here.size here.cells d t x → ⊥
-  none_reached x (by_side side) = stone_not_empty (other d)
-      (sym (walled_gives here.size here.cells t (other d) walled x side.on_board side.beside) ∙ side.is_empty)
-  none_reached x (by_string b ne) = enemy_differs d
-      (sym (walled_gives here.size here.cells t (other d) walled b.q b.its.on_board b.beside) ∙ b.its.stone)
+  none_reached x (by_side side) =
+      grind (arith, stone_not_empty, cases_Bool, same_cell-true, both_ways, not_walled, same_cell-from)
+  none_reached x (by_string b ne) =
+      grind (arith, enemy_differs, cases_Bool, same_cell-true, both_ways, not_walled, same_cell-from)
 
   -- so it is suicide, where it takes nothing
   suicide : AllLive here.size here.cells d t → liberties here.size (after_on here d t) t ≡ 0
@@ -200,22 +181,11 @@ module _ (here : BoardState) (d : Colour) (t : ℕ) (sound : IsPosition here) (o
   none_by node left true = refl
   none_by node left false = refl
 
-  -- the play is Ko or what it is without the ban
-  play_is : (r : Result BoardState Illegal) → play_free here d t ≡ r
-      → play here d t ≡ cond (is_banned here.ban d t) (Err Ko) r
-  play_is r is = elim (cases_Bool (is_banned here.ban d t)) [
-    | inl b ↦ sym (play_ko here d t no_stone b) ∙ sym (ap (λ x. cond x (Err Ko) r) b)
-    | inr f ↦ sym (play_else here d t no_stone f) ∙ is ∙ sym (ap (λ x. cond x (Err Ko) r) f)
-  ]
-
   -- whether the play leads to a child, by what it is without the ban
   child_is : (node : Node) → mover_of node.turn ≡ d → (r : Result BoardState Illegal) → play_free here d t ≡ r
       → child_of node here t ≡ child_by node (cond (is_banned here.ban d t) (Err Ko) r) r (allowance_of node)
   unfolding child_of
-  child_is node moves r is =
-      ap (λ c. child_by node (play here c t) (play_free here c t) (allowance_of node)) moves
-      ∙ ap (λ x. child_by node x (play_free here d t) (allowance_of node)) (play_is r is)
-      ∙ ap (λ x. child_by node (cond (is_banned here.ban d t) (Err Ko) r) x (allowance_of node)) is
+  child_is node moves r is = grind (arith, cases_Bool, play_ko, no_stone, play_else)
 
   -- a play that takes nothing cannot be made
   pub quiet_fails : (node : Node) → mover_of node.turn ≡ d → AllLive here.size here.cells d t

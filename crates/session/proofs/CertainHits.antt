@@ -11,15 +11,14 @@ use Rattle.match_engine.specs.declared.keys.Key.{Key}
 use Rattle.read_cache.specs.Kept.{Kept as KeptQuestions}
 use Rattle.read_rules.specs.declared.question.Answer.{Answer}
 use Rattle.match_engine.proofs.RepeatedQuestions.{IsAtHand, IsAtHand-first, IsAtHand-later, IsAtHand-kept}
-use Rattle.match_engine.proofs.RepeatedQuestions.{HasRead-capacity, HasRead-refused}
-use Rattle.machine_rules.specs.Machine.{Machine, position_of}
+use Rattle.machine_rules.specs.Machine.{Machine}
 use Rattle.session_core.specs.EngineView.{EngineView, board_of}
 use Rattle.session_core.specs.Kept.{Kept}
-use Rattle.machine_rules.specs.Counting.{counted, is_read_line}
+use Rattle.machine_rules.specs.Counting.{counted}
 use Rattle.machine_rules.specs.Questions.{Asks, Nothing, One, Many, asks_of_line}
 use Rattle.session_core.specs.AfterLine.{ReadsAs, ReadsOnce, IsAfterLine}
 use Rattle.machine_rules.specs.AnsweredLines.{AnsweredLine, IsAlong}
-use Rattle.machine_rules.specs.CertainHit.{IsCertainHit, HaveCertainHits, board_at, is_reading, is_matching, named_in}
+use Rattle.machine_rules.specs.CertainHit.{IsCertainHit, HaveCertainHits, is_reading, is_matching, named_in}
 use Rattle.machine_rules.specs.CertainHit.{reading_lines, matching_lines}
 use Rattle.machine_rules.proofs.CommandQuestions.{Fits, Fits-line, is_read_line-one}
 use Rattle.session.proofs.TallyLemmas.{IsAlong-append, IsAlong-split}
@@ -41,17 +40,13 @@ module _ (old new : EngineView) where
   -- where no refused keeping is counted after a line, none was before it
   unrefused : (asks : Asks) → ReadsAs asks old new → new.counts.refused ≡ 0 → old.counts.refused ≡ 0
   unrefused Nothing read none = sym (ap (λ (c : Counts). c.refused) read.counts) ∙ none
-  unrefused (One key) read none =
-      read.refused_before ∙ HasRead-refused key
-      (board_of old) read.answer old.readings new.readings read.read
-      (sym read.refused ∙ none)
+  unrefused (One key) read none = grind arith
   unrefused Many read none = let fewer = read.counts.refused in omega (arith, fewer, none)
 
   -- as many questions may be kept after a line as before it
   same_room : (asks : Asks) → ReadsAs asks old new → room_of new ≡ room_of old
   same_room Nothing read = ap (λ (k : KeptQuestions Key Answer). k.1) read.kept
-  same_room (One key) read =
-      HasRead-capacity key (board_of old) read.answer old.readings new.readings read.read
+  same_room (One key) read = grind arith
   same_room Many read = read.capacity
 
   -- a line that is no `match_patterns` moves what is at hand back by one place at most, and only an `attack` or
@@ -61,8 +56,7 @@ module _ (old new : EngineView) where
       → is_matching name ≡ false → new.counts.refused ≡ 0 → n + one_if (is_reading name) ≤ 4 → 8 ≤ room_of old
       → IsAtHand key pos n old.readings.answers.kept
       → (m : ℕ) × (m ≤ n + one_if (is_reading name)) × IsAtHand key pos m new.readings.answers.kept
-  still_at_hand key pos n Nothing name read fits apart none few room hand =
-      (n, omega arith, subst (IsAtHand key pos n) (sym read.kept) hand)
+  still_at_hand key pos n Nothing name read fits apart none few room hand = grind arith
   still_at_hand key pos n (One other) name read fits apart none few room hand =
       let one : one_if (is_reading name) ≡ 1 = ap one_if fits in (
         suc n,
@@ -70,8 +64,7 @@ module _ (old new : EngineView) where
         IsAtHand-later key pos n other (board_of old) read.answer old.readings new.readings read.read
             (sym read.refused ∙ none) (omega (arith, one, few)) room hand,
       )
-  still_at_hand key pos n Many name read fits apart none few room hand =
-      absurd (let both : true ≡ false = sym fits ∙ apart in cc)
+  still_at_hand key pos n Many name read fits apart none few room hand = grind arith
 
 -- where no refused keeping is counted after some lines, none was before them
 unrefused_along : (turns : List (AnsweredLine Machine)) (a b : Kept) → IsAlong IsAfterLine a turns b
@@ -79,15 +72,13 @@ unrefused_along : (turns : List (AnsweredLine Machine)) (a b : Kept) → IsAlong
     → a.engine.counts.refused ≡ 0
 unrefused_along [] a b along none = subst (λ (k : Kept). k.engine.counts.refused ≡ 0) along none
 unrefused_along (turn ∷ turns) a b (mid, first, rest) none =
-    unrefused a.engine mid.engine (asks_of_line turn.machine turn.line) first.read
-    (unrefused_along turns mid b rest none)
+    grind (arith, unrefused, unrefused_along turns mid b rest none)
 
 -- as many questions may be kept after some lines as before them
 same_room_along : (turns : List (AnsweredLine Machine)) (a b : Kept) → IsAlong IsAfterLine a turns b
     → room_of b.engine ≡ room_of a.engine
 same_room_along [] a b along = ap (λ (k : Kept). room_of k.engine) along
-same_room_along (turn ∷ turns) a b (mid, first, rest) =
-    same_room_along turns mid b rest ∙ same_room a.engine mid.engine (asks_of_line turn.machine turn.line) first.read
+same_room_along (turn ∷ turns) a b (mid, first, rest) = grind (arith, same_room_along turns mid b rest, same_room)
 
 -- if no line names `match_patterns`, neither the first does nor those after it
 matching_lines-cons : (turn : AnsweredLine Machine) (turns : List (AnsweredLine Machine))
@@ -108,8 +99,7 @@ at_hand_along : (key : Key) (pos : BoardState) (turns : List (AnsweredLine Machi
     → b.engine.counts.refused ≡ 0 → 8 ≤ room_of a.engine → matching_lines turns ≡ 0 → n + reading_lines turns ≤ 4
     → IsAtHand key pos n a.engine.readings.answers.kept
     → (m : ℕ) × IsAtHand key pos m b.engine.readings.answers.kept
-at_hand_along key pos [] n a b along none room apart few hand =
-    (n, subst (λ (k : Kept). IsAtHand key pos n k.engine.readings.answers.kept) (sym along) hand)
+at_hand_along key pos [] n a b along none room apart few hand = grind arith
 at_hand_along key pos (turn ∷ turns) n a b (mid, first, rest) none room apart few hand =
     let here = matching_lines-cons turn turns apart in
     let count = reading_lines-cons turn turns in
@@ -153,10 +143,7 @@ module _ (k0 k new : Kept) (before : List (AnsweredLine Machine)) (now : Answere
 
     -- where eight questions and more may be kept
     room-then : 8 ≤ room_of b.engine
-    room-then =
-        let same = same_room a.engine b.engine (One hit-key) read-before in
-        let earlier = same_room_along hit.first k0 a start in
-        omega (arith, room, same, earlier)
+    room-then = grind (arith, same_room, read-before, same_room_along)
 
     -- few readings came between, so it is still at hand
     kept-yet : (m : ℕ) × IsAtHand hit-key (board_of a.engine) m k.engine.readings.answers.kept
@@ -167,11 +154,7 @@ module _ (k0 k new : Kept) (before : List (AnsweredLine Machine)) (now : Answere
 
     -- the board is as it was in the question's active area
     same-area : AgreeOn (InActiveArea hit.question (board_of a.engine)) (board_of a.engine) (board_of k.engine)
-    same-area =
-        subst (λ (m : Machine). AgreeOn (InActiveArea hit.question (position_of m)) (position_of m)
-        (board_of k.engine)) asked.machine
-        (subst (λ (m : Machine). AgreeOn (InActiveArea hit.question (board_at hit.earlier)) (board_at hit.earlier)
-        (position_of m)) line.machine hit.agree)
+    same-area = grind arith
 
     -- so it is answered by what is kept
     again-unfresh : new.engine.counts.fresh ≡ k.engine.counts.fresh
@@ -189,9 +172,7 @@ module _ (k0 k new : Kept) (before : List (AnsweredLine Machine)) (now : Answere
 
   -- a certain hit is counted
   pub hit_is_counted : IsCertainHit before now → new.engine.counts.readings ≡ counted k.engine.counts.readings true
-  hit_is_counted hit =
-      line.readings ∙ ap (counted k.engine.counts.readings)
-      (is_read_line-one now.machine now.line (record { question = hit.question }) hit.again)
+  hit_is_counted hit = grind (arith, is_read_line-one)
 
 -- A line that is counted may be fresh; no other is.
 module _ (old new : Kept) (m : ℕ) where
@@ -202,10 +183,7 @@ module _ (old new : Kept) (m : ℕ) where
       → old.engine.counts.fresh + m ≤ old.engine.counts.readings
       → (new.engine.counts.fresh + m ≤ new.engine.counts.readings)
       × (new.engine.counts.readings ≤ old.engine.counts.readings + 1)
-  gap_by Nothing counts one read readings small gap =
-      let fresh = ap (λ (c : Counts). c.fresh) read.counts in
-      let same = ap (λ (c : Counts). c.readings) read.counts in
-      (omega (arith, fresh, same, gap), omega (arith, same))
+  gap_by Nothing counts one read readings small gap = grind arith
   gap_by (One key) counts one read readings small gap =
       let more : new.engine.counts.readings ≡ old.engine.counts.readings + 1 =
       (let is = readings ∙ ap (counted old.engine.counts.readings) (one key refl) in omega (arith, is, small)) in
@@ -216,20 +194,14 @@ module _ (old new : Kept) (m : ℕ) where
           → new.engine.counts.fresh ≤ old.engine.counts.fresh + 1
       fresher_by true is = omega (arith, is)
       fresher_by false is = omega (arith, is)
-  gap_by Many counts one read readings small gap =
-      let fresh = read.counts.fresh in
-      let same = read.counts.readings in
-      (omega (arith, fresh, same, gap), omega (arith, same))
+  gap_by Many counts one read readings small gap = grind arith
 
   -- after a line as many readings are not fresh as before it
   gap_after : (turn : AnsweredLine Machine) → IsAfterLine old turn new → old.engine.counts.readings + 1 < 2 ^ 64
       → old.engine.counts.fresh + m ≤ old.engine.counts.readings
       → (new.engine.counts.fresh + m ≤ new.engine.counts.readings)
       × (new.engine.counts.readings ≤ old.engine.counts.readings + 1)
-  gap_after turn line small gap =
-      gap_by (asks_of_line turn.machine turn.line) (is_read_line turn.machine turn.line)
-      (is_read_line-one turn.machine turn.line) line.read
-      line.readings small gap
+  gap_after turn line small gap = grind (arith, gap_by, is_read_line-one)
 
 -- n certain hits among the lines leave n readings more that are not fresh
 pub hits_are_kept : (k0 : Kept) (before turns : List (AnsweredLine Machine)) (k b : Kept) (m n : ℕ)
@@ -238,10 +210,7 @@ pub hits_are_kept : (k0 : Kept) (before turns : List (AnsweredLine Machine)) (k 
     → HaveCertainHits before turns n
     → k.engine.counts.fresh + m ≤ k.engine.counts.readings → k.engine.counts.readings + length turns < 2 ^ 64
     → b.engine.counts.fresh + (m + n) ≤ b.engine.counts.readings
-hits_are_kept k0 before [] k b m n earlier along room none hits gap small =
-    let fresh = ap (λ (s : Kept). s.engine.counts.fresh) along in
-    let readings = ap (λ (s : Kept). s.engine.counts.readings) along in
-    omega (arith, fresh, readings, hits, gap)
+hits_are_kept k0 before [] k b m n earlier along room none hits gap small = grind arith
 hits_are_kept k0 before (turn ∷ turns) k b m n earlier (mid, first, rest) room none (inl later) gap small =
     let next = gap_after k mid m turn first (omega (arith, small)) gap in
     hits_are_kept k0 (before ++ turn ∷ []) turns mid b m n

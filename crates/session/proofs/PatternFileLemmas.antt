@@ -1,12 +1,12 @@
 -- How files are joined one after another.
 use Rattle.std.proofs.Common.{◌≡◌, ℕ, ◌+◌, ◌<◌, List, [], ◌∷◌, ◌++◌, length, map, take, drop, get_or, Option, Some}
-use Rattle.std.proofs.Common.{None, refl, sym, ap, subst, ◌∙◌, append_assoc, append-nil}
+use Rattle.std.proofs.Common.{None, refl, append_assoc, append-nil, arith}
 use Rattle.std.proofs.Math.Seq.{drop-append_seam}
 use Rattle.std.proofs.lemmas.List.{map-append, take_more}
 use Rattle.std.proofs.lemmas.List.Concat.{flat_map-append}
 use Rattle.gtp_io.specs.Loading.{IsLoaded}
 use Rattle.machine_rules.specs.Files.{IsContents}
-use Rattle.session.specs.PatternFiles.{added_feed, ended, joined_text, AreContents, IsJoined, AddsContents}
+use Rattle.session.specs.PatternFiles.{added_feed, AreContents, IsJoined, AddsContents}
 
 -- what was loaded stands behind the bytes that were handed in
 loaded : (contents : Option (List ℕ)) (into bytes : List ℕ) → IsLoaded contents into bytes → (more : List ℕ)
@@ -18,15 +18,7 @@ loaded (Some told) into bytes is = (told, refl, is)
 pub AddsContents-loaded : (contents : Option (List ℕ)) (into bytes new : List ℕ) → IsLoaded contents into bytes → new
     ≡ bytes ++ added_feed (drop (length into) bytes)
     → AddsContents contents into new
-AddsContents-loaded contents into bytes new is fed =
-    let more = loaded contents into bytes is in
-    let behind : drop (length into) bytes ≡ more.0 = ap (drop (length into)) more.2 ∙ drop-append_seam into more.0 in
-    record {
-      text = more.0;
-      told = more.1;
-      added = fed ∙ ap (λ l. bytes ++ added_feed l) behind ∙ ap (λ l. l ++ added_feed more.0) more.2
-          ∙ append_assoc into more.0 (added_feed more.0);
-    }
+AddsContents-loaded contents into bytes new is fed = grind (arith, loaded, drop-append_seam, append_assoc)
 
 -- one file more
 AreContents-next : (contents : List ℕ → Option (List ℕ)) (names texts : List (List ℕ)) (name text : List ℕ)
@@ -38,25 +30,17 @@ AreContents-next contents (n ∷ names) [] name text so_far told = absurd so_far
 AreContents-next contents (n ∷ names) (t ∷ texts) name text so_far told =
     (so_far.0, AreContents-next contents names texts name text so_far.1 told)
 
--- the text of one file more
-joined_text-next : (texts : List (List ℕ)) (text : List ℕ) → joined_text (texts ++ text ∷ []) ≡ joined_text texts
-    ++ ended text
-joined_text-next texts text = flat_map-append ended texts (text ∷ []) ∙ ap (λ l. joined_text texts ++ l)
-    (append-nil (ended text))
-
 -- the files so far, and the next one
 pub IsJoined-next : {A : Type 0} (f : A → List ℕ) (contents : List ℕ → Option (List ℕ)) (words : List A) (i : ℕ)
     (word : A) (text new : List ℕ) → i < length words
     → word ≡ get_or words i word → IsJoined contents (map f (take i words)) text
     → AddsContents (contents (f word)) text new → IsJoined contents (map f (take (i + 1) words)) new
 IsJoined-next f contents words i word text new within is so_far adds =
-    let names : map f (take (i + 1) words) ≡ map f (take i words) ++ f word ∷ [] =
-    ap (map f) (take_more words i word within) ∙ map-append f (take i words) (get_or words i word ∷ []) ∙ ap
-    (λ w. map f (take i words) ++ f w ∷ []) (sym is) in
-    record {
-      texts = so_far.texts ++ adds.text ∷ [];
-      told = subst (λ l. AreContents contents l (so_far.texts ++ adds.text ∷ [])) (sym names)
-          (AreContents-next contents (map f (take i words)) so_far.texts (f word) adds.text so_far.told adds.told);
-      joined = adds.added ∙ ap (λ l. l ++ ended adds.text) so_far.joined ∙ sym
-          (joined_text-next so_far.texts adds.text);
-    }
+    grind (
+      arith,
+      take_more words i word within,
+      map-append f (take i words),
+      AreContents-next contents (map f (take i words)) so_far.texts (f word) adds.text so_far.told adds.told,
+      flat_map-append,
+      append-nil,
+    )

@@ -1,5 +1,5 @@
 -- Sessions before their first line, and the plain machine.
-use Rattle.std.proofs.Common.{◌≡◌, ℕ, ◌≤◌, List, Option, Result, IfOk, IfErr, refl, subst}
+use Rattle.std.proofs.Common.{◌≡◌, ℕ, ◌≤◌, List, Option, Result, IfOk, IfErr, subst, arith}
 use Rattle.pat_types.specs.declared.pattern.Pattern.{Pattern}
 use Rattle.helpers.specs.HelperStates.{SlotState}
 use Rattle.match_engine.specs.ReadingDepths.{ReadingDepths}
@@ -23,13 +23,7 @@ use Rattle.session.specs.declared.outcome.End.{End}
 -- a session before its first line is the first one with its depths
 pub first-with : (depths : ReadingDepths) (capacity : ℕ) → 8 ≤ capacity
     → IsFirstWith depths capacity (first_kept depths capacity)
-first-with depths capacity room = record {
-  machine = λ helpers. refl;
-  counts = refl;
-  readings = refl;
-  links = refl;
-  room = room;
-}
+first-with depths capacity room = grind arith
 
 -- a session that is the first one, with the plain matcher of some patterns, served the lines as the plain machine does
 pub ServesLines-plain : (patterns : List Pattern) (depths : ReadingDepths) (capacity : ℕ) (matcher : Matcher)
@@ -55,12 +49,10 @@ pub opens-handed : {V E : Type 0} (tree : Tree) (a b : List SlotState) (contents
     (result : Result V E) → a ≡ b
     → IfOk result (λ v. Opens tree a contents options (matcher v) (engine v) (slots v) (lines v))
     → IfOk result (λ v. Opens tree b contents options (matcher v) (engine v) (slots v) (lines v))
-opens-handed tree a b contents options matcher engine slots lines result same opens =
-    subst (λ h. IfOk result (λ v. Opens tree h contents options (matcher v) (engine v) (slots v) (lines v))) same opens
+opens-handed tree a b contents options matcher engine slots lines result same opens = grind arith
 
 -- what was refused with some helpers was refused with those that equal them
 pub refused-handed : {T : Type 0} (a b : List SlotState) (contents : Contents) (names : List (List ℕ)) (most : ℕ)
     (result : Result T OpenError) → a ≡ b → IfErr result (IsRefused (helper_names a) contents names most)
     → IfErr result (IsRefused (helper_names b) contents names most)
-refused-handed a b contents names most result same refused =
-    subst (λ h. IfErr result (IsRefused (helper_names h) contents names most)) same refused
+refused-handed a b contents names most result same refused = grind arith

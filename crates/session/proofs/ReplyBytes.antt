@@ -1,6 +1,6 @@
 -- A reply as it is put on the output.
-use Rattle.std.proofs.Common.{◌≡◌, ⊎_elim, ℕ, false, List, [], ◌∷◌, ◌++◌, Option, refl, sym, ap, subst, ◌∙◌}
-use Rattle.std.proofs.Common.{inl, inr}
+use Rattle.std.proofs.Common.{◌≡◌, ⊎_elim, ℕ, false, List, [], ◌∷◌, Option, refl, sym, ap, subst, ◌∙◌}
+use Rattle.std.proofs.Common.{inl, inr, arith}
 use Rattle.std.proofs.KnownBytes.{Appends-nil}
 use Rattle.gtp_rules.specs.Lines.{RawLine}
 use Rattle.gtp_rules.specs.Transcript.{MayAnswer}
@@ -14,7 +14,7 @@ use Rattle.session_core.specs.Kept.{Kept, machine_of}
 use Rattle.session_core.specs.Replies.{reply_bytes, reply_ends, reply_count}
 use Rattle.session_core.specs.declared.reply.Reply.{Reply}
 use Rattle.session_core.specs.declared.reply.Reply.TheVariants.{Nothing, Short, Text, NoMemory}
-use Rattle.session.specs.Tallies.{kept_sum, one_turn}
+use Rattle.session.specs.Tallies.{one_turn}
 use Rattle.session.specs.Serving.{PutsPart, PutsReply, Replies, RepliesPart, RunsTo, progress_of}
 use Rattle.session.specs.Waiting.{OutputState, holds_with, sent_with, Stop, IsStop, CutsReply, MayStop, Sends}
 use Rattle.session.specs.Waiting.{SendsReply}
@@ -27,47 +27,19 @@ module _ (step : LineStep) (old new : Kept) (line : RawLine) (reply : Reply)
   -- what is kept went along the line with its reply
   along : (sent : List ℕ) → sent ≡ reply_bytes reply
       → IsAlong IsAfterLine old (one_turn (machine_of old) line sent) new
-  along sent same =
-      subst (λ l. IsAlong IsAfterLine old (one_turn (machine_of old) line l) new) (sym same) (
-        new,
-        record { machine = refl; readings = is.readings; read = is.read; links = is.links; missed = is.missed },
-        refl,
-      )
+  along sent same = grind arith
 
   module _ (w0 w1 : Option (List ℕ)) (s0 s1 : Sent) where
     -- the bytes went out whole
     pub Replies-whole : reply_count (reply_bytes reply) ≡ 1 → PutsReply w0 w1 s0 s1 (reply_bytes reply)
         → Replies step IsAfterLine (machine_of old) line (machine_of new) (reply_ends reply)
         (progress_of w0 old s0) (progress_of w1 new s1)
-    Replies-whole some puts = record {
-      reply = reply_bytes reply;
-      answers = is.reply;
-      advances = record {
-        writes = puts.writes;
-        along = along (reply_bytes reply) refl;
-        replies = puts.lines ∙ ap (kept_sum s0.lines) (sym some);
-        bytes = puts.bytes_sent;
-      };
-    }
+    Replies-whole some puts = grind (arith, along)
 
     -- a front of the bytes went out
     pub Replies-part : PutsPart w0 w1 s0 s1 (reply_bytes reply)
         → RepliesPart step IsAfterLine (machine_of old) line (progress_of w0 old s0) (progress_of w1 new s1)
-    Replies-part put = record {
-      part = put.part;
-      missing = put.missing;
-      next = machine_of new;
-      ends = reply_ends reply;
-      answers = subst (λ l. MayAnswer step (machine_of old) line l (machine_of new) (reply_ends reply)) put.whole
-          is.reply;
-      proper = put.proper;
-      advances = record {
-        writes = put.puts.writes;
-        along = along (put.part ++ put.missing) (sym put.whole);
-        replies = put.puts.lines;
-        bytes = put.puts.bytes_sent;
-      };
-    }
+    Replies-part put = grind (arith, along)
 
   -- nothing was put, as the line has no words
   Replies-nothing : (w : Option (List ℕ)) (s : Sent) → reply ≡ Nothing
@@ -136,24 +108,17 @@ module _ (step : LineStep) (old new : Kept) (line : RawLine) (a b : OutputState)
   turn-sent : (reply : Reply) → AnswersLine step old line reply new → SendsReply a b reply counts
       → RunsTo step IsAfterLine (machine_of old) (line ∷ []) (machine_of new) (reply_ends reply)
       (progress_with (standing_at old a)) (progress_with (standing_at new b))
-  turn-sent Nothing is same =
-      subst (λ (o : OutputState). RunsTo step IsAfterLine (machine_of old) (line ∷ [])
-      (machine_of new) false (progress_with (standing_at old a)) (progress_with (standing_at new o))) (sym same)
-      (turn-nothing step old new line Nothing is a refl)
-  turn-sent (Short text quit) is sends =
-      turn-whole step old new line (Short text quit) is a b counts (is.bytes (λ e. cc)) sends
-  turn-sent (Text bytes) is sends =
-      turn-whole step old new line (Text bytes) is a b counts (is.bytes (λ e. cc)) sends
-  turn-sent (NoMemory id) is sends =
-      turn-whole step old new line (NoMemory id) is a b counts (is.bytes (λ e. cc)) sends
+  turn-sent Nothing is same = grind (arith, turn-nothing)
+  turn-sent (Short text quit) is sends = grind (arith, turn-whole step old new line (Short text quit) is a b counts)
+  turn-sent (Text bytes) is sends = grind (arith, turn-whole step old new line (Text bytes) is a b counts)
+  turn-sent (NoMemory id) is sends = grind (arith, turn-whole step old new line (NoMemory id) is a b counts)
 
   -- where the output may fail after it
   turn-stops : (reply : Reply) → AnswersLine step old line reply new → counts ≡ new.engine.counts
       → ((stop : Stop) → IsStop a stop → new.missed ≡ old.missed) → SendsReply a b reply counts → (stop : Stop)
       → IsStop b stop
       → MayCut step IsAfterLine (machine_of old) (line ∷ []) (standing_at old a) stop new.missed
-  turn-stops Nothing is noted same holds stop at =
-      let before = subst (λ (o : OutputState). IsStop o stop) holds at in inl (before, same stop before)
+  turn-stops Nothing is noted same holds stop at = grind arith
   turn-stops (Short text quit) is noted same sends stop at =
       turn-stop step old new line (Short text quit) is a counts stop noted (same stop) (sends.stops stop at)
   turn-stops (Text bytes) is noted same sends stop at =
@@ -165,16 +130,13 @@ module _ (step : LineStep) (old new : Kept) (line : RawLine) (a b : OutputState)
   pub turn-answered : (reply : Reply) → AnswersLine step old line reply new → counts ≡ new.engine.counts
       → ((stop : Stop) → IsStop a stop → new.missed ≡ old.missed) → SendsReply a b reply counts
       → Answered step (line ∷ []) (reply_ends reply) (standing_at old a) (standing_at new b)
-  turn-answered reply is noted same sends = record {
-    runs = turn-sent reply is sends;
-    stops = turn-stops reply is noted same sends;
-  }
+  turn-answered reply is noted same sends =
+      grind (arith, turn-sent reply is sends, turn-stops reply is noted same sends)
 
   -- the output failed within its reply, or before it
   pub turn-breaks : (reply : Reply) → AnswersLine step old line reply new → (stop : Stop)
       → counts ≡ new.engine.counts → (IsStop a stop → new.missed ≡ old.missed)
       → MayStop a (reply_bytes reply) counts stop
       → BreaksIn step (line ∷ []) (standing_at old a) stop new.missed
-  turn-breaks reply is stop noted waits may = record {
-    cut = turn-stop step old new line reply is a counts stop noted waits may;
-  }
+  turn-breaks reply is stop noted waits may =
+      grind (arith, turn-stop step old new line reply is a counts stop noted waits may)

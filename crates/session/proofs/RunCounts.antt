@@ -1,16 +1,15 @@
 -- The counts that a run tells are those of the lines that it answered.
-use Rattle.std.proofs.Common.{◌≡◌, ℕ, suc, ◌+◌, ◌^◌, ◌<◌, ◌≤◌, Bool, true, false, cond, List, [], ◌∷◌, ◌++◌, length}
-use Rattle.std.proofs.Common.{Option, Some, None, refl, sym, ap, subst, ◌∙◌, arith, ◌⊎◌, ⊎_elim, inl, inr}
+use Rattle.std.proofs.Common.{◌≡◌, ℕ, suc, ◌+◌, ◌^◌, ◌<◌, ◌≤◌, Bool, true, false, cond, List, [], ◌∷◌, length}
+use Rattle.std.proofs.Common.{Option, Some, None, refl, sym, ap, subst, ◌∙◌, arith, ◌⊎◌, inl, inr}
 use Rattle.std.specs.Prelude.{◌==◌}
 use Rattle.std.specs.Option.{is_some}
 use Rattle.std.proofs.lemmas.List.{length-append}
 use Rattle.std.proofs.lemmas.List.Sums.{sum_by-cons}
 use Rattle.gtp_rules.specs.Lines.{RawLine, Line, TooLong, line_feed, lines_of, lines_with_rest, rest_of, rest_line}
 use Rattle.gtp_rules.specs.Steps.{Step}
-use Rattle.gtp_lex.specs.Held.{lines_from, held_from, held_line, longer}
+use Rattle.gtp_lex.specs.Held.{lines_from, held_line, longer}
 use Rattle.gtp_lex.proofs.HeldLemmas.{lines_with_rest-lines_from}
 use Rattle.run_notes.specs.declared.notes.Counts.{Counts}
-use Rattle.run_notes.specs.declared.notes.Links.{Links}
 use Rattle.connect_rules.specs.declared.question.LinkQuestion.{LinkQuestion}
 use Rattle.connect_rules.specs.declared.question.Linkage.{Linkage}
 use Rattle.kept_connections.specs.Connections.{HasAsked}
@@ -24,11 +23,11 @@ use Rattle.session_core.specs.AskedLinks.{LinksAs}
 use Rattle.session_core.specs.EngineView.{EngineView, board_of, no_counts}
 use Rattle.machine_rules.specs.LinkQuestions.{asks_link_of_line, connections_in}
 use Rattle.machine_rules.specs.Counting.{counted, is_read_line, readings_in}
-use Rattle.machine_rules.specs.Questions.{Asks, Nothing, One, Many, AskNothing, asks_of_line}
-use Rattle.session_core.specs.AfterLine.{ReadsAs, ReadsNothing, IsAfterLine, after_trials, HasFewFresh, of_readings}
+use Rattle.machine_rules.specs.Questions.{Asks, Nothing, One, Many, AskNothing}
+use Rattle.session_core.specs.AfterLine.{ReadsAs, ReadsNothing, IsAfterLine, HasFewFresh, of_readings}
 use Rattle.machine_rules.specs.AnsweredLines.{AnsweredLine, IsAlong}
-use Rattle.session.specs.Tallies.{Tally, IsTallied, BreaksOff, one_turn}
-use Rattle.session.specs.Ends.{Streams, Serves, AreTallied, IsRight, most_taken}
+use Rattle.session.specs.Tallies.{Tally, IsTallied}
+use Rattle.session.specs.Ends.{Streams, AreTallied, IsRight, most_taken}
 use Rattle.session.specs.CountedRuns.{AreCountsOf}
 use Rattle.session.specs.Headline.{ServesLines}
 use Rattle.machine_rules.specs.CertainHit.{HaveCertainHits}
@@ -59,19 +58,11 @@ held_line-few (Line (b ∷ bs)) = omega arith
 
 -- the lines of some bytes are one more than these at most
 lines-few : (bytes : List ℕ) → length (lines_with_rest bytes) ≤ length bytes + 1
-lines-few bytes =
-    let all = ap length (lines_with_rest-lines_from bytes) in
-    let both = length-append (lines_from (Line []) bytes) (held_line (held_from (Line []) bytes)) in
-    let ended = lines_from-few (Line []) bytes in
-    let held = held_line-few (held_from (Line []) bytes) in
-    omega (arith, all, both, ended, held)
+lines-few bytes = grind (arith, lines_with_rest-lines_from, length-append, lines_from-few, held_line-few)
 
 -- those that have their line feed are among them
 ended-few : (bytes : List ℕ) → length (lines_of bytes) ≤ length bytes + 1
-ended-few bytes =
-    let both = length-append (lines_of bytes) (rest_line (rest_of bytes)) in
-    let all = lines-few bytes in
-    omega (arith, both, all)
+ended-few bytes = grind (arith, length-append (lines_of bytes) (rest_line (rest_of bytes)), lines-few bytes)
 
 module _ {M : Type 0} (step : M → RawLine → Step M → Type 0) where
   -- no more lines are tallied than there are
@@ -79,46 +70,18 @@ module _ {M : Type 0} (step : M → RawLine → Step M → Type 0) where
       → IsTallied step old lines tally new ended
       → length tally.turns ≤ length lines
   turns-few old [] tally new ended p = let none = ap (λ (t : Tally M). length t.turns) p.0 in omega (arith, none)
-  turns-few old (x ∷ xs) tally new ended (first, rest, mid, true, answers, joined, h) =
-      let none = ap (λ (t : Tally M). length t.turns) h.0 in
-      let all = ap (λ (t : Tally M). length t.turns) joined in
-      let both = length-append (one_turn old x first) rest.turns in
-      omega (arith, none, all, both)
+  turns-few old (x ∷ xs) tally new ended (first, rest, mid, true, answers, joined, h) = grind (arith, length-append)
   turns-few old (x ∷ xs) tally new ended (first, rest, mid, false, answers, joined, h) =
-      let later = turns-few mid xs rest new ended h in
-      let all = ap (λ (t : Tally M). length t.turns) joined in
-      let both = length-append (one_turn old x first) rest.turns in
-      omega (arith, later, all, both)
-
-  -- a run that breaks off in a reply has no more turns than lines
-  cut-few : (first : M) (lines : List RawLine) (tally : Tally M) → BreaksOff step first lines tally
-      → length tally.turns ≤ length lines
-  cut-few first lines tally off =
-      let cut = off.cut in
-      let before = turns-few first cut.before off.whole cut.mid false off.answered in
-      let all = ap (λ (t : Tally M). length t.turns) off.tallied in
-      let both = length-append off.whole.turns (one_turn cut.mid cut.line (cut.part ++ cut.missing)) in
-      let lens = ap length cut.place ∙ length-append cut.before (cut.line ∷ cut.after) in
-      omega (arith, before, all, both, lens)
+      grind (arith, turns-few mid xs rest new ended h, length-append)
 
   -- by the end of a run
   tallied-few : (first : M) (taken : List ℕ) (tally : Tally M) (end : End) → AreTallied step first taken tally end
       → length tally.turns ≤ length taken + 1
-  tallied-few first taken tally Done (inl (last, ended, run)) =
-      let few = turns-few first (lines_with_rest taken) tally last ended run in let lines = lines-few taken in
-      omega (arith, few, lines)
-  tallied-few first taken tally Done (inr (last, run)) =
-      let few = turns-few first (lines_of taken) tally last true run in let lines = ended-few taken in
-      omega (arith, few, lines)
-  tallied-few first taken tally InputFault (last, run) =
-      let few = turns-few first (lines_of taken) tally last false run in let lines = ended-few taken in
-      omega (arith, few, lines)
-  tallied-few first taken tally InputTooLong (last, run) =
-      let few = turns-few first (lines_of taken) tally last false run in let lines = ended-few taken in
-      omega (arith, few, lines)
-  tallied-few first taken tally OutputFault cut =
-      let few = cut-few first (lines_with_rest taken) tally cut in let lines = lines-few taken in
-      omega (arith, few, lines)
+  tallied-few first taken tally Done (inl (last, ended, run)) = grind (arith, turns-few, lines-few)
+  tallied-few first taken tally Done (inr (last, run)) = grind (arith, turns-few, ended-few)
+  tallied-few first taken tally InputFault (last, run) = grind (arith, turns-few, ended-few)
+  tallied-few first taken tally InputTooLong (last, run) = grind (arith, turns-few, ended-few)
+  tallied-few first taken tally OutputFault cut = grind (arith, turns-few, length-append, lines-few taken)
 
   -- no run takes more bytes than it may
   taken-few : (first : M) (left : Option (List ℕ)) (taken put : List ℕ) (piece : ℕ) (end : End)
@@ -130,21 +93,11 @@ module _ {M : Type 0} (step : M → RawLine → Step M → Type 0) where
   taken-few first left taken put piece InputTooLong (run, few) = omega (arith, few)
   taken-few first left taken put piece OutputFault cut = cut.few
 
-  -- so it answers few lines
-  serves-few : (first : M) (before after : Streams) (end : End) (tally : Tally M)
-      → Serves step first before after end tally
-      → length tally.turns ≤ most_taken + 1
-  serves-few first before after end tally serves =
-      let lines = tallied-few first serves.taken tally end serves.tallied in
-      let bytes = taken-few first after.left serves.taken tally.out after.piece end serves.right in
-      omega (arith, lines, bytes)
-
   -- those of the source or generated ones
   pub served-few : (generate : Option ℕ) (first : M) (before after : Streams) (end : End) (tally : Tally M)
       → ServesLines generate step first before after end tally → length tally.turns ≤ most_taken + 1
-  served-few None first before after end tally serves = serves-few first before after end tally serves
-  served-few (Some n) first before after end tally serves = let lines = serves.generated in
-      serves-few first _ _ end tally lines.2
+  served-few None first before after end tally serves = grind (arith, tallied-few, taken-few)
+  served-few (Some n) first before after end tally serves = grind (arith, tallied-few, taken-few)
 
 -- What was counted.
 
@@ -176,26 +129,16 @@ few_along (turn ∷ turns) a b (mid, first, rest) few =
 module _ (turn : AnsweredLine Machine) (a b : Kept) (unfresh : b.engine.counts.fresh ≡ 0) where
   untried_by : (asks : Asks) → ReadsAs asks a.engine b.engine
       → (a.engine.counts.fresh ≡ 0) × (b.engine.counts.trials ≡ a.engine.counts.trials)
-  untried_by Nothing read =
-      (ap (λ (c : Counts). c.fresh) (sym read.counts) ∙ unfresh, ap (λ (c : Counts). c.trials) read.counts)
-  untried_by (One key) read = by b.engine.readings.last read.fresh read.trials
-    where
-      by : (last : Option ℕ) → b.engine.counts.fresh ≡ counted a.engine.counts.fresh (is_some last)
-          → b.engine.counts.trials ≡ after_trials a.engine.counts.trials last
-          → (a.engine.counts.fresh ≡ 0) × (b.engine.counts.trials ≡ a.engine.counts.trials)
-      by None fresh trials = (sym fresh ∙ unfresh, trials)
-      by (Some n) fresh trials = absurd (omega (arith, fresh, unfresh))
+  untried_by Nothing read = grind arith
+  untried_by (One key) read = grind arith
   untried_by Many read = (sym read.counts.fresh ∙ unfresh, read.counts.trials)
 
 -- if no reading was fresh after the lines, none was before them, and no more plays were tried than before
 untried_along : (turns : List (AnsweredLine Machine)) (a b : Kept) → IsAlong IsAfterLine a turns b
     → b.engine.counts.fresh ≡ 0 → (a.engine.counts.fresh ≡ 0) × (b.engine.counts.trials ≡ a.engine.counts.trials)
-untried_along [] a b along unfresh =
-    (ap (λ (k : Kept). k.engine.counts.fresh) (sym along) ∙ unfresh, ap (λ (k : Kept). k.engine.counts.trials) along)
+untried_along [] a b along unfresh = grind arith
 untried_along (turn ∷ turns) a b (mid, first, rest) unfresh =
-    let later = untried_along turns mid b rest unfresh in
-    let here = untried_by turn a mid later.0 (asks_of_line turn.machine turn.line) first.read in
-    (here.0, later.1 ∙ here.1)
+    grind (arith, untried_along turns mid b rest unfresh, untried_by)
 
 -- where no line asks for anything, all is counted of readings that was
 idle_along : (turns : List (AnsweredLine Machine)) (a b : Kept) → IsAlong IsAfterLine a turns b → AskNothing turns
@@ -221,20 +164,8 @@ module _ (old new : EngineView) where
       → old.counts.links.fresh ≤ old.counts.links.connections → old.counts.links.connections + 1 < 2 ^ 64
       → (new.counts.links.connections ≡ old.counts.links.connections + cond (is_some asks) 1 0)
       × (new.counts.links.fresh ≤ new.counts.links.connections)
-  links_by None links few small =
-      let connections = ap (λ (l : Links). l.connections) links.counts in
-      let fresh = ap (λ (l : Links). l.fresh) links.counts in
-      (omega (arith, connections), omega (arith, connections, fresh, few))
-  links_by (Some q) links few small =
-      let was = links.fresh_before in
-      let is = links.fresh in
-      let more = links.connections in
-      let rose = fresh_by q links.answer old.links.answers new.links.answers links.asked in (
-        omega (arith, more, small),
-        ⊎_elim
-            (λ fresh. omega (arith, fresh, was, is, more, few, small))
-            (λ kept. omega (arith, kept, was, is, more, few, small)) rose,
-      )
+  links_by None links few small = grind arith
+  links_by (Some q) links few small = grind (arith, fresh_by)
 
 -- the lines that ask about connections are counted, and no more are fresh
 links_along : (turns : List (AnsweredLine Machine)) (a b : Kept) → IsAlong IsAfterLine a turns b
@@ -242,10 +173,7 @@ links_along : (turns : List (AnsweredLine Machine)) (a b : Kept) → IsAlong IsA
     → a.engine.counts.links.connections + length turns < 2 ^ 64
     → (b.engine.counts.links.connections ≡ a.engine.counts.links.connections + connections_in turns)
     × (b.engine.counts.links.fresh ≤ b.engine.counts.links.connections)
-links_along [] a b along few small =
-    let connections = ap (λ (k : Kept). k.engine.counts.links.connections) along in
-    let fresh = ap (λ (k : Kept). k.engine.counts.links.fresh) along in
-    (omega (arith, connections), omega (arith, connections, fresh, few))
+links_along [] a b along few small = grind arith
 links_along (turn ∷ turns) a b (mid, first, rest) few small =
     let counts =
     sum_by-cons (λ (t : AnsweredLine Machine). cond (is_some (asks_link_of_line t.machine t.line)) 1 0) turn turns in
@@ -270,29 +198,9 @@ module _ (first last : Kept) (turns : List (AnsweredLine Machine)) (along : IsAl
   no-fresh : first.engine.counts.fresh ≡ 0
   no-fresh = ap (λ (c : Counts). c.fresh) none
 
-  -- it had counted no connection
-  no-connections : first.engine.counts.links.connections ≡ 0
-  no-connections = ap (λ (c : Counts). c.links.connections) none
-
-  -- it had counted no connection that was fresh
-  no-fresh_links : first.engine.counts.links.fresh ≡ 0
-  no-fresh_links = ap (λ (c : Counts). c.links.fresh) none
-
   -- so a u64 counts the readings of these lines
   few-readings : first.engine.counts.readings + length turns < 2 ^ 64
   few-readings = omega (arith, no-readings, few)
-
-  -- which are as many as ask for a reading
-  all-readings : last.engine.counts.readings ≡ readings_in turns
-  all-readings = let all = readings_along turns first last along few-readings in omega (arith, no-readings, all)
-
-  -- no more are fresh
-  few-fresh : last.engine.counts.fresh ≤ last.engine.counts.readings
-  few-fresh =
-      let start : HasFewFresh first.engine.counts = record {
-        few = omega (arith, no-readings, no-fresh);
-        small = omega (arith, no-readings);
-      } in (few_along turns first last along start).few
 
   -- and no certain hit is, where eight questions and more may be kept
   hits-kept : (capacity : ℕ) → first.engine.readings.answers ≡ first_keeping capacity → 8 ≤ capacity
@@ -307,29 +215,22 @@ module _ (first last : Kept) (turns : List (AnsweredLine Machine)) (along : IsAl
   -- the connections are as many as the lines that ask about one
   all-links : (last.engine.counts.links.connections ≡ first.engine.counts.links.connections + connections_in turns)
       × (last.engine.counts.links.fresh ≤ last.engine.counts.links.connections)
-  all-links =
-      links_along turns first last along (omega (arith, no-connections, no-fresh_links))
-      (omega (arith, no-connections, few))
+  all-links = grind (arith, links_along)
 
   -- the counts are those of the lines
   pub counts_of : (capacity : ℕ) → first.engine.readings.answers ≡ first_keeping capacity
       → first.engine.links.answers ≡ first_keeping capacity → 8 ≤ capacity
       → AreCountsOf capacity turns last.engine.counts
-  counts_of capacity unread unasked room = record {
-    readings = all-readings;
-    fresh = few-fresh;
-    hits = hits-kept capacity unread room;
-    untried = λ unfresh. (untried_along turns first last along unfresh).1 ∙ ap (λ (c : Counts). c.trials) none;
-    idle = λ idle. idle_along turns first last along idle ∙ ap of_readings none;
-    connections = (let both = all-links in omega (arith, no-connections, both.0));
-    fresh_links = all-links.1;
-    rose = record {
-      first = first;
-      last = last;
-      uncounted = none;
-      readings = unread;
-      links = unasked;
-      along = along;
-      same = refl;
-    };
-  }
+  counts_of capacity unread unasked room =
+      grind (
+        arith,
+        readings_along,
+        few-readings,
+        no-readings,
+        no-fresh,
+        few_along,
+        hits-kept capacity unread room,
+        untried_along turns first last along,
+        idle_along turns first last along,
+        all-links,
+      )

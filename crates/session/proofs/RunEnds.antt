@@ -1,8 +1,8 @@
 -- A run so far, and what it says by its outcome when it stops here.
 use Rattle.std.proofs.Common.{◌≡◌, ℕ, ◌+◌, ◌-◌, ◌<◌, ◌≤◌, Bool, true, false, List, [], ◌∷◌, ◌++◌, length, take, Option}
 use Rattle.std.proofs.Common.{None, refl, sym, ap, subst, ◌∙◌, append-nil, arith, inl, inr, length-append}
-use Rattle.std.specs.Io.KnownBytes.{Appends, Consumes, IsAtEnd, Keeps}
-use Rattle.std.proofs.KnownBytes.{Consumes-trans, Consumes-kept}
+use Rattle.std.specs.Io.KnownBytes.{Consumes, IsAtEnd, Keeps}
+use Rattle.std.proofs.KnownBytes.{Consumes-trans}
 use Rattle.std.proofs.lemmas.List.{take_at, take_all, length-take-le}
 use Rattle.gtp_rules.specs.Lines.{RawLine, Line, lines_of, lines_with_rest, rest_of, rest_line}
 use Rattle.gtp_rules.specs.Steps.{Step}
@@ -35,25 +35,14 @@ pub record Served {M : Type 0} (step : M → RawLine → Step M → Type 0) (goe
   pub held_is : held ≡ held_from (Line []) taken
   pub few : length taken + room ≡ most_taken
 
--- what was answered of the lines from the front was answered of the lines of the bytes
-tallied_lines : {M : Type 0} (step : M → RawLine → Step M → Type 0) (taken : List ℕ) (first now : M)
-    (tally : Tally M) (ended : Bool) → IsTallied step first (lines_from (Line []) taken) tally now ended
-    → IsTallied step first (lines_of taken) tally now ended
-tallied_lines step taken first now tally ended run =
-    subst (λ l. IsTallied step first l tally now ended) (sym (lines_of-lines_from taken)) run
-
 -- the lines of the bytes taken so far and of a piece more
 lines_of-append : (taken part : List ℕ) (held : RawLine) → held ≡ held_from (Line []) taken
     → lines_of (taken ++ part) ≡ lines_from (Line []) taken ++ lines_from held part
-lines_of-append taken part held is =
-    lines_of-lines_from (taken ++ part) ∙ lines_from-append (Line []) taken part
-    ∙ ap (λ h. lines_from (Line []) taken ++ lines_from h part) (sym is)
+lines_of-append taken part held is = grind (arith, lines_of-lines_from, lines_from-append)
 
 -- the bytes taken before the last piece
 earlier-append : (taken part : List ℕ) (piece : ℕ) → length part ≡ piece → earlier (taken ++ part) piece ≡ taken
-earlier-append taken part piece len =
-    ap (λ n. take n (taken ++ part)) (let whole = length-append taken part in omega (arith, whole))
-    ∙ take_at taken part (length taken) refl
+earlier-append taken part piece len = grind (arith, length-append, take_at)
 
 module _ (M : Type 0) (step : M → RawLine → Step M → Type 0) (goes : Kept → AnsweredLine M → Kept → Type 0)
     (first now : M)
@@ -62,44 +51,23 @@ module _ (M : Type 0) (step : M → RawLine → Step M → Type 0) (goes : Kept 
     (s : Served step goes first now before.left l1 p0 p1 held room) (opened : before.written ≡ p0.written) where
   -- every line of the bytes so far was answered, and none ended the session
   tallied : IsTallied step first (lines_of s.taken) s.tally now false
-  tallied = tallied_lines step s.taken first now s.tally false s.run
+  tallied = grind (arith, lines_of-lines_from)
 
   -- so they are in a transcript
   answered : GoesOn step first (lines_of s.taken) s.tally.out
   answered = (now, IsTallied-run M step first (lines_of s.taken) s.tally now false tallied)
-
-  -- bytes that were put since the run began
-  put_since : (after : Streams) (p : Progress) (tally : Tally M) → p.written ≡ after.written → Advances goes p0 p tally
-      → Appends before.written after.written tally.out
-  put_since after p tally is advances =
-      subst (λ w. Appends w after.written tally.out) (sym opened)
-      (subst (λ w. Appends p0.written w tally.out) is advances.writes)
 
   -- what was taken, put and answered is what was served, by this end
   serves-by : (after : Streams) (p : Progress) (end : End) (taken : List ℕ) (tally : Tally M)
       → p.written ≡ after.written → Consumes before.left after.left taken → Advances goes p0 p tally
       → IsRight step first after.left taken tally.out after.piece end → AreTallied step first taken tally end
       → ServesCounting None step goes first before after end p0 p
-  serves-by after p end taken tally is reads advances right tallies = record {
-    tally = tally;
-    serves = record {
-      taken = taken;
-      reads = reads;
-      writes = put_since after p tally is advances;
-      right = right;
-      tallied = tallies;
-    };
-    advances = advances;
-  }
+  serves-by after p end taken tally is reads advances right tallies = grind (arith, tallied)
 
   -- the lines that were answered before the last piece stand before the one whose reply broke off
   before_cut : (taken : List ℕ) (piece : ℕ) (more : List RawLine) → earlier taken piece ≡ s.taken
       → length (lines_of (earlier taken piece)) ≤ length (lines_from (Line []) s.taken ++ more)
-  before_cut taken piece more is =
-      subst (λ t. length (lines_of t) ≤ length (lines_from (Line []) s.taken ++ more)) (sym is)
-      (let before_it = length-append (lines_from (Line []) s.taken) more in
-      let lines = ap length (lines_of-lines_from s.taken) in
-      omega (arith, before_it, lines))
+  before_cut taken piece more is = grind (arith, length-append, lines_of-lines_from)
 
   -- the source gave a piece, its lines were answered, and none ended the session
   pub served_more : (l2 : Option (List ℕ)) (p2 : Progress) (part : List ℕ) (n : ℕ) (new : M) (held' : RawLine)
@@ -122,25 +90,19 @@ module _ (M : Type 0) (step : M → RawLine → Step M → Type 0) (goes : Kept 
   -- the source failed
   pub served_fault : (after : Streams) → Keeps l1 after.left → p1.written ≡ after.written → 0 < room
       → ServesCounting None step goes first before after InputFault p0 p1
-  served_fault after kept same some =
-      serves-by after p1 InputFault s.taken s.tally same (Consumes-kept before.left l1 after.left s.taken s.reads kept)
-      s.advances (answered, (let few = s.few in omega arith)) (now, tallied)
+  served_fault after kept same some = grind (arith, serves-by, answered, tallied)
 
   -- no byte more may be taken
   pub served_too_long : (after : Streams) → l1 ≡ after.left → p1.written ≡ after.written → room ≡ 0
       → ServesCounting None step goes first before after InputTooLong p0 p1
-  served_too_long after unread unput none =
-      serves-by after p1 InputTooLong s.taken s.tally unput
-      (subst (λ l. Consumes before.left l s.taken) unread s.reads) s.advances
-      (answered, (let few = s.few in omega arith)) (now, tallied)
+  served_too_long after unread unput none = grind (arith, serves-by, answered, tallied)
 
   -- The source came to its end.
   module _ (after : Streams) (p2 : Progress) (holds : p2.written ≡ after.written) (reads : Consumes l1 after.left [])
       (at_end : IsAtEnd after.left) (last : after.piece ≡ 0) where
     -- nothing more was taken
     reads_end : Consumes before.left after.left s.taken
-    reads_end = subst (Consumes before.left after.left) (append-nil s.taken)
-        (Consumes-trans before.left l1 after.left s.taken [] s.reads reads)
+    reads_end = grind (arith, append-nil)
 
     -- so all was taken before the last piece
     none_later : earlier s.taken after.piece ≡ s.taken
@@ -148,8 +110,7 @@ module _ (M : Type 0) (step : M → RawLine → Step M → Type 0) (goes : Kept 
 
     -- the lines with the rest are those answered so far and what is held
     with_held : lines_with_rest s.taken ≡ lines_from (Line []) s.taken ++ held_line held
-    with_held = lines_with_rest-lines_from s.taken ∙ ap (λ h. lines_from (Line []) s.taken ++ held_line h)
-        (sym s.held_is)
+    with_held = grind (arith, lines_with_rest-lines_from)
 
     -- where all of them were answered, the input was read to its end
     read_to_end : (new : M) (ended : Bool) (later : Tally M) → 0 < room
@@ -202,15 +163,12 @@ module _ (M : Type 0) (step : M → RawLine → Step M → Type 0) (goes : Kept 
 
     -- they are no more than may be taken
     few_more : length part ≡ after.piece → after.piece ≤ room → length (s.taken ++ part) ≤ most_taken
-    few_more len within =
-        let few = s.few in let lens = length-append s.taken part in omega (arith, few, lens, len, within)
+    few_more len within = grind (arith, length-append)
 
     -- before the piece no line had ended the session
     answered_earlier : length part ≡ after.piece
         → GoesOn step first (lines_of (earlier (s.taken ++ part) after.piece)) s.tally.out
-    answered_earlier len =
-        subst (λ t. GoesOn step first (lines_of t) s.tally.out) (sym (earlier-append s.taken part after.piece len))
-        answered
+    answered_earlier len = grind (arith, earlier-append, answered)
 
     -- one of its lines ended the session
     pub served_ended : (new : M) → length part ≡ after.piece → after.piece ≤ room

@@ -1,10 +1,9 @@
 -- How a run of a command line came to its end, by how it read its options, opened its files and served its lines.
 use Rattle.std.proofs.Common.{◌≡◌, ◌≢◌, ℕ, ◌+◌, Bool, true, false, cond, List, ◌++◌, length, Option, Some, None, refl}
-use Rattle.std.proofs.Common.{[], ◌∷◌, sym, ap, subst, ◌∙◌, ◌≤◌, ◌<◌, arith, append_assoc, append-nil}
+use Rattle.std.proofs.Common.{[], ◌∷◌, sym, ap, ◌∙◌, ◌≤◌, arith, append_assoc, append-nil}
 use Rattle.std.proofs.lemmas.List.{length-append}
 use Rattle.std.specs.Prelude.{option_map}
 use Rattle.std.specs.List.{flat_map}
-use Rattle.std.specs.Io.KnownBytes.{Consumes}
 use Rattle.gtp_lex.specs.Lines.{LinesState}
 use Rattle.go_options.specs.declared.options.Options.{Options}
 use Rattle.run_notes.specs.Notes.{counts_line}
@@ -28,12 +27,11 @@ use Rattle.session_core.specs.LineAnswers.{LineStep}
 use Rattle.session_core.specs.EngineView.{depths_in}
 use Rattle.read_rules.specs.declared.tree.Tree.{Tree}
 use Rattle.session.specs.Waiting.{none_sent}
-use Rattle.session.specs.FirstSession.{Opens, ReachesPhaseBy, ServesCounting, EndsCounting}
+use Rattle.session.specs.FirstSession.{Opens, ReachesPhaseBy, EndsCounting}
 use Rattle.session.specs.Outcomes.{Served, phase_of}
-use Rattle.session.specs.Ends.{Streams, IsRight, Serves, most_taken}
+use Rattle.session.specs.Ends.{Streams, IsRight, Serves}
 use Rattle.session.specs.CountedRuns.{AreCounts, AreCountsOf, IsServedCounted}
 use Rattle.session.specs.Headline.{IsSent, IsCauseOf, ServesGenerated}
-use Rattle.session.specs.Serving.{progress_of}
 use Rattle.session.specs.declared.outcome.End.{End}
 use Rattle.session.specs.declared.outcome.End.TheVariants.{InputTooLong}
 use Rattle.session.specs.declared.serve.Ended.{Ended}
@@ -56,31 +54,25 @@ sent-told (Some n) sent tally lines bytes = (lines, bytes)
 -- the notes tell no counts unless the options ask for them
 uncounted-told : (asked : Bool) (counts : Counts) (told : Option Counts) → told ≡ cond asked (Some counts) None
     → asked ≡ false → counts_line told ≡ []
-uncounted-told asked counts told tells unasked =
-    ap counts_line (tells ∙ ap (λ a. cond a (Some counts) None) unasked)
+uncounted-told asked counts told tells unasked = grind arith
 
 -- so what is noted where the options ask for the counts are those of the lines
 counts-noted : (asked : Bool) (capacity : ℕ) (counts kept : Counts) (told : Option Counts) (tally : Tally Machine)
     → told ≡ cond asked (Some counts) None → counts ≡ kept → AreCountsOf capacity tally.turns kept
     → AreCounts asked capacity told tally
-counts-noted asked capacity counts kept told tally tells same are =
-    subst (λ o. AreCounts asked capacity o tally) (sym (tells ∙ ap (λ (k : Counts). cond asked (Some k) None) same))
-    (counts-told asked capacity kept tally are)
+counts-noted asked capacity counts kept told tally tells same are = grind (arith, counts-told)
 
 -- and what is noted of what was sent is so
 sent-noted : {M : Type 0} (generate : Option ℕ) (sent : Sent) (tally : Tally M) (noted : Option Sent)
     → noted ≡ option_map (λ _. sent) generate → sent.lines ≡ kept_sum 0 tally.replies
     → sent.bytes ≡ kept_sum 0 (length tally.out) → IsSent generate noted tally
-sent-noted generate sent tally noted notes lines bytes =
-    subst (λ o. IsSent generate o tally) (sym notes) (sent-told generate sent tally lines bytes)
+sent-noted generate sent tally noted notes lines bytes = grind (arith, sent-told)
 
 -- the names missed along lines are those of the lines, in their order
 missed_along : (turns : List (AnsweredLine Machine)) (old new : Kept) → IsAlong IsAfterLine old turns new
     → new.missed ≡ old.missed ++ flat_map missed_in turns
 missed_along [] old new along = ap (λ (k : Kept). k.missed) along ∙ sym (append-nil old.missed)
-missed_along (turn ∷ turns) old new (mid, first, rest) =
-    missed_along turns mid new rest ∙ ap (λ l. l ++ flat_map missed_in turns) first.missed
-    ∙ append_assoc old.missed (missed_in turn) (flat_map missed_in turns)
+missed_along (turn ∷ turns) old new (mid, first, rest) = grind (arith, missed_along turns mid new rest, append_assoc)
 
 -- the files were opened, and the session served the lines
 module _ (tree : Tree) (helpers : List SlotState) (contents : Contents) (options : Options) (lines : LinesState)
@@ -124,31 +116,18 @@ module _ (tree : Tree) (helpers : List SlotState) (contents : Contents) (options
       → ran.counts ≡ cond options.stats (Some ended.counts) None
       → ran.sent ≡ option_map (λ _. sent) options.generate → phase_of ran.outcome ≡ Served ended.end
       → ReachesPhaseBy tree helpers options contents missed now before after ran.counts ran.sent (phase_of ran.outcome)
-  came-served ran was here missed ends opens holds kept unsent tells notes is =
-      let begun = subst (λ s. EndsCounting options.generate (step matcher contents) first s before after ended now sent)
-      unsent
-      (subst (λ c. EndsCounting options.generate (step matcher c) first was before after ended now sent) holds ends) in
-      subst (ReachesPhaseBy tree helpers options contents missed now before after ran.counts ran.sent) (sym is)
-      (subst (λ l. IsServedCounted tree helpers options contents l now before after ended.end ran.counts ran.sent) kept
-      (came-first ran opens begun tells notes))
+  came-served ran was here missed ends opens holds kept unsent tells notes is = grind (arith, came-first)
 
 -- a source that never fails causes no fault
 pub uncaused : (fault : Type 0) (count : ℕ) → IsCauseOf fault 0 0 → IsCauseOf fault count count
-uncaused fault count cause = record {
-  later = omega arith;
-  rose = λ f. absurd (let risen : 1 ≤ 0 = cause.rose f in omega (arith, risen));
-  told = λ less. absurd (omega (arith, less));
-}
+uncaused fault count cause = grind arith
 
 -- a run that took a part of so many generated lines did not take as many bytes as the longest input has
 not_too_long : {M : Type 0} (step : M → RawLine → Step M → Type 0) (first : M) (left : Option (List ℕ))
     (text rest taken put : List ℕ) (piece n : ℕ) (end : End) → n ≤ 100000 → text ≡ generated_text n
     → text ≡ taken ++ rest → IsRight step first left taken put piece end → end ≢ InputTooLong
 not_too_long step first left text rest taken put piece n end few is reads right too_long =
-    let taken_all : length taken ≡ most_taken = (subst (IsRight step first left taken put piece) too_long right).1 in
-    let short : length text < most_taken = subst (λ t. length t < most_taken) (sym is) (generated_length n few) in
-    let parts : length text ≡ length taken + length rest = ap length reads ∙ length-append taken rest in
-    omega (arith, taken_all, short, parts)
+    grind (arith, generated_length n few, length-append taken rest)
 
 -- the streams of a source and of an output
 abbrev pub both_of : Streams → Streams → Streams
@@ -166,29 +145,11 @@ module _ (n : ℕ) (source before after : Streams) where
       → Serves step first before after end tally
       → ServesGenerated n step first (both_of source before) (both_of source after) end tally
   serves-these step first end tally text rest few is holds leaves serves =
-      let reads : text ≡ serves.taken ++ rest =
-      subst (λ l. Consumes l (Some rest) serves.taken) holds
-      (subst (λ l. Consumes before.left l serves.taken) leaves serves.reads) in
-      let right : IsRight step first (Some rest) serves.taken tally.out after.piece end =
-      subst (λ l. IsRight step first l serves.taken tally.out after.piece end) leaves serves.right in
-      record {
-        left = refl;
-        piece = refl;
-        input_faults = refl;
-        generated = (
-          rest,
-          after.piece,
-          record {
-            taken = serves.taken;
-            reads = sym is ∙ reads;
-            writes = serves.writes;
-            right = right;
-            tallied = serves.tallied;
-          },
-        );
-        not_too_long = not_too_long step first (Some rest) text rest serves.taken tally.out after.piece n end few is
-            reads right;
-      }
+      grind (
+        arith,
+        not_too_long,
+        not_too_long step first (Some rest) text rest serves.taken tally.out after.piece n end few is,
+      )
 
   -- with the counts that are noted
   pub ends-generated : (generate : Option ℕ) (step : LineStep) (old : Kept) (was : Sent) (ended : Ended)
@@ -196,16 +157,8 @@ module _ (n : ℕ) (source before after : Streams) where
       → EndsCounting None step old was before after ended missed now → (text rest : List ℕ)
       → text ≡ generated_text n → before.left ≡ Some text → after.left ≡ Some rest
       → EndsCounting generate step old was (both_of source before) (both_of source after) ended missed now
-  ends-generated generate step old was ended missed now some few ends text rest is holds leaves = record {
-    kept = ends.kept;
-    same = ends.same;
-    names = ends.names;
-    serves = subst (λ o. ServesCounting o step IsAfterLine (machine_of old) (both_of source before)
-        (both_of source after) ended.end (progress_of before.written old was)
-        (progress_of after.written ends.kept now)) (sym some) (record {
-          tally = ends.serves.tally;
-          serves = serves-these step (machine_of old) ended.end ends.serves.tally text rest few is holds leaves
-              ends.serves.serves;
-          advances = ends.serves.advances;
-        });
-  }
+  ends-generated generate step old was ended missed now some few ends text rest is holds leaves =
+      grind (
+        arith,
+        serves-these step (machine_of old) ended.end ends.serves.tally text rest few is holds leaves ends.serves.serves,
+      )

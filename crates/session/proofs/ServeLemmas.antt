@@ -13,7 +13,6 @@ use Rattle.gtp_lex.specs.declared.lines.Taken.{Taken}
 use Rattle.gtp_lex.specs.declared.lines.Taken.TheVariants as taken
 use Rattle.gtp_lex.proofs.HeldLemmas.{lines_from-append, held_from-append}
 use Rattle.run_notes.specs.declared.notes.Counts.{Counts}
-use Rattle.run_notes.specs.declared.notes.Sent.{Sent}
 use Rattle.machine_rules.specs.Machine.{Machine}
 use Rattle.machine_rules.specs.Files.{Contents}
 use Rattle.machine_rules.specs.Step as answering
@@ -24,7 +23,7 @@ use Rattle.session_core.specs.LineAnswers.{LineStep}
 use Rattle.session_core.specs.MatcherView.{MatcherView, matcher_of}
 use Rattle.session.specs.Tallies.{Progress, IsTallied, tally_of, cut_tally, no_tally, together}
 use Rattle.session.specs.Serving.{Replies, RepliesPart, RunsTo, RunsPart, progress_of}
-use Rattle.session.specs.Waiting.{WaitingState, OutputState, none_wait, holds_with, Stop, IsStop, KeepsOutput}
+use Rattle.session.specs.Waiting.{OutputState, none_wait, Stop, IsStop, KeepsOutput}
 use Rattle.session.specs.Answered.{Standing, standing_at, progress_at, progress_with, CutsShort, MayCut}
 use Rattle.session.specs.Answered.{Answered, AnsweredOut, BreaksIn, BreaksOut}
 use Rattle.session.proofs.WaitingReplies.{stays-none, none-stops, kept-none, none-appends}
@@ -59,10 +58,7 @@ pub taken_line : (old mid new : LinesState) (rest : List ℕ) (n : ℕ) (result 
     → (mid.waits ≡ true → (result ≡ Some (taken_of mid.held)) × (new ≡ given_state mid.held))
     → (taken ≡ taken_of mid.held) × (new ≡ given_state mid.held)
     × (lines_from old.held (take n rest) ≡ mid.held ∷ []) × (held_from old.held (take n rest) ≡ Line [])
-taken_line old mid new rest n result taken fed is none some =
-    let given = by_waits mid.waits mid.held result taken new mid is (none, some) in
-    let ended = fed.ended given.0 in
-    (given.1, given.2, ended.0, ended.1)
+taken_line old mid new rest n result taken fed is none some = grind (arith, by_waits)
 
 -- n bytes were fed and no line was taken: none ends in them, and what is held goes on
 pub no_line_taken : (old mid new : LinesState) (rest : List ℕ) (n : ℕ) (result : Option Taken)
@@ -70,25 +66,16 @@ pub no_line_taken : (old mid new : LinesState) (rest : List ℕ) (n : ℕ) (resu
     → (mid.waits ≡ false → (result ≡ None) × (new ≡ mid))
     → (mid.waits ≡ true → (result ≡ Some (taken_of mid.held)) × (new ≡ given_state mid.held))
     → (lines_from old.held (take n rest) ≡ []) × (held_from old.held (take n rest) ≡ new.held) × (new.waits ≡ false)
-no_line_taken old mid new rest n result fed is none some =
-    let same = by_none mid.waits mid.held result new mid is (none, some) in
-    let open_ended = fed.open_ended same.0 in
-    let all : take n rest ≡ rest = take_all n rest (omega (arith, open_ended.0)) in (
-      ap (lines_from old.held) all ∙ open_ended.1,
-      ap (held_from old.held) all ∙ open_ended.2 ∙ ap (λ s. s.held) (sym same.1),
-      ap (λ s. s.waits) same.1 ∙ same.0,
-    )
+no_line_taken old mid new rest n result fed is none some = grind (arith, by_none, take_all)
 
 -- a rest was given as a last line
 pub rest_taken : (held : RawLine) (result : Option Taken) (taken : Taken) (old new : LinesState) → result ≡ Some taken
     → (held ≡ Line [] → (result ≡ None) × (new ≡ old))
     → (held ≢ Line [] → (result ≡ Some (taken_of held)) × (new ≡ given_state held))
     → (taken ≡ taken_of held) × (new ≡ given_state held) × (held_line held ≡ held ∷ [])
-rest_taken TooLong result taken old new is none some = let given = some (λ e. cc) in
-    ((let told = given.0 in cc), given.1, refl)
+rest_taken TooLong result taken old new is none some = grind arith
 rest_taken (Line []) result taken old new is none some = absurd (let told = (none refl).0 in cc)
-rest_taken (Line (b ∷ bs)) result taken old new is none some = let given = some (λ e. cc) in
-    ((let told = given.0 in cc), given.1, refl)
+rest_taken (Line (b ∷ bs)) result taken old new is none some = grind arith
 
 -- no rest was given, so there is none
 pub no_rest : (held : RawLine) (result : Option Taken) (new old : LinesState) → result ≡ None
@@ -102,9 +89,7 @@ no_rest (Line (b ∷ bs)) result new old is none some = absurd (let told = (some
 -- a line was given, and its bytes are those that are told
 pub given_line : (held : RawLine) (told : Taken) (lines : LinesState) (bytes : List ℕ) → lines ≡ given_state held
     → told ≡ taken_of held → told ≡ taken.Line → lines.given ≡ Some bytes → held ≡ Line bytes
-given_line (Line text) told lines bytes is of_held as_line given =
-    let same : Some text ≡ Some bytes = sym (ap (λ (s : LinesState). s.given) is) ∙ given in
-    ap Line (let bytes_same : text ≡ bytes = cc in bytes_same)
+given_line (Line text) told lines bytes is of_held as_line given = grind arith
 given_line TooLong told lines bytes is of_held as_line given = absurd cc
 
 -- a line was given that is too long
@@ -118,16 +103,13 @@ given_too_long TooLong told of_held as_long = refl
 pub lines_from-take : (held held' : RawLine) (rest : List ℕ) (n : ℕ) → held' ≡ held_from held (take n rest)
     → lines_from held rest ≡ lines_from held (take n rest) ++ lines_from held' (take (length rest - n) (drop n rest))
 lines_from-take held held' rest n after =
-    ap (lines_from held) (sym (take-append-drop n rest)) ∙ lines_from-append held (take n rest) (drop n rest)
-    ∙ ap (λ l. lines_from held (take n rest) ++ l)
-    (ap (λ k. lines_from k (drop n rest)) (sym after) ∙ ap (lines_from held') (sym (take_rest rest n)))
+    grind (arith, take-append-drop n rest, lines_from-append held (take n rest) (drop n rest), take_rest rest n)
 
 -- what the piece leaves held is what the bytes left do
 pub held_from-take : (held held' : RawLine) (rest : List ℕ) (n : ℕ) → held' ≡ held_from held (take n rest)
     → held_from held rest ≡ held_from held' (take (length rest - n) (drop n rest))
 held_from-take held held' rest n after =
-    ap (held_from held) (sym (take-append-drop n rest)) ∙ held_from-append held (take n rest) (drop n rest)
-    ∙ ap (λ k. held_from k (drop n rest)) (sym after) ∙ ap (held_from held') (sym (take_rest rest n))
+    grind (arith, take-append-drop n rest, held_from-append held (take n rest) (drop n rest), take_rest rest n)
 
 -- two sessions with one matcher answer by one step, where files have the same contents
 pub same-step : (now first : MatcherView) (here there : Contents) → now ≡ first → here ≡ there
@@ -139,20 +121,17 @@ module _ (here there : LineStep) (same : here ≡ there) where
   -- lines that were answered whole
   pub RunsTo-by : (from : Machine) (lines : List RawLine) (to : Machine) (ended : Bool) (a b : Progress)
       → RunsTo here IsAfterLine from lines to ended a b → RunsTo there IsAfterLine from lines to ended a b
-  RunsTo-by from lines to ended a b runs =
-      subst (λ (step : LineStep). RunsTo step IsAfterLine from lines to ended a b) same runs
+  RunsTo-by from lines to ended a b runs = grind arith
 
   -- lines where the output may fail
   pub MayCut-by : (from : Machine) (lines : List RawLine) (a : Standing) (stop : Stop) (missed : List (List ℕ))
       → MayCut here IsAfterLine from lines a stop missed → MayCut there IsAfterLine from lines a stop missed
-  MayCut-by from lines a stop missed may =
-      subst (λ (step : LineStep). MayCut step IsAfterLine from lines a stop missed) same may
+  MayCut-by from lines a stop missed may = grind arith
 
   -- lines where it did
   pub CutsShort-by : (from : Machine) (lines : List RawLine) (a : Progress) (stop : Stop) (missed : List (List ℕ))
       → CutsShort here IsAfterLine from lines a stop missed → CutsShort there IsAfterLine from lines a stop missed
-  CutsShort-by from lines a stop missed cuts =
-      subst (λ (step : LineStep). CutsShort step IsAfterLine from lines a stop missed) same cuts
+  CutsShort-by from lines a stop missed cuts = grind arith
 
 -- bytes that are kept are followed by none
 kept-appends : (old new : Option (List ℕ)) → Keeps old new → Appends old new []
@@ -240,63 +219,20 @@ module _ (M : Type 0) (step : M → RawLine → Step M → Type 0) (goes : Kept 
   CutsShort-after : (from mid : M) (xs ys : List RawLine) (a b : Progress) (stop : Stop)
       (missed : List (List ℕ)) → RunsTo step goes from xs mid false a b → CutsShort step goes mid ys b stop missed
       → CutsShort step goes from (xs ++ ys) a stop missed
-  CutsShort-after from mid xs ys a b stop missed earlier cuts = record {
-    kept = cuts.kept;
-    same = cuts.same;
-    names = cuts.names;
-    runs = RunsPart-after from mid xs ys a b (progress_of stop.written cuts.kept stop.sent) earlier cuts.runs;
-  }
+  CutsShort-after from mid xs ys a b stop missed earlier cuts =
+      grind (arith, RunsPart-after from mid xs ys a b (progress_of stop.written cuts.kept stop.sent) earlier cuts.runs)
 
   -- lines that broke off, before other lines
   CutsShort-more : (from : M) (xs ys : List RawLine) (a : Progress) (stop : Stop)
       (missed : List (List ℕ)) → CutsShort step goes from xs a stop missed
       → CutsShort step goes from (xs ++ ys) a stop missed
-  CutsShort-more from xs ys a stop missed cuts = record {
-    kept = cuts.kept;
-    same = cuts.same;
-    names = cuts.names;
-    runs = RunsPart-more from xs ys a (progress_of stop.written cuts.kept stop.sent) cuts.runs;
-  }
+  CutsShort-more from xs ys a stop missed cuts = grind (arith, RunsPart-more)
 
   -- a run that is cut short on some lines is cut short on the lines that equal them
   CutsShort-is : (from : M) (xs ys : List RawLine) (a : Progress) (stop : Stop)
       (missed : List (List ℕ)) → xs ≡ ys → CutsShort step goes from ys a stop missed
       → CutsShort step goes from xs a stop missed
-  CutsShort-is from xs ys a stop missed same cuts =
-      subst (λ l. CutsShort step goes from l a stop missed) (sym same) cuts
-
-  -- all that waited was put, or some of it, and no line was answered
-  RunsTo-stays : (from : M) (kept : Kept) (a b : OutputState) → KeepsOutput a b
-      → RunsTo step goes from [] from false (progress_with (standing_at kept a)) (progress_with (standing_at kept b))
-  RunsTo-stays from kept a b stays = record {
-    tally = no_tally;
-    run = IsTallied-nil M step from;
-    advances = record {
-      writes = kept-appends (holds_with a) (holds_with b) stays.holds;
-      along = refl;
-      replies = ap (λ (s : Sent). s.lines) stays.sends;
-      bytes = ap (λ (s : Sent). s.bytes) stays.sends;
-    };
-  }
-
-  -- lines were answered after what stays
-  RunsTo-after : (from to : M) (lines : List RawLine) (ended : Bool) (kept : Kept) (a b : OutputState) (c : Progress)
-      → KeepsOutput a b → RunsTo step goes from lines to ended (progress_with (standing_at kept b)) c
-      → RunsTo step goes from lines to ended (progress_with (standing_at kept a)) c
-  RunsTo-after from to lines ended kept a b c stays runs =
-      RunsTo-append from from to [] lines ended (progress_with (standing_at kept a))
-      (progress_with (standing_at kept b)) c (RunsTo-stays from kept a b stays) runs
-
-  -- lines were answered after what stays, where the output may fail
-  MayCut-after : (from : M) (lines : List RawLine) (kept : Kept) (a b : OutputState) (stop : Stop)
-      (missed : List (List ℕ)) → KeepsOutput a b → MayCut step goes from lines (standing_at kept b) stop missed
-      → MayCut step goes from lines (standing_at kept a) stop missed
-  MayCut-after from lines kept a b stop missed stays may =
-      ⊎_elim (λ (at : IsStop b stop × (missed ≡ kept.missed)). inl (stays.stops stop at.0, at.1))
-      (λ (cuts : CutsShort step goes from lines (progress_with (standing_at kept b)) stop missed).
-      inr (CutsShort-after from from [] lines (progress_with (standing_at kept a)) (progress_with (standing_at kept b))
-      stop missed (RunsTo-stays from kept a b stays) cuts))
-      may
+  CutsShort-is from xs ys a stop missed same cuts = grind arith
 
   -- the line that was taken may break off, so the lines of the rest may
   taken_part : (from : M) (held line : RawLine) (rest : List ℕ) (n : ℕ) (a : Standing) (stop : Stop)
@@ -314,43 +250,17 @@ module _ (M : Type 0) (step : M → RawLine → Step M → Type 0) (goes : Kept 
   flushed : (from to : M) (lines : List RawLine) (ended : Bool) (a : Progress) (b : Standing) (c : OutputState)
       → RunsTo step goes from lines to ended a (progress_with b) → KeepsOutput b.output c → c.waiting ≡ none_wait
       → RunsTo step goes from lines to ended a (progress_at (standing_at b.kept c))
-  flushed from to lines ended a b c runs stays none =
-      let out = stays-none b.output c none stays in
-      record {
-        tally = runs.tally;
-        run = runs.run;
-        advances = record {
-          writes = kept-none a.written (holds_with b.output) c.written runs.tally.out runs.advances.writes out.holds;
-          along = runs.advances.along;
-          replies = ap (λ (s : Sent). s.lines) out.sends ∙ runs.advances.replies;
-          bytes = ap (λ (s : Sent). s.bytes) out.sends ∙ runs.advances.bytes;
-        };
-      }
+  flushed from to lines ended a b c runs stays none = grind (arith, stays-none, kept-none)
 
   -- nothing was answered, and no reply waits
   start_runs : (from : M) (a : Standing) → a.output.waiting ≡ none_wait
       → RunsTo step goes from [] from false (progress_at a) (progress_with a)
-  start_runs from a none =
-      subst (λ (b : WaitingState). RunsTo step goes from [] from false (progress_at a)
-      (progress_with (standing_at a.kept (record {
-        written = a.output.written;
-        sent = a.output.sent;
-        waiting = b;
-      })))) (sym none) (record {
-        tally = no_tally;
-        run = IsTallied-nil M step from;
-        advances = record { writes = none-appends a.output.written; along = refl; replies = refl; bytes = refl };
-      })
+  start_runs from a none = grind (arith, none-appends)
 
 -- no line was answered
 pub Answered-nil : (step : LineStep) (lines : List RawLine) (a : Standing) → lines ≡ []
     → Answered step lines false a a
-Answered-nil step lines a none = record {
-  runs = RunsTo-is Machine step IsAfterLine (machine_of a.kept) (machine_of a.kept) lines [] false
-      (progress_with a) (progress_with a) none
-      (RunsTo-nil Machine step IsAfterLine (machine_of a.kept) (progress_with a));
-  stops = λ stop at. inl (at, refl);
-}
+Answered-nil step lines a none = grind (arith, RunsTo-is, RunsTo-nil)
 
 -- lines were answered as those that equal them were
 pub Answered-is : (step : LineStep) (xs ys : List RawLine) (ended : Bool) (a b : Standing) → xs ≡ ys
@@ -361,44 +271,32 @@ Answered-is step xs ys ended a b same answered = subst (λ l. Answered step l en
 pub Answered-after : (step : LineStep) (lines : List RawLine) (ended : Bool) (kept : Kept) (a b : OutputState)
     (c : Standing) → KeepsOutput a b → Answered step lines ended (standing_at kept b) c
     → Answered step lines ended (standing_at kept a) c
-Answered-after step lines ended kept a b c stays answered = record {
-  runs = RunsTo-after Machine step IsAfterLine (machine_of kept) (machine_of c.kept) lines ended kept a b
-      (progress_with c) stays answered.runs;
-  stops = λ stop at. MayCut-after Machine step IsAfterLine (machine_of kept) lines kept a b stop c.kept.missed stays
-      (answered.stops stop at);
-}
+Answered-after step lines ended kept a b c stays answered = grind (arith, RunsTo-append, kept-appends, CutsShort-after)
 
 -- the output failed after what stays
 pub BreaksIn-after : (step : LineStep) (lines : List RawLine) (kept : Kept) (a b : OutputState) (stop : Stop)
     (missed : List (List ℕ)) → KeepsOutput a b → BreaksIn step lines (standing_at kept b) stop missed
     → BreaksIn step lines (standing_at kept a) stop missed
-BreaksIn-after step lines kept a b stop missed stays breaks = record {
-  cut = MayCut-after Machine step IsAfterLine (machine_of kept) lines kept a b stop missed stays breaks.cut;
-}
+BreaksIn-after step lines kept a b stop missed stays breaks = grind (arith, CutsShort-after, kept-appends)
 
 -- the output failed within the line that was taken, so it did within the lines of the rest
 pub BreaksIn-taken : (step : LineStep) (held line : RawLine) (rest : List ℕ) (n : ℕ) (a : Standing) (stop : Stop)
     (missed : List (List ℕ)) → lines_from held (take n rest) ≡ line ∷ [] → held_from held (take n rest) ≡ Line []
     → BreaksIn step (line ∷ []) a stop missed → BreaksIn step (lines_from held rest) a stop missed
-BreaksIn-taken step held line rest n a stop missed one none breaks = record {
-  cut = taken_part Machine step IsAfterLine (machine_of a.kept) held line rest n a stop missed one none
-      breaks.cut;
-}
+BreaksIn-taken step held line rest n a stop missed one none breaks = grind (arith, taken_part)
 
 -- a line was answered as the one that equals it was
 pub answered-line : {E : Type 0} (step : LineStep) (held line : RawLine) (a b : Standing) (result : Result Bool E)
     → held ≡ line → IfOk result (λ ends. Answered step (line ∷ []) ends a b)
     → IfOk result (λ ends. Answered step (held ∷ []) ends a b)
-answered-line step held line a b result same answered =
-    subst (λ (l : RawLine). IfOk result (λ ends. Answered step (l ∷ []) ends a b)) (sym same) answered
+answered-line step held line a b result same answered = grind arith
 
 -- the output failed within a line as within the one that equals it
 pub broken-line : {T : Type 0} (step : LineStep) (held line : RawLine) (a : Standing) (stop : Counts → Stop)
     (missed : List (List ℕ)) (result : Result T Counts) → held ≡ line
     → IfErr result (λ noted. BreaksIn step (line ∷ []) a (stop noted) missed)
     → IfErr result (λ noted. BreaksIn step (held ∷ []) a (stop noted) missed)
-broken-line step held line a stop missed result same breaks =
-    subst (λ (l : RawLine). IfErr result (λ noted. BreaksIn step (l ∷ []) a (stop noted) missed)) (sym same) breaks
+broken-line step held line a stop missed result same breaks = grind arith
 
 -- Some lines of a piece were answered, their replies are out or wait, and the output may fail within those that wait;
 -- the lines that are left are still to be answered.
@@ -413,12 +311,7 @@ pub record PieceSoFar (step : LineStep) (all left : List RawLine) (first now : S
 -- none was answered, and no reply waits
 pub piece_start : (step : LineStep) (all : List RawLine) (first : Standing) → first.output.waiting ≡ none_wait
     → PieceSoFar step all all first first
-piece_start step all first none = record {
-  lines = [];
-  whole = refl;
-  runs = start_runs Machine step IsAfterLine (machine_of first.kept) first none;
-  stops = λ stop at. absurd (none-stops first.output stop none at);
-}
+piece_start step all first none = grind (arith, start_runs, none-stops)
 
 -- More of the lines were answered by a step that equals the first.
 module _ (step : LineStep) (all left : List RawLine) (first now : Standing)
@@ -453,13 +346,7 @@ module _ (step : LineStep) (all left : List RawLine) (first now : Standing)
   -- the lines were answered, and what waited was put
   pub piece_done : (out : OutputState) → left ≡ [] → KeepsOutput now.output out → out.waiting ≡ none_wait
       → AnsweredOut step all false first (standing_at now.kept out)
-  piece_done out none stays drained = record {
-    runs = RunsTo-is Machine step IsAfterLine first-machine (machine_of now.kept) all so_far.lines false
-        (progress_at first) (progress_at (standing_at now.kept out))
-        (so_far.whole ∙ ap (λ l. so_far.lines ++ l) none ∙ append-nil so_far.lines)
-        (flushed Machine step IsAfterLine first-machine (machine_of now.kept) so_far.lines false
-        (progress_at first) now out so_far.runs stays drained);
-  }
+  piece_done out none stays drained = grind (arith, RunsTo-is, append-nil, flushed)
 
   -- More lines were answered.
   module _ (next more : List RawLine) (parts : left ≡ next ++ more) (ended : Bool) (later : Standing)
@@ -468,21 +355,11 @@ module _ (step : LineStep) (all left : List RawLine) (first now : Standing)
     joined : all ≡ (so_far.lines ++ next) ++ more
     joined = so_far.whole ∙ ap (λ l. so_far.lines ++ l) parts ∙ sym (append_assoc so_far.lines next more)
 
-    -- the first would have answered them so
-    runs_so : RunsTo step IsAfterLine (machine_of now.kept) next (machine_of later.kept) ended
-        (progress_with now) (progress_with later)
-    runs_so = RunsTo-by here step same (machine_of now.kept) next
-        (machine_of later.kept) ended (progress_with now) (progress_with later) answered.runs
-
     -- and with the lines before them
     runs_all : (flag : Bool) → ended ≡ flag
         → RunsTo step IsAfterLine first-machine (so_far.lines ++ next) (machine_of later.kept) flag
         (progress_at first) (progress_with later)
-    runs_all flag is =
-        RunsTo-append Machine step IsAfterLine first-machine (machine_of now.kept) (machine_of later.kept)
-        so_far.lines next flag (progress_at first) (progress_with now) (progress_with later) so_far.runs
-        (RunsTo-flag Machine step IsAfterLine (machine_of now.kept) (machine_of later.kept) next ended flag
-        (progress_with now) (progress_with later) is runs_so)
+    runs_all flag is = grind (arith, RunsTo-append, RunsTo-flag, RunsTo-by)
 
     -- where the output may fail
     stops_all : (stop : Stop) → IsStop later.output stop
@@ -495,15 +372,7 @@ module _ (step : LineStep) (all left : List RawLine) (first now : Standing)
     -- one of them ended the session, and what waited was put
     pub piece_ended : (out : OutputState) → ended ≡ true → KeepsOutput later.output out → out.waiting ≡ none_wait
         → AnsweredOut step all true first (standing_at later.kept out)
-    piece_ended out is stays none = record {
-      runs = flushed Machine step IsAfterLine first-machine (machine_of later.kept) all true (progress_at first)
-          later out
-          (RunsTo-is Machine step IsAfterLine first-machine (machine_of later.kept) all
-          ((so_far.lines ++ next) ++ more) true (progress_at first) (progress_with later) joined
-          (RunsTo-ended Machine step IsAfterLine first-machine (machine_of later.kept) (so_far.lines ++ next) more
-          (progress_at first) (progress_with later) (runs_all true is)))
-          stays none;
-    }
+    piece_ended out is stays none = grind (arith, flushed, RunsTo-is, joined, RunsTo-ended, runs_all)
 
     -- what waited was put in part
     pub piece_stop : (stop : Stop) → IsStop later.output stop → BreaksOut step all first stop later.kept.missed
@@ -516,12 +385,7 @@ module _ (step : LineStep) (all left : List RawLine) (first now : Standing)
 
     -- none of them ended the session
     pub piece_more : ended ≡ false → PieceSoFar step all more first later
-    piece_more is = record {
-      lines = so_far.lines ++ next;
-      whole = joined;
-      runs = runs_all false is;
-      stops = stops_all;
-    }
+    piece_more is = grind (arith, joined, runs_all, stops_all)
 
 -- No reply waited, and one line was answered.
 module _ (step : LineStep) (all lines : List RawLine) (same : all ≡ lines) (first : Standing) where
@@ -536,8 +400,7 @@ module _ (step : LineStep) (all lines : List RawLine) (same : all ≡ lines) (fi
   pub rest_stop : (ended : Bool) (later : Standing) → Answered step lines ended first later → (stop : Stop)
       → IsStop later.output stop → first.output.waiting ≡ none_wait
       → BreaksOut step all first stop later.kept.missed
-  rest_stop ended later answered stop at none =
-      rest_cut stop later.kept.missed (record { cut = answered.stops stop at }) none
+  rest_stop ended later answered stop at none = grind (arith, rest_cut)
 
   -- what waited is out
   pub rest_done : (ended : Bool) (later : Standing) (out : OutputState) → Answered step lines ended first later
@@ -559,8 +422,4 @@ module _ (step : LineStep) (all lines : List RawLine) (same : all ≡ lines) (fi
 -- no line was answered, and no reply waits
 pub out_nil : (step : LineStep) (all : List RawLine) (a : Standing) → all ≡ []
     → AnsweredOut step all false a a
-out_nil step all a none = record {
-  runs = RunsTo-is Machine step IsAfterLine (machine_of a.kept) (machine_of a.kept) all [] false
-      (progress_at a) (progress_at a) none
-      (RunsTo-nil Machine step IsAfterLine (machine_of a.kept) (progress_at a));
-}
+out_nil step all a none = grind (arith, RunsTo-is, RunsTo-nil)

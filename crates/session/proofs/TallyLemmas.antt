@@ -3,7 +3,7 @@ use Rattle.std.specs.Prelude.{min}
 use Rattle.std.proofs.KnownBytes.{Appends-nil, Appends-trans}
 use Rattle.std.proofs.Math.Nat.{min-eq_left, min-eq_right}
 use Rattle.std.proofs.lemmas.Bool.{cases_lt}
-use Rattle.std.proofs.Common.{◌≡◌, ⊎_elim, ℕ, zero, suc, ◌+◌, ◌-◌, ◌^◌, ◌<◌, ◌≤◌, Bool, true, false, List, [], ◌∷◌}
+use Rattle.std.proofs.Common.{◌≡◌, ℕ, zero, suc, ◌+◌, ◌-◌, ◌^◌, ◌<◌, Bool, true, false, List, [], ◌∷◌}
 use Rattle.std.proofs.Common.{◌++◌, length, refl, sym, ap, subst, ◌∙◌, append_assoc, append-nil, arith, length-append}
 use Rattle.gtp_rules.specs.Lines.{RawLine}
 use Rattle.gtp_rules.specs.Steps.{Step}
@@ -16,50 +16,25 @@ use Rattle.session.specs.Tallies.{IsTallied, BreaksOff}
 
 -- three tallies, in either grouping
 pub together-assoc : {M : Type 0} (a b c : Tally M) → together (together a b) c ≡ together a (together b c)
-together-assoc a b c = λ i. record {
-  out = append_assoc a.out b.out c.out i;
-  replies = (let same : (a.replies + b.replies) + c.replies ≡ a.replies +
-      (b.replies + c.replies) = omega arith in same i);
-  turns = append_assoc a.turns b.turns c.turns i;
-}
+together-assoc a b c = grind (arith, append_assoc)
 
 -- a tally and nothing
 pub together-none : {M : Type 0} (a : Tally M) → together a no_tally ≡ a
-together-none a = λ i. record {
-  out = append-nil a.out i;
-  replies = (let same : a.replies + 0 ≡ a.replies = omega arith in same i);
-  turns = append-nil a.turns i;
-}
+together-none a = grind (arith, append-nil)
 
 -- nothing and a tally
 pub none-together : {M : Type 0} (a : Tally M) → together no_tally a ≡ a
-none-together a = λ i. record {
-  out = a.out;
-  replies = (let same : 0 + a.replies ≡ a.replies = omega arith in same i);
-  turns = a.turns;
-}
-
--- adding to a number that stands still at k, and once more
-min-again : (x y k : ℕ) → min (min x k + y) k ≡ min (x + y) k
-min-again x y k =
-    ⊎_elim (λ (low : x < k). ap (λ m. min (m + y) k) (min-eq_left (let h : x ≤ k = omega arith in h)))
-    (λ (high : k ≤ x). ap (λ m. min (m + y) k) (min-eq_right high) ∙ min-eq_right (let h : k ≤ k + y = omega arith in h)
-    ∙ sym (min-eq_right (let h : k ≤ x + y = omega arith in h))) (cases_lt x k)
+none-together a = grind arith
 
 -- a count after m more and then n more
 pub kept_sum-twice : (count m n : ℕ) → kept_sum (kept_sum count m) n ≡ kept_sum count (m + n)
 kept_sum-twice count zero n = ap (kept_sum count) (let same : n ≡ 0 + n = omega arith in same)
 kept_sum-twice count (suc m) zero = ap (kept_sum count) (let same : suc m ≡ suc m + 0 = omega arith in same)
-kept_sum-twice count (suc m) (suc n) =
-    let one : suc (m + suc n) ≡ suc m + suc n = omega arith in
-    let both : (count + suc m) + suc n ≡ count + suc (m + suc n) = omega arith in
-    min-again (count + suc m) (suc n) (2 ^ 64 - 1) ∙ ap (λ k. min k (2 ^ 64 - 1)) both ∙ ap (kept_sum count) one
+kept_sum-twice count (suc m) (suc n) = grind (arith, min-eq_left, min-eq_right, cases_lt)
 
 -- a count that a program adds a number to
 pub kept_sum-is : (count n : ℕ) → count < 2 ^ 64 → min (count + n) (2 ^ 64 - 1) ≡ kept_sum count n
-kept_sum-is count zero small =
-    ap (λ k. min k (2 ^ 64 - 1)) (let same : count + 0 ≡ count = omega arith in same)
-    ∙ min-eq_left (let h : count ≤ 2 ^ 64 - 1 = omega (arith, small) in h)
+kept_sum-is count zero small = grind (arith, min-eq_left)
 kept_sum-is count (suc n) small = refl
 
 -- what is kept goes along lines and then along others
@@ -73,8 +48,7 @@ IsAlong-append goes a b c (x ∷ xs) ys (mid, first, rest) later =
 pub IsAlong-split : {K M : Type 0} (goes : K → AnsweredLine M → K → Type 0) (a c : K) (xs ys : List (AnsweredLine M))
     → IsAlong goes a (xs ++ ys) c → (b : K) × IsAlong goes a xs b × IsAlong goes b ys c
 IsAlong-split goes a c [] ys along = (a, refl, along)
-IsAlong-split goes a c (x ∷ xs) ys (mid, first, rest) =
-    let parts = IsAlong-split goes mid c xs ys rest in (parts.0, (mid, first, parts.1), parts.2)
+IsAlong-split goes a c (x ∷ xs) ys (mid, first, rest) = grind (arith, IsAlong-split goes mid c xs ys rest)
 
 -- nothing was put
 pub Advances-none : {M : Type 0} (goes : Kept → AnsweredLine M → Kept → Type 0) (a : Progress)
@@ -113,12 +87,8 @@ module _ (M : Type 0) (step : M → RawLine → Step M → Type 0) where
   pub IsTallied-append : (old : M) (xs ys : List RawLine) (a b : Tally M) (mid new : M) (ended : Bool)
       → IsTallied step old xs a mid false → IsTallied step mid ys b new ended
       → IsTallied step old (xs ++ ys) (together a b) new ended
-  IsTallied-append old [] ys a b mid new ended p q =
-      let same : together a b ≡ b = ap (λ t. together t b) p.0 ∙ none-together b in
-      subst (λ t. IsTallied step old ys t new ended) (sym same)
-      (subst (λ m. IsTallied step m ys b new ended) p.1 q)
-  IsTallied-append old (x ∷ xs) ys a b mid new ended (first, rest, m, true, answers, joined, h) q =
-      absurd (let e = h.2 in cc)
+  IsTallied-append old [] ys a b mid new ended p q = grind (arith, none-together)
+  IsTallied-append old (x ∷ xs) ys a b mid new ended (first, rest, m, true, answers, joined, h) q = grind arith
   IsTallied-append old (x ∷ xs) ys a b mid new ended (first, rest, m, false, answers, joined, h) q = (
     first,
     together rest b,
@@ -133,8 +103,7 @@ module _ (M : Type 0) (step : M → RawLine → Step M → Type 0) where
   pub IsTallied-ended : (old : M) (xs ys : List RawLine) (a : Tally M) (new : M) → IsTallied step old xs a new true
       → IsTallied step old (xs ++ ys) a new true
   IsTallied-ended old [] ys a new p = absurd (let e = p.2 in cc)
-  IsTallied-ended old (x ∷ xs) ys a new (first, rest, m, true, answers, joined, h) =
-      (first, rest, m, true, answers, joined, h)
+  IsTallied-ended old (x ∷ xs) ys a new (first, rest, m, true, answers, joined, h) = grind arith
   IsTallied-ended old (x ∷ xs) ys a new (first, rest, m, false, answers, joined, h) =
       (first, rest, m, false, answers, joined, IsTallied-ended m xs ys rest new h)
 
@@ -142,15 +111,7 @@ module _ (M : Type 0) (step : M → RawLine → Step M → Type 0) where
   pub IsTallied-run : (old : M) (lines : List RawLine) (tally : Tally M) (new : M) (ended : Bool)
       → IsTallied step old lines tally new ended → IsRun step old lines tally.out new ended
   IsTallied-run old [] tally new ended p = (ap (λ (t : Tally M). t.out) p.0, p.1, p.2)
-  IsTallied-run old (x ∷ xs) tally new ended (first, rest, m, true, answers, joined, h) = (
-    first,
-    rest.out,
-    m,
-    true,
-    answers,
-    ap (λ (t : Tally M). t.out) joined,
-    (ap (λ (t : Tally M). t.out) h.0, h.1, h.2),
-  )
+  IsTallied-run old (x ∷ xs) tally new ended (first, rest, m, true, answers, joined, h) = grind arith
   IsTallied-run old (x ∷ xs) tally new ended (first, rest, m, false, answers, joined, h) =
       (first, rest.out, m, false, answers, ap (λ (t : Tally M). t.out) joined, IsTallied-run m xs rest new ended h)
 

@@ -1,16 +1,15 @@
 -- Replies that wait: one more of them, and how they go out or break off.
-use Rattle.std.proofs.Common.{◌≡◌, ⊎_elim, inl, inr, ℕ, suc, ◌+◌, ◌-◌, ◌<◌, ◌≤◌, Bool, true, false, cond, nat_le, List}
+use Rattle.std.proofs.Common.{◌≡◌, ⊎_elim, inl, inr, ℕ, suc, ◌+◌, ◌-◌, ◌<◌, ◌≤◌, Bool, true, false, cond, List}
 use Rattle.std.proofs.Common.{[], ◌∷◌, ◌++◌, length, take, drop, Option, Some, None, Result, Ok, Err, OnOk, IfOk, IfErr}
 use Rattle.std.proofs.Common.{IsErrAnd, refl, sym, ap, subst, ◌∙◌, append_assoc, append-nil, take-append-drop, take-add}
 use Rattle.std.proofs.Common.{length-append, le-leb, set, arith}
 use Rattle.std.specs.Io.KnownBytes.{Appends, Keeps, append_known}
-use Rattle.std.proofs.KnownBytes.{Appends-trans, Appends-kept}
+use Rattle.std.proofs.KnownBytes.{Appends-trans}
 use Rattle.std.proofs.lemmas.Bool.{cases_lt, lt-leb}
 use Rattle.std.proofs.lemmas.List.{take_more_set, take_rest, take-append-le, length-take-le, length-drop}
 use Rattle.std.proofs.Math.Seq.{take-append-add}
 use Rattle.run_notes.specs.declared.notes.Counts.{Counts}
 use Rattle.run_notes.specs.declared.notes.Sent.{Sent}
-use Rattle.session_core.specs.EngineView.{no_counts}
 use Rattle.session.specs.Tallies.{kept_sum}
 use Rattle.session.specs.Serving.{Puts, PutsFront, PutsPart, PutsReply}
 use Rattle.session.specs.Waiting.{WaitingState, OutboxState, OutputState, none_wait, gone, counts_at, AreMarked}
@@ -46,22 +45,12 @@ passed_up (Err e) error P same p = subst P (sym same) p
 -- the bytes were put in part
 pub part-front : (old new : Option (List ℕ)) (before now : Sent) (bytes : List ℕ) (n : ℕ)
     → PutsFront old new before now bytes n → PutsPart old new before now bytes
-part-front old new before now bytes n front =
-    let within = front.within in
-    let left = length-drop n bytes in
-    record {
-      part = take n bytes;
-      missing = drop n bytes;
-      whole = sym (take-append-drop n bytes);
-      proper = omega (arith, left, within);
-      puts = front.puts;
-    }
+part-front old new before now bytes n front = grind (arith, length-drop n bytes, take-append-drop n bytes)
 
 -- bytes of a rest are no more than are left
 pub within_rest : (bytes : List ℕ) (done n : ℕ) → n ≤ length (take (length bytes - done) (drop done bytes))
     → n ≤ length bytes - done
-within_rest bytes done n fits =
-    let len = ap length (take_rest bytes done) ∙ length-drop done bytes in omega (arith, len, fits)
+within_rest bytes done n fits = grind (arith, take_rest, length-drop)
 
 -- the sink took n bytes more behind the first done of the bytes, and they were counted
 pub put_further : (a b c : Option (List ℕ)) (before now : Sent) (bytes : List ℕ) (done n total : ℕ)
@@ -91,81 +80,33 @@ put_further a b c before now bytes done n total start puts more fits counted =
 front-step : (ended : Bool) (g g' n : ℕ) (c c' own : Counts) → (g < n → (g' ≡ g) × (c' ≡ c))
     → cond ended (suc g) 0 < suc n
     → (cond ended (suc g') 0 ≡ cond ended (suc g) 0) × (cond ended c' own ≡ cond ended c own)
-front-step true g g' n c c' own later less =
-    let same = later (omega (arith, less)) in (ap suc same.0, same.1)
+front-step true g g' n c c' own later less = grind arith
 front-step false g g' n c c' own later less = (refl, refl)
 
 -- where not each of some replies has ended, those behind them do not count
 gone-front : (ms ns : List ReplyMark) (k : ℕ) → gone ms k < length ms
     → (gone (ms ++ ns) k ≡ gone ms k) × (counts_at (ms ++ ns) k ≡ counts_at ms k)
 gone-front [] ns k less = absurd (omega (arith, less))
-gone-front (m ∷ ms) ns k less =
-    front-step (nat_le m.end k) (gone ms k) (gone (ms ++ ns) k) (length ms) (counts_at ms k) (counts_at (ms ++ ns) k)
-    m.counts (gone-front ms ns k) less
+gone-front (m ∷ ms) ns k less = grind (arith, front-step, gone-front ms ns k)
 
 -- a reply before others that have all ended
 back-step : (ended : Bool) (g g' n h : ℕ) (c c' own : Counts) → (g ≡ n → (g' ≡ n + h) × (c' ≡ c))
     → cond ended (suc g) 0 ≡ suc n → (cond ended (suc g') 0 ≡ suc n + h) × (cond ended c' own ≡ c)
-back-step true g g' n h c c' own later all =
-    let same = later (omega (arith, all)) in ((let one = same.0 in omega (arith, one)), same.1)
+back-step true g g' n h c c' own later all = grind arith
 back-step false g g' n h c c' own later all = absurd (omega (arith, all))
 
 -- where some replies have all ended, those behind them decide
 gone-back : (ms ns : List ReplyMark) (k : ℕ) → gone ms k ≡ length ms
     → (gone (ms ++ ns) k ≡ length ms + gone ns k) × (counts_at (ms ++ ns) k ≡ counts_at ns k)
 gone-back [] ns k all = ((let same : gone ns k ≡ 0 + gone ns k = omega arith in same), refl)
-gone-back (m ∷ ms) ns k all =
-    back-step (nat_le m.end k) (gone ms k) (gone (ms ++ ns) k) (length ms) (gone ns k) (counts_at ns k)
-    (counts_at (ms ++ ns) k) m.counts (gone-back ms ns k) all
-
--- one reply that has not ended
-one-past : (m : ReplyMark) (k : ℕ) → k < m.end → (gone (m ∷ []) k ≡ 0) × (counts_at (m ∷ []) k ≡ m.counts)
-one-past m k past =
-    let test : nat_le m.end k ≡ false = lt-leb m.end k past in
-    (ap (λ b. cond b (suc 0) 0) test, ap (λ b. cond b no_counts m.counts) test)
-
--- one reply that has ended
-one-within : (m : ReplyMark) (k : ℕ) → m.end ≤ k → gone (m ∷ []) k ≡ 1
-one-within m k within =
-    let test : nat_le m.end k ≡ true = le-leb m.end k within in ap (λ b. cond b (suc 0) 0) test
+gone-back (m ∷ ms) ns k all = grind (arith, back-step, gone-back ms ns k)
 
 -- A reply more waits.
 module _ (bytes reply : List ℕ) (marks : List ReplyMark) (m : ReplyMark) (are : AreMarked bytes marks)
     (ends : m.end ≡ length bytes + length reply) where
-  -- where the bytes have ended, so has it, and all before it
-  all-more : (k : ℕ) → length (bytes ++ reply) ≤ k → gone (marks ++ m ∷ []) k ≡ length (marks ++ m ∷ [])
-  all-more k past =
-      let bytes_more = length-append bytes reply in
-      let marks_more = length-append marks (m ∷ []) in
-      let earlier = (gone-back marks (m ∷ []) k (are.all k (omega (arith, past, bytes_more)))).0 in
-      let last = one-within m k (omega (arith, past, bytes_more, ends)) in
-      omega (arith, earlier, last, marks_more)
-
-  -- within the bytes before it not each has ended
-  some-front : (k : ℕ) → k < length bytes → gone (marks ++ m ∷ []) k < length (marks ++ m ∷ [])
-  some-front k front =
-      let some = are.some k front in
-      let same = (gone-front marks (m ∷ []) k some).0 in
-      let marks_more = length-append marks (m ∷ []) in
-      omega (arith, some, same, marks_more)
-
-  -- within the reply's own bytes not each has ended
-  some-back : (k : ℕ) → length bytes ≤ k → k < length (bytes ++ reply)
-      → gone (marks ++ m ∷ []) k < length (marks ++ m ∷ [])
-  some-back k back less =
-      let bytes_more = length-append bytes reply in
-      let earlier = (gone-back marks (m ∷ []) k (are.all k back)).0 in
-      let last = (one-past m k (omega (arith, less, bytes_more, ends))).0 in
-      let marks_more = length-append marks (m ∷ []) in
-      omega (arith, earlier, last, marks_more)
-
   -- its mark stands behind the others
   pub marked-more : AreMarked (bytes ++ reply) (marks ++ m ∷ [])
-  marked-more = record {
-    all = all-more;
-    some = λ k less. ⊎_elim (λ (front : k < length bytes). some-front k front)
-        (λ (back : length bytes ≤ k). some-back k back less) (cases_lt k (length bytes));
-  }
+  marked-more = grind (arith, length-append, gone-back, le-leb, gone-front, lt-leb, cases_lt)
 
 -- known bytes, and some behind them
 known-append : (known : Option (List ℕ)) (bytes more : List ℕ)
@@ -210,70 +151,43 @@ module _ (written : Option (List ℕ)) (sent : Sent) (bytes reply : List ℕ) (m
 
   -- the reply is out with what waits
   added-whole : PutsReply (holds_with before) (holds_with after) (sent_with before) (sent_with after) reply
-  added-whole = record {
-    writes = known-append written bytes reply;
-    lines = ap (kept_sum sent.lines) (length-append marks (m ∷ [])) ∙ sym (kept_sum-twice sent.lines (length marks) 1);
-    bytes_sent = ap (kept_sum sent.bytes) (length-append bytes reply)
-        ∙ sym (kept_sum-twice sent.bytes (length bytes) (length reply));
-  }
+  added-whole = grind (arith, known-append, length-append, kept_sum-twice)
 
   -- the output may fail within a reply before
   added-front : (stop : Stop) (at : IsStop after stop) → at.place < length bytes
       → IsStop before stop
-  added-front stop at front =
-      let same = gone-front marks (m ∷ []) at.place (are.some at.place front) in
-      record {
-        place = at.place;
-        within = front;
-        writes = subst (Appends written stop.written)
-            (take-append-le at.place bytes reply (omega (arith, front))) at.writes;
-        lines = at.lines ∙ ap (kept_sum sent.lines) same.0;
-        bytes = at.bytes;
-        counts = at.counts ∙ same.1;
-      }
-
-  -- within the reply, all before it have ended, and the counts are its own
-  gone-added : (stop : Stop) (at : IsStop after stop) → length bytes ≤ at.place
-      → (gone (marks ++ m ∷ []) at.place ≡ length marks) × (counts_at (marks ++ m ∷ []) at.place ≡ m.counts)
-  gone-added stop at back =
-      let within = at.within in
-      let both = length-append bytes reply in
-      let same = gone-back marks (m ∷ []) at.place (are.all at.place back) in
-      let past = one-past m at.place (omega (arith, within, both, ends)) in
-      let all = same.0 in
-      let none = past.0 in
-      (omega (arith, all, none), same.1 ∙ past.1)
+  added-front stop at front = grind (arith, gone-front, take-append-le)
 
   -- and what was put behind them is a front of it
   part-added : (stop : Stop) (at : IsStop after stop) → length bytes ≤ at.place
       → Puts (holds_with before) stop.written (sent_with before) stop.sent
       (take (at.place - length bytes) reply)
   part-added stop at back =
-      let n = at.place - length bytes in
-      let within = at.within in
-      let both = length-append bytes reply in
-      let place : at.place ≡ length bytes + n = omega (arith, back) in
-      let len = length-take-le n reply (omega (arith, within, both)) in
-      record {
-        writes = known-behind written stop.written bytes (take n reply) (subst (Appends written stop.written)
-            (ap (λ k. take k (bytes ++ reply)) place ∙ take-append-add bytes reply n) at.writes);
-        lines = at.lines ∙ ap (kept_sum sent.lines) (gone-added stop at back).0;
-        bytes_sent = at.bytes ∙ ap (kept_sum sent.bytes) place ∙ sym (kept_sum-twice sent.bytes (length bytes) n)
-            ∙ ap (kept_sum (kept_sum sent.bytes (length bytes))) (sym len);
-      }
+      grind (
+        arith,
+        length-append bytes reply,
+        length-take-le,
+        known-behind written stop.written bytes,
+        take-append-add bytes reply,
+        length-append,
+        gone-back,
+        lt-leb,
+        kept_sum-twice sent.bytes (length bytes),
+      )
 
   -- so the output may fail within it
   added-back : (stop : Stop) (at : IsStop after stop) → length bytes ≤ at.place
       → CutsReply (holds_with before) (sent_with before) reply m.counts stop
   added-back stop at back =
-      let within = at.within in
-      let both = length-append bytes reply in
-      record {
-        puts = part-front (holds_with before) stop.written (sent_with before) stop.sent reply
-            (at.place - length bytes)
-            (record { within = omega (arith, within, both, back); puts = part-added stop at back });
-        same = at.counts ∙ (gone-added stop at back).1;
-      }
+      grind (
+        arith,
+        length-append bytes reply,
+        part-front (holds_with before) stop.written (sent_with before) stop.sent reply (at.place - length bytes),
+        part-added stop at back,
+        length-append,
+        gone-back,
+        lt-leb,
+      )
 
   -- the reply is sent behind those that wait
   pub sends-added : Sends before after reply m.counts
@@ -290,28 +204,16 @@ drained written sent = record { written = written; sent = sent; waiting = none_w
 -- all stayed, and nothing waits after it
 pub stays-none : (old new : OutputState) → new.waiting ≡ none_wait → KeepsOutput old new
     → KeepsOutput old (drained new.written new.sent)
-stays-none old new none stays =
-    subst (λ (b : WaitingState). KeepsOutput old (record { written = new.written; sent = new.sent; waiting = b })) none
-    stays
+stays-none old new none stays = grind arith
 
 -- if nothing waits the output fails within no reply before
 pub none-stops : (output : OutputState) (stop : Stop) → output.waiting ≡ none_wait → IsStop output stop → ⊥
-none-stops output stop none at =
-    let within : at.place < length none_wait.bytes =
-    subst (λ (b : WaitingState). at.place < length b.bytes) none at.within in
-    omega (arith, within)
+none-stops output stop none at = grind arith
 
 -- a reply came, and then all stayed with what waits
 pub sends-stays : (a b c : OutputState) (reply : List ℕ) (counts : Counts) → Sends a b reply counts → KeepsOutput b c
     → Sends a c reply counts
-sends-stays a b c reply counts sends stays = record {
-  whole = record {
-    writes = Appends-kept (holds_with a) (holds_with b) (holds_with c) reply sends.whole.writes stays.holds;
-    lines = ap (λ (s : Sent). s.lines) stays.sends ∙ sends.whole.lines;
-    bytes_sent = ap (λ (s : Sent). s.bytes) stays.sends ∙ sends.whole.bytes_sent;
-  };
-  stops = λ stop at. sends.stops stop (stays.stops stop at);
-}
+sends-stays a b c reply counts sends stays = grind arith
 
 -- The fields of an outbox after a reply more.
 module _ (len count : ℕ) (old new reply : List ℕ) (marks : List ReplyMark) (m : ReplyMark)
@@ -324,10 +226,6 @@ module _ (len count : ℕ) (old new reply : List ℕ) (marks : List ReplyMark) (
     marks = take (count + 1) (set marks count m);
   }
 
-  -- its parts
-  waits-is : waits-more ≡ record { bytes = take len old ++ reply; marks = take count marks ++ m ∷ [] }
-  waits-is = λ i. record { bytes = wrote i; marks = take_more_set marks count m some i }
-
   -- where it ends
   ends-behind : m.end ≡ length (take len old) + length reply
   ends-behind = let front = length-take-le len old fits in omega (arith, front, ends)
@@ -335,8 +233,7 @@ module _ (len count : ℕ) (old new reply : List ℕ) (marks : List ReplyMark) (
   -- its mark stands behind the others
   pub marked-added : AreMarked (take len old) (take count marks) → AreMarked (take (len + length reply) new)
       (take (count + 1) (set marks count m))
-  marked-added are = subst (λ (w : WaitingState). AreMarked w.bytes w.marks) (sym waits-is)
-      (marked-more (take len old) reply (take count marks) m are ends-behind)
+  marked-added are = grind (arith, take_more_set, marked-more, ends-behind)
 
   -- the reply is sent
   pub sends-more : (sent : Sent) (box : OutboxState)
@@ -344,8 +241,9 @@ module _ (len count : ℕ) (old new reply : List ℕ) (marks : List ReplyMark) (
       → AreMarked (take len old) (take count marks) → (written : Option (List ℕ))
       → Sends (output_of written box) (output_of written (record { waiting = waits-more; sent = sent })) reply m.counts
   sends-more sent box is are written =
-      let sends_to : OutboxState → WaitingState → Type 0 =
-      λ b w. Sends (output_of written b) (output_of written (record { waiting = w; sent = sent })) reply m.counts in
-      subst (λ b. sends_to b waits-more) is
-      (subst (sends_to (record { waiting = record { bytes = take len old; marks = take count marks }; sent = sent }))
-      (sym waits-is) (sends-added written sent (take len old) reply (take count marks) m are ends-behind))
+      grind (
+        arith,
+        take_more_set,
+        sends-added written sent (take len old) reply (take count marks) m are ends-behind,
+        ends-behind,
+      )

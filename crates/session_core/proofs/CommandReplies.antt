@@ -1,11 +1,11 @@
 -- The reply to a command, by its answer.
-use Rattle.std.proofs.Common.{◌≡◌, ℕ, false, List, [], ◌∷◌, map, Option, inl, inr, refl, sym, ap, subst}
-use Rattle.std.proofs.Common.{◌∙◌}
+use Rattle.std.proofs.Common.{◌≡◌, ℕ, false, List, [], ◌∷◌, map, Option, inl, inr, ap}
+use Rattle.std.proofs.Common.{arith}
 use Rattle.gtp_rules.specs.Transcript.{IsOneOf, MayGive}
 use Rattle.gtp_cmd.specs.Replies.{refusal_text}
 use Rattle.gtp_cmd.specs.declared.refusals.RefuseText.{RefuseText}
 use Rattle.machine_rules.specs.Machine.{Machine}
-use Rattle.machine_rules.specs.Effects.{Excuse, Effect, IsExcused, fallback, reply_text, replied}
+use Rattle.machine_rules.specs.Effects.{Excuse, Effect, IsExcused, fallback, replied}
 use Rattle.session_core.specs.CommandAnswers.{IsAnswer}
 use Rattle.session_core.specs.declared.answer.Answer.TheVariants as answer
 
@@ -20,19 +20,10 @@ module _ (id : Option ℕ) (effect : Effect) (new : Machine) where
   -- an excuse is told behind the id
   pub gives-excuse : (text : RefuseText) (bytes : List ℕ) → bytes ≡ refusal_text id text
       → IsExcused effect.excuses text new → MayGive (replied id effect) bytes new false
-  gives-excuse text bytes is excused = inr (
-    subst (λ b. IsOneOf (map (fallback id) effect.excuses) b new) (sym is)
-        (excused-told id effect.excuses text new excused),
-    refl,
-  )
+  gives-excuse text bytes is excused = grind (arith, excused-told)
 
   -- a refusal is told behind the id
   pub gives-refusal : (text : RefuseText) (bytes : List ℕ) → bytes ≡ refusal_text id text
       → IsAnswer effect (answer.Refused text) new → MayGive (replied id effect) bytes new false
-  gives-refusal text bytes is (inl refused) =
-      inl (
-        is ∙ ap (λ r. reply_text id r effect.result) (sym refused.0),
-        refused.1,
-        sym refused.2,
-      )
+  gives-refusal text bytes is (inl refused) = grind arith
   gives-refusal text bytes is (inr excused) = gives-excuse text bytes is excused

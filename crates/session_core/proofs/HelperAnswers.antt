@@ -1,11 +1,11 @@
 -- What is told where no helper has the name.
 use Rattle.std.proofs.Common.{◌≡◌, Bool, true, false, cond, List, ℕ, [], ◌∷◌, Option, Some, None, find, option_map}
-use Rattle.std.proofs.Common.{is_some, inl, refl, sym, subst}
+use Rattle.std.proofs.Common.{is_some, refl, subst, arith}
 use Rattle.helpers.specs.HelperStates.{SlotState, has_name, named, change_first, remove_first}
 use Rattle.helpers.proofs.Firsts.{PassesNone, none, other, change_first-none, remove_first-none}
 use Rattle.gtp_cmd.specs.declared.refusals.RefuseText.TheVariants.{NoSuchHelper}
 use Rattle.machine_rules.specs.Machine.{Machine}
-use Rattle.machine_rules.specs.Effects.{Effect, refused, growing}
+use Rattle.machine_rules.specs.Effects.{Effect}
 use Rattle.machine_rules.specs.HelperCommands.{of_helper}
 use Rattle.session_core.specs.CommandAnswers.{IsAnswer}
 use Rattle.session_core.specs.declared.answer.Answer.TheVariants as answer
@@ -26,14 +26,12 @@ module _ {X : Type 0} (test : X → Bool) where
 -- where no helper has the name, none is changed
 pub change-none : (name : List ℕ) (change : SlotState → SlotState) (slots : List SlotState)
     → is_some (named name slots) ≡ false → change_first (has_name name) change slots ≡ slots
-change-none name change slots missing =
-    change_first-none (has_name name) change (passes-none (has_name name) slots missing)
+change-none name change slots missing = grind (arith, change_first-none, passes-none)
 
 -- where no helper has the name, none is taken out
 pub remove-none : (name : List ℕ) (slots : List SlotState)
     → is_some (named name slots) ≡ false → remove_first (has_name name) slots ≡ slots
-remove-none name slots missing =
-    remove_first-none (has_name name) (passes-none (has_name name) slots missing)
+remove-none name slots missing = grind (arith, remove_first-none, passes-none)
 
 -- nothing is there where nothing is made of it
 pub nothing-there : {X Y : Type 0} (make : X → Y) (found : Option X) → None ≡ option_map make found
@@ -50,6 +48,4 @@ none-named slots given word is missing = subst (λ n. is_some (named n slots) �
 pub not-there : (old : Machine) (name : List ℕ) (effect : Effect) (new : Machine)
     → is_some (named name old.helpers) ≡ false → new ≡ old
     → IsAnswer (of_helper old name effect) (answer.Refused NoSuchHelper) new
-not-there old name effect new missing same =
-    subst (λ b. IsAnswer (growing old (cond b effect (refused old NoSuchHelper))) (answer.Refused NoSuchHelper) new)
-    (sym missing) (inl (refl, same, refl))
+not-there old name effect new missing same = grind arith

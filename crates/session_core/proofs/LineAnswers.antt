@@ -1,6 +1,6 @@
 -- A line is answered as what it says.
-use Rattle.std.proofs.Common.{◌≡◌, ◌↔◌, inl, ℕ, false, List, ◌++◌, Option, Result, Ok, Err, IfOk, IfErr}
-use Rattle.std.proofs.Common.{refl, sym, ap, subst, ◌∙◌, append-nil}
+use Rattle.std.proofs.Common.{◌≡◌, ◌↔◌, ℕ, false, List, ◌++◌, Option, Result, Ok, Err, IfOk, IfErr}
+use Rattle.std.proofs.Common.{refl, sym, subst, append-nil, arith}
 use Rattle.gtp_rules.specs.Lines.{RawLine, Line, TooLong}
 use Rattle.gtp_rules.specs.Transcript.{MayGive, MayAnswer}
 use Rattle.gtp_cmd.specs.Replies.{refusal_text}
@@ -9,7 +9,7 @@ use Rattle.gtp_cmd.specs.declared.commands.Command.{Command}
 use Rattle.gtp_cmd.specs.declared.commands.Parsed.{Parsed}
 use Rattle.gtp_cmd.specs.declared.commands.Parsed.TheVariants as parsed
 use Rattle.gtp_cmd.specs.declared.refusals.RefuseText.{RefuseText}
-use Rattle.machine_rules.specs.Counting.{counted, is_read, is_read_line}
+use Rattle.machine_rules.specs.Counting.{counted, is_read}
 use Rattle.machine_rules.specs.Effects.{replied}
 use Rattle.machine_rules.specs.Files.{Contents}
 use Rattle.machine_rules.specs.Heard.{heard, bytes_in}
@@ -23,20 +23,19 @@ use Rattle.machine_rules.specs.Step.{Input, step, step_on, effect_of}
 use Rattle.machine_rules.specs.Matcher.{Matcher}
 use Rattle.machine_rules.proofs.Soundness.{step-sound, read-heard, link-heard, some_file}
 use Rattle.machine_rules.proofs.WordLines.{parsed_of-none, none-parsed_of}
-use Rattle.session_core.specs.AfterLine.{ReadsAs, KeepsCounts}
+use Rattle.session_core.specs.AfterLine.{ReadsAs}
 use Rattle.session_core.specs.AskedLinks.{LinksAs, LinksNothing}
 use Rattle.session_core.specs.LineAnswers.{AnswersParsed, AnswersLine}
 use Rattle.session_core.specs.MatcherView.{MatcherView, matcher_of}
 use Rattle.session_core.specs.Kept.{Kept, machine_of}
 use Rattle.session_core.specs.Replies.{reply_bytes, reply_ends, reply_count}
-use Rattle.session_core.specs.SlowLines.{command_of, said_by, IsLeft}
+use Rattle.session_core.specs.SlowLines.{command_of, IsLeft}
 use Rattle.session_core.specs.declared.reply.Reply.{Reply}
 use Rattle.session_core.specs.declared.reply.Reply.TheVariants as reply
 use Rattle.session_core.specs.declared.slow.Slow.{Slow}
 use Rattle.session_core.specs.declared.slow.Work.{Work}
-use Rattle.session_core.proofs.LineCounts.{counts_kept-line, few_fresh-line}
 use Rattle.session_core.proofs.LineLinks.{unasked-links}
-use Rattle.session_core.proofs.RefusedLines.{read-not_refused, link-not_refused, refused-same}
+use Rattle.session_core.proofs.RefusedLines.{link-not_refused, refused-same}
 
 -- a line asks what it says
 asks-heard : (m : Machine) (line : RawLine) → asks_of_line m line ≡ asks_of_parsed m (heard m line)
@@ -65,25 +64,9 @@ module _ (matcher : Matcher) (contents : Contents) (old : Kept) (line : RawLine)
   unfolding load_in
   line-missed = is.missed
 
-  -- it is counted as what it says
-  line-readings : new.engine.counts.readings
-      ≡ counted old.engine.counts.readings (is_read_line (machine_of old) line)
-  line-readings = subst (λ b. new.engine.counts.readings ≡ counted old.engine.counts.readings b)
-      (sym (read-heard (machine_of old) line)) is.readings
-
-  -- and asks what it says
-  line-read : ReadsAs (asks_of_line (machine_of old) line) old.engine new.engine
-  line-read = subst (λ a. ReadsAs a old.engine new.engine) (sym (asks-heard (machine_of old) line)) is.read
-
   -- a line asks of connections what it says
   line-links : LinksAs (asks_link_of_line (machine_of old) line) old.engine new.engine
   line-links = subst (λ a. LinksAs a old.engine new.engine) (sym (link-heard (machine_of old) line)) is.links
-
-  -- it has no reply exactly where it has no words
-  line-nothing : (answer ≡ reply.Nothing) ↔ IsWithoutWords line
-  line-nothing =
-      let nothing = nothing-heard (machine_of old) line in
-      ((λ none. nothing.0 (is.nothing.0 none)), (λ none. is.nothing.1 (nothing.1 none)))
 
   -- The reply is a refusal.
   module _ (refusal : IsRefusal (reply_bytes answer)) where
@@ -94,33 +77,24 @@ module _ (matcher : Matcher) (contents : Contents) (old : Kept) (line : RawLine)
         (step-sound matcher contents (machine_of old) line line-reply.0 line-reply.1) line-reply.2
         refusal
 
-    -- the line counts as no reading
-    refused-counts : KeepsCounts old.engine new.engine
-    refused-counts =
-        counts_kept-line (machine_of old) line old.engine new.engine line-read
-        (read-not_refused matcher contents (machine_of old) line (reply_bytes answer) (machine_of new)
-        (reply_ends answer) line-reply refusal)
-
     -- nor does it ask about a connection
     refused-links : LinksNothing old.engine new.engine
-    refused-links =
-        unasked-links old.engine new.engine (asks_link_of_line (machine_of old) line) line-links
-        (link-not_refused matcher contents (machine_of old) line (reply_bytes answer) (machine_of new)
-        (reply_ends answer) line-reply refusal)
+    refused-links = grind (arith, unasked-links, line-links, link-not_refused, line-reply)
 
   -- the line was answered
   heard-answers : AnswersLine (step matcher contents) old line answer new
-  heard-answers = record {
-    reply = line-reply;
-    nothing = line-nothing;
-    bytes = is.bytes;
-    readings = line-readings;
-    read = line-read;
-    links = line-links;
-    missed = line-missed;
-    few_fresh = few_fresh-line (machine_of old) line old.engine new.engine line-readings line-read;
-    refused = λ refusal. (refused-machine refusal, refused-counts refusal, refused-links refusal);
-  }
+  heard-answers =
+      grind (
+        arith,
+        line-reply,
+        nothing-heard,
+        read-heard,
+        asks-heard,
+        line-links,
+        line-missed,
+        refused-machine,
+        refused-links,
+      )
 
 -- what says the same as a line answers it
 pub answers-line : (matcher : Matcher) (contents : Contents) (old : Kept) (line : RawLine) (said : Parsed)
@@ -129,9 +103,7 @@ pub answers-line : (matcher : Matcher) (contents : Contents) (old : Kept) (line 
     → AnswersParsed matcher old (record { line = bytes_in line; file = file }) said answer new
     → AnswersLine (step matcher contents) old line answer new
 answers-line matcher contents old line said answer new file same of is =
-    heard-answers matcher contents old line answer new file
-    (subst (λ p. IsFileOf contents (parsed_load (bytes_in line) p) file) (sym same) of)
-    (subst (λ p. AnswersParsed matcher old (record { line = bytes_in line; file = file }) p answer new) (sym same) is)
+    grind (arith, heard-answers matcher contents old line answer new file)
 
 -- what says the same as a line answers it, by bytes that are those of the line
 pub answers-line-by : (matcher : Matcher) (contents : Contents) (old : Kept) (line : RawLine) (said : Parsed)
@@ -140,9 +112,7 @@ pub answers-line-by : (matcher : Matcher) (contents : Contents) (old : Kept) (li
     → AnswersParsed matcher old (record { line = bytes; file = file }) said answer new
     → AnswersLine (step matcher contents) old line answer new
 answers-line-by matcher contents old line said answer new bytes file are same of is =
-    answers-line matcher contents old line said answer new file same
-    (subst (λ b. IsFileOf contents (parsed_load b said) file) are of)
-    (subst (λ b. AnswersParsed matcher old (record { line = b; file = file }) said answer new) are is)
+    grind (arith, answers-line matcher contents old line said answer new file same)
 
 -- no file of these contents says more of a line than one whose contents they are
 abbrev pub file_for : Contents → List ℕ → Parsed → List ℕ
@@ -162,35 +132,17 @@ pub answers-line-left : (now first : MatcherView) (contents : Contents) (mid old
     (answer : Reply) (new : Kept) → now ≡ first → mid ≡ old
     → AnswersLine (step (matcher_of now) contents) mid line answer new
     → AnswersLine (step (matcher_of first) contents) old line answer new
-answers-line-left now first contents mid old line answer new same left is =
-    subst (λ k. AnswersLine (step (matcher_of first) contents) k line answer new) left
-    (subst (λ (m : MatcherView). AnswersLine (step (matcher_of m) contents) mid line answer new) same is)
+answers-line-left now first contents mid old line answer new same left is = grind arith
 
 -- nothing is answered to nothing
 pub answers-nothing : (matcher : Matcher) (old : Kept) (input : Input)
     → AnswersParsed matcher old input parsed.Nothing reply.Nothing old
-answers-nothing matcher old input = record {
-  reply = inl (refl, refl, refl);
-  nothing = ((λ _. refl), (λ _. refl));
-  bytes = λ some. absurd (some refl);
-  readings = refl;
-  read = record { counts = refl; kept = refl };
-  links = record { counts = refl; answers = refl };
-  missed = sym (append-nil old.missed);
-}
+answers-nothing matcher old input = grind (arith, append-nil)
 
 -- a line that is refused as it is read is answered so
 pub answers-refused : (matcher : Matcher) (old : Kept) (input : Input) (id : Option ℕ) (text : RefuseText)
     → AnswersParsed matcher old input (parsed.Refused id text) (reply.Short (refusal_text id text) false) old
-answers-refused matcher old input id text = record {
-  reply = inl (refl, refl, refl);
-  nothing = ((λ e. cc), (λ e. cc));
-  bytes = λ _. refl;
-  readings = refl;
-  read = record { counts = refl; kept = refl };
-  links = record { counts = refl; answers = refl };
-  missed = sym (append-nil old.missed);
-}
+answers-refused matcher old input id text = grind (arith, append-nil)
 
 -- a reply that has bytes is not nothing
 some-reply : (answer : Reply) → reply_count (reply_bytes answer) ≡ 1 → answer ≡ reply.Nothing → ⊥
@@ -211,40 +163,19 @@ pub answers-command : (matcher : Matcher) (old : Kept) (input : Input) (said : P
     → new.missed ≡ old.missed ++ missed_by (parsed_load input.line (parsed.Command id command)) (reply_bytes answer)
     → AnswersParsed matcher old input said answer new
 answers-command matcher old input said id command answer new says is bytes readings read links missed =
-    subst (λ p. AnswersParsed matcher old input p answer new) (sym says) (record {
-      reply = is;
-      nothing = ((λ none. absurd (some-reply answer bytes none)), (λ e. cc));
-      bytes = λ _. bytes;
-      readings = readings;
-      read = read;
-      links = links;
-      missed = missed;
-    })
+    grind (arith, some-reply)
 
 -- a command that may take long leaves its line
 pub left-command : (old new : Kept) (line : List ℕ) (said : Parsed) (id : Option ℕ) (command : Command) (work : Work)
     → said ≡ parsed.Command id command → command ≡ command_of work → new ≡ old
     → SaysWithin old.engine.base.size said → SaysWithinLine line said
     → IsLeft old line said (record { id = id; work = work }) new
-left-command old new line said id command work is asks same within spans =
-    let says : said ≡ said_by (record { id = id; work = work }) = is ∙ ap (parsed.Command id) asks in
-    record {
-      same = same;
-      says = says;
-      within = subst (λ p. SaysWithin new.engine.base.size p) says
-          (subst (λ (k : Kept). SaysWithin k.engine.base.size said) (sym same) within);
-      spans = subst (SaysWithinLine line) says spans;
-    }
+left-command old new line said id command work is asks same within spans = grind arith
 
 -- a line that says the same was left
 pub left-line : (old new : Kept) (bytes bytes' : List ℕ) (said said' : Parsed) (slow : Slow) → bytes ≡ bytes'
     → said ≡ said' → IsLeft old bytes said slow new → IsLeft old bytes' said' slow new
-left-line old new bytes bytes' said said' slow are same left = record {
-  same = left.same;
-  says = sym same ∙ left.says;
-  within = left.within;
-  spans = subst (λ l. SaysWithinLine l (said_by slow)) are left.spans;
-}
+left-line old new bytes bytes' said said' slow are same left = grind arith
 
 -- what holds of the value of a success follows from what does
 pub if_ok_map : {T E : Type 0} {P Q : T → Type 0} (result : Result T E) → ((x : T) → P x → Q x) → IfOk result P

@@ -1,18 +1,16 @@
 -- What a line counts, by what it asks of the readings.
-use Rattle.std.proofs.Common.{◌≡◌, ℕ, Bool, true, false, cond, refl, sym, ap, subst, arith}
+use Rattle.std.proofs.Common.{◌≡◌, ℕ, Bool, true, false, cond, refl, arith}
 use Rattle.std.specs.Option.{is_some}
 use Rattle.gtp_rules.specs.Lines.{RawLine, Line, TooLong}
-use Rattle.gtp_cmd.specs.Commands.{parsed_of}
 use Rattle.gtp_cmd.specs.declared.commands.Command.{Command}
 use Rattle.gtp_cmd.specs.declared.commands.Command.TheVariants as command
 use Rattle.gtp_cmd.specs.declared.commands.Parsed.{Parsed}
 use Rattle.gtp_cmd.specs.declared.commands.Parsed.TheVariants as parsed
 use Rattle.go_rules.specs.Position.{BoardState, IsPosition}
-use Rattle.match_engine.specs.ReadingDepths.{ReadingDepths, asked_at}
+use Rattle.match_engine.specs.ReadingDepths.{asked_at}
 use Rattle.read_rules.specs.declared.question.Answer.{Answer}
 use Rattle.read_rules.specs.declared.question.Kind.{Kind}
 use Rattle.read_rules.specs.declared.question.Kind.TheVariants.{Attack, Defend}
-use Rattle.run_notes.specs.declared.notes.Counts.{Counts}
 use Rattle.match_engine.specs.declared.keys.Key.{Key}
 use Rattle.read_cache.specs.Kept.{HoldsOfEach}
 use Rattle.match_engine.specs.Readings.{ReadingsView, HasRead, Rests}
@@ -20,7 +18,7 @@ use Rattle.machine_rules.specs.Machine.{Machine}
 use Rattle.session_core.specs.EngineView.{EngineView, board_of, machine_alone}
 use Rattle.machine_rules.specs.Counting.{counted, has_stone, is_read, is_parsed_read, is_read_line}
 use Rattle.machine_rules.specs.ChoiceCommands.{is_full}
-use Rattle.machine_rules.specs.Questions.{Nothing, One, Many, key_at}
+use Rattle.machine_rules.specs.Questions.{Nothing, One, Many}
 use Rattle.session_core.specs.AfterLine.{ReadsAs, ReadsNothing, KeepsCounts, CountsRefused, after_trials}
 use Rattle.machine_rules.specs.Questions.{asks_at, asks_of, asks_of_parsed, asks_of_line}
 use Rattle.session_core.specs.AfterLine.{HasFewFresh}
@@ -30,19 +28,11 @@ use Rattle.session_core.specs.declared.engine.Engine.TheInside.{Inside}
 module _ (old new : EngineView) where
   -- no reading was made, and so the counts are as before
   nothing-kept : ReadsNothing old new → KeepsCounts old new
-  nothing-kept none = record {
-    readings = ap (λ (k : Counts). k.readings) none.counts;
-    fresh = ap (λ (k : Counts). k.fresh) none.counts;
-    trials = ap (λ (k : Counts). k.trials) none.counts;
-    refused = (let same = ap (λ (k : Counts). k.refused) none.counts in omega (arith, same));
-  }
+  nothing-kept none = grind arith
 
   -- with counts as before no more are fresh than were counted
   few-kept : KeepsCounts old new → HasFewFresh old.counts → HasFewFresh new.counts
-  few-kept kept few = record {
-    few = omega (arith, few.few, kept.fresh, kept.readings);
-    small = omega (arith, few.small, kept.readings);
-  }
+  few-kept kept few = grind arith
 
   -- matches were asked for, or the list of moves is full
   full-kept : (full : Bool) → ReadsAs (cond full Nothing Many) old new → KeepsCounts old new
@@ -53,10 +43,8 @@ module _ (old new : EngineView) where
   few-once : (fresh : Bool) → new.counts.readings ≡ counted old.counts.readings true
       → new.counts.fresh ≡ counted old.counts.fresh fresh
       → HasFewFresh old.counts → HasFewFresh new.counts
-  few-once true readings freshly few =
-      record { few = omega (arith, few.few, few.small, readings, freshly); small = omega (arith, readings) }
-  few-once false readings freshly few =
-      record { few = omega (arith, few.few, few.small, readings, freshly); small = omega (arith, readings) }
+  few-once true readings freshly few = grind arith
+  few-once false readings freshly few = grind arith
 
   module _ (key : Key) where
     -- where a stone is asked about or not
@@ -75,10 +63,8 @@ module _ (old new : EngineView) where
     -- a command that is no reading answered with a code keeps the counts
     counts_kept-command : (c : Command) → ReadsAs (asks_of machine c) old new → (is_read machine c ≡ true → ⊥)
         → KeepsCounts old new
-    counts_kept-command (command.Attack p) read never =
-        at-kept (key_at machine Attack p) (has_stone machine p) read never
-    counts_kept-command (command.Defend p) read never =
-        at-kept (key_at machine Defend p) (has_stone machine p) read never
+    counts_kept-command (command.Attack p) read never = grind (arith, at-kept)
+    counts_kept-command (command.Defend p) read never = grind (arith, at-kept)
     counts_kept-command (command.MatchPatterns friend) read never = read.counts
     counts_kept-command (command.GenMove friend) read never = full-kept (is_full machine) read
     counts_kept-command (command.RegGenMove friend) read never = read.counts
@@ -88,10 +74,8 @@ module _ (old new : EngineView) where
     few_fresh-command : (c : Command) → new.counts.readings ≡ counted old.counts.readings (is_read machine c)
         → ReadsAs (asks_of machine c) old new
         → HasFewFresh old.counts → HasFewFresh new.counts
-    few_fresh-command (command.Attack p) readings read few =
-        at-few (key_at machine Attack p) (has_stone machine p) readings read few
-    few_fresh-command (command.Defend p) readings read few =
-        at-few (key_at machine Defend p) (has_stone machine p) readings read few
+    few_fresh-command (command.Attack p) readings read few = grind (arith, at-few)
+    few_fresh-command (command.Defend p) readings read few = grind (arith, at-few)
     few_fresh-command (command.MatchPatterns friend) readings read few = few-kept read.counts few
     few_fresh-command (command.GenMove friend) readings read few = few-kept (full-kept (is_full machine) read) few
     few_fresh-command (command.RegGenMove friend) readings read few = few-kept read.counts few
@@ -115,8 +99,7 @@ pub counts_kept-line : (machine : Machine) (line : RawLine) (old new : EngineVie
     → ReadsAs (asks_of_line machine line) old new → (is_read_line machine line ≡ true → ⊥) → KeepsCounts old new
 unfolding asks_of_line is_read_line
 counts_kept-line machine TooLong old new read never = nothing-kept old new read
-counts_kept-line machine (Line text) old new read never =
-    counts_kept-parsed old new machine (parsed_of text machine.base.size) read never
+counts_kept-line machine (Line text) old new read never = grind (arith, counts_kept-parsed)
 
 -- after any line, too long or not, still no more readings are fresh than the session counted
 pub few_fresh-line : (machine : Machine) (line : RawLine) (old new : EngineView)
@@ -124,25 +107,13 @@ pub few_fresh-line : (machine : Machine) (line : RawLine) (old new : EngineView)
     → ReadsAs (asks_of_line machine line) old new → HasFewFresh old.counts → HasFewFresh new.counts
 unfolding asks_of_line is_read_line
 few_fresh-line machine TooLong old new readings read few = few-kept old new (nothing-kept old new read) few
-few_fresh-line machine (Line text) old new readings read few =
-    few_fresh-parsed old new machine (parsed_of text machine.base.size) readings read few
+few_fresh-line machine (Line text) old new readings read few = grind (arith, few_fresh-parsed)
 
 -- one call of the readings was made on the board of a session
 module _ (old new : EngineView) (kind : Kind) (p : ℕ) (pos : BoardState) (answer : Answer)
     (before after : ReadingsView)
     (board : pos ≡ board_of old) (was : before ≡ old.readings) (depths : before.depths ≡ old.depths)
     (is : new.readings ≡ after) where
-  -- it was about the string of the point, on this board
-  read_here : HasRead (record { question = asked_at before.depths pos kind p }) pos answer before after
-      → HasRead (key_at (machine_alone old) kind p) (board_of old) answer old.readings new.readings
-  read_here has =
-      let family : ReadingsView → ReadingsView → BoardState → ReadingDepths → Type 0 =
-      λ r s b d. HasRead (record { question = asked_at d b kind p }) b answer r s in
-      subst (λ r. family r new.readings (board_of old) old.depths) was
-      (subst (λ d. family before new.readings (board_of old) d) depths
-      (subst (λ b. family before new.readings b before.depths) board
-      (subst (λ s. family before s pos before.depths) (sym is) has)))
-
   -- where a stone stands at the point, it is what was asked
   pub ReadsAs-once : HasRead
       (record { question = asked_at before.depths pos kind p }) pos answer before after
@@ -150,18 +121,7 @@ module _ (old new : EngineView) (kind : Kind) (p : ℕ) (pos : BoardState) (answ
       → new.counts.fresh ≡ counted old.counts.fresh (is_some new.readings.last)
       → new.counts.trials ≡ after_trials old.counts.trials new.readings.last → has_stone (machine_alone old) p ≡ true
       → ReadsAs (asks_at (machine_alone old) kind p) old new
-  ReadsAs-once has sound rest earlier later fresh trials stone =
-      let family : Bool → Type 0 = λ b. ReadsAs (cond b (One (key_at (machine_alone old) kind p)) Nothing) old new in
-      subst family (sym stone) (record {
-        answer = answer;
-        read = read_here has;
-        board = subst IsPosition board sound;
-        rest = subst (λ (r : ReadingsView). HoldsOfEach Rests r.answers.kept) (sym is) rest;
-        refused_before = earlier;
-        refused = later;
-        fresh = fresh;
-        trials = trials;
-      })
+  ReadsAs-once has sound rest earlier later fresh trials stone = grind arith
 
 -- what was read of a session's fields, on its board, is what was asked where a stone stands
 pub ReadsAs-inside : (old : EngineView) (kind : Kind) (p : ℕ) → has_stone (machine_alone old) p ≡ true
@@ -173,6 +133,4 @@ pub ReadsAs-inside : (old : EngineView) (kind : Kind) (p : ℕ) → has_stone (m
     → new.counts.trials ≡ after_trials old.counts.trials new.readings.last
     → ReadsAs (asks_at (machine_alone old) kind p) old new
 ReadsAs-inside old kind p stone inside new pos answer after view board is has sound rest refused fresh trials =
-    ReadsAs-once old new kind p pos answer inside.readings after board (ap (λ (k : EngineView). k.readings) view)
-    (ap (λ (k : EngineView). k.depths) view) is has sound rest (subst CountsRefused view refl) refused fresh trials
-    stone
+    grind (arith, ReadsAs-once)

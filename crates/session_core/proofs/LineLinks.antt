@@ -1,5 +1,5 @@
 -- What a line asks of a session's connections, and what is told of that.
-use Rattle.std.proofs.Common.{◌≡◌, ℕ, true, cond, List, Option, Some, None, refl, sym, ap, subst, ◌∙◌}
+use Rattle.std.proofs.Common.{◌≡◌, ℕ, true, List, Option, Some, None, refl, sym, ap, subst, ◌∙◌, arith}
 use Rattle.go_rules.specs.Position.{BoardState, IsPosition}
 use Rattle.helpers.specs.HelperStates.{SlotState}
 use Rattle.connect_rules.specs.Linkages.{asked_on, linkage_of}
@@ -37,32 +37,13 @@ module _ (old new : EngineView) (kind : LinkKind) (a b : ℕ)
       → new.counts.links.connections ≡ counted old.counts.links.connections true
       → CountsFreshLinks old → CountsFreshLinks new
       → LinksAs (asks_link_at (machine_alone old) kind a b) old new
-  LinksAs-once pos linkage before after board was plies is asked sound rest connections fresh_before fresh =
-      let question = asked_on (board_of old) kind a b old.depths.plies in
-      let family : ConnectionsView → ConnectionsView → BoardState → ℕ → Type 0 =
-      λ v w p n. HasAsked (key_on p kind a b n) p linkage v.answers w.answers in
-      let here : family old.links new.links (board_of old) old.depths.plies =
-      subst (λ v. family v new.links (board_of old) old.depths.plies) was
-      (subst (λ n. family before new.links (board_of old) n) plies
-      (subst (λ p. family before new.links p before.plies) board
-      (subst (λ w. family before w pos before.plies) (sym is) asked))) in
-      subst (λ o. LinksAs (cond o (Some question) None) old new) (sym one) (record {
-        answer = linkage;
-        asked = here;
-        board = subst IsPosition board sound;
-        rest = subst (λ (v : ConnectionsView). HoldsOfEach Rests v.answers.kept) (sym is) rest;
-        connections = connections;
-        fresh_before = fresh_before;
-        fresh = fresh;
-      })
+  LinksAs-once pos linkage before after board was plies is asked sound rest connections fresh_before fresh = grind arith
 
 -- the answer to a question on the board of a session, at its plies, is that of its machine
 linkage-here : (session : EngineView) (kind : LinkKind) (a b : ℕ) (pos : BoardState) (n : ℕ) (linkage : Linkage)
     → linkage ≡ linkage_of (asked_on pos kind a b n) pos → pos ≡ board_of session → n ≡ session.depths.plies
     → linkage ≡ linkage_at (machine_alone session) kind a b
-linkage-here session kind a b pos n linkage is board plies =
-    is ∙ ap (λ p. linkage_of (asked_on p kind a b n) p) board
-    ∙ ap (λ k. linkage_of (asked_on (board_of session) kind a b k) (board_of session)) plies
+linkage-here session kind a b pos n linkage is board plies = grind arith
 
 -- where stones of one colour stand at both points of the board of a session, what is told of their linkage there is an
 -- answer, whoever the helpers are

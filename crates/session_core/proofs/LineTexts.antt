@@ -1,14 +1,12 @@
 -- Texts of patterns and of matches, which grow by one line after another.
-use Rattle.std.proofs.Common.{◌≡◌, ℕ, ◌+◌, ◌<◌, List, [], ◌∷◌, ◌++◌, length, map, take, get_or, refl, sym, ap, ◌∙◌}
-use Rattle.std.proofs.Common.{append_assoc, decimal, codes}
+use Rattle.std.proofs.Common.{◌≡◌, ℕ, ◌+◌, ◌<◌, List, [], ◌∷◌, ◌++◌, length, map, take, get_or, refl, ap, ◌∙◌}
+use Rattle.std.proofs.Common.{append_assoc, decimal, codes, arith}
 use Rattle.std.proofs.lemmas.List.{map-append, take_more}
 use Rattle.std.specs.List.{join_with_byte}
 use Rattle.gtp_cmd.specs.Words.{line_feed}
 use Rattle.pat_types.specs.declared.pattern.Pattern.{Pattern}
-use Rattle.std.specs.List.{slice_get}
 use Rattle.match_rules.specs.declared.found.Match.{Match}
-use Rattle.gtp_cmd.specs.Vertices.{vertex_text}
-use Rattle.machine_rules.specs.MatchTexts.{name_of, match_text, matches_text}
+use Rattle.machine_rules.specs.MatchTexts.{match_text, matches_text}
 use Rattle.machine_rules.specs.PatternTexts.{mark_text, classes_text, pattern_text, patterns_text, feed_after}
 use Rattle.session_core.proofs.Texts.{join_with_byte-next, starts_with_text}
 
@@ -16,10 +14,6 @@ use Rattle.session_core.proofs.Texts.{join_with_byte-next, starts_with_text}
 some_first : (front : List ℕ) (b : ℕ) (rest : List ℕ) → (c : ℕ) × (cs : List ℕ) × (front ++ b ∷ rest ≡ c ∷ cs)
 some_first [] b rest = (b, rest, refl)
 some_first (c ∷ cs) b rest = (c, cs ++ b ∷ rest, refl)
-
--- a text that begins with some byte takes a line feed behind it
-feed_after-some : (text : List ℕ) (c : ℕ) (cs : List ℕ) → text ≡ c ∷ cs → feed_after text ≡ line_feed ∷ []
-feed_after-some text c cs is = ap feed_after is
 
 -- the text of a pattern begins with some byte
 pattern_starts : (p : Pattern) → (c : ℕ) × (cs : List ℕ) × (pattern_text p ≡ c ∷ cs)
@@ -34,9 +28,7 @@ pattern_starts p =
 -- the text of a match begins with some byte
 match_starts : (patterns : List Pattern) (s : ℕ) (z : Match) → (c : ℕ) × (cs : List ℕ)
     × (match_text patterns s z ≡ c ∷ cs)
-match_starts patterns s z =
-    let named = some_first (name_of (slice_get patterns z.pattern)) 32 [] in
-    (named.0, _, ap (λ l. l ++ decimal z.transform ++ codes " " ++ vertex_text s z.at) named.2)
+match_starts patterns s z = grind (arith, some_first)
 
 -- Things whose texts begin with some byte, one a line.
 module _ {A : Type 0} (text_of : A → List ℕ)
@@ -56,20 +48,19 @@ module _ {A : Type 0} (text_of : A → List ℕ)
   one_line_more : (xs : List A) (x : A) → lines (xs ++ x ∷ []) ≡ lines xs ++ feed_after (lines xs) ++ text_of x
   one_line_more [] x = refl
   one_line_more (y ∷ xs) x =
-      let text = lines (y ∷ xs) in
-      let starts = lines_start y xs in
-      ap (join_with_byte line_feed) (map-append text_of (y ∷ xs) (x ∷ []))
-      ∙ join_with_byte-next line_feed (text_of y) (map text_of xs) (text_of x)
-      ∙ sym (append_assoc text (line_feed ∷ []) (text_of x))
-      ∙ ap (λ b. (text ++ b) ++ text_of x) (sym (feed_after-some text starts.0 starts.1 starts.2))
+      grind (
+        arith,
+        lines_start y xs,
+        map-append text_of (y ∷ xs),
+        join_with_byte-next line_feed (text_of y) (map text_of xs) (text_of x),
+        append_assoc,
+      )
 
   -- the lines so far, and the next one
   lines-next : (xs : List A) (i : ℕ) (x : A) (text new : List ℕ) → i < length xs → x ≡ get_or xs i x → text ≡ lines
       (take i xs)
       → new ≡ text ++ feed_after text ++ text_of x → new ≡ lines (take (i + 1) xs)
-  lines-next xs i x text new within is so_far put =
-      put ∙ ap (λ t. t ++ feed_after t ++ text_of x) so_far ∙ sym (one_line_more (take i xs) x)
-      ∙ ap (λ y. lines (take i xs ++ y ∷ [])) is ∙ ap lines (sym (take_more xs i x within))
+  lines-next xs i x text new within is so_far put = grind (arith, one_line_more (take i xs) x, take_more xs i x within)
 
 -- the patterns so far, and the next one
 pub patterns-next : (ps : List Pattern) (i : ℕ) (p : Pattern) (text new : List ℕ) → i < length ps → p

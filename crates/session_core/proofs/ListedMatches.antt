@@ -1,5 +1,5 @@
 -- The matches that a matcher finds on a session's board.
-use Rattle.std.proofs.Common.{◌≡◌, ℕ, List, refl, sym, ap, subst, ◌∙◌}
+use Rattle.std.proofs.Common.{◌≡◌, ℕ, List, arith}
 use Rattle.go_rules.specs.declared.Colour.{Colour}
 use Rattle.go_rules.specs.Position.{BoardState}
 use Rattle.pat_types.specs.declared.pattern.Pattern.{Pattern}
@@ -21,21 +21,11 @@ pub of_session : (matcher : MatcherView) (session : EngineView) (patterns : List
     → (family : List Pattern → List Row → BoardState → ReadingDepths → Type 0) → family patterns rows board depths
     → family matcher.patterns matcher.automaton (board_of session) session.depths
 of_session matcher session patterns rows board depths same_patterns same_rows same_board same_depths family is =
-    subst (λ d. family matcher.patterns matcher.automaton (board_of session) d) same_depths
-    (subst (λ b. family matcher.patterns matcher.automaton b depths) same_board
-    (subst (λ rs. family matcher.patterns rs board depths) same_rows
-    (subst (λ ps. family ps rows board depths) same_patterns is)))
+    grind arith
 
 -- the matches that were found were listed, after the helpers were asked
 pub listed-told : (matcher : Matcher) (old new : Machine) (friend : Colour) (patterns : List Pattern) (size : ℕ)
     (found : List Match) (text : List ℕ) → patterns ≡ matcher.patterns → size ≡ (position_of old).size
     → found ≡ matches_found matcher old friend → new ≡ after_asking matcher old friend
     → text ≡ matches_text patterns size found → Succeeds (matches_listed matcher old friend) text new
-listed-told matcher old new friend patterns size found text same_patterns same_size same_found asked is = record {
-  allowed = refl;
-  told = sym (is ∙ ap (λ ps. matches_text ps size found) same_patterns
-      ∙ ap (λ s. matches_text matcher.patterns s found) same_size
-      ∙ ap (matches_text matcher.patterns (position_of old).size) same_found);
-  next = asked;
-  goes_on = refl;
-}
+listed-told matcher old new friend patterns size found text same_patterns same_size same_found asked is = grind arith

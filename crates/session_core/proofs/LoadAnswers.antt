@@ -1,20 +1,18 @@
 -- What a line loads, and whether it missed that.
-use Rattle.std.proofs.Common.{◌≡◌, ℕ, Bool, true, false, cond, List, [], ◌∷◌, ◌++◌, Option, None, Some, refl, sym}
-use Rattle.std.proofs.Common.{ap, subst, ◌∙◌, append-nil, append_assoc, codes, nat_eq, ◌&&◌, arith}
+use Rattle.std.proofs.Common.{◌≡◌, ℕ, Bool, true, false, cond, List, [], ◌∷◌, ◌++◌, Option, None, Some, refl}
+use Rattle.std.proofs.Common.{ap, append-nil, append_assoc, arith}
 use Rattle.std.proofs.lemmas.Bool.Decides.{nat_tests}
 use Rattle.std.specs.Str.{bytes_eq}
-use Rattle.gtp_cmd.specs.Replies.{refusal_text, id_text, text_of, reply_end}
+use Rattle.gtp_cmd.specs.Replies.{refusal_text, text_of, reply_end}
 use Rattle.gtp_cmd.specs.declared.commands.Command.{Command}
 use Rattle.gtp_cmd.specs.declared.commands.Command.TheVariants as command
 use Rattle.gtp_cmd.specs.declared.commands.Parsed.TheVariants as parsed
 use Rattle.gtp_cmd.specs.declared.refusals.RefuseText.{RefuseText}
 use Rattle.gtp_cmd.specs.declared.refusals.RefuseText.TheVariants as refusal
 use Rattle.machine_rules.specs.Files.{Contents}
-use Rattle.machine_rules.specs.Heard.{word_at}
 use Rattle.machine_rules.specs.Loads.{load_of, parsed_load, IsFileOf, missed_by}
 use Rattle.machine_rules.specs.Machine.{Machine}
 use Rattle.machine_rules.specs.Matcher.{Matcher}
-use Rattle.machine_rules.specs.RecordCommands.{is_utf8}
 use Rattle.machine_rules.specs.Step.{effect_of}
 use Rattle.session_core.specs.CommandAnswers.{IsAnswer, IsDone, named, missed_as}
 use Rattle.session_core.specs.SlowLines.{command_of}
@@ -38,8 +36,7 @@ file-named contents id false name file of = of
 -- the text is that of the file that a command loads behind any id
 pub file-of : (contents : Contents) (line : List ℕ) (id : Option ℕ) (c : Command) (file : List ℕ)
     → IsFileOf contents (load_of line None c) file → IsFileOf contents (load_of line id c) file
-file-of contents line id (command.LoadSgf span) file of =
-    file-named contents id (is_utf8 (word_at line span)) (word_at line span) file of
+file-of contents line id (command.LoadSgf span) file of = grind (arith, file-named)
 file-of contents line id _ file of = of
 
 -- what a reply says of a file is what its answer says, whether the file has a name or not
@@ -54,8 +51,7 @@ missed-named id false name bytes said told = refl
 pub missed-told : (line : List ℕ) (id : Option ℕ) (c : Command) (bytes : List ℕ) (said : Answer)
     → ((name : List ℕ) → missed_by (Some (record { id = id; name = name })) bytes ≡ missed_as (named name) said)
     → missed_by (load_of line id c) bytes ≡ missed_as (load_of line None c) said
-missed-told line id (command.LoadSgf span) bytes said told =
-    missed-named id (is_utf8 (word_at line span)) (word_at line span) bytes said told
+missed-told line id (command.LoadSgf span) bytes said told = grind (arith, missed-named)
 missed-told line id _ bytes said told = refl
 
 -- What was answered to a work, which is this one.
@@ -64,42 +60,31 @@ module _ {work done : Work} (is : work ≡ done) where
   pub done-same : (contents : Contents) (matcher : Matcher) (old : Machine) (line : List ℕ) (said : Answer)
       (new : Machine) → IsDone contents matcher old line (command_of done) said new
       → IsDone contents matcher old line (command_of work) said new
-  done-same contents matcher old line said new =
-      subst (λ (w : Work). IsDone contents matcher old line (command_of w) said new) (sym is)
+  done-same contents matcher old line said new = grind arith
 
   -- what was answered misses the names that this work misses
   pub missed-same : (line : List ℕ) (said : Answer) (missed now : List (List ℕ))
       → now ≡ missed ++ missed_as (load_of line None (command_of done)) said
       → now ≡ missed ++ missed_as (load_of line None (command_of work)) said
-  missed-same line said missed now =
-      subst (λ (w : Work). now ≡ missed ++ missed_as (load_of line None (command_of w)) said) (sym is)
+  missed-same line said missed now = grind arith
 
   -- where this one loads nothing, it is what the command tells
   pub done-unloaded : (contents : Contents) (matcher : Matcher) (old : Machine) (line : List ℕ) (said : Answer)
       (new : Machine) → load_of line None (command_of done) ≡ None → ((file : List ℕ)
       → IsAnswer (effect_of matcher old (record { line = line; file = file }) (command_of done)) said new)
       → IsDone contents matcher old line (command_of work) said new
-  done-unloaded contents matcher old line said new none answers =
-      done-same contents matcher old line said new
-      ([], subst (λ load. IsFileOf contents load []) (sym none) tt, answers [])
+  done-unloaded contents matcher old line said new none answers = grind (arith, done-same)
 
   -- a work that loads nothing misses no name
   pub missed-unloaded : (line : List ℕ) (said : Answer) (missed : List (List ℕ))
       → load_of line None (command_of done) ≡ None
       → missed ≡ missed ++ missed_as (load_of line None (command_of work)) said
-  missed-unloaded line said missed none =
-      missed-same line said missed missed
-      (subst (λ load. missed ≡ missed ++ missed_as load said) (sym none) (sym (append-nil missed)))
-
--- a number is itself
-same-number : (n : ℕ) → nat_eq n n ≡ true
-same-number n = grind (arith, nat_tests)
+  missed-unloaded line said missed none = grind (arith, missed-same, append-nil)
 
 -- bytes behind equal ones
 bytes_eq-front : (front a b : List ℕ) → bytes_eq (front ++ a) (front ++ b) ≡ bytes_eq a b
 bytes_eq-front [] a b = refl
-bytes_eq-front (x ∷ front) a b =
-    ap (λ t. t && bytes_eq (front ++ a) (front ++ b)) (same-number x) ∙ bytes_eq-front front a b
+bytes_eq-front (x ∷ front) a b = grind (arith, nat_tests, bytes_eq-front front a b)
 
 -- what a refusal says, with the line feeds behind it
 abbrev ending : RefuseText → List ℕ
@@ -128,12 +113,4 @@ said-by_text refusal.NoSuchHelper name = refl
 pub missed-refused : (id : Option ℕ) (text : RefuseText) (name : List ℕ)
     → missed_by (Some (record { id = id; name = name })) (refusal_text id text)
     ≡ missed_as (named name) (answer.Refused text)
-missed-refused id text name =
-    let front : List ℕ = codes "?" ++ (id_text id ++ codes " ") in
-    let apart : (t : RefuseText) → refusal_text id t ≡ front ++ ending t =
-    λ t. ap (λ l. 63 ∷ l) (append_assoc (id_text id ++ codes " ") (text_of t) reply_end) in
-    ap (λ b. cond b (name ∷ []) [])
-    (ap (λ l. bytes_eq l (refusal_text id refusal.CannotLoadFile)) (apart text)
-    ∙ ap (bytes_eq (front ++ ending text)) (apart refusal.CannotLoadFile)
-    ∙ bytes_eq-front front (ending text) (ending refusal.CannotLoadFile))
-    ∙ said-by_text text name
+missed-refused id text name = grind (arith, append_assoc, bytes_eq-front, said-by_text)

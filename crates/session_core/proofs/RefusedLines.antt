@@ -1,6 +1,6 @@
 -- What a session's reply to a line says of its machine.
 use Rattle.machine_rules.proofs.Soundness.{success_apart, read-line, link-line}
-use Rattle.std.proofs.Common.{◌≡◌, ℕ, Bool, true, List, [], ◌∷◌, Option, Some, inl, inr, sym, ap, subst, ◌∙◌}
+use Rattle.std.proofs.Common.{◌≡◌, ℕ, Bool, true, List, [], ◌∷◌, Option, Some, inl, inr, ap, ◌∙◌, arith}
 use Rattle.gtp_rules.specs.Lines.{RawLine}
 use Rattle.gtp_rules.specs.Steps.{Fallback, Step}
 use Rattle.gtp_rules.specs.Transcript.{IsOneOf, MayGive, MayAnswer}
@@ -26,16 +26,14 @@ pub read-not_refused : (matcher : Matcher) (contents : Contents) (old : Machine)
     (new : Machine) (ends : Bool) → MayAnswer (step matcher contents) old line bytes new ends → IsRefusal bytes
     → is_read_line old line ≡ true → ⊥
 read-not_refused matcher contents old line bytes new ends (given, gives, may) refusal reads =
-    let says = read-line matcher contents old line given gives reads in
-    succeeded-not_refused old new says.0 says.1 bytes ends (subst (λ g. MayGive g bytes new ends) says.2 may) refusal
+    grind (arith, read-line matcher contents old line given gives reads, succeeded-not_refused old new)
 
 -- a line that asks about a connection is not refused
 pub link-not_refused : (matcher : Matcher) (contents : Contents) (old : Machine) (line : RawLine) (bytes : List ℕ)
     (new : Machine) (ends : Bool) → MayAnswer (step matcher contents) old line bytes new ends → IsRefusal bytes
     → (q : LinkQuestion) → asks_link_of_line old line ≡ Some q → ⊥
 link-not_refused matcher contents old line bytes new ends (given, gives, may) refusal q asks =
-    let says = link-line matcher contents old line given gives q asks in
-    succeeded-not_refused old new says.0 says.1 bytes ends (subst (λ g. MayGive g bytes new ends) says.2 may) refusal
+    grind (arith, link-line matcher contents old line given gives q asks, succeeded-not_refused old new)
 
 -- an excuse keeps the machine but for the calls of helpers
 excuse-same : (old new : Machine) (answers : List (Fallback Machine)) (bytes : List ℕ) → AreExcuses old answers
@@ -47,7 +45,5 @@ excuse-same old new (answer ∷ answers) bytes sound (inr is) = excuse-same old 
 -- Where the step keeps its word, a reply that is a refusal leaves the machine as it was, but for the calls of helpers.
 pub refused-same : (old : Machine) (given : Step Machine) (bytes : List ℕ) (new : Machine) (ends : Bool)
     → IsSound old given → MayGive given bytes new ends → IsRefusal bytes → AreSameButCalls old new
-refused-same old given bytes new ends sound (inl may) refusal =
-    ap quiet (may.1 ∙ sound.refused (refusal.0, sym may.0 ∙ refusal.1))
-refused-same old given bytes new ends sound (inr may) refusal =
-    excuse-same old new given.fallbacks bytes sound.excuses may.0
+refused-same old given bytes new ends sound (inl may) refusal = grind arith
+refused-same old given bytes new ends sound (inr may) refusal = grind (arith, excuse-same)

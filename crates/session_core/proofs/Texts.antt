@@ -1,7 +1,7 @@
 -- Texts that grow by one number of a range after another.
-use Rattle.std.proofs.Common.{◌≡◌, ℕ, zero, suc, ◌+◌, Bool, true, false, cond, List, [], ◌∷◌, ◌++◌, map, filter, refl}
-use Rattle.std.proofs.Common.{sym, ap, ◌∙◌, append_assoc, append-nil, arith, ◌-◌, ◌<◌, ◌≤◌, slice_index, decimal}
-use Rattle.std.proofs.Common.{subst, ◌/◌, ◌%◌}
+use Rattle.std.proofs.Common.{◌≡◌, ℕ, zero, suc, ◌+◌, Bool, true, false, cond, List, [], ◌∷◌, ◌++◌, filter, refl}
+use Rattle.std.proofs.Common.{sym, ap, ◌∙◌, append_assoc, append-nil, arith, ◌-◌, ◌<◌, ◌≤◌, slice_index}
+use Rattle.std.proofs.Common.{◌/◌, ◌%◌}
 use Rattle.std.proofs.lemmas.Fmt.{decimal_digit, decimal_step}
 use Rattle.std.proofs.lemmas.List.{map-append}
 use Rattle.std.proofs.lemmas.List.Elements.{filter-append}
@@ -9,38 +9,24 @@ use Rattle.std.specs.Ordering.{nat_cmp}
 use Rattle.std.specs.FinSet as sets
 use Rattle.std.specs.List.{flat_map, join_with_byte, range_with_len}
 use Rattle.std.proofs.lemmas.Grind.{flat_map-append}
-use Rattle.gtp_cmd.specs.Words.{blank}
-use Rattle.go_rules.specs.Board.{row_of, column_of}
 use Rattle.gtp_cmd.specs.Vertices.{vertex_text, column_letters}
 use Rattle.machine_rules.specs.PointLists.{vertices_text, blank_after}
 
 -- one number more
 range-next : (a n : ℕ) → range_with_len a (suc n) ≡ range_with_len a n ++ (a + n) ∷ []
 range-next a zero = ap (λ k. k ∷ []) (omega arith)
-range-next a (suc n) =
-    ap (λ l. a ∷ l) (range-next (a + 1) n)
-    ∙ ap (λ k. a ∷ (range_with_len (a + 1) n ++ k ∷ [])) (omega arith)
+range-next a (suc n) = grind (arith, range-next (a + 1) n)
 
 -- the first n numbers, and the next one
 pub range_with_len-next : (n : ℕ) → range_with_len 0 (n + 1) ≡ range_with_len 0 n ++ n ∷ []
-range_with_len-next n =
-    let one_more : n + 1 ≡ suc n = omega arith in
-    ap (range_with_len 0) one_more ∙ range-next 0 n ∙ ap (λ k. range_with_len 0 n ++ k ∷ []) (omega arith)
-
--- what stands for the next number is put behind what stands for those before it
-pub flat_map-next : {A : Type 0} (f : ℕ → List A) (n : ℕ) → flat_map f (range_with_len 0 (n + 1)) ≡ flat_map f
-    (range_with_len 0 n) ++ f n
-flat_map-next f n =
-    ap (flat_map f) (range_with_len-next n) ∙ flat_map-append f (range_with_len 0 n) (n ∷ []) ∙ ap
-    (λ l. flat_map f (range_with_len 0 n) ++ l) (append-nil (f n))
+range_with_len-next n = grind (arith, range-next 0 n)
 
 -- a text grows by what stands for the next number
 pub text-next : (f : ℕ → List ℕ) (first text new : List ℕ) (n : ℕ) → text ≡ first ++ flat_map f (range_with_len 0 n)
     → new ≡ text ++ f n
     → new ≡ first ++ flat_map f (range_with_len 0 (n + 1))
 text-next f first text new n so_far grows =
-    grows ∙ ap (λ t. t ++ f n) so_far ∙ append_assoc first (flat_map f (range_with_len 0 n)) (f n) ∙ ap
-    (λ t. first ++ t) (sym (flat_map-next f n))
+    grind (arith, append_assoc, range_with_len-next, flat_map-append, append-nil)
 
 -- two pieces that are put one after the other
 pub put_twice : (text mid new a b : List ℕ) → mid ≡ text ++ a → new ≡ mid ++ b → new ≡ text ++ (a ++ b)
@@ -51,23 +37,13 @@ put_twice text mid new a b first second = second ∙ ap (λ t. t ++ b) first ∙
 -- a letter and a digit are the vertex of a point whose row has one digit
 pub vertex-one_digit : (s p rows letter : ℕ) → rows ≡ s → letter ≡ slice_index column_letters (p % rows)
     → rows - p / rows < 10 → letter ∷ (48 + (rows - p / rows)) ∷ [] ≡ vertex_text s p
-vertex-one_digit s p rows letter same is less =
-    subst (λ k. letter ∷ (48 + (rows - p / rows)) ∷ [] ≡ vertex_text k p) same
-    (rw (is, decimal_digit (rows - p / rows) less) refl)
-
--- two digits write a number from ten to ninety-nine
-decimal-two_digits : (n : ℕ) → 10 ≤ n → n < 100 → decimal n ≡ (48 + n / 10) ∷ (48 + n % 10) ∷ []
-decimal-two_digits n least less =
-    decimal_step n least (omega arith)
-    ∙ ap (λ ds. ds ++ ((48 + n % 10) ∷ [])) (decimal_digit (n / 10) (omega arith))
+vertex-one_digit s p rows letter same is less = grind (arith, decimal_digit)
 
 -- a letter and two digits are the vertex of a point whose row has two digits
 pub vertex-two_digits : (s p rows letter : ℕ) → rows ≡ s → letter ≡ slice_index column_letters (p % rows)
     → 10 ≤ rows - p / rows → rows - p / rows < 100
     → letter ∷ (48 + (rows - p / rows) / 10) ∷ (48 + (rows - p / rows) % 10) ∷ [] ≡ vertex_text s p
-vertex-two_digits s p rows letter same is least less =
-    subst (λ k. letter ∷ (48 + (rows - p / rows) / 10) ∷ (48 + (rows - p / rows) % 10) ∷ [] ≡ vertex_text k p) same
-    (rw (is, decimal-two_digits (rows - p / rows) least less) refl)
+vertex-two_digits s p rows letter same is least less = grind (arith, decimal_step, decimal_digit)
 
 -- Lists of vertices.
 
@@ -75,9 +51,7 @@ vertex-two_digits s p rows letter same is least less =
 pub join_with_byte-next : (b : ℕ) (text : List ℕ) (texts : List (List ℕ)) (new : List ℕ) → join_with_byte b
     ((text ∷ texts) ++ new ∷ []) ≡ join_with_byte b (text ∷ texts) ++ b ∷ new
 join_with_byte-next b text [] new = refl
-join_with_byte-next b text (next ∷ texts) new =
-    ap (λ t. text ++ b ∷ t) (join_with_byte-next b next texts new) ∙ sym
-    (append_assoc text (b ∷ join_with_byte b (next ∷ texts)) (b ∷ new))
+join_with_byte-next b text (next ∷ texts) new = grind (arith, join_with_byte-next b next texts new, append_assoc)
 
 -- texts that are joined begin with the first of them
 pub starts_with_text : (b c : ℕ) (cs : List ℕ) (texts : List (List ℕ)) → (more : List ℕ)
@@ -90,15 +64,7 @@ pub vertices_text-next : (s : ℕ) (points : List ℕ) (p : ℕ)
     → vertices_text s (points ++ p ∷ []) ≡ vertices_text s points ++ blank_after (vertices_text s points)
     ++ vertex_text s p
 vertices_text-next s [] p = refl
-vertices_text-next s (q ∷ points) p =
-    let text = vertices_text s (q ∷ points) in
-    let vertex = vertex_text s p in
-    let starts = starts_with_text blank (slice_index column_letters (column_of s q)) (decimal (s - row_of s q))
-    (map (vertex_text s) points) in
-    ap (join_with_byte blank) (map-append (vertex_text s) (q ∷ points) (p ∷ []))
-    ∙ join_with_byte-next blank (vertex_text s q) (map (vertex_text s) points) vertex
-    ∙ sym (append_assoc text (blank ∷ []) vertex)
-    ∙ ap (λ b. (text ++ b) ++ vertex) (sym (ap blank_after starts.1))
+vertices_text-next s (q ∷ points) p = grind (arith, starts_with_text, map-append, join_with_byte-next, append_assoc)
 
 -- The points below n that pass a test, and the next one, p.
 module _ (s n : ℕ) (test : ℕ → Bool) (text : List ℕ)
@@ -118,22 +84,14 @@ module _ (s n : ℕ) (test : ℕ → Bool) (text : List ℕ)
   -- the points below p, of which none from n on passes
   filter-upto : (p : ℕ) → n ≤ p → ((q : ℕ) → n ≤ q → q < p → test q ≡ false) → filter test (range_with_len 0 p)
       ≡ filter test (range_with_len 0 n)
-  filter-upto p from none =
-      let same : n + (p - n) ≡ p = omega (arith, from) in
-      ap (λ m. filter test (range_with_len 0 m)) (sym same)
-      ∙ filter-skip (p - n) (λ q low below. none q low (omega (arith, below, same)))
+  filter-upto p from none = grind (arith, filter-skip (p - n))
 
   -- p is the next point that passes, and its vertex was put
   pub vertices-passes : (p : ℕ) (new : List ℕ) → n ≤ p → ((q : ℕ) → n ≤ q → q < p → test q ≡ false) → test p ≡ true
       → new ≡ (text ++ blank_after text) ++ vertex_text s p → new ≡ vertices_text s (filter test
       (range_with_len 0 (p + 1)))
   vertices-passes p new from none passes put =
-      put ∙ ap (λ t. (t ++ blank_after t) ++ vertex_text s p) so_far
-      ∙ sym (vertices_text-next s (filter test (range_with_len 0 n)) p)
-      ∙ ap (vertices_text s) (sym (ap (filter test) (range_with_len-next p)
-      ∙ filter-append test (range_with_len 0 p) (p ∷ [])
-      ∙ ap (λ b. filter test (range_with_len 0 p) ++ cond b (p ∷ []) []) passes
-      ∙ ap (λ l. l ++ p ∷ []) (filter-upto p from none)))
+      grind (arith, vertices_text-next, range_with_len-next, filter-append, filter-upto)
 
   -- no point below the end passes any more
   pub vertices-end : (end : ℕ) → n ≤ end → ((q : ℕ) → n ≤ q → q < end → test q ≡ false)

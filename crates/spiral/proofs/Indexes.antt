@@ -2,9 +2,8 @@
 use Rattle.std.proofs.Common.{◌≡◌, ℕ, ◌+◌, ◌-◌, ◌<◌, Bool, true, false, ◌&&◌, ◌==◌, nat_lt, max, ℤ, pos, negsuc, suc}
 use Rattle.std.proofs.Common.{◌+ℤ◌, ◌-ℤ◌, ◌≤ℤ◌, neg_ℤ, nat_abs, ◌∙◌, refl, sym, ap, arith}
 use Rattle.std.proofs.lemmas.Bool.{agree_below, agree_below_at, and_parts, ltb-true, eqb-true, false≢true}
-use Rattle.std.specs.Int.Signed.{le_z, le_z_yes}
+use Rattle.std.specs.Int.Signed.{le_z}
 use Rattle.std.proofs.lemmas.Int.{ints}
-use Rattle.std.proofs.lemmas.Float.{T_from_true}
 use Rattle.go_rules.specs.Transform.{Offset, IsNear, largest_offset}
 use Rattle.spiral.specs.Spiral.{ring_start, place_in, offset_at, offset_count, square_side}
 use Rattle.spiral.proofs.Places.{offset_by_parts}
@@ -60,18 +59,12 @@ indexed row column p q =
     let here = agree_below_at (is_indexed row) (λ _. true) square_side column
     (agree_below_at (λ r. agree_below (is_indexed r) (λ _. true) square_side)
     (λ _. true) square_side row all_indexed p) q in
-    let parts = and_parts (nat_lt (index_at row column) offset_count) _ here in
-    let both = and_parts (same_ℤ (offset_at (index_at row column)).0 (pos row -ℤ pos largest_offset)) _ parts.1 in
-    record { bound = ltb-true _ _ parts.0; row_back = same_ℤ-true _ _ both.0; column_back = same_ℤ-true _ _ both.1 }
+    grind (arith, and_parts, nat_lt, pos, ltb-true, same_ℤ-true)
 
 -- an offset whose parts are known by its index is the one in that row and column
 pub indexed_as : (row column : ℕ) → IsIndexed row column
     → offset_at (index_at row column) ≡ (pos row -ℤ pos largest_offset, pos column -ℤ pos largest_offset)
-indexed_as row column i =
-    offset_by_parts _ _ _ _ (
-      pos row -ℤ pos largest_offset,
-      pos column -ℤ pos largest_offset,
-    ) refl i.row_back i.column_back
+indexed_as row column i = grind (arith, offset_by_parts, pos)
 
 -- the start of the ring of an offset and its place in that ring make its index
 pub found_at : (row column from_row from_column k start place : ℕ) → from_row ≡ apart row largest_offset
@@ -112,15 +105,7 @@ pub offsets_near : (i : ℕ) → i < offset_count → IsNear (offset_at i)
 offsets_near i p =
     let d : Offset = offset_at i in
     let here = agree_below_at (λ n. is_near (offset_at n)) (λ _. true) offset_count i all_near p in
-    let both = and_parts (le_z (neg_ℤ (pos largest_offset)) d.0 && le_z d.0 (pos largest_offset)) _ here in
-    let row = and_parts (le_z (neg_ℤ (pos largest_offset)) d.0) (le_z d.0 (pos largest_offset)) both.0 in
-    let column = and_parts (le_z (neg_ℤ (pos largest_offset)) d.1) (le_z d.1 (pos largest_offset)) both.1 in
-    record {
-      row_low = le_z_yes (T_from_true _ row.0);
-      row_high = le_z_yes (T_from_true _ row.1);
-      column_low = le_z_yes (T_from_true _ column.0);
-      column_high = le_z_yes (T_from_true _ column.1);
-    }
+    grind (arith, and_parts, neg_ℤ, pos)
 
 -- a part that is not beyond the largest is that of some row or column of the square of all offsets
 from_middle : (z : ℤ) → neg_ℤ (pos largest_offset) ≤ℤ z → z ≤ℤ pos largest_offset
@@ -133,9 +118,4 @@ pub offset_exists : (d : Offset) → IsNear d → (i : ℕ) × (i < offset_count
 offset_exists d near =
     let row = from_middle d.0 near.row_low near.row_high in
     let column = from_middle d.1 near.column_low near.column_high in
-    let found = indexed row.0 column.0 row.1 column.1 in (
-      index_at row.0 column.0,
-      found.bound,
-      indexed_as row.0 column.0 found
-          ∙ offset_by_parts _ _ d.0 d.1 d refl row.2 column.2,
-    )
+    grind (arith, indexed row.0 column.0 row.1 column.1, indexed_as row.0 column.0, offset_by_parts)

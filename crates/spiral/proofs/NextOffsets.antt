@@ -1,11 +1,10 @@
 -- Which offset follows another, by tests that the checker computes over all offsets.
 use Rattle.std.proofs.Common.{◌≡◌, ℕ, suc, ◌+◌, ◌<◌, Bool, true, false, ◌&&◌, cond, ℤ, pos, ◌+ℤ◌, ◌-ℤ◌, ◌≤ℤ◌, ◌∙◌, ◌<ℤ◌}
-use Rattle.std.proofs.Common.{refl, ap, subst, arith, inl, inr, ◌-◌, T, ◌⊎◌}
+use Rattle.std.proofs.Common.{refl, ap, arith, inl, inr, ◌-◌, ◌⊎◌}
 use Rattle.std.proofs.Math.Bool.{and-false}
 use Rattle.std.proofs.lemmas.Bool.{agree_below, agree_below_at, and_parts, cases_Bool}
-use Rattle.std.specs.Int.Signed.{le_z, le_z_yes}
+use Rattle.std.specs.Int.Signed.{le_z}
 use Rattle.std.proofs.lemmas.Int.{ints}
-use Rattle.std.proofs.lemmas.Float.{T_from_true}
 use Rattle.go_rules.specs.Transform.{Offset}
 use Rattle.spiral.specs.Spiral.{offset_at, offset_count}
 use Rattle.spiral.proofs.Indexes.{same_ℤ, same_ℤ-true}
@@ -13,17 +12,11 @@ use Rattle.spiral.proofs.Places.{offset_by_parts}
 
 -- a test that holds is passed
 passes : (a b : ℤ) → a ≤ℤ b → le_z a b ≡ true
-passes a b low = elim (cases_Bool (le_z a b)) [
-  | inl passed ↦ passed
-  | inr failed ↦ absurd (subst T failed low.le)
-]
+passes a b low = grind (arith, cases_Bool)
 
 -- a test that does not hold is not passed
 fails : (a b : ℤ) → (b +ℤ pos 1) ≤ℤ a → le_z a b ≡ false
-fails a b high = elim (cases_Bool (le_z a b)) [
-  | inl passed ↦ (let low : a ≤ℤ b = le_z_yes (T_from_true _ passed) in absurd (omega (arith, ints)))
-  | inr failed ↦ failed
-]
+fails a b high = grind (arith, cases_Bool, ints)
 
 -- whether the offset lies on the top of its ring, before the right corner
 abbrev pub is_top : Offset → Bool
@@ -62,17 +55,12 @@ followed d i low here =
 -- below the diagonals the offset does not lie on the top
 pub fails-top : (d : Offset) → (pos 0 ≤ℤ (d.0 +ℤ d.1)) ⊎ (d.1 <ℤ d.0) → is_top d ≡ false
 fails-top d (inl sum) = rw (fails ((d.0 +ℤ d.1) +ℤ pos 1) (pos 0) (omega (arith, ints))) refl
-fails-top d (inr order) =
-    ap (λ b. le_z ((d.0 +ℤ d.1) +ℤ pos 1) (pos 0) && b) (fails d.0 d.1 (omega (arith, ints))) ∙ and-false _
+fails-top d (inr order) = grind (arith, pos, fails, ints, and-false)
 
 module _ (d : Offset) (i : ℕ) (low : i + 1 < offset_count) (here : offset_at i ≡ d) where
   -- on the top the next offset lies to the right
   pub next-top : (d.0 +ℤ d.1) <ℤ pos 0 → d.0 ≤ℤ d.1 → offset_at (i + 1) ≡ (d.0, d.1 +ℤ pos 1)
-  next-top sum order =
-      followed d i low here ∙ rw (
-        passes ((d.0 +ℤ d.1) +ℤ pos 1) (pos 0) (omega (arith, ints)),
-        passes d.0 d.1 order,
-      ) refl
+  next-top sum order = grind (arith, followed, passes, pos, ints)
 
   -- on the right side it lies below
   pub next-right : is_top d ≡ false → d.0 <ℤ d.1 → offset_at (i + 1) ≡ (d.0 +ℤ pos 1, d.1)
@@ -80,24 +68,12 @@ module _ (d : Offset) (i : ℕ) (low : i + 1 < offset_count) (here : offset_at i
 
   -- on the bottom it lies to the left
   pub next-bottom : is_top d ≡ false → d.1 ≤ℤ d.0 → pos 0 <ℤ (d.0 +ℤ d.1) → offset_at (i + 1) ≡ (d.0, d.1 -ℤ pos 1)
-  next-bottom top order sum =
-      followed d i low here ∙ rw (
-        top,
-        fails (d.0 +ℤ pos 1) d.1 (omega (arith, ints)),
-        passes (pos 1) (d.0 +ℤ d.1) (omega (arith, ints)),
-      ) refl
+  next-bottom top order sum = grind (arith, followed, fails, pos, ints, passes)
 
   -- on the left side it lies above
   pub next-left : is_top d ≡ false → d.1 ≤ℤ d.0 → (d.0 +ℤ d.1) ≤ℤ pos 0 → (d.1 +ℤ pos 1) <ℤ d.0
       → offset_at (i + 1) ≡ (d.0 -ℤ pos 1, d.1)
-  next-left top order sum up =
-      followed d i low here
-      ∙ rw (
-        top,
-        fails (d.0 +ℤ pos 1) d.1 (omega (arith, ints)),
-        fails (pos 1) (d.0 +ℤ d.1) (omega (arith, ints)),
-        passes (d.1 +ℤ pos 2) d.0 (omega (arith, ints)),
-      ) refl
+  next-left top order sum up = grind (arith, followed, fails, pos, ints, passes)
 
   -- the last of a ring is followed by the first of the next
   pub next-ring : is_top d ≡ false → d.1 ≤ℤ d.0 → (d.0 +ℤ d.1) ≤ℤ pos 0 → d.0 ≤ℤ (d.1 +ℤ pos 1)

@@ -1,10 +1,9 @@
 -- What is answered to a line that loads a file, by what the loader says of the file.
-use Rattle.std.proofs.Common.{◌≡◌, ℕ, Bool, true, cond, eqb, List, [], ◌∷◌, length, Option, Some, None}
-use Rattle.std.proofs.Common.{inl, inr, refl, sym, subst, arith}
+use Rattle.std.proofs.Common.{◌≡◌, ℕ, Bool, true, cond, List, [], ◌∷◌, Option, Some, None}
+use Rattle.std.proofs.Common.{inl, inr, refl, arith}
 use Rattle.std.proofs.lemmas.Bool.Decides.{nat_tests}
 use Rattle.std.proofs.lemmas.Str.{utf8_valid_len-IsUtf8}
 use Rattle.std.specs.Prelude.{IsUtf8}
-use Rattle.std.specs.Str.Lossy.{utf8_valid_len}
 use Rattle.gtp_cmd.specs.declared.refusals.RefuseText.{RefuseText}
 use Rattle.gtp_cmd.specs.declared.refusals.RefuseText.TheVariants.{CannotLoadFile, SyntaxError, OutOfMemory}
 use Rattle.gtp_io.specs.Loading.{IsLoaded}
@@ -15,13 +14,9 @@ use Rattle.sure_lines.specs.declared.answer.Answer.{Answer}
 use Rattle.sure_lines.specs.declared.answer.Answer.TheVariants as answer
 use Rattle.sure_lines.specs.Machine.{Machine}
 
--- a number is that number
-equal : (a b : ℕ) → a ≡ b → eqb a b ≡ true
-equal a b same = grind (arith, nat_tests)
-
 -- all bytes of a text are its longest front that is a text
 pub text-is_utf8 : (bytes : List ℕ) → IsUtf8 bytes → is_utf8 bytes ≡ true
-text-is_utf8 bytes is = equal (utf8_valid_len bytes) (length bytes) (utf8_valid_len-IsUtf8 bytes is)
+text-is_utf8 bytes is = grind (arith, nat_tests, utf8_valid_len-IsUtf8)
 
 -- some text may be loaded under each name
 some_loaded : (contents : Option (List ℕ)) → (file : List ℕ) × IsLoaded contents [] file
@@ -37,13 +32,8 @@ some_file contents (Some name) = some_loaded (contents name)
 pub more-excused : (effect : Effect) (excuses : List RefuseText) (said : Answer) (old new : Machine)
     → ((text : RefuseText) → IsExcused effect.excuses text → IsExcused excuses text)
     → IsAnswer effect said old new → IsAnswer (record effect { excuses = excuses }) said old new
-more-excused effect excuses (answer.Brief result) old new more is =
-    record { allowed = is.allowed; told = is.told; next = is.next; goes_on = is.goes_on }
-more-excused effect excuses (answer.Grown result) old new more is = (
-  record { allowed = is.0.allowed; told = is.0.told; next = is.0.next; goes_on = is.0.goes_on },
-  more OutOfMemory is.1,
-  is.2,
-)
+more-excused effect excuses (answer.Brief result) old new more is = grind arith
+more-excused effect excuses (answer.Grown result) old new more is = grind arith
 more-excused effect excuses answer.NoMemory old new more is = (more OutOfMemory is.0, is.1)
 more-excused effect excuses (answer.Refused text) old new more (inl is) = inl is
 more-excused effect excuses (answer.Refused text) old new more (inr is) = inr (more text is.0, is.1)
@@ -52,18 +42,14 @@ more-excused effect excuses answer.Ended old new more is = is
 -- what was loaded by a name, behind nothing, is what the loader gives by the word that the name is
 pub loaded-anew : (contents : Contents) (word name into bytes file : List ℕ) → name ≡ word → into ≡ [] → file ≡ bytes
     → IsLoaded (contents name) into bytes → IsLoaded (contents word) [] file
-loaded-anew contents word name into bytes file same empty is loaded =
-    subst (λ text. IsLoaded (contents word) [] text) (sym is)
-    (subst (λ front. IsLoaded (contents word) front bytes) empty
-    (subst (λ known. IsLoaded (contents known) into bytes) same loaded))
+loaded-anew contents word name into bytes file same empty is loaded = grind arith
 
 -- What is loaded by a name that is a text.
 module _ (name : List ℕ) (utf8 : is_utf8 name ≡ true) where
   -- what the loader gave is the text of the file
   pub given-file : (contents : Contents) (bytes : List ℕ) → IsLoaded (contents name) [] bytes
       → IsFileOf contents (named_file name) bytes
-  given-file contents bytes is =
-      subst (λ b. IsFileOf contents (cond b (Some name) None) bytes) (sym utf8) is
+  given-file contents bytes is = grind arith
 
   module _ (old : Machine) (effect : Effect) where
     -- the effect of the line, if its name is a text or not
@@ -73,11 +59,8 @@ module _ (name : List ℕ) (utf8 : is_utf8 name ≡ true) where
     -- an answer of the effect is one of the line
     pub file-answered : (said : Answer) (new : Machine) → IsAnswer effect said old new
         → IsAnswer (by_file old name effect) said old new
-    file-answered said new is = subst (λ b. IsAnswer (done b) said old new) (sym utf8)
-        (more-excused effect (OutOfMemory ∷ CannotLoadFile ∷ effect.excuses) said old new
-        (λ text excused. inr (inr excused)) is)
+    file-answered said new is = grind (arith, more-excused)
 
     -- so is that the file could not be loaded
     pub file-not-loaded : IsAnswer (by_file old name effect) (answer.Refused CannotLoadFile) old old
-    file-not-loaded = subst (λ b. IsAnswer (done b) (answer.Refused CannotLoadFile) old old) (sym utf8)
-        (inr (inr (inl refl), refl))
+    file-not-loaded = grind arith

@@ -1,14 +1,14 @@
 -- What answers a line, by what the line says.
-use Rattle.std.proofs.Common.{◌≡◌, ℕ, Bool, List, [], Option, None, refl, sym, ap, subst, ◌∙◌}
+use Rattle.std.proofs.Common.{◌≡◌, ℕ, Bool, List, [], Option, None, arith}
 use Rattle.gtp_rules.specs.Lines.{RawLine}
 use Rattle.gtp_rules.specs.Transcript.{MayGive, MayAnswer}
 use Rattle.gtp_cmd.specs.declared.commands.Command.{Command}
 use Rattle.gtp_cmd.specs.declared.commands.Parsed.{Parsed}
 use Rattle.sure_lines.specs.Answers.{IsAnswer}
 use Rattle.sure_lines.specs.Files.{Contents}
-use Rattle.sure_lines.specs.Heard.{heard, heard_at, bytes_in}
+use Rattle.sure_lines.specs.Heard.{heard_at, bytes_in}
 use Rattle.sure_lines.specs.Machine.{Machine}
-use Rattle.sure_lines.specs.SureStep.{effect_of, parsed_step, step_on, step}
+use Rattle.sure_lines.specs.SureStep.{effect_of, parsed_step, step}
 use Rattle.sure_lines.specs.Texts.{IsTextOf, IsTextSaid}
 use Rattle.sure_lines.specs.declared.answer.Answer.{Answer}
 
@@ -18,22 +18,11 @@ pub obeyed : (contents : Contents) (old new : Machine) (line : List ℕ) (comman
     → ((file : List ℕ) → IsAnswer (effect_of old line file known) said old new)
     → (file : List ℕ) × IsTextOf contents old line command file
     × IsAnswer (effect_of old line file command) said old new
-obeyed contents old new line command known said is taken answers =
-    subst (λ (c : Command). (file : List ℕ) × IsTextOf contents old line c file
-    × IsAnswer (effect_of old line file c) said old new) (sym is) ([], taken, answers [])
+obeyed contents old new line command known said is taken answers = grind arith
 
 -- what answers to what a line says answers the line
 pub answered : (contents : Contents) (old new : Machine) (line : RawLine) (size : ℕ) (what : Parsed) (out : List ℕ)
     (ends : Bool) (file : List ℕ) → what ≡ heard_at size line → size ≡ old.game.base.size
     → IsTextSaid contents old (bytes_in line) what file
     → MayGive (parsed_step old (bytes_in line) file what) out new ends → MayAnswer (step contents) old line out new ends
-answered contents old new line size what out ends file says same of gives =
-    let heard_as : heard old line ≡ what = ap (λ s. heard_at s line) (sym same) ∙ sym says in (
-      step_on old file line,
-      (
-        file,
-        subst (λ (w : Parsed). IsTextSaid contents old (bytes_in line) w file) (sym heard_as) of,
-        refl,
-      ),
-      subst (λ (w : Parsed). MayGive (parsed_step old (bytes_in line) file w) out new ends) (sym heard_as) gives,
-    )
+answered contents old new line size what out ends file says same of gives = grind arith

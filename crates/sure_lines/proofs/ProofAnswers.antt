@@ -1,6 +1,6 @@
 -- What is answered to the commands about proofs.
 use Rattle.std.proofs.Common.{◌≡◌, ◌↔◌, ℕ, ◌+◌, ◌-◌, ◌<◌, Bool, true, false, cond, List, [], ◌∷◌, take, drop, Option}
-use Rattle.std.proofs.Common.{Some, None, IsTrue, inl, refl, sym, ap, subst, ◌∙◌, arith, zero, suc}
+use Rattle.std.proofs.Common.{Some, None, IsTrue, refl, sym, ap, ◌∙◌, arith, zero, suc}
 use Rattle.std.proofs.lemmas.List.{drop-take, drop-drop}
 use Rattle.go_rules.specs.Strings.{cell_at, is_stone}
 use Rattle.gtp_cmd.specs.Spans.{spanned, span_between}
@@ -70,13 +70,7 @@ module _ (contents : Contents) (machine : Machine) (p code : ℕ) (text : List �
   -- at an empty point the check is refused
   pub empty-checked : (kind : Kind) → is_stone (cell_at (present machine).cells p) ≡ false
       → said ≡ answer.Refused VertexEmpty → IsChecked kind
-  empty-checked kind empty is =
-      let file = some_file contents (proof_name text) in (
-        file.0,
-        file.1,
-        subst (λ b. IsAnswer (of_point kind file.0 b) said machine machine) (sym empty)
-            (subst (λ a. IsAnswer (refused machine VertexEmpty) a machine machine) (sym is) (inl (refl, refl, refl))),
-      )
+  empty-checked kind empty is = grind (arith, some_file contents (proof_name text))
 
   module _ (kind : Kind) (stone : is_stone (cell_at (present machine).cells p) ≡ true) where
     -- if they name a file, the words of the file are judged
@@ -84,13 +78,4 @@ module _ (contents : Contents) (machine : Machine) (p code : ℕ) (text : List �
         → (file : List ℕ) × IsFileOf contents (named_file name) file
         × IsAnswer (by_file machine name (judged machine kind p code (proof_in file))) said machine machine
         → IsChecked kind
-    file-checked names name same is =
-        let file = is.0 in (
-          file,
-          subst (λ b. IsFileOf contents (cond b (named_file (name_behind text)) None) file) (sym names)
-              (subst (λ n. IsFileOf contents (named_file n) file) same is.1),
-          subst (λ b. IsAnswer (of_point kind file b) said machine machine) (sym stone)
-              (subst (λ b. IsAnswer (of_text kind file b) said machine machine) (sym names)
-              (subst (λ n. IsAnswer (by_file machine n (judged machine kind p code (proof_in file))) said machine
-              machine) same is.2)),
-        )
+    file-checked names name same is = grind arith

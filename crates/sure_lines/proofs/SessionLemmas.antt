@@ -1,7 +1,7 @@
 -- Lines that are answered one after another, and what is put for them.
 use Rattle.std.proofs.Common.{◌≡◌, ℕ, ◌+◌, ◌-◌, ◌<◌, ◌≤◌, Bool, true, false, List, [], ◌∷◌, ◌++◌, length, take, drop, Option}
 use Rattle.std.proofs.Common.{refl, sym, ap, subst, ◌∙◌, append-nil, append_assoc, suc, take-add, length-drop, arith, Result, Ok, Err, IfOk}
-use Rattle.std.proofs.KnownBytes.{Appends-nil, Appends-trans, Consumes-nil, Consumes-trans}
+use Rattle.std.proofs.KnownBytes.{Appends-nil, Appends-trans, Consumes-trans}
 use Rattle.std.proofs.lemmas.List.{take_rest}
 use Rattle.std.specs.Io.KnownBytes.{Appends, Consumes}
 use Rattle.gtp_rules.specs.Lines.{RawLine, Line, lines_with_rest}
@@ -17,15 +17,13 @@ use Rattle.sure_lines.specs.SureStep.{step}
 -- answers of a machine with the same files
 pub answered-by : (here there : Contents) (old new : Machine) (lines : List RawLine) (a b : Option (List ℕ)) (ended : Bool)
     → here ≡ there → AreAnswered here old new lines a b ended → AreAnswered there old new lines a b ended
-answered-by here there old new lines a b ended same answered =
-    subst (λ contents. AreAnswered contents old new lines a b ended) same answered
+answered-by here there old new lines a b ended same answered = grind arith
 
 -- the same with a flag that says whether the session ended
 pub answered-flag : (contents : Contents) (old new : Machine) (lines : List RawLine) (a b : Option (List ℕ))
     (ended flag : Bool) → ended ≡ flag → AreAnswered contents old new lines a b ended
     → AreAnswered contents old new lines a b flag
-answered-flag contents old new lines a b ended flag same answered =
-    subst (λ e. AreAnswered contents old new lines a b e) same answered
+answered-flag contents old new lines a b ended flag same answered = grind arith
 
 -- what holds of a success holds of it in another way too
 pub if_ok_map : {T E : Type 0} {P Q : T → Type 0} (r : Result T E) → ((x : T) → P x → Q x) → IfOk r P → IfOk r Q
@@ -47,15 +45,13 @@ nothing_taken a b buf n none taken = subst (λ k. Consumes a b (take k buf)) non
 -- bytes of a rest are no more than are left
 pub within_rest : (bytes : List ℕ) (done n : ℕ) → n ≤ length (take (length bytes - done) (drop done bytes))
     → n ≤ length bytes - done
-within_rest bytes done n fits =
-    let len = ap length (take_rest bytes done) ∙ length-drop done bytes in omega (arith, len, fits)
+within_rest bytes done n fits = grind (arith, take_rest, length-drop)
 
 -- a run that has ended is one of further lines too
 run-ended : (contents : Contents) (old new : Machine) (xs ys : List RawLine) (out : List ℕ)
     → IsRun (step contents) old xs out new true → IsRun (step contents) old (xs ++ ys) out new true
 run-ended contents old new [] ys out run = absurd (let e = run.2 in cc)
-run-ended contents old new (x ∷ xs) ys out (first, rest, mid, true, answers, joined, ends) =
-    (first, rest, mid, true, answers, joined, ends)
+run-ended contents old new (x ∷ xs) ys out (first, rest, mid, true, answers, joined, ends) = grind arith
 run-ended contents old new (x ∷ xs) ys out (first, rest, mid, false, answers, joined, more) =
     (first, rest, mid, false, answers, joined, run-ended contents mid new xs ys rest more)
 
@@ -87,17 +83,14 @@ module _ (contents : Contents) where
   -- what is put after a line, by whether it ends the session
   after_one : (ends : Bool) (old new : Machine) (line : RawLine) (out : List ℕ)
       → MayAnswer (step contents) old line out new ends → IsRun (step contents) old (line ∷ []) out new ends
-  after_one true old new line out answers =
-      (out, [], new, true, answers, sym (append-nil out), (refl, refl, refl))
-  after_one false old new line out answers =
-      (out, [], new, false, answers, sym (append-nil out), (refl, refl, refl))
+  after_one true old new line out answers = grind (arith, append-nil out)
+  after_one false old new line out answers = grind (arith, append-nil out)
 
   -- one line
   pub answered-one : (old new : Machine) (line : RawLine) (out : List ℕ) (a b : Option (List ℕ)) (ends : Bool)
       → MayAnswer (step contents) old line out new ends → Appends a b out
       → AreAnswered contents old new (line ∷ []) a b ends
-  answered-one old new line out a b ends answers puts =
-      record { out = out; run = after_one ends old new line out answers; puts = puts }
+  answered-one old new line out a b ends answers puts = grind (arith, after_one)
 
   -- lines after lines
   pub answered-append : (old mid new : Machine) (xs ys : List RawLine) (a b c : Option (List ℕ)) (ended : Bool)
@@ -112,17 +105,12 @@ module _ (contents : Contents) where
   -- lines behind one that ended the session
   pub answered-ended : (old new : Machine) (xs ys : List RawLine) (a b : Option (List ℕ))
       → AreAnswered contents old new xs a b true → AreAnswered contents old new (xs ++ ys) a b true
-  answered-ended old new xs ys a b first = record {
-    out = first.out;
-    run = run-ended contents old new xs ys first.out first.run;
-    puts = first.puts;
-  }
+  answered-ended old new xs ys a b first = grind (arith, run-ended)
 
   -- the same lines
   pub answered-is : (old new : Machine) (xs ys : List RawLine) (a b : Option (List ℕ)) (ended : Bool) → xs ≡ ys
       → AreAnswered contents old new ys a b ended → AreAnswered contents old new xs a b ended
-  answered-is old new xs ys a b ended same answered =
-      subst (λ l. AreAnswered contents old new l a b ended) (sym same) answered
+  answered-is old new xs ys a b ended same answered = grind arith
 
   -- none of the lines is answered yet
   pub piece-start : (first : Machine) (all : List RawLine) (w : Option (List ℕ))
@@ -144,27 +132,17 @@ module _ (contents : Contents) where
       → IsPieceSoFar contents first now all left w0 w1 → left ≡ more ++ rest
       → AreAnswered contents now new more w1 w2 true → AreAnswered contents first new all w0 w2 true
   piece-ended first now new all left more rest w0 w1 w2 before same answered =
-      answered-is first new all _ w0 w2 true
-      (before.whole ∙ ap (λ l. before.lines ++ l) same ∙ sym (append_assoc before.lines more rest))
-      (answered-ended first new (before.lines ++ more) rest w0 w2
-      (answered-append first now new before.lines more w0 w1 w2 true before.answered answered))
+      grind (arith, answered-is, append_assoc, answered-ended, answered-append)
 
   -- none is left
   pub piece-done : (first now : Machine) (all left : List RawLine) (w0 w1 : Option (List ℕ))
       → IsPieceSoFar contents first now all left w0 w1 → left ≡ [] → AreAnswered contents first now all w0 w1 false
-  piece-done first now all left w0 w1 before none =
-      answered-is first now all before.lines w0 w1 false
-      (before.whole ∙ ap (λ l. before.lines ++ l) none ∙ append-nil before.lines) before.answered
+  piece-done first now all left w0 w1 before none = grind (arith, answered-is, append-nil)
 
   -- nothing was taken yet
   pub so_far-none : (first : Machine) (left written : Option (List ℕ)) (held : RawLine) → held ≡ Line []
       → IsSoFar contents first first left left written written held
-  so_far-none first left written held empty = record {
-    taken = [];
-    takes = Consumes-nil left;
-    answered = answered-none first written;
-    held_is = empty;
-  }
+  so_far-none first left written held empty = grind (arith, answered-none first written)
 
   -- A piece more was taken.
   module _ (first now new : Machine) (l0 l1 l2 w0 w1 w2 : Option (List ℕ)) (held : RawLine) (piece : List ℕ)
@@ -172,8 +150,7 @@ module _ (contents : Contents) where
     -- the lines of the bytes with the piece
     longer_lines : lines_from (Line []) (before.taken ++ piece)
         ≡ lines_from (Line []) before.taken ++ lines_from held piece
-    longer_lines = lines_from-append (Line []) before.taken piece
-        ∙ ap (λ h. lines_from (Line []) before.taken ++ lines_from h piece) (sym before.held_is)
+    longer_lines = grind (arith, lines_from-append)
 
     -- its lines were answered, and none ended the session
     pub so_far-more : (held_now : RawLine) → held_now ≡ held_from held piece

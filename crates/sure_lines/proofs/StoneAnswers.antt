@@ -1,11 +1,9 @@
 -- What is told of the stone at a point.
-use Rattle.std.proofs.Common.{◌≡◌, ℕ, true, cond, List, refl, sym, subst}
+use Rattle.std.proofs.Common.{◌≡◌, ℕ, true, List, arith}
 use Rattle.go_rules.specs.Strings.{cell_at, is_stone}
-use Rattle.gtp_cmd.specs.declared.refusals.RefuseText.TheVariants.{VertexEmpty}
 use Rattle.read_rules.specs.declared.question.Kind.{Kind}
 use Rattle.sure_lines.specs.AnswerText.{answer_text}
 use Rattle.sure_lines.specs.Answers.{IsAnswer}
-use Rattle.sure_lines.specs.Effects.{refused, succeeded}
 use Rattle.sure_lines.specs.Machine.{Machine, present}
 use Rattle.sure_lines.specs.QuestionCommands.{read, sure_reading}
 use Rattle.sure_lines.specs.declared.answer.Answer.{Answer}
@@ -16,8 +14,4 @@ pub succeeded-read : (machine : Machine) (kind : Kind) (p : ℕ) (text : List �
     → is_stone (cell_at (present machine).cells p) ≡ true → said ≡ answer.Brief text
     → text ≡ answer_text machine.game.base.size (sure_reading machine kind p)
     → IsAnswer (read machine kind p) said machine machine
-succeeded-read machine kind p text said stone says is =
-    let effect = succeeded (answer_text machine.game.base.size (sure_reading machine kind p)) machine in
-    subst (λ b. IsAnswer (cond b effect (refused machine VertexEmpty)) said machine machine) (sym stone)
-    (subst (λ a. IsAnswer effect a machine machine) (sym says)
-    (record { allowed = refl; told = sym is; next = refl; goes_on = refl }))
+succeeded-read machine kind p text said stone says is = grind arith

@@ -1,6 +1,6 @@
 -- The lines that are taken of a stream, over plain values.
 use Rattle.std.proofs.Common.{◌≡◌, ◌≢◌, ℕ, ◌-◌, Bool, true, false, List, [], ◌∷◌, ◌++◌, length, take, drop, Option, Some}
-use Rattle.std.proofs.Common.{None, refl, sym, ap, ◌∙◌, take-append-drop, arith}
+use Rattle.std.proofs.Common.{None, refl, take-append-drop, arith}
 use Rattle.std.proofs.lemmas.List.{take_rest, take_all}
 use Rattle.gtp_rules.specs.Lines.{RawLine, Line, TooLong}
 use Rattle.gtp_lex.specs.Held.{lines_from, held_from, held_line}
@@ -38,10 +38,7 @@ pub taken_line : (old mid new : LinesState) (rest : List ℕ) (n : ℕ) (result 
     → (mid.waits ≡ true → (result ≡ Some (taken_of mid.held)) × (new ≡ given_state mid.held))
     → (taken ≡ taken_of mid.held) × (new ≡ given_state mid.held)
     × (lines_from old.held (take n rest) ≡ mid.held ∷ []) × (held_from old.held (take n rest) ≡ Line [])
-taken_line old mid new rest n result taken fed is none some =
-    let given = by_waits mid.waits mid.held result taken new mid is (none, some) in
-    let ended = fed.ended given.0 in
-    (given.1, given.2, ended.0, ended.1)
+taken_line old mid new rest n result taken fed is none some = grind (arith, by_waits)
 
 -- n bytes were fed and no line was taken: none ends in them, and what is held goes on
 pub no_line_taken : (old mid new : LinesState) (rest : List ℕ) (n : ℕ) (result : Option Taken)
@@ -49,25 +46,16 @@ pub no_line_taken : (old mid new : LinesState) (rest : List ℕ) (n : ℕ) (resu
     → (mid.waits ≡ false → (result ≡ None) × (new ≡ mid))
     → (mid.waits ≡ true → (result ≡ Some (taken_of mid.held)) × (new ≡ given_state mid.held))
     → (lines_from old.held (take n rest) ≡ []) × (held_from old.held (take n rest) ≡ new.held) × (new.waits ≡ false)
-no_line_taken old mid new rest n result fed is none some =
-    let same = by_none mid.waits mid.held result new mid is (none, some) in
-    let open_ended = fed.open_ended same.0 in
-    let all : take n rest ≡ rest = take_all n rest (omega (arith, open_ended.0)) in (
-      ap (lines_from old.held) all ∙ open_ended.1,
-      ap (held_from old.held) all ∙ open_ended.2 ∙ ap (λ s. s.held) (sym same.1),
-      ap (λ s. s.waits) same.1 ∙ same.0,
-    )
+no_line_taken old mid new rest n result fed is none some = grind (arith, by_none, take_all)
 
 -- a rest was given as a last line
 pub rest_taken : (held : RawLine) (result : Option Taken) (taken : Taken) (old new : LinesState) → result ≡ Some taken
     → (held ≡ Line [] → (result ≡ None) × (new ≡ old))
     → (held ≢ Line [] → (result ≡ Some (taken_of held)) × (new ≡ given_state held))
     → (taken ≡ taken_of held) × (new ≡ given_state held) × (held_line held ≡ held ∷ [])
-rest_taken TooLong result taken old new is none some = let given = some (λ e. cc) in
-    ((let told = given.0 in cc), given.1, refl)
+rest_taken TooLong result taken old new is none some = grind arith
 rest_taken (Line []) result taken old new is none some = absurd (let told = (none refl).0 in cc)
-rest_taken (Line (b ∷ bs)) result taken old new is none some = let given = some (λ e. cc) in
-    ((let told = given.0 in cc), given.1, refl)
+rest_taken (Line (b ∷ bs)) result taken old new is none some = grind arith
 
 -- no rest was given, so there is none
 pub no_rest : (held : RawLine) (result : Option Taken) (new old : LinesState) → result ≡ None
@@ -81,9 +69,7 @@ no_rest (Line (b ∷ bs)) result new old is none some = absurd (let told = (some
 -- a line was given, and its bytes are those that are told
 pub given_line : (held : RawLine) (told : Taken) (lines : LinesState) (bytes : List ℕ) → lines ≡ given_state held
     → told ≡ taken_of held → told ≡ taken.Line → lines.given ≡ Some bytes → held ≡ Line bytes
-given_line (Line text) told lines bytes is of_held as_line given =
-    let same : Some text ≡ Some bytes = sym (ap (λ (s : LinesState). s.given) is) ∙ given in
-    ap Line (let bytes_same : text ≡ bytes = cc in bytes_same)
+given_line (Line text) told lines bytes is of_held as_line given = grind arith
 given_line TooLong told lines bytes is of_held as_line given = absurd cc
 
 -- a line was given that is too long
@@ -97,13 +83,10 @@ given_too_long TooLong told of_held as_long = refl
 pub lines_from-take : (held held' : RawLine) (rest : List ℕ) (n : ℕ) → held' ≡ held_from held (take n rest)
     → lines_from held rest ≡ lines_from held (take n rest) ++ lines_from held' (take (length rest - n) (drop n rest))
 lines_from-take held held' rest n after =
-    ap (lines_from held) (sym (take-append-drop n rest)) ∙ lines_from-append held (take n rest) (drop n rest)
-    ∙ ap (λ l. lines_from held (take n rest) ++ l)
-    (ap (λ k. lines_from k (drop n rest)) (sym after) ∙ ap (lines_from held') (sym (take_rest rest n)))
+    grind (arith, take-append-drop n rest, lines_from-append held (take n rest) (drop n rest), take_rest rest n)
 
 -- what the piece leaves held is what the bytes left do
 pub held_from-take : (held held' : RawLine) (rest : List ℕ) (n : ℕ) → held' ≡ held_from held (take n rest)
     → held_from held rest ≡ held_from held' (take (length rest - n) (drop n rest))
 held_from-take held held' rest n after =
-    ap (held_from held) (sym (take-append-drop n rest)) ∙ held_from-append held (take n rest) (drop n rest)
-    ∙ ap (λ k. held_from k (drop n rest)) (sym after) ∙ ap (held_from held') (sym (take_rest rest n))
+    grind (arith, take-append-drop n rest, held_from-append held (take n rest) (drop n rest), take_rest rest n)

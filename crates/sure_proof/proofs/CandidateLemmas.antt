@@ -1,15 +1,13 @@
 -- What shows a candidate lies on the board, and shows it on every position that agrees there.
-use Rattle.std.proofs.Common.{◌≡◌, ◌∙◌, ℕ, ◌*◌, ◌<◌, ◌&&◌, Bool, true, false, List, Option, Some, None}
-use Rattle.std.proofs.Common.{sym, ap, subst, inl, inr, eqb, ltb}
+use Rattle.std.proofs.Common.{◌≡◌, ◌∙◌, ℕ, ◌*◌, ◌<◌, Bool, true, false, List, Option, Some, None}
+use Rattle.std.proofs.Common.{sym, ap, subst, inl, inr, eqb, ltb, arith}
 use Rattle.std.specs.FinSet as sets
 use Rattle.std.proofs.lemmas.Bool.{cases_Bool, or_cases, and_parts, ltb-true, eqb-true}
 use Rattle.go_rules.specs.declared.Cell.{Cell}
 use Rattle.go_rules.specs.Below.{set_below}
-use Rattle.go_rules.specs.BesideStrings.{is_enemy, is_beside_string}
 use Rattle.go_rules.specs.Position.{BoardState, IsPosition}
-use Rattle.go_rules.specs.Strings.{cell_at, is_in_string, is_liberty, string_at, liberty_points}
+use Rattle.go_rules.specs.Strings.{cell_at, is_liberty, string_at, liberty_points}
 use Rattle.go_rules.proofs.Sets.{contains-set_below, contains-insert_nat}
-use Rattle.go_base.specs.Floods.{enemy_points}
 use Rattle.read_rules.specs.ActiveArea.{AgreeOn}
 use Rattle.read_rules.specs.Candidates.{is_candidate}
 use Rattle.read_rules.specs.declared.node.Node.{Node}
@@ -30,25 +28,13 @@ module _ (q : ℕ) where
   -- the string of p and all its neighbours are on the board
   pub close_on : (s : ℕ) (cells : List Cell) (p : ℕ) → sets.contains (close_to s cells p) q ≡ true → q < s * s
   unfolding close_to string_at liberty_points
-  close_on s cells p h = elim (in_union (sets.union (string_at s cells p) (liberty_points s cells p))
-      (enemy_points s cells p) q h) [
-        | inl own ↦ elim (in_union (string_at s cells p) (liberty_points s cells p) q own) [
-          | inl stone ↦ on_below (s * s) (is_in_string s cells p) stone
-          | inr liberty ↦ on_below (s * s) (is_liberty s cells p) liberty
-        ]
-        | inr enemy ↦ on_below (s * s)
-            (λ r. is_beside_string s cells p r && is_enemy (cell_at cells p) (cell_at cells r)) enemy
-      ]
+  close_on s cells p h = grind (arith, in_union, on_below)
 
   -- and so are the strings of the target and another, or all points
   with_string_on : (s : ℕ) (cells : List Cell) (target : ℕ) (other : Option ℕ)
       → sets.contains (with_string s cells target other) q ≡ true → q < s * s
   with_string_on s cells target None h = on_below (s * s) (λ r. true) h
-  with_string_on s cells target (Some other) h =
-      elim (in_union (close_to s cells target) (close_to s cells other) q h) [
-        | inl its ↦ close_on s cells target its
-        | inr near ↦ close_on s cells other near
-      ]
+  with_string_on s cells target (Some other) h = grind (arith, in_union, close_on)
 
 -- what a candidate rests on is on the board
 pub rests_on_board : (turn : Turn) (pos : BoardState) (p q : ℕ) → p < pos.size * pos.size

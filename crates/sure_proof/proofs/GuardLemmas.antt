@@ -8,9 +8,7 @@ use Rattle.std.proofs.lemmas.Bool.{cases_Bool, cases_eq, cases_lt, both_ways, or
 use Rattle.go_rules.specs.declared.Cell.{Cell}
 use Rattle.go_rules.specs.declared.Cell.TheVariants.{Empty}
 use Rattle.go_rules.specs.declared.Colour.{Colour}
-use Rattle.go_rules.specs.Below.{set_below}
 use Rattle.go_rules.specs.BesideStrings.{is_enemy, is_beside_string}
-use Rattle.go_rules.specs.Board.{are_neighbours}
 use Rattle.go_rules.specs.Position.{stone_of}
 use Rattle.go_rules.specs.Rules.{IsOnlyLiberty}
 use Rattle.go_rules.specs.Strings.{cell_at, is_stone, same_cell, is_liberty, is_in_string, string_at, liberty_points}
@@ -36,11 +34,6 @@ same_by : (a b : Bool) → (a ≡ true → b ≡ true) → (b ≡ true → a ≡
 same_by true b there back = sym (there refl)
 same_by false true there back = absurd (let wrong = back refl in cc)
 same_by false false there back = refl
-
--- tests that are the same on each number have the same set
-below_same : (n : ℕ) (a b : ℕ → Bool) → ((k : ℕ) → a k ≡ b k) → set_below n a ≡ set_below n b
-below_same n a b each = same_nat_set (set_below n a) (set_below n b) (λ q. contains-set_below n a q
-    ∙ ap (λ v. ltb q n && v) (each q) ∙ sym (contains-set_below n b q))
 
 -- a member of two joined sets is a member of one of them
 pub in_union : (S T : Points) (q : ℕ) → sets.contains (sets.union S T) q ≡ true
@@ -145,8 +138,7 @@ module _ (s : ℕ) (cells : List Cell) (c : Colour) (Z : Points) (q : ℕ) where
 its_liberty : (s : ℕ) (cells : List Cell) (q l : ℕ) → q < s * s → IsLiberty s cells q l
     → sets.contains (liberty_points s cells q) l ≡ true
 unfolding liberty_points
-its_liberty s cells q l on lib =
-    below_in (s * s) (is_liberty s cells q) l lib.on_board (is_liberty-from_fact s cells q l on lib)
+its_liberty s cells q l on lib = grind (arith, below_in, is_liberty-from_fact)
 
 -- the only liberty of a string, on two boards that show the same of it, is the last one that it has here
 last_shown : (s : ℕ) (a b : List Cell) (Z : Points) (q p : ℕ) → q < s * s → IsShown s a b q → IsOnlyLiberty s b q p
@@ -204,32 +196,25 @@ module _ (s : ℕ) (cells : List Cell) (q x : ℕ) (on : q < s * s) (inside : Is
   same_enemy : (y : ℕ) → (is_beside_string s cells x y && is_enemy (cell_at cells x) (cell_at cells y))
       ≡ (is_beside_string s cells q y && is_enemy (cell_at cells q) (cell_at cells y))
   unfolding is_beside_string
-  same_enemy y = ap (λ b. b && is_enemy (cell_at cells x) (cell_at cells y))
-      (any_below_same (s * s) (λ z. is_in_string s cells x z && are_neighbours s z y)
-      (λ z. is_in_string s cells q z && are_neighbours s z y)
-      (λ z less. ap (λ b. b && are_neighbours s z y) (same_stone z)))
-      ∙ ap (λ k. is_beside_string s cells q y && is_enemy k (cell_at cells y)) its_cell
+  same_enemy y = grind (arith, any_below_same, same_stone, its_cell)
 
   -- so the sets are the same
   stones_same : string_at s cells x ≡ string_at s cells q
   unfolding string_at
-  stones_same = below_same (s * s) (is_in_string s cells x) (is_in_string s cells q) same_stone
+  stones_same = grind (arith, same_nat_set, contains-set_below, same_stone)
 
   pub liberties_same_set : liberty_points s cells x ≡ liberty_points s cells q
   unfolding liberty_points
-  liberties_same_set = below_same (s * s) (is_liberty s cells x) (is_liberty s cells q) same_liberty
+  liberties_same_set = grind (arith, same_nat_set, contains-set_below, same_liberty)
 
   enemies_same : enemy_points s cells x ≡ enemy_points s cells q
-  enemies_same = below_same (s * s) (λ r. is_beside_string s cells x r && is_enemy (cell_at cells x) (cell_at cells r))
-      (λ r. is_beside_string s cells q r && is_enemy (cell_at cells q) (cell_at cells r)) same_enemy
+  enemies_same = grind (arith, same_nat_set, contains-set_below, same_enemy)
 
   -- a stone is among what shows its string
   stone_shown : (stones liberties enemies : Points) (o : Option (ℕ × ℕ)) → sets.contains stones x ≡ true
       → sets.contains (shown_by stones liberties enemies o) x ≡ true
-  stone_shown stones liberties enemies None h = union_first x (sets.union stones liberties) enemies
-      (union_first x stones liberties h)
-  stone_shown stones liberties enemies (Some w) h =
-      insert_more x (sets.insert stones w.0) w.1 (insert_more x stones w.0 h)
+  stone_shown stones liberties enemies None h = grind (arith, union_first)
+  stone_shown stones liberties enemies (Some w) h = grind (arith, insert_more)
 
   -- what shows whether the string of the one is in atari is what shows the string of the other
   pub shows_same : (Z : Points) → IsWithin (shows_atari s cells Z x) (shown_by (string_at s cells q)
@@ -274,10 +259,7 @@ module _ (s : ℕ) (cells : List Cell) (c : Colour) (Z : Points) where
   -- what serves a point still does if more comes
   still_served : (A G B H : Points) (q : ℕ) → IsWithin A B → IsWithin G H → IsServed s cells c Z A G q
       → IsServed s cells c Z B H q
-  still_served A G B H q ab gh served = record {
-    asks = λ p h. ab p (served.asks p h);
-    guards = λ p h. gh p (served.guards p h);
-  }
+  still_served A G B H q ab gh served = grind (arith, guards)
 
   -- What it has gathered, and the next point of Z.
   module _ (from : ℕ) (A G S : Points) (before : IsGathered s cells c Z from A G S) (q : ℕ)
@@ -413,17 +395,13 @@ module _ (s : ℕ) (cells : List Cell) (c : Colour) (Z : Points) where
 
     -- the replies are those that Z asks for
     pub all_asked : A ≡ asked_of s cells c Z
-    all_asked = same_nat_set A (asked_of s cells c Z) (λ p. same_by (sets.contains A p)
-        (sets.contains (asked_of s cells c Z) p) (done.asked_right p) (asked_back p))
+    all_asked = grind (arith, same_nat_set, same_by, asked_back)
 
     -- all that guards Z was gathered
     guard_back : IsWithin (guard_of s cells c Z) G
     unfolding guard_of
-    guard_back p h =
-        let w = in_union_below (s * s) (guard_at s cells c Z) p h in
-        (all_served w.0 w.1 (guard_cases s cells c Z w.0 p w.2).0).guards p w.2
+    guard_back p h = grind (arith, in_union_below, all_served, guard_cases)
 
     -- and the points are those that guard it
     pub all_guard : G ≡ guard_of s cells c Z
-    all_guard = same_nat_set G (guard_of s cells c Z) (λ p. same_by (sets.contains G p)
-        (sets.contains (guard_of s cells c Z) p) (done.guard_right p) (guard_back p))
+    all_guard = grind (arith, same_nat_set, same_by, guard_back)

@@ -1,6 +1,6 @@
 -- What shows whether the defender takes back a target that is taken.
-use Rattle.std.proofs.Common.{◌≡◌, ◌∙◌, ℕ, ◌*◌, ◌<◌, ◌&&◌, Bool, true, false, not, cond, List, Option, Some, None, is_none}
-use Rattle.std.proofs.Common.{refl, sym, ap, subst, arith}
+use Rattle.std.proofs.Common.{◌≡◌, ◌∙◌, ℕ, ◌*◌, ◌<◌, true, false, List, Option, Some, None, is_none}
+use Rattle.std.proofs.Common.{refl, sym, ap, arith}
 use Rattle.std.specs.FinSet as sets
 use Rattle.std.specs.Option.{option_and_then}
 use Rattle.std.proofs.lemmas.Bool.{and_from, and_parts, both_ways, not-true, not_from_false}
@@ -18,7 +18,6 @@ use Rattle.go_base.proofs.SidesOfPoints.{neighbour_at-near}
 use Rattle.read_rules.specs.ActiveArea.{AgreeOn}
 use Rattle.read_rules.specs.declared.node.Node.{Node}
 use Rattle.read_rules.specs.declared.tree.Tree.TheVariants.{Wider}
-use Rattle.read_rules.specs.Trees.{is_wider}
 use Rattle.read_rules.specs.GameTree.{taking_back}
 use Rattle.read_rules.specs.Turns.{mover_of}
 use Rattle.read_rules.specs.Rules.{TakesBack}
@@ -35,17 +34,7 @@ use Rattle.sure_proof.proofs.SoundLemmas.{has, play_beside, play_self, child_her
 -- the point is among what shows it
 pub loss_point : (node : Node) (pos : BoardState) → has (loss_rests_on node pos) (target_of node) ≡ true
 unfolding loss_rests_on
-loss_point node pos =
-    by (is_wider node.turn.tree && not node.turn.attacker_to_play)
-    (open_neighbour pos.size pos.cells (other node.turn.defender) (target_of node))
-  where
-    by : (late : Bool) (o : Option ℕ)
-        → has (cond late (wall_rests_on pos.size pos.cells (mover_of node.turn) (target_of node) o)
-        (sets.insert sets.empty (target_of node))) (target_of node) ≡ true
-    by false o = insert_self (target_of node) sets.empty
-    by true None = play_self pos.size pos.cells (mover_of node.turn) sets.empty (target_of node)
-    by true (Some q) = insert_more (target_of node) (sets.insert sets.empty (target_of node)) q
-        (insert_self (target_of node) sets.empty)
+loss_point node pos = grind (arith, has, insert_self, play_self, insert_more)
 
 -- in the wider tree, at the defender's turn, it is what shows whether the point is walled in
 loss_is : (node : Node) (pos : BoardState) → node.turn.tree ≡ Wider → is_attackers node ≡ false
@@ -77,29 +66,17 @@ module _ (node : Node) (pos : BoardState) (good : IsPosition pos) (on : node.tur
     -- what shows whether the point is walled in is among the points
     wall_within : IsWithin (wall_rests_on pos.size pos.cells (mover_of node.turn) (target_of node)
         (open_neighbour pos.size pos.cells (other node.turn.defender) (target_of node))) Z
-    wall_within q inside =
-        rests q (ap (λ (S : Points). has S q) (loss_is node pos back.lost.tree back.lost.turn) ∙ inside)
+    wall_within q inside = grind (arith, has, loss_is)
 
     -- each neighbour there holds a stone of the attacker
     walled_there : (q : ℕ) → q < pos.size * pos.size → are_neighbours pos.size (target_of node) q ≡ true
         → cell_at here.cells q ≡ stone_of (other node.turn.defender)
-    walled_there q q_on near = back.lone q (subst (λ s. q < s * s) same.sizes q_on)
-        (ap (λ s. are_neighbours s (target_of node) q) (sym same.sizes) ∙ near)
+    walled_there q q_on near = grind arith
 
     -- so no neighbour is open here
     none_open : open_neighbour pos.size pos.cells (other node.turn.defender) (target_of node) ≡ None
-    none_open = by (open_neighbour pos.size pos.cells (other node.turn.defender) (target_of node)) refl wall_within
-      where
-        by : (o : Option ℕ) → open_neighbour pos.size pos.cells (other node.turn.defender) (target_of node) ≡ o
-            → IsWithin (wall_rests_on pos.size pos.cells (mover_of node.turn) (target_of node) o) Z → o ≡ None
-        by None is within = refl
-        by (Some q) is within =
-            let w = open_gives pos.size pos.cells (other node.turn.defender) (target_of node) q is in
-            let near = neighbour_at-near pos.size (target_of node) w.0 q on w.1 in
-            let cell = same.cells q (within q (insert_self q (sets.insert sets.empty (target_of node)))) in
-            absurd (both_ways (same_cell (cell_at pos.cells q) (stone_of (other node.turn.defender))) w.2
-            (same_cell-from (cell_at pos.cells q) (stone_of (other node.turn.defender))
-            (cell ∙ walled_there q near.0 near.1)))
+    none_open =
+        grind (arith, wall_within, open_gives, neighbour_at-near, insert_self, both_ways, same_cell-from, walled_there)
 
     -- what the play at its point rests on is among the points
     pub play_within : IsWithin (play_rests_on pos.size pos.cells (mover_of node.turn) sets.empty (target_of node)) Z

@@ -136,6 +136,32 @@ module _ (turn : Turn) (s : ℕ) (a b : List Cell) (x y : Option (ℕ × Colour)
       candidate_from turn (state s b y) p on (goes_further wider (links wide attacks l q kept.0
       (IsLiberty-from_test s b q p (sym (kept.1 p) ∙ is_liberty-from_fact s a q p link.on_board lib))))
 
+-- the same where the candidate rests on what is shown at the point
+other_there : (turn : Turn) (pos here : BoardState) (p : ℕ) (Z : Points) → IsPosition pos → IsPosition here
+    → turn.target < pos.size * pos.size → is_stone (cell_at pos.cells turn.target) ≡ true
+    → turn.attacker_to_play ≡ true → is_candidate turn pos p ≡ true → AgreeOn (points_of (has Z)) pos here
+    → (o : Option ℕ) → shown_at turn pos.size pos.cells p ≡ o
+    → IsWithin (with_string pos.size pos.cells turn.target o) Z
+    → (has_many_liberties turn (state pos.size here.cells here.ban) ≡ has_many_liberties turn pos)
+    × (is_candidate turn (state pos.size here.cells here.ban) p ≡ true)
+other_there turn pos here p Z good sound on stone attacks candidate same None is all =
+    grind (
+      arith,
+      cells_same Z pos here good sound same all,
+      many_same turn pos.size pos.cells here.cells pos.ban here.ban,
+      candidate_without_ban turn pos.size pos.cells pos.ban here.ban p candidate,
+    )
+other_there turn pos here p Z good sound on stone attacks candidate same (Some q) is both =
+    let its = close_to pos.size pos.cells turn.target in
+    let close : SameOn its pos.cells here.cells = λ x inside.
+    same.cells x (both x (union_first x its (close_to pos.size pos.cells q) inside)) in
+    let near : SameOn (close_to pos.size pos.cells q) pos.cells here.cells = λ x inside.
+    same.cells x (both x (union_second x its (close_to pos.size pos.cells q) inside)) in
+    let found = other_given turn pos.size pos.cells p q on is in (
+      near_many turn pos.size pos.cells here.cells pos.ban here.ban p on stone close,
+      near_other turn pos.size pos.cells here.cells pos.ban here.ban p on stone close attacks q found near,
+    )
+
 -- on a position that agrees on what a candidate rests on, the target has too many liberties as here, and the point is a
 -- candidate
 pub candidate_there : (turn : Turn) (pos here : BoardState) (p : ℕ) (Z : Points) → IsPosition pos → IsPosition here
@@ -164,32 +190,11 @@ candidate_there turn pos here p Z good sound on stone attacks candidate same wit
               near_wide turn pos.size pos.cells here.cells pos.ban here.ban p on stone close attacks t
                   (its p (insert_self p (close_to pos.size pos.cells turn.target))),
             )
-        | inr g ↦ by_other (shown_at turn pos.size pos.cells p) refl
+        | inr g ↦ other_there turn pos here p Z good sound on stone attacks candidate same
+            (shown_at turn pos.size pos.cells p) refl
             (λ q inside. within q (ap (λ (S : Points). has S q) (rests_other turn pos p f g) ∙ inside))
       ]
     ])
-  where
-    by_other : (o : Option ℕ) → shown_at turn pos.size pos.cells p ≡ o
-        → IsWithin (with_string pos.size pos.cells turn.target o) Z
-        → (has_many_liberties turn (state pos.size here.cells here.ban) ≡ has_many_liberties turn pos)
-        × (is_candidate turn (state pos.size here.cells here.ban) p ≡ true)
-    by_other None is all =
-        grind (
-          arith,
-          cells_same Z pos here good sound same all,
-          many_same turn pos.size pos.cells here.cells pos.ban here.ban,
-          candidate_without_ban turn pos.size pos.cells pos.ban here.ban p candidate,
-        )
-    by_other (Some q) is both =
-        let its = close_to pos.size pos.cells turn.target in
-        let close : SameOn its pos.cells here.cells = λ x inside.
-        same.cells x (both x (union_first x its (close_to pos.size pos.cells q) inside)) in
-        let near : SameOn (close_to pos.size pos.cells q) pos.cells here.cells = λ x inside.
-        same.cells x (both x (union_second x its (close_to pos.size pos.cells q) inside)) in
-        let found = other_given turn pos.size pos.cells p q on is in (
-          near_many turn pos.size pos.cells here.cells pos.ban here.ban p on stone close,
-          near_other turn pos.size pos.cells here.cells pos.ban here.ban p on stone close attacks q found near,
-        )
 
 -- The attacker's turn, by a candidate that leads to a child with a zone.
 module _ (n : ℕ) (node : Node) (pos : BoardState) (p : ℕ) (next : Node) (first : BoardState) (W : Points)

@@ -28,8 +28,7 @@ use Rattle.wider_rules.proofs.StringLemmas.{has_enemy}
 -- the least point of a set that has points is the first that is found
 pub first_is : (S : Points) (l : ℕ) → l < largest_points → sets.contains S l ≡ true
     → ((r : ℕ) → 0 ≤ r → r < l → sets.contains S r ≡ false) → first_of S ≡ Some l
-first_is S l low here before = first_below_is largest_points (sets.contains S) l low here
-    (λ r less. before r (omega arith) less)
+first_is S l low here before = grind (arith, first_below_is largest_points (sets.contains S) l low here)
 
 -- a set in which none is found has none
 pub first_none : (S : Points) → ((r : ℕ) → 0 ≤ r → sets.contains S r ≡ false) → first_of S ≡ None
@@ -52,8 +51,7 @@ module _ (Z S : Points) where
 
   -- without a first point there are no two
   pub two_none : first_within Z S ≡ None → two_within Z S ≡ None
-  two_none e = ap (option_and_then (λ l. option_map {T = ℕ} {U = ℕ × ℕ} (λ k. (l, k))
-      (first_within Z (sets.remove S l)))) e
+  two_none e = grind arith
 
   -- behind the first come those of the rest
   pub two_behind : (l : ℕ) (o : Option ℕ) → first_within Z S ≡ Some l → first_within Z (sets.remove S l) ≡ o
@@ -69,8 +67,7 @@ union_more n each = sym (ap (λ m. union_below m each) (add-one n))
 pub in_liberties : (s : ℕ) (cells : List Cell) (q l : ℕ) → l < s * s
     → sets.contains (liberty_points s cells q) l ≡ is_liberty s cells q l
 unfolding liberty_points
-in_liberties s cells q l on =
-    contains-set_below (s * s) (is_liberty s cells q) l ∙ ap (λ b. b && is_liberty s cells q l) (lt-ltb l (s * s) on)
+in_liberties s cells q l on = grind (arith, contains-set_below, lt-ltb)
 
 -- it has as many points as the string has liberties
 pub liberties_in : (s : ℕ) (cells : List Cell) (q : ℕ) → sets.len (liberty_points s cells q) ≡ liberties s cells q
@@ -165,8 +162,7 @@ module _ (most s : ℕ) (cells : List Cell) (target p : ℕ) where
       → ((k : ℕ) → k < n → (is_weak_enemy most s cells target k && is_liberty s cells k p) ≡ false)
       → weak_enemy_at most s cells target p ≡ None
   unfolding weak_enemy_at
-  weak_none n all none = first_below_none (s * s) (λ k. is_weak_enemy most s cells target k && is_liberty s cells k p)
-      (λ k less. none k (omega (arith, less, all)))
+  weak_none n all none = grind (arith, first_below_none)
 
 -- a linked string with p for a liberty is a friend's, and has few liberties, one of which is p
 pub linked_by_parts : (s : ℕ) (cells : List Cell) (target q p : ℕ)
@@ -194,9 +190,7 @@ module _ (s : ℕ) (cells : List Cell) (target p : ℕ) where
       → ((k : ℕ) → k < n → (is_linked few_of_parted s cells target k && is_liberty s cells k p) ≡ false)
       → linked_at s cells target p ≡ None
   unfolding linked_at
-  linked_none n all none = first_below_none (s * s)
-      (λ k. is_linked few_of_parted s cells target k && is_liberty s cells k p)
-      (λ k less. none k (omega (arith, less, all)))
+  linked_none n all none = grind (arith, first_below_none)
 
 -- What shows a candidate, beside the target's string.
 module _ (turn : Turn) (s : ℕ) (cells : List Cell) (p : ℕ) where
@@ -204,14 +198,11 @@ module _ (turn : Turn) (s : ℕ) (cells : List Cell) (p : ℕ) where
   pub shown_weak : (q : ℕ) → weak_enemy_at (most_of_enemy turn.tree) s cells turn.target p ≡ Some q
       → shown_at turn s cells p ≡ Some q
   unfolding shown_at
-  shown_weak q is = ap (λ o. else_point o (cond (ltb 0 turn.wide && is_wider turn.tree)
-      (linked_at s cells turn.target p) None)) is
+  shown_weak q is = grind arith
 
   -- if there is none, a linked string in a wide ply of the wider tree
   pub shown_linked : (b : Bool) → (ltb 0 turn.wide && is_wider turn.tree) ≡ b
       → weak_enemy_at (most_of_enemy turn.tree) s cells turn.target p ≡ None
       → shown_at turn s cells p ≡ cond b (linked_at s cells turn.target p) None
   unfolding shown_at
-  shown_linked b wide is = ap (λ o. else_point o (cond (ltb 0 turn.wide && is_wider turn.tree)
-      (linked_at s cells turn.target p) None)) is
-      ∙ ap (λ v. cond v (linked_at s cells turn.target p) None) wide
+  shown_linked b wide is = grind arith

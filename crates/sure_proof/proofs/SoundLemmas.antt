@@ -15,7 +15,7 @@ use Rattle.go_rules.specs.Play.{play, play_free}
 use Rattle.go_rules.proofs.Counts.{count_below_same, any_below_gives}
 use Rattle.go_rules.proofs.Paths.{IsLiberty-from_test, is_liberty-from_fact, same_cell-true}
 use Rattle.go_rules.proofs.Plays.{stone_is}
-use Rattle.go_rules.proofs.PlayLaws.{free_never_ko, play_done, position_in_words, done_state}
+use Rattle.go_rules.proofs.PlayLaws.{play_done, position_in_words, done_state}
 use Rattle.go_base.specs.Sides.{neighbour_at}
 use Rattle.go_base.proofs.SidesOfPoints.{neighbour_at-all, neighbour_at-near}
 use Rattle.read_rules.specs.ActiveArea.{AgreeOn}
@@ -50,12 +50,6 @@ no_ban_beyond (Some b) c n q low high = elim (cases_Bool (eqb b.0 q && same_colo
   | inr f ↦ f
 ]
 
--- of a position
-no_ban_off : (pos : BoardState) → IsPosition pos → (c : Colour) (q : ℕ) → pos.size * pos.size ≤ q
-    → is_banned pos.ban c q ≡ false
-no_ban_off pos good c q high = no_ban_beyond pos.ban c (pos.size * pos.size) q
-    (λ r k e. ((position_in_words pos good).ban r k e).0) high
-
 -- the points of a set that are on a board of s rows
 abbrev pub on_board : ℕ → Points → ℕ → Bool
 on_board s Z q = has Z q && ltb q (s * s)
@@ -63,7 +57,8 @@ on_board s Z q = has Z q && ltb q (s * s)
 -- positions that agree on the points of a set that are on the board agree on the set
 agree_everywhere : (Z : Points) (a b : BoardState) → IsPosition a → IsPosition b
     → AgreeOn (points_of (on_board a.size Z)) a b → AgreeOn (points_of (has Z)) a b
-agree_everywhere Z a b good_a good_b same = grind (arith, cases_lt, and_from, lt-ltb, get_or_past, no_ban_off)
+agree_everywhere Z a b good_a good_b same =
+    grind (arith, cases_lt, and_from, lt-ltb, get_or_past, no_ban_beyond, position_in_words)
 
 -- so the points of a zone that are on the board are a zone
 pub zone_on_board : (n : ℕ) (node : Node) (pos : BoardState) (Z : Points) → IsPosition pos → IsZone n node pos (has Z)
@@ -109,17 +104,12 @@ module _ (s : ℕ) (cells : List Cell) (c : Colour) (Z : Points) (p : ℕ) where
 
     -- the neighbour is among it
     pub play_beside : has (play_rests_on s cells c Z p) q ≡ true
-    play_beside = side_in q (by (shows_cell c (has_empty_neighbour s cells p) (cell_at cells q)))
-      where
-        by : (b : Bool) → has (cond b (sets.insert sets.empty q) (shows_atari s cells near q)) q ≡ true
-        by true = insert_self q sets.empty
-        by false = shows_self s cells near q
+    play_beside = grind (arith, side_in, insert_self, shows_self)
 
     -- what shows whether its string is in atari is among it, unless it shows nothing but its cell
     pub play_shows : shows_cell c (has_empty_neighbour s cells p) (cell_at cells q) ≡ false
         → IsWithin (shows_atari s cells near q) (play_rests_on s cells c Z p)
-    play_shows f x inside = side_in x
-        (ap (λ b. has (cond b (sets.insert sets.empty q) (shows_atari s cells near q)) x) f ∙ inside)
+    play_shows f x inside = grind (arith, side_in)
 
 -- an empty neighbour is at a side
 room_at : (s : ℕ) (cells : List Cell) (p : ℕ) → p < s * s → has_empty_neighbour s cells p ≡ true → HasRoom s cells p
@@ -190,14 +180,7 @@ child_on : (node : Node) (s : ℕ) (a b : List Cell) (x y : Option (ℕ × Colou
 child_on node s a b x y p h bans next first (inl legal) =
     grind (arith, play_by (state s a x), play_by (state s b y), done_on s a b x y, play_done (state s a x), cases_Bool)
 child_on node s a b x y p h bans next first (inr allowed) =
-    grind (
-      arith,
-      play_by (state s a x),
-      play_by (state s b y),
-      done_on s a b x y,
-      free_never_ko (state s a x),
-      cases_Bool,
-    )
+    grind (arith, play_by (state s a x), play_by (state s b y), done_on s a b x y)
 
 -- the point of a child was empty
 child_empty : (node : Node) (pos : BoardState) (p : ℕ) (next : Node) (new : BoardState) → IsChild node pos p next new

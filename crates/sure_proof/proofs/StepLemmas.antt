@@ -1,6 +1,6 @@
 -- What a proof is by its first word, and the walk over the replies.
 use Rattle.std.proofs.Common.{◌≡◌, ◌≢◌, ◌∙◌, ℕ, zero, suc, ◌+◌, ◌-◌, ◌*◌, ◌<◌, ◌≤◌, Bool, true, false, cond, List, [], ◌∷◌}
-use Rattle.std.proofs.Common.{Option, Some, None, refl, sym, ap, arith}
+use Rattle.std.proofs.Common.{Option, Some, None, refl, ap, arith}
 use Rattle.std.specs.List.{filter, range_with_len}
 use Rattle.std.specs.Option.{option_and_then}
 use Rattle.std.specs.Prelude.{codes}
@@ -20,9 +20,9 @@ use Rattle.std.specs.Option.{option_map}
 use Rattle.std.specs.FinSet as sets
 use Rattle.std.proofs.Common.{◌||◌}
 use Rattle.sure_proof.specs.Rests.{Points, candidate_rests_on, loss_rests_on, guard_of, asked_of}
-use Rattle.sure_proof.specs.SureProofs.{Proved, Prover, proved_by, points_in, with_points, behind_word, behind_vertex}
-use Rattle.sure_proof.specs.SureProofs.{is_to, by_capture, by_back, by_child, by_move, by_replies, by_turn, behind_pass, at_end}
-use Rattle.sure_proof.specs.SureProofs.{move_rests_on, with_move, with_candidate, with_reply}
+use Rattle.sure_proof.specs.SureProofs.{Proved, Prover, proved_by, points_in, behind_word, behind_vertex}
+use Rattle.sure_proof.specs.SureProofs.{is_to, by_capture, by_back, by_child, by_move, by_replies, by_turn, behind_pass}
+use Rattle.sure_proof.specs.SureProofs.{move_rests_on, with_move, with_candidate}
 use Rattle.sure_proof.specs.SureProofs.{at_reply, at_replies, proves_surely}
 
 -- A node, and the words at it.
@@ -71,8 +71,7 @@ module _ (prove : Prover) (node : Node) (pos : BoardState) (g : ℕ → Bool) (n
     (is : at_replies prove node pos (filter g (range_with_len a (n - a))) so_far ≡ whole) where
   -- if no more passes, what was proved so far is all
   pub replies_end : ((k : ℕ) → a ≤ k → k < n → g k ≡ false) → whole ≡ Some so_far
-  replies_end none = sym is ∙ ap (λ ps. at_replies prove node pos ps so_far)
-      (none_passes g (n - a) a (λ k lo hi. none k lo (omega (arith, lo, hi))))
+  replies_end none = grind (arith, none_passes)
 
   -- The next that passes.
   module _ (p : ℕ) (low : a ≤ p) (high : p < n) (here : g p ≡ true)
@@ -80,12 +79,7 @@ module _ (prove : Prover) (node : Node) (pos : BoardState) (g : ℕ → Bool) (n
     -- behind it come the others
     replies_split : option_and_then (at_replies prove node pos (filter g (range_with_len (p + 1) (n - (p + 1)))))
         (at_reply prove node pos p (child_of node pos p) so_far) ≡ whole
-    replies_split =
-        let length : a + (n - a) - (p + 1) ≡ n - (p + 1) = omega (arith, low, high) in
-        sym (ap (λ ps. at_replies prove node pos ps so_far)
-        (walk_next g (n - a) a p low (omega (arith, low, high)) here none
-        ∙ ap (λ m. p ∷ filter g (range_with_len (p + 1) m)) length))
-        ∙ is
+    replies_split = grind (arith, walk_next g (n - a) a p low)
 
     -- if it is proved they are what is left
     pub replies_on : (found : Proved) → at_reply prove node pos p (child_of node pos p) so_far ≡ Some found
@@ -94,8 +88,7 @@ module _ (prove : Prover) (node : Node) (pos : BoardState) (g : ℕ → Bool) (n
 
     -- if it is not, nothing is
     pub replies_fail : at_reply prove node pos p (child_of node pos p) so_far ≡ None → whole ≡ None
-    replies_fail e = sym replies_split
-        ∙ ap (option_and_then (at_replies prove node pos (filter g (range_with_len (p + 1) (n - (p + 1)))))) e
+    replies_fail e = grind (arith, replies_split)
 
 -- The proof of the node after a play of the attacker.
 module _ (prove : Prover) (node : Node) (pos : BoardState) (p : ℕ) (o : Option (Node × BoardState))
@@ -113,8 +106,7 @@ module _ (prove : Prover) (node : Node) (pos : BoardState) (p : ℕ) (o : Option
     pub play_holds : (rest : List Word) (zone : Points) → prove child.0 child.1 words ≡ Some (proved_by rest zone)
         → by_child prove node pos p o words ≡ Some (proved_by rest
         (sets.union (sets.union (candidate_rests_on node.turn pos p) (move_rests_on node pos p zone)) zone))
-    play_holds rest zone e = ap (λ v. by_child prove node pos p v words) is
-        ∙ ap (option_map (with_candidate node pos p)) e
+    play_holds rest zone e = grind arith
 
 -- The proof of the node after the play that takes back.
 module _ (prove : Prover) (node : Node) (pos : BoardState) (word : Word) (o : Option (Node × BoardState))
@@ -124,28 +116,21 @@ module _ (prove : Prover) (node : Node) (pos : BoardState) (word : Word) (o : Op
   back_refused e = ap (λ v. by_back prove node pos word v words) e
 
   module _ (child : Node × BoardState) (is : o ≡ Some child) where
-    -- what follows the word if it is the vertex
-    named : by_back prove node pos word o words
-        ≡ cond (is_to (target_named pos.size word) (target_of node))
-        (option_map (with_points (loss_rests_on node pos)) (prove child.0 child.1 words)) None
-    named = ap (λ v. by_back prove node pos word v words) is
-
     -- another word than the vertex of the target's point proves nothing
     pub back_unnamed : is_to (target_named pos.size word) (target_of node) ≡ false
         → by_back prove node pos word o words ≡ None
-    back_unnamed f = named ∙ ap (λ b. cond b
-        (option_map (with_points (loss_rests_on node pos)) (prove child.0 child.1 words)) None) f
+    back_unnamed f = grind arith
 
     -- nor does the vertex behind which no proof comes
     pub back_fails : is_to (target_named pos.size word) (target_of node) ≡ true
         → prove child.0 child.1 words ≡ None → by_back prove node pos word o words ≡ None
-    back_fails t e = grind (arith, named)
+    back_fails t e = grind arith
 
     -- with a proof behind it, it rests on its points and on those of that proof
     pub back_holds : is_to (target_named pos.size word) (target_of node) ≡ true → (rest : List Word) (zone : Points)
         → prove child.0 child.1 words ≡ Some (proved_by rest zone)
         → by_back prove node pos word o words ≡ Some (proved_by rest (sets.union (loss_rests_on node pos) zone))
-    back_holds t rest zone e = grind (arith, named)
+    back_holds t rest zone e = grind arith
 
 -- The proof of the node after a reply.
 module _ (prove : Prover) (node : Node) (pos : BoardState) (p : ℕ) (o : Option (Node × BoardState)) (words : List Word)
@@ -158,8 +143,7 @@ module _ (prove : Prover) (node : Node) (pos : BoardState) (p : ℕ) (o : Option
   module _ (child : Node × BoardState) (is : o ≡ Some child) where
     -- another needs its vertex
     pub reply_unnamed : behind_vertex pos.size p words ≡ None → at_reply prove node pos p o (proved_by words Z) ≡ None
-    reply_unnamed e = ap (λ v. at_reply prove node pos p v (proved_by words Z)) is
-        ∙ ap (λ v. option_map (with_reply node pos p Z) (option_and_then (prove child.0 child.1) v)) e
+    reply_unnamed e = grind arith
 
     -- and behind that a proof
     pub reply_fails : (left : List Word) → behind_vertex pos.size p words ≡ Some left
@@ -187,16 +171,11 @@ module _ (prove : Prover) (node : Node) (pos : BoardState) (words : List Word) w
     abbrev pub begun : Proved
     begun = proved_by left (sets.union P (guard_of pos.size pos.cells (other (mover_of node.turn)) P))
 
-    -- the replies come, and the end
-    behind : by_replies prove node pos words ≡ option_and_then at_end (at_replies prove node pos
-        (points_in pos.size (asked_of pos.size pos.cells (other (mover_of node.turn)) P)) begun)
-    behind = ap (option_and_then (behind_pass prove node pos)) passed
-
     -- without the replies there is no proof
     pub replies_missing : at_replies prove node pos
         (points_in pos.size (asked_of pos.size pos.cells (other (mover_of node.turn)) P)) begun ≡ None
         → by_replies prove node pos words ≡ None
-    replies_missing e = behind ∙ ap (option_and_then at_end) e
+    replies_missing e = grind arith
 
     -- The words behind the replies, and the zone.
     module _ (more : List Word) (Z : Points) (replied : at_replies prove node pos
@@ -204,14 +183,12 @@ module _ (prove : Prover) (node : Node) (pos : BoardState) (words : List Word) w
         ≡ Some (proved_by more Z)) where
       -- without the end there is no proof
       pub end_missing : behind_word (codes ";") more ≡ None → by_replies prove node pos words ≡ None
-      end_missing e = behind ∙ ap (option_and_then at_end) replied
-          ∙ ap (option_map {T = List Word} {U = Proved} (λ rest. proved_by rest Z)) e
+      end_missing e = grind arith
 
       -- with it there is
       pub end_comes : (rest : List Word) → behind_word (codes ";") more ≡ Some rest
           → by_replies prove node pos words ≡ Some (proved_by rest Z)
-      end_comes rest e = behind ∙ ap (option_and_then at_end) replied
-          ∙ ap (option_map {T = List Word} {U = Proved} (λ rest. proved_by rest Z)) e
+      end_comes rest e = grind arith
 
 -- What the first word says by the turn.
 module _ (prove : Prover) (node : Node) (pos : BoardState) (word : Word) (rest : List Word) where
@@ -221,15 +198,7 @@ module _ (prove : Prover) (node : Node) (pos : BoardState) (word : Word) (rest :
       → by_turn prove node pos word rest ≡ cond turn
       (cond barred None (by_move prove node pos (target_named pos.size word) rest))
       (cond every (by_replies prove node pos rest) (by_back prove node pos word (taking_back node pos) rest))
-  by_three turn barred every a b c =
-      let back = by_back prove node pos word (taking_back node pos) rest in
-      ap (λ v. cond v (cond (is_gone node pos || has_too_many node pos) None
-      (by_move prove node pos (target_named pos.size word) rest))
-      (cond (bytes_eq word (codes "*")) (by_replies prove node pos rest) back)) a
-      ∙ ap (λ v. cond turn (cond v None (by_move prove node pos (target_named pos.size word) rest))
-      (cond (bytes_eq word (codes "*")) (by_replies prove node pos rest) back)) b
-      ∙ ap (λ v. cond turn (cond barred None (by_move prove node pos (target_named pos.size word) rest))
-      (cond v (by_replies prove node pos rest) back)) c
+  by_three turn barred every a b c = grind arith
 
   -- an attacker that is barred proves nothing
   pub turn_barred : is_attackers node ≡ true → (is_gone node pos || has_too_many node pos) ≡ true

@@ -21,7 +21,7 @@ use Rattle.sure_rules.specs.SureTree.{surely_wins}
 use Rattle.sure_rules.specs.SureAnswer.{sure_code_of}
 use Rattle.sure_rules.specs.SureInWords.{EveryReplyFails}
 use Rattle.sure_rules.specs.Defences.{Standing, IsMove, passes, plays, ignores_the_ban, IsGame, begins, attacks}
-use Rattle.sure_rules.specs.Defences.{replies, IsDefence, IsTaken, IsTakenAgainst, IsTakenAnyway, standing_at, start_of}
+use Rattle.sure_rules.specs.Defences.{replies, IsDefence, IsTakenAgainst, IsTakenAnyway, standing_at, start_of}
 use Rattle.sure_rules.proofs.MoveLemmas.{stands_next, child_is_move, child_target}
 use Rattle.sure_rules.proofs.SureLemmas.{sure_attacker_gives}
 use Rattle.sure_rules.proofs.TakenLemmas.{every_reply_fails, stands_at_attackers, some_ply_left, taken_in_game}
@@ -42,17 +42,7 @@ reply_fails : (n : ℕ) (node : Node) (pos : BoardState) → EveryReplyFails n n
     → (spot : Spot) (there : Standing) → IsMove (standing_at node pos) spot there → IsLost n node there
 reply_fails n node pos every spot there passes = grind (arith, stands_next)
 reply_fails n node pos every spot there (plays p new on legal) =
-    let next = next_node node (allowance_of node) in
-    let child : IsChild node pos p next new = inl (record { legal = legal; next_is = refl }) in
-    record {
-      next = next;
-      new = new;
-      standing = stands_next node pos new (allowance_of node);
-      tree = refl;
-      target = refl;
-      defender = refl;
-      sure = every.played p next new on child;
-    }
+    grind (arith, stands_next node pos new (allowance_of node))
 reply_fails n node pos every spot there (ignores_the_ban p new on banned free some) =
     let next = next_node node (allowance_of node - 1) in
     let child : IsChild node pos p next new =
@@ -86,26 +76,14 @@ module _ (tree : Tree) (target : ℕ) (defender : Colour) (start : Standing) (re
   taken_here : (n : ℕ) (node : Node) (pos : BoardState) (moves : List Spot) → IsAboutIn tree target defender node
       → IsGame defender reply start moves (standing_at node pos) → length moves ≤ n → is_taken_for_good node pos ≡ true
       → IsTakenAgainst tree n target defender start reply
-  taken_here n node pos moves about game few kept = record {
-    moves = moves;
-    end = standing_at node pos;
-    game = game;
-    few = few;
-    taken = subst (λ (r : Tree). IsTaken r target defender (standing_at node pos)) about.its_tree
-        (subst (λ t. IsTaken node.turn.tree t defender (standing_at node pos)) about.its_target
-        (subst (λ (c : Colour). IsTaken node.turn.tree (target_of node) c (standing_at node pos)) about.its_defender
-        (taken_in_game node pos kept)));
-  }
+  taken_here n node pos moves about game few kept = grind (arith, taken_in_game)
 
   -- a game that has come to a node at which the target is surely captured with n plies left goes on to where it is
   -- taken
   goes_on : (n total : ℕ) (node : Node) (pos : BoardState) (moves : List Spot) → IsAboutIn tree target defender node
       → IsGame defender reply start moves (standing_at node pos) → n + length moves ≤ total
       → surely_wins n node pos ≡ true → IsTakenAgainst tree total target defender start reply
-  goes_on zero total node pos moves about game few sure = elim (cases_Bool (is_taken_for_good node pos)) [
-    | inl kept ↦ taken_here total node pos moves about game (omega (arith, few)) kept
-    | inr not_yet ↦ absurd (some_ply_left 0 node pos not_yet sure refl)
-  ]
+  goes_on zero total node pos moves about game few sure = grind (arith, cases_Bool, taken_here, some_ply_left)
   goes_on (suc n) total node pos moves about game few sure = elim (cases_Bool (is_taken_for_good node pos)) [
     | inl kept ↦ taken_here total node pos moves about game (omega (arith, few)) kept
     | inr not_yet ↦ elim (cases_Bool (is_attackers node)) [

@@ -1,7 +1,7 @@
 -- A sure capture stays sure with more plies, with further candidates of the attacker in the same tree, and with fewer
 -- allowances of the defender.
-use Rattle.std.proofs.Common.{◌≡◌, ◌⊎◌, ℕ, zero, suc, ◌-◌, ◌≤◌, Bool, true, false, not, ◌&&◌, cond}
-use Rattle.std.proofs.Common.{Some, refl, sym, ap, ◌∙◌, arith, inl, inr, subst, ltb}
+use Rattle.std.proofs.Common.{◌≡◌, ◌⊎◌, ℕ, zero, suc, ◌-◌, ◌≤◌, Bool, true, false, ◌&&◌, cond}
+use Rattle.std.proofs.Common.{Some, refl, sym, ap, ◌∙◌, arith, inl, inr, subst}
 use Rattle.std.proofs.lemmas.Bool.{cases_Bool, and_parts, and_from, both_ways, or_cases, or_left, or_right}
 use Rattle.std.proofs.lemmas.Bool.{lt-ltb, ltb-true}
 use Rattle.go_rules.specs.declared.Colour.{Colour}
@@ -50,10 +50,6 @@ further_stay : (tree larger : Tree) (x : Bool) → IsAsWide tree larger → (is_
 further_stay tree larger x (inl e) h = ap (λ t. is_wider t && x) e ∙ h
 further_stay tree larger x (inr e) h = ap (λ t. is_wider t && x) e ∙ (and_parts (is_wider tree) x h).1
 
--- where wide plies are left they are left with more
-more_wide : (few many : ℕ) → few ≤ many → ltb 0 few ≡ true → ltb 0 many ≡ true
-more_wide few many more h = lt-ltb 0 many (let some = ltb-true 0 few h in omega (arith, some, more))
-
 -- a further candidate is one where a wide ply is left too
 further_with_more : (few many side : Bool) (pos : BoardState) (target p : ℕ) → (few ≡ true → many ≡ true)
     → is_further few side pos.size pos.cells target p ≡ true → is_further many side pos.size pos.cells target p ≡ true
@@ -66,7 +62,7 @@ later_stays : (small large : Turn) (pos : BoardState) (p : ℕ) → large.target
     → is_later_candidate small pos p ≡ true → is_later_candidate large pos p ≡ true
 unfolding is_later_candidate
 later_stays small large pos p same side as_wide more h =
-    grind (arith, more_wide, or_cases, and_parts, or_left, and_from, or_right, further_stay, further_with_more)
+    grind (arith, lt-ltb, ltb-true, or_cases, and_parts, or_left, and_from, or_right, further_stay, further_with_more)
 
 -- a candidate is one with more wide plies and in the wider tree too
 pub candidate_stays : (small large : Turn) (pos : BoardState) (p : ℕ) → large.target ≡ small.target
@@ -86,37 +82,20 @@ le_chosen false true x y v w e first second = absurd (let wrong = e in cc)
 module _ (node more : Node) (h : IsNoHarder node more) where
   -- at the attacker's turn he may ignore the ban at least as often
   own_more : is_attackers node ≡ true → allowance_of node ≤ allowance_of more
-  own_more turn =
-      le_chosen node.turn.attacker_to_play more.turn.attacker_to_play node.attacker_ko node.defender_ko more.attacker_ko
-      more.defender_ko h.turn (λ _. h.attacker_ko) (λ f. absurd (both_ways (is_attackers node) f turn))
+  own_more turn = grind (arith, le_chosen, both_ways)
 
   -- at the defender's turn he may do so at most as often
   own_less : is_attackers node ≡ false → allowance_of more ≤ allowance_of node
-  own_less turn =
-      le_chosen more.turn.attacker_to_play node.turn.attacker_to_play more.attacker_ko more.defender_ko node.attacker_ko
-      node.defender_ko (sym h.turn) (λ t. absurd (both_ways (is_attackers node) turn (sym h.turn ∙ t)))
-      (λ _. h.defender_ko)
+  own_less turn = grind (arith, le_chosen, both_ways)
 
   -- after a move that leaves the attacker at least as much, or the defender at most as much, it still does
   pub next_stays : (left new_left : ℕ) → (is_attackers node ≡ true → left ≤ new_left)
       → (is_attackers node ≡ false → new_left ≤ left) → IsNoHarder (next_node node left) (next_node more new_left)
-  next_stays left new_left attacks defends = record {
-    target = h.target;
-    defender = h.defender;
-    turn = ap not h.turn;
-    tree = h.tree;
-    wide = let wide = h.wide in omega (arith, wide);
-    attacker_ko = le_chosen node.turn.attacker_to_play more.turn.attacker_to_play left node.attacker_ko new_left more.attacker_ko
-        h.turn attacks (λ _. h.attacker_ko);
-    defender_ko = le_chosen more.turn.attacker_to_play node.turn.attacker_to_play more.defender_ko new_left node.defender_ko left
-        (sym h.turn) (λ _. h.defender_ko) (λ f. defends (sym h.turn ∙ f));
-  }
+  next_stays left new_left attacks defends = grind (arith, le_chosen)
 
   -- the same side is to play
   same_mover : mover_of more.turn ≡ mover_of node.turn
-  same_mover =
-      ap (λ b. cond b (other more.turn.defender) more.turn.defender) h.turn
-      ∙ ap (λ c. cond node.turn.attacker_to_play (other c) c) h.defender
+  same_mover = grind arith
 
   -- the target stands at both or at neither
   same_target : (pos : BoardState) → is_gone more pos ≡ is_gone node pos
@@ -134,8 +113,7 @@ module _ (node more : Node) (h : IsNoHarder node more) where
   -- the passes lead to such nodes
   passes_stay : is_attackers node ≡ false
       → IsNoHarder (next_node node (allowance_of node)) (next_node more (allowance_of more))
-  passes_stay turn =
-      next_stays (allowance_of node) (allowance_of more) (λ t. absurd (both_ways (is_attackers node) turn t)) own_less
+  passes_stay turn = grind (arith, next_stays, both_ways, own_less)
 
   -- a play that the attacker can make at the node he can make at the other, and it leads to such a node
   plays_stay : (pos : BoardState) (p : ℕ) (next : Node) (new : BoardState) → is_attackers node ≡ true
@@ -164,11 +142,7 @@ module _ (node more : Node) (h : IsNoHarder node more) where
   -- a reply that the defender can make at the other node he can make at the node
   replies_stay : (pos : BoardState) (p : ℕ) (other_next : Node) (new : BoardState) → is_attackers node ≡ false
       → IsChild more pos p other_next new → (next : Node) × IsChild node pos p next new × IsNoHarder next other_next
-  replies_stay pos p other_next new turn (inl w) = (
-    next_node node (allowance_of node),
-    inl (record { legal = ap (λ c. play pos c p) (sym same_mover) ∙ w.legal; next_is = refl }),
-    subst (IsNoHarder (next_node node (allowance_of node))) (sym w.next_is) (passes_stay turn),
-  )
+  replies_stay pos p other_next new turn (inl w) = grind (arith, same_mover, passes_stay turn)
   replies_stay pos p other_next new turn (inr w) =
       let most = own_less turn in (
         next_node node (allowance_of node - 1),

@@ -8,7 +8,7 @@ use Rattle.read_rules.specs.declared.question.Kind.TheVariants.{Attack, Defend}
 use Rattle.read_rules.specs.declared.question.Spot.{Spot}
 use Rattle.read_rules.specs.declared.question.ReadingQuestion.{ReadingQuestion}
 use Rattle.read_rules.specs.GameTree.{is_captured}
-use Rattle.read_rules.specs.Answer.{is_attack, first_node, is_about, code_of, attains_code}
+use Rattle.read_rules.specs.Answer.{first_node, is_about, code_of}
 use Rattle.read_rules.specs.Rules.{node_under}
 use Rattle.read_rules.proofs.AnswerLemmas.{about_stands}
 use Rattle.read_rules.proofs.AreaWords.{asked_as}
@@ -53,11 +53,6 @@ pub defend_attains : (q : ReadingQuestion) (pos : BoardState) → q.kind ≡ Def
     × (surely_attains q pos 1 ≡ not (sure_under q pos 0 1))
 defend_attains q pos kind = defend_codes q pos q.kind kind
 
--- with at least as much for the attacker, and at most as much for the defender, a sure capture stays
-under_stays : (q : ReadingQuestion) (pos : BoardState) (a d x y : ℕ) → a ≤ x → y ≤ d
-    → sure_under q pos a d ≡ true → sure_under q pos x y ≡ true
-under_stays q pos a d x y attacks defends sure = grind (arith, stays_sure)
-
 -- what is not so before is not so after
 not_before : (a b : Bool) → (a ≡ true → b ≡ true) → not b ≡ true → not a ≡ true
 not_before true b h n = absurd (both_ways b (not-true b n) (h refl))
@@ -66,23 +61,18 @@ not_before false b h n = refl
 -- a question that attains code 3 attains code 2
 pub three_gives_two : (q : ReadingQuestion) (pos : BoardState) → surely_attains q pos 3 ≡ true
     → surely_attains q pos 2 ≡ true
-three_gives_two q pos h = grind (arith, attack_attains, under_stays, defend_attains, not_before)
+three_gives_two q pos h = grind (arith, attack_attains, stays_sure, defend_attains, not_before)
 
 -- a question that attains code 2 attains code 1
 pub two_gives_one : (q : ReadingQuestion) (pos : BoardState) → surely_attains q pos 2 ≡ true
     → surely_attains q pos 1 ≡ true
-two_gives_one q pos h = grind (arith, attack_attains, under_stays, defend_attains, not_before)
+two_gives_one q pos h = grind (arith, attack_attains, stays_sure, defend_attains, not_before)
 
 -- a code is the greatest from 1 to 3 that passes a test
 record IsGreatest (test : ℕ → Bool) (code : ℕ) : Type 0 where
   bounded : code ≤ 3
   attained : code ≢ 0 → test code ≡ true
   greatest : (more : ℕ) → code < more → more ≤ 3 → test more ≡ false
-
--- more than 0 is 1, 2 or 3
-above_zero : (test : ℕ → Bool) → test 3 ≡ false → test 2 ≡ false → test 1 ≡ false → (more : ℕ) → 0 < more → more ≤ 3
-    → test more ≡ false
-above_zero test t3 t2 t1 more lo hi = grind (arith, cases_eq, above_one)
 
 -- the code that is chosen from three to one is the greatest that passes
 greatest_by : (about three two one : Bool) (test : ℕ → Bool) → about ≡ true → test 3 ≡ three → test 2 ≡ two
@@ -92,7 +82,7 @@ greatest_by false three two one test a t3 t2 t1 = absurd (let w = a in cc)
 greatest_by true true two one test a t3 t2 t1 = grind arith
 greatest_by true false true one test a t3 t2 t1 = grind (arith, above_two)
 greatest_by true false false true test a t3 t2 t1 = grind (arith, above_one)
-greatest_by true false false false test a t3 t2 t1 = grind (arith, above_zero)
+greatest_by true false false false test a t3 t2 t1 = grind (arith, cases_eq, above_one)
 
 -- the sure code of a question is the greatest that it surely attains on a position that it is about
 pub sure_code_greatest : (q : ReadingQuestion) (pos : BoardState) → is_about q pos ≡ true
@@ -171,29 +161,10 @@ sure_answer_first q pos some ne = elim (cases_Bool (is_about q pos)) [
       )
 ]
 
--- a code that an attack surely attains it attains
-attack_is_attained : (q : ReadingQuestion) (pos : BoardState) (code : ℕ) → is_attack q.kind ≡ true
-    → surely_attains q pos code ≡ true → attains_code q pos code ≡ true
-attack_is_attained q pos code t h = grind (arith, sure_is_won)
-
--- a code that a defence attains is not surely refuted
-defence_is_not_refuted : (q : ReadingQuestion) (pos : BoardState) (code : ℕ) → is_attack q.kind ≡ false
-    → attains_code q pos code ≡ true → surely_attains q pos code ≡ true
-defence_is_not_refuted q pos code f h = grind (arith, not_before, sure_is_won)
-
 -- the sure code of an attack is at most its code
 pub attack_code_at_most : (q : ReadingQuestion) (pos : BoardState) → q.kind ≡ Attack → sure_code_of q pos ≤ code_of q pos
 attack_code_at_most q pos kind =
-    grind (
-      arith,
-      cases_Bool,
-      sure_code_another,
-      sure_code_greatest,
-      code_greatest,
-      cases_lt,
-      both_ways,
-      attack_is_attained,
-    )
+    grind (arith, cases_Bool, sure_code_another, sure_code_greatest, code_greatest, cases_lt, both_ways, sure_is_won)
 
 -- the sure code of a defence is at least its code
 pub defend_code_at_least : (q : ReadingQuestion) (pos : BoardState) → q.kind ≡ Defend → code_of q pos ≤ sure_code_of q pos
@@ -206,5 +177,6 @@ defend_code_at_least q pos kind =
       code_greatest,
       cases_lt,
       both_ways,
-      defence_is_not_refuted,
+      not_before,
+      sure_is_won,
     )

@@ -80,17 +80,12 @@ some_gives : (test : Node → BoardState → Bool) (o : Option (Node × BoardSta
 some_gives test None h = cc
 some_gives test (Some child) h = (child, refl, h)
 
--- a candidate at whose child the target is surely captured by the test is one in words
-some_candidate : (n : ℕ) (node : Node) (pos : BoardState) (p : ℕ) → is_candidate node.turn pos p ≡ true
-    → some_child (surely_wins n) (child_of node pos p) ≡ true → SomeCandidateCaptures n node pos
-some_candidate n node pos p candidate h = grind (arith, some_gives, child_gives)
-
 -- at the attacker's turn a sure capture rests on one candidate
 pub sure_attacker_gives : (n : ℕ) (node : Node) (pos : BoardState) → is_gone node pos ≡ false
     → is_attackers node ≡ true → surely_wins (suc n) node pos ≡ true
     → (has_too_many node pos ≡ false) × SomeCandidateCaptures n node pos
 sure_attacker_gives n node pos stands turn h =
-    grind (arith, and_parts, sure-attacker, any_gives, not-true, some_candidate, tried_candidate)
+    grind (arith, and_parts, sure-attacker, any_gives, not-true, some_gives, child_gives, tried_candidate)
 
 -- at his turn the attacker surely captures if the target has few enough liberties and some candidate does it
 pub sure_attacker_from : (n : ℕ) (node : Node) (pos : BoardState) → is_gone node pos ≡ false

@@ -16,7 +16,7 @@ use Rattle.read_rules.proofs.WalkLemmas.{find_gives}
 use Rattle.sure_rules.specs.Nodes.{is_attackers, is_gone, has_too_many}
 use Rattle.sure_rules.specs.SureTree.{is_tried, tried_points, surely_wins}
 use Rattle.sure_rules.specs.SureAnswer.{surely_suits, surely_succeeds, pass_holds, first_sure, first_sure_move, sure_move}
-use Rattle.sure_rules.specs.SureInWords.{SurelySucceeds, IsFirstSurePoint, IsFirstSureMove}
+use Rattle.sure_rules.specs.SureInWords.{SurelySucceeds, IsFirstSureMove}
 use Rattle.sure_rules.proofs.SureLemmas.{tried_on, sure-attacker, sure-defender}
 
 -- none passes a test exactly if each passes the opposite test
@@ -30,12 +30,6 @@ lost_child : (n : ℕ) (child : Option (Node × BoardState))
     → some_child (λ s pos. not (surely_wins n s pos)) child ≡ not (each_child (surely_wins n) child)
 lost_child n None = refl
 lost_child n (Some child) = refl
-
--- no reply holds exactly if each child is surely captured
-all-first : (n : ℕ) (f : ℕ → Option (Node × BoardState)) (ps : List ℕ)
-    → is_none (find (λ p. some_child (λ s pos. not (surely_wins n s pos)) (f p)) ps)
-    ≡ list_all (λ p. each_child (surely_wins n) (f p)) ps
-all-first n f ps = grind (arith, none-first, lost_child)
 
 -- a move at a point is there exactly if the point is
 some-at_point : (o : Option ℕ) → is_some (at_point o) ≡ is_some o
@@ -73,12 +67,6 @@ attacker_first : (n : ℕ) (node : Node) (pos : BoardState) → is_attackers nod
     ≡ list_any (λ p. some_child (surely_wins n) (child_of node pos p)) (tried_points node pos)
 attacker_first n node pos e = grind (arith, any-first)
 
--- at the defender's turn none succeeds exactly if each child is surely captured
-defender_first : (n : ℕ) (node : Node) (pos : BoardState) → is_attackers node ≡ false
-    → is_none (first_sure n node pos)
-    ≡ list_all (λ p. each_child (surely_wins n) (child_of node pos p)) (tried_points node pos)
-defender_first n node pos e = grind (arith, all-first n (child_of node pos) (tried_points node pos))
-
 -- at the attacker's turn the target is surely captured exactly if he has a move that succeeds
 pub sure-attacker_move : (n : ℕ) (node : Node) (pos : BoardState) → is_gone node pos ≡ false → n ≢ 0
     → is_attackers node ≡ true → surely_wins n node pos ≡ is_some (sure_move (n - 1) node pos)
@@ -91,7 +79,7 @@ pub sure-defender_move : (n : ℕ) (node : Node) (pos : BoardState) → is_gone 
     → is_attackers node ≡ false → surely_wins n node pos ≡ is_none (sure_move (n - 1) node pos)
 sure-defender_move zero node pos h ne e = absurd (ne refl)
 sure-defender_move (suc n) node pos h ne e =
-    grind (arith, sure-defender, sure_move-by_turn, by_turn, defender_none, defender_first)
+    grind (arith, sure-defender, sure_move-by_turn, by_turn, defender_none, none-first, lost_child)
 
 -- the first point that succeeds, found by a walk over the points that are tried
 pub first_sure-found : (n : ℕ) (node : Node) (pos : BoardState) (next p : ℕ) (tried : ℕ → Bool)
@@ -135,21 +123,11 @@ suits_from : (n : ℕ) (turn : Bool) (next : Node) (new : BoardState) → surely
 suits_from n true next new e = e
 suits_from n false next new e = not_from_false _ e
 
--- a point that succeeds by the test succeeds in words
-succeeds_gives : (n : ℕ) (node : Node) (pos : BoardState) (p : ℕ) → is_tried node pos p ≡ true
-    → surely_succeeds n node pos p ≡ true → SurelySucceeds n node pos p
-succeeds_gives n node pos p tried h = grind (arith, suits_gives, child_gives)
-
 -- a point that succeeds in words succeeds by the test
 succeeds_from : (n : ℕ) (node : Node) (pos : BoardState) (p : ℕ) → SurelySucceeds n node pos p
     → surely_succeeds n node pos p ≡ true
 succeeds_from n node pos p w =
     grind (arith, child_from node pos p w.next w.new w.child, suits_from n (is_attackers node) w.next w.new w.outcome)
-
--- the first point
-first_point : (n : ℕ) (node : Node) (pos : BoardState) (p : ℕ) → pass_holds n node pos ≡ false
-    → first_sure n node pos ≡ Some p → IsFirstSurePoint n node pos p
-first_point n node pos p none e = grind (arith, find_gives, succeeds_gives, both_ways, succeeds_from)
 
 -- the pass if it holds, and else the first point that succeeds, is the first move that does
 first_by : (n : ℕ) (node : Node) (pos : BoardState) (holds : Bool) (found : Option ℕ) (spot : Spot)
@@ -157,7 +135,8 @@ first_by : (n : ℕ) (node : Node) (pos : BoardState) (holds : Bool) (found : Op
     → cond holds (Some Pass) (at_point found) ≡ Some spot → IsFirstSureMove n node pos spot
 first_by n node pos true found spot ps fs e = let same : Pass ≡ spot = cc in subst (IsFirstSureMove n node pos) same ps
 first_by n node pos false None spot ps fs e = absurd (let w = e in cc)
-first_by n node pos false (Some p) spot ps fs e = grind (arith, first_point)
+first_by n node pos false (Some p) spot ps fs e =
+    grind (arith, find_gives, suits_gives, child_gives, both_ways, succeeds_from)
 
 -- the first move that is computed is the first that succeeds
 pub first_sure_move_gives : (n : ℕ) (node : Node) (pos : BoardState) (spot : Spot)

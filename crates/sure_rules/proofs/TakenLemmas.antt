@@ -11,7 +11,7 @@ use Rattle.go_rules.proofs.Links.{liberties_some}
 use Rattle.go_rules.proofs.Paths.{same_cell-true, same_cell-from}
 use Rattle.go_rules.proofs.Plays.{length_after}
 use Rattle.go_rules.proofs.PlayLaws.{done_state, others_stay}
-use Rattle.go_rules.proofs.Results.{after_on, free_suicide}
+use Rattle.go_rules.proofs.Results.{free_suicide}
 use Rattle.read_rules.specs.declared.node.Node.{Node}
 use Rattle.read_rules.specs.declared.tree.Tree.TheVariants.{Wider}
 use Rattle.read_rules.specs.GameTree.{allowance_of, next_node, taking_back}
@@ -28,16 +28,11 @@ use Rattle.sure_rules.proofs.MoveLemmas.{moved_child, defenders_by}
 use Rattle.sure_rules.proofs.SureLemmas.{none_and_some, none_at_attackers, sure-captured, sure-taken_back}
 use Rattle.sure_rules.proofs.SureLemmas.{sure_at_end, sure_defender_gives}
 
--- beyond the board there is nothing after a play either
-beyond_after : (pos : BoardState) (c : Colour) (p q : ℕ) → (q < pos.size * pos.size → ⊥)
-    → cell_at (after_on pos c p) q ≡ Empty
-beyond_after pos c p q off = grind (arith, get_or_past, length_after)
-
 -- a play can be made only at a point of the board
 pub free_on_board : (pos : BoardState) (c : Colour) (p : ℕ) (new : BoardState) → play_free pos c p ≡ Ok new
     → p < pos.size * pos.size
 free_on_board pos c p new e =
-    grind (arith, cases_lt, done_state, beyond_after, cases_eq, free_suicide, liberties_some, both_ways)
+    grind (arith, cases_lt, done_state, get_or_past, length_after, cases_eq, free_suicide, liberties_some, both_ways)
 
 -- the same of a child
 pub child_on_board : (node : Node) (pos : BoardState) (p : ℕ) (next : Node) (new : BoardState)
@@ -54,7 +49,8 @@ empty_stays pos c p new q e ne was =
       cases_lt q (pos.size * pos.size),
       others_stay pos c p new q e,
       done_state pos c p new e,
-      beyond_after pos c p q,
+      get_or_past,
+      length_after,
     )
 
 -- if the target is taken, and the defender plays elsewhere, it is taken for good

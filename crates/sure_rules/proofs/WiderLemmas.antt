@@ -4,9 +4,7 @@ use Rattle.std.proofs.Common.{◌≡◌, ◌≢◌, ◌⊎◌, ℕ, zero, suc, �
 use Rattle.std.proofs.Common.{arith, inl, inr}
 use Rattle.std.proofs.lemmas.Bool.{cases_Bool, cases_lt, both_ways, lt-ltb}
 use Rattle.std.proofs.lemmas.List.{get_or_past}
-use Rattle.go_rules.specs.declared.Cell.{Cell}
 use Rattle.go_rules.specs.declared.Cell.TheVariants.{Empty}
-use Rattle.go_rules.specs.declared.Colour.{Colour}
 use Rattle.go_rules.specs.Board.{are_neighbours}
 use Rattle.go_rules.specs.Strings.{cell_at, Path, start, step}
 use Rattle.go_rules.specs.Position.{BoardState, IsPosition, other, stone_of}
@@ -135,31 +133,16 @@ none_of_more node pos was =
       stone_not_empty node.turn.defender,
     )
 
--- a stone of the defender is no stone of the attacker
-not_attackers : (cell : Cell) (c : Colour) → cell ≡ stone_of c → cell ≢ stone_of (other c)
-not_attackers cell c its e = enemy_differs c (sym e ∙ its)
-
--- nor is an empty point
-not_empty_stone : (cell : Cell) (c : Colour) → cell ≡ Empty → cell ≢ stone_of c
-not_empty_stone cell c empty e = stone_not_empty c (sym e ∙ empty)
-
--- a stone stands on the board
-stone_on : (pos : BoardState) (q : ℕ) (c : Colour) → IsPosition pos → cell_at pos.cells q ≡ stone_of c
-    → q < pos.size * pos.size
-stone_on pos q c sound its = grind (arith, cases_lt, stone_not_empty, get_or_past)
-
 -- A play at a node whose target is a string of two stones or more.
 module _ (node : Node) (pos : BoardState) (sound : IsPosition pos) (more : HasMoreStones node pos) (p : ℕ)
     (new : BoardState) (played : play_free pos (mover_of node.turn) p ≡ Ok new) where
   -- it is not where a stone of the defender stands
   elsewhere : (q : ℕ) → cell_at pos.cells q ≡ stone_of node.turn.defender → q ≢ p
-  elsewhere q its e =
-      stone_not_empty node.turn.defender
-      (sym its ∙ ap (cell_at pos.cells) e ∙ (done_state pos (mover_of node.turn) p new played).0)
+  elsewhere q its e = grind (arith, stone_not_empty, done_state)
 
   -- the target is on the board
   target_on : target_of node < pos.size * pos.size
-  target_on = stone_on pos (target_of node) node.turn.defender sound more.stands
+  target_on = grind (arith, cases_lt, stone_not_empty, get_or_past)
 
   -- if the stone beside it is taken, so is the target
   taken_together : IsCaptured pos.size (put_on pos (mover_of node.turn) p) (mover_of node.turn) more.beside
@@ -180,11 +163,14 @@ module _ (node : Node) (pos : BoardState) (sound : IsPosition pos) (more : HasMo
 
   -- where it stood the attacker has no stone afterwards
   beside_free : cell_at new.cells more.beside ≢ stone_of (other node.turn.defender)
-  beside_free = elim (others_stay pos (mover_of node.turn) p new more.beside played more.on_board
-      (elsewhere more.beside more.same)) [
-        | inl same ↦ not_attackers (cell_at new.cells more.beside) node.turn.defender (same ∙ more.same)
-        | inr taken ↦ not_empty_stone (cell_at new.cells more.beside) (other node.turn.defender) taken.1
-      ]
+  beside_free =
+      grind (
+        arith,
+        others_stay pos (mover_of node.turn) p new more.beside played more.on_board (elsewhere more.beside more.same),
+        elsewhere more.beside more.same,
+        enemy_differs,
+        stone_not_empty,
+      )
 
   -- the target is still a string of two stones or more, or was one
   more_after : (left : ℕ) → HasMoreStones (next_node node left) new ⊎ IsGap (next_node node left) new

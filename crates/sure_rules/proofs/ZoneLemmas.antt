@@ -1,5 +1,5 @@
 -- The rules of zones.
-use Rattle.std.proofs.Common.{◌≡◌, ◌≢◌, ℕ, suc, ◌-◌, ◌*◌, ◌<◌, ◌≤◌, Bool, true, false, Option, Some, None, Ok}
+use Rattle.std.proofs.Common.{◌≡◌, ◌≢◌, ℕ, suc, ◌-◌, ◌*◌, ◌<◌, Bool, true, false, Option, Some, None, Ok}
 use Rattle.std.proofs.Common.{refl, sym, ap, subst, ◌∙◌, arith, inl, inr, eqb, ◌&&◌, set}
 use Rattle.std.proofs.lemmas.Bool.{cases_Bool, cases_eq, both_ways, and_parts, eqb-true}
 use Rattle.go_rules.specs.declared.Colour.{Colour}
@@ -16,7 +16,6 @@ use Rattle.read_rules.proofs.CandidateLaws.{candidate_on}
 use Rattle.read_rules.proofs.LibertyLemmas.{child_free, play_size}
 use Rattle.read_rules.specs.ActiveArea.{AgreeOn}
 use Rattle.read_rules.specs.declared.node.Node.{Node}
-use Rattle.read_rules.specs.GameTree.{allowance_of, next_node}
 use Rattle.read_rules.specs.Turns.{mover_of}
 use Rattle.read_rules.specs.Rules.{IsChild, TakesBack}
 use Rattle.sure_rules.specs.Nodes.{is_attackers, is_gone, target_of}
@@ -32,9 +31,7 @@ module _ (pos : BoardState) (c : Colour) (p : ℕ) (new : BoardState) (sound : I
     (on : p < pos.size * pos.size) (played : play_free pos c p ≡ Ok new) where
   -- a captured stone is not the one that was played
   captured_apart : (q : ℕ) → IsCaptured pos.size (set pos.cells p (stone_of c)) c q → q ≢ p
-  captured_apart q captured e =
-      let here = at_put_same pos.cells p (stone_of c) (omega (arith, sound.cells, on)) in
-      enemy_differs c (sym captured.enemy ∙ ap (cell_at (set pos.cells p (stone_of c))) e ∙ here)
+  captured_apart q captured e = grind (arith, at_put_same, enemy_differs)
 
   -- the string of a captured stone had one liberty before the play, and this was its point
   pub captured_at_last : (q : ℕ) → q < pos.size * pos.size
@@ -105,14 +102,6 @@ not_banned (Some b) c q elsewhere = elim (cases_Bool (eqb b.0 q && same_colour b
 -- A node at the defender's turn at which no reply holds, and a position that agrees.
 module _ (n : ℕ) (node : Node) (pos : BoardState) (Z : ℕ → Bool) (turn : is_attackers node ≡ false)
     (w : IsReplyZone n node pos Z) (here : BoardState) (sound : IsPosition here) (agrees : AgreeOn (points_of Z) pos here) where
-  -- the pass leads to a position that agrees on the zone of the pass
-  after_pass : AgreeOn (points_of w.passed) (pass pos) (pass here)
-  after_pass = record {
-    sizes = agrees.sizes;
-    cells = λ q inside. agrees.cells q (w.within q inside);
-    bans = λ q c inside. refl;
-  }
-
   -- A reply that is not read.
   module _ (p : ℕ) (new : BoardState) (on : p < here.size * here.size)
       (played : play_free here (mover_of node.turn) p ≡ Ok new) (unread : w.is_read p ≡ false) where
@@ -127,10 +116,7 @@ module _ (n : ℕ) (node : Node) (pos : BoardState) (Z : ℕ → Bool) (turn : i
     -- it captures no stone of the zone
     takes_none : (q : ℕ) → w.passed q ≡ true
         → IsCaptured here.size (set here.cells p (stone_of (mover_of node.turn))) (mover_of node.turn) q → ⊥
-    takes_none q inside captured =
-        both_ways (w.is_read p) unread (w.last_liberties here sound agrees q p inside
-        (sym (at_put_other here.cells p q (stone_of (mover_of node.turn)) (elsewhere q inside)) ∙ captured.enemy)
-        (captured_at_last here (mover_of node.turn) p new sound on played q (inside_on q inside) captured))
+    takes_none q inside captured = grind (arith, both_ways, at_put_other, elsewhere, captured_at_last, inside_on)
 
     -- so it leads to a position that agrees on the zone with that after the pass
     after_reply : AgreeOn (points_of w.passed) (pass pos) new
@@ -147,23 +133,11 @@ module _ (n : ℕ) (node : Node) (pos : BoardState) (Z : ℕ → Bool) (turn : i
           (ban ∙ ap (λ (x : Colour). Some (r, x)) (ban_parts here (mover_of node.turn) p new on played r k ban).0)).taken)));
     }
 
-    -- and fails as the pass does
-    unread_fails : (left : ℕ) → left ≤ allowance_of node → surely_wins n (next_node node left) new ≡ true
-    unread_fails left less = grind (arith, stays_sure, no_harder-refl, both_ways, free_keeps, after_reply)
-
   -- every reply fails
   reply_fails : (p : ℕ) (next : Node) (new : BoardState) → p < here.size * here.size → IsChild node here p next new
       → surely_wins n next new ≡ true
-  reply_fails p next new on child = elim (cases_Bool (w.is_read p)) [
-    | inl read ↦ w.fails p read here sound agrees next new child
-    | inr unread ↦ elim child [
-      | inl legal ↦ ap (λ (m : Node). surely_wins n m new) legal.next_is
-          ∙ unread_fails p new on (play_done here (mover_of node.turn) p new legal.legal) unread (allowance_of node)
-          (omega arith)
-      | inr allowed ↦ ap (λ (m : Node). surely_wins n m new) allowed.next_is
-          ∙ unread_fails p new on allowed.free unread (allowance_of node - 1) (omega arith)
-    ]
-  ]
+  reply_fails p next new on child =
+      grind (arith, cases_Bool, stays_sure, no_harder-refl, both_ways, free_keeps, after_reply, play_done)
 
   -- and so does to take back
   back_fails : (next : Node) (new : BoardState) → TakesBack node here next new → surely_wins n next new ≡ true
@@ -173,10 +147,13 @@ module _ (n : ℕ) (node : Node) (pos : BoardState) (Z : ℕ → Bool) (turn : i
 -- a node at which no reply holds on every position that agrees has that zone
 pub zone_defender : (n : ℕ) (node : Node) (pos : BoardState) (Z : ℕ → Bool) → is_attackers node ≡ false
     → IsReplyZone n node pos Z → IsZone (suc n) node pos Z
-zone_defender n node pos Z turn w = λ here sound agrees. elim (cases_Bool (is_gone node here)) [
-  | inl gone ↦ sure_if_back_fails n node here gone (back_fails n node pos Z turn w here sound agrees)
-  | inr stands ↦ sure_defender_from n node here stands turn (record {
-    passed = w.zone (pass here) (pass_keeps here sound) (after_pass n node pos Z turn w here sound agrees);
-    played = reply_fails n node pos Z turn w here sound agrees;
-  })
-]
+zone_defender n node pos Z turn w =
+    grind (
+      arith,
+      cases_Bool,
+      sure_if_back_fails n node,
+      back_fails n node pos Z turn w,
+      sure_defender_from n node,
+      pass_keeps,
+      reply_fails n node pos Z turn w,
+    )

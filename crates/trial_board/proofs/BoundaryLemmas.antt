@@ -1,5 +1,5 @@
 -- The least points of enemy strings: those of the strings that a search meets make up the boundary.
-use Rattle.std.proofs.Common.{◌≡◌, ◌↔◌, ℕ, ◌+◌, ◌*◌, ◌<◌, ◌≤◌, ◌&&◌, true, false, ltb, List, sym, ap}
+use Rattle.std.proofs.Common.{◌≡◌, ◌↔◌, ℕ, ◌+◌, ◌*◌, ◌<◌, ◌≤◌, true, false, List, sym, ap}
 use Rattle.std.proofs.Common.{arith, inl, inr, ◌∙◌}
 use Rattle.std.proofs.lemmas.Bool.{cases_Bool, cases_eq, cases_lt, or_cases, or_left, or_right, eqb-true, eq-eqb}
 use Rattle.std.proofs.lemmas.Bool.{both_ways, and_parts, and_from, lt-ltb, ltb-true, not-true, not_from_false}
@@ -110,13 +110,7 @@ pub least_in : (s : ℕ) (cells : List Cell) (q r : ℕ) (found : sets.FinSet na
     → LeastOf s cells q r
 unfolding string_at
 least_in s cells q r found on e h none =
-    let at = λ (k : ℕ). ap (λ t. sets.contains t k) e ∙ contains-set_below (s * s) (is_in_string s cells q) k in
-    let parts : (ltb r (s * s) ≡ true) × (is_in_string s cells q r ≡ true) = and_parts _ _ (sym (at r) ∙ h) in
-    record {
-      inside = parts.1;
-      least = λ k l. sym (at k ∙ ap (λ b. b && is_in_string s cells q k)
-          (lt-ltb k (s * s) (omega (arith, l, ltb-true r (s * s) parts.0)))) ∙ none k l;
-    }
+    grind (arith, contains-set_below (s * s) (is_in_string s cells q), and_parts, lt-ltb, ltb-true r (s * s))
 
 -- a string's least point is the first of its set
 pub least_is : (s : ℕ) (cells : List Cell) (q r : ℕ) (found : sets.FinSet nat_cmp) → q < s * s

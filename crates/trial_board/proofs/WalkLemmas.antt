@@ -1,9 +1,9 @@
 -- Looks from a trial board, one after another: the trial stays, each look was in an area, and what they found holds.
-use Rattle.std.proofs.Common.{◌≡◌, ℕ, ◌*◌, ◌<◌, Bool, true, refl, sym, subst}
+use Rattle.std.proofs.Common.{◌≡◌, ℕ, ◌*◌, ◌<◌, Bool, true, sym, subst, arith}
 use Rattle.go_rules.specs.Position.{BoardState}
-use Rattle.go_base.specs.Facts.{Fact, SizeIs, Agrees, AddsIn, Grows-refl, AddsIn-refl, AddsIn-trans, AddsIn-mono}
-use Rattle.go_base.specs.Facts.{agrees_before, same_size}
-use Rattle.trial_board.specs.Trials.{Trying, KeepsTrial, Stays-trans, after}
+use Rattle.go_base.specs.Facts.{Fact, SizeIs, Agrees, AddsIn}
+use Rattle.go_base.specs.Facts.{same_size}
+use Rattle.trial_board.specs.Trials.{Trying, KeepsTrial, after}
 
 -- a point of the board whose size was seen is on each position that agrees
 pub on_agreed : {seen : Fact → Bool} {pos : BoardState} (n l : ℕ) → seen (SizeIs n) ≡ true → Agrees seen pos
@@ -23,11 +23,7 @@ module _ {L : Type 0} {shows : L → BoardState} {seen : L → Fact → Bool} {a
   -- no look was made
   pub Walked-none : {Found : ℕ → BoardState → Type 0} {first : Trying L}
       → ((pos : BoardState) → Found pos.size (after pos first.moves)) → Walked shows seen area Found first first
-  Walked-none found = record {
-    stays = record { moves = refl; shown = refl; grows = Grows-refl _ };
-    near = λ pos a. AddsIn-refl _ _;
-    over = λ pos a. found pos;
-  }
+  Walked-none found = grind arith
 
   -- what was found says more
   pub Walked-same : {Found More : ℕ → BoardState → Type 0} {first now : Trying L}
@@ -35,11 +31,7 @@ module _ {L : Type 0} {shows : L → BoardState} {seen : L → Fact → Bool} {a
       → ((pos : BoardState) → Agrees (seen first.look) pos → Found pos.size (after pos first.moves)
       → More pos.size (after pos first.moves))
       → Walked shows seen area More first now
-  Walked-same walk more = record {
-    stays = walk.stays;
-    near = walk.near;
-    over = λ pos a. more pos (agrees_before walk.stays.grows a) (walk.over pos a);
-  }
+  Walked-same walk more = grind arith
 
   -- one more look was in the area, and what it says is found too
   pub Walked-next : {Found More : ℕ → BoardState → Type 0} {first mid now : Trying L}
@@ -50,16 +42,4 @@ module _ {L : Type 0} {shows : L → BoardState} {seen : L → Fact → Bool} {a
       → ((pos : BoardState) → Agrees (seen first.look) pos → Found pos.size (after pos first.moves)
       → Says pos.size (after pos first.moves) → More pos.size (after pos first.moves))
       → Walked shows seen area More first now
-  Walked-next {mid} {now} close Says walk look inside more = record {
-    stays = Stays-trans walk.stays look.stays;
-    near = λ pos a.
-        let before = agrees_before look.stays.grows a in
-        let looked = subst (λ ms. AddsIn (seen mid.look) (seen now.look) (close pos.size (after pos ms)))
-        walk.stays.moves (look.near pos a) in
-        AddsIn-trans (walk.near pos before)
-        (AddsIn-mono looked (inside pos (agrees_before walk.stays.grows before) (walk.over pos before)));
-    over = λ pos a.
-        let before = agrees_before look.stays.grows a in
-        more pos (agrees_before walk.stays.grows before) (walk.over pos before)
-        (subst (λ ms. Says pos.size (after pos ms)) walk.stays.moves (look.over pos a));
-  }
+  Walked-next {mid} {now} close Says walk look inside more = grind arith

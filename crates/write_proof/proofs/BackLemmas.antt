@@ -1,5 +1,5 @@
 -- Whether the defender can take back under each of the asked ko allowances.
-use Rattle.std.proofs.Common.{◌≡◌, ◌∙◌, Bool, true, false, not, ◌&&◌, Option, Some, None, is_some, refl, ap, sym}
+use Rattle.std.proofs.Common.{◌≡◌, true, false, Option, Some, None, is_some, refl, ap, arith}
 use Rattle.go_rules.specs.Position.{BoardState, other}
 use Rattle.read_rules.specs.declared.node.Node.{Node}
 use Rattle.read_rules.specs.declared.turn.Turn.{Turn}
@@ -21,15 +21,7 @@ not_back (Some child) e = cc
 -- a target that stands is not lost
 pub lost_standing : (node : Node) (pos : BoardState) → is_captured pos node.turn.target ≡ false
     → has_lost_one_stone node pos ≡ false
-lost_standing node pos e =
-    ap (λ b. ((is_wider node.turn.tree && not node.turn.attacker_to_play) && b)
-    && is_walled_in pos.size pos.cells node.turn.target (other node.turn.defender)) e
-    ∙ by (is_wider node.turn.tree && not node.turn.attacker_to_play)
-    (is_walled_in pos.size pos.cells node.turn.target (other node.turn.defender))
-  where
-    by : (w x : Bool) → ((w && false) && x) ≡ false
-    by true x = refl
-    by false x = refl
+lost_standing node pos e = grind arith
 
 -- where no lone stone was lost, the defender cannot take back
 pub cannot_take_back : (node : Node) (pos : BoardState) → has_lost_one_stone node pos ≡ false
@@ -43,7 +35,4 @@ pub success_back : (asked found : Allowances) (told : MoveSuccess) (turn : Turn)
     → IsFiltered asked found (λ ko. can_play (under turn ko) here turn.target) → IsMoveSuccess asked told (has found)
     → IsMoveSuccess asked told (λ ko. can_take_back (under turn ko) here)
 success_back asked found told turn here wider defends taken walled tells is =
-    success_same asked told (has found) (λ ko. can_take_back (under turn ko) here)
-    (λ ko there. success_each asked found _ tells ko there
-    ∙ ap is_some (sym (back_is (under turn ko) here (lost_lone (under turn ko) here wider defends taken walled))))
-    is
+    grind (arith, success_same, success_each, back_is, lost_lone)

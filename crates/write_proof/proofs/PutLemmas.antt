@@ -1,5 +1,5 @@
 -- What is put behind a text, piece by piece.
-use Rattle.std.proofs.Common.{◌≡◌, ◌≢◌, ◌∙◌, ℕ, zero, suc, ◌+◌, ◌-◌, ◌<◌, ◌≤◌, Bool, true, false, cond, eqb, List}
+use Rattle.std.proofs.Common.{◌≡◌, ◌≢◌, ◌∙◌, ℕ, zero, suc, ◌+◌, ◌-◌, ◌<◌, ◌≤◌, Bool, true, false, List}
 use Rattle.std.proofs.Common.{[], ◌∷◌, ◌++◌, length, Option, Some, None, Result, Ok, Err, refl, sym, ap, subst, inl}
 use Rattle.std.proofs.Common.{inr, arith, append_assoc, length-append, codes, ◌⊎◌, drop}
 use Rattle.std.specs.List.{filter_map, cons_option, filter, range_with_len, join_with_byte}
@@ -30,32 +30,23 @@ use Rattle.read_proof.proofs.FirstLemmas.{words-settled, words-moves, words-back
 pub puts_both : {T : Type 0} (old mid new x y : List ℕ) (r : Result T NoRoom) → mid ≡ old ++ x → Puts mid y new r
     → Puts old (x ++ y) new r
 puts_both old mid new x y (Ok done) e h = (h.0 ∙ ap (λ m. m ++ y) e ∙ append_assoc old x y, h.1)
-puts_both old mid new x y (Err why) e h =
-    subst (λ m. most_bytes < length m) (ap (λ m. m ++ y) e ∙ append_assoc old x y) h
+puts_both old mid new x y (Err why) e h = grind (arith, append_assoc)
 
 -- where the first piece is too long, so is the whole
 pub puts_fails : {T U : Type 0} (old new after x y : List ℕ) (r : Result T NoRoom) (s : Result U NoRoom)
     (e : NoRoom) → r ≡ Err e → s ≡ Err e → Puts old x new r → Puts old (x ++ y) after s
-puts_fails {T} {U} old new after x y r s e is same h =
-    subst (Puts old (x ++ y) after) (sym same) (by e (subst (Puts old x new) is h))
-  where
-    by : (e : NoRoom) → Puts {T = T} old x new (Err e) → Puts {T = U} old (x ++ y) after (Err e)
-    by why h = omega (arith, h, length-append (old ++ x) y, ap length (append_assoc old x y))
+puts_fails {T} {U} old new after x y r s e is same h = grind (arith, length-append, append_assoc)
 
 -- the words of two rows behind blanks
 pub blanks_both : (xs ys : List Word) → behind_blanks (xs ++ ys) ≡ behind_blanks xs ++ behind_blanks ys
 blanks_both [] ys = refl
-blanks_both (x ∷ xs) ys =
-    ap (λ t. blank ∷ (x ++ t)) (blanks_both xs ys)
-    ∙ ap (λ t. blank ∷ t) (sym (append_assoc x (behind_blanks xs) (behind_blanks ys)))
+blanks_both (x ∷ xs) ys = grind (arith, blanks_both xs ys, append_assoc)
 
 -- the words of the proofs at the children of two rows
 pub each_both : (write : Writer) (xs ys : List (Node × BoardState))
     → write_each write (xs ++ ys) ≡ write_each write xs ++ write_each write ys
 each_both write [] ys = refl
-each_both write (x ∷ xs) ys =
-    ap (λ t. write x.0 x.1 ++ t) (each_both write xs ys)
-    ∙ sym (append_assoc (write x.0 x.1) (write_each write xs) (write_each write ys))
+each_both write (x ∷ xs) ys = grind (arith, each_both write xs ys, append_assoc)
 
 -- `.` is written where no ply is left or the claim is settled
 pub dot_words : (n : ℕ) (won : Bool) (node : Node) (pos : BoardState) → (n ≡ 0) ⊎ (is_settled n won node pos ≡ true)
@@ -86,9 +77,7 @@ pub move_words : (n : ℕ) (won : Bool) (node : Node) (pos : BoardState) → n �
     ≡ write_move (first_words (n - 1) won) node pos (first_move (n - 1) node pos)
 move_words zero won node pos some settled none wanted = absurd (some refl)
 move_words (suc n) won node pos some settled none wanted =
-    let less : n ≡ suc n - 1 = omega arith in
-    words-moves n won node pos true settled none wanted
-    ∙ ap (λ m. write_move (first_words m won) node pos (first_move m node pos)) less
+    grind (arith, words-moves n won node pos true settled none wanted)
 
 -- else `*`, and then the proofs after the pass and after the plays
 pub each_words : (n : ℕ) (won : Bool) (node : Node) (pos : BoardState) → n ≢ 0 → is_settled n won node pos ≡ false
@@ -98,15 +87,7 @@ pub each_words : (n : ℕ) (won : Bool) (node : Node) (pos : BoardState) → n �
 unfolding children_of
 each_words zero won node pos some settled none wanted = absurd (some refl)
 each_words (suc n) won node pos some settled none wanted =
-    let less : n ≡ suc n - 1 = omega arith in
-    let write = first_words n won in
-    ap behind_blanks (words-moves n won node pos false settled none wanted)
-    ∙ ap (λ t. blank ∷ (codes "*" ++ t)) (ap behind_blanks (each_both write (pass_children node pos)
-    (play_children node pos))
-    ∙ blanks_both (write_each write (pass_children node pos)) (write_each write (play_children node pos)))
-    ∙ ap (λ m. behind_blanks (codes "*" ∷ [])
-    ++ (behind_blanks (write_each (first_words m won) (pass_children node pos))
-    ++ behind_blanks (write_each (first_words m won) (play_children node pos)))) less
+    grind (arith, words-moves n won node pos false settled none wanted, each_both, blanks_both)
 
 -- the first child of a row, where there is one
 one_row : (write : Writer) (o : Option (Node × BoardState)) (more : List (Node × BoardState))
@@ -121,21 +102,18 @@ pub walk_words : (write : Writer) (f : ℕ → Option (Node × BoardState)) (g :
     ≡ behind_blanks (write_each write (option_to_list (f p)))
     ++ behind_blanks (write_each write (filter_map f (filter g (range_with_len (p + 1) (n - (p + 1))))))
 walk_words write f g n a p low high here none =
-    let length : a + (n - a) - (p + 1) ≡ n - (p + 1) = omega (arith, low, high) in
-    let rest = filter_map f (filter g (range_with_len (p + 1) (n - (p + 1)))) in
-    ap (λ ps. behind_blanks (write_each write (filter_map f ps)))
-    (walk_next g (n - a) a p low (omega (arith, low, high)) here none
-    ∙ ap (λ m. p ∷ filter g (range_with_len (p + 1) m)) length)
-    ∙ ap behind_blanks (one_row write (f p) rest)
-    ∙ blanks_both (write_each write (option_to_list (f p))) (write_each write rest)
+    grind (
+      arith,
+      walk_next g (n - a) a p low,
+      one_row write (f p),
+      blanks_both (write_each write (option_to_list (f p))),
+    )
 
 -- where no candidate is left nothing is left to write
 pub walk_written : (write : Writer) (f : ℕ → Option (Node × BoardState)) (g : ℕ → Bool) (m a : ℕ) (out whole : List ℕ)
     → ((k : ℕ) → a ≤ k → g k ≡ false)
     → out ++ behind_blanks (write_each write (filter_map f (filter g (range_with_len a m)))) ≡ whole → out ≡ whole
-walk_written write f g m a out whole none e =
-    sym (append-nil out)
-    ∙ sym (ap (λ ps. out ++ behind_blanks (write_each write (filter_map f ps))) (walk_over g m a none)) ∙ e
+walk_written write f g m a out whole none e = grind (arith, append-nil, walk_over)
 
 -- an error that is handed up is that of the first piece
 pub puts_up : {U : Type 0} (old new after x y : List ℕ) (e : NoRoom) (s : Result U NoRoom)
@@ -158,21 +136,13 @@ module _ (q : ReadingQuestion) (pos : BoardState) (code : ℕ) where
       ≡ behind_blanks (letter_of (claim_under q code more) ∷ [])
       ++ behind_blanks (first_words q.plies (claim_under q code more) (first_node q more) pos)
   unfolding first_words_of
-  under_words more =
-      let words = first_words q.plies (claim_under q code more) (first_node q more) pos in
-      let letter = letter_of (claim_under q code more) in
-      ap (λ ws. behind_blanks (letter ∷ ws)) (append-nil words) ∙ blanks_both (letter ∷ []) words
+  under_words more = grind (arith, append-nil, blanks_both)
 
   -- what is written under some codes, and under those behind the first
   pub split_words : (more : ℕ) (others : List ℕ) → behind_blanks (first_words_of q pos code (more ∷ others))
       ≡ behind_blanks (first_words_of q pos code (more ∷ [])) ++ behind_blanks (first_words_of q pos code others)
   unfolding first_words_of
-  split_words more others =
-      let words = first_words q.plies (claim_under q code more) (first_node q more) pos in
-      let letter = letter_of (claim_under q code more) in
-      blanks_both (letter ∷ words) (first_words_of q pos code others)
-      ∙ ap (λ ws. behind_blanks (letter ∷ ws) ++ behind_blanks (first_words_of q pos code others))
-      (sym (append-nil words))
+  split_words more others = grind (arith, blanks_both, append-nil)
 
   -- what is written under a code
   abbrev pub part : ℕ → List ℕ
@@ -180,44 +150,25 @@ module _ (q : ReadingQuestion) (pos : BoardState) (code : ℕ) where
 
   -- the whole of code 3
   pub whole_three : code ≡ 3 → behind_blanks (first_words_of q pos code (codes_down_to code)) ≡ part 3
-  whole_three is = ap (λ b. behind_blanks (first_words_of q pos code
-      (cond b (3 ∷ []) (cond (eqb code 2) (3 ∷ (2 ∷ [])) (3 ∷ (2 ∷ (1 ∷ []))))))) (eq-eqb code 3 is)
+  whole_three is = grind (arith, eq-eqb)
 
   -- of code 2
   pub whole_two : code ≡ 2 → behind_blanks (first_words_of q pos code (codes_down_to code)) ≡ part 3 ++ part 2
-  whole_two is =
-      ap (λ b. behind_blanks (first_words_of q pos code
-      (cond b (3 ∷ []) (cond (eqb code 2) (3 ∷ (2 ∷ [])) (3 ∷ (2 ∷ (1 ∷ [])))))))
-      (ne_eqb code 3 (λ e. omega (arith, is, e)))
-      ∙ ap (λ b. behind_blanks (first_words_of q pos code (cond b (3 ∷ (2 ∷ [])) (3 ∷ (2 ∷ (1 ∷ []))))))
-      (eq-eqb code 2 is) ∙ split_words 3 (2 ∷ [])
+  whole_two is = grind (arith, ne_eqb, eq-eqb, split_words)
 
   -- of another
   pub whole_one : code ≢ 3 → code ≢ 2
       → behind_blanks (first_words_of q pos code (codes_down_to code)) ≡ part 3 ++ (part 2 ++ part 1)
-  whole_one not_3 not_2 =
-      ap (λ b. behind_blanks (first_words_of q pos code
-      (cond b (3 ∷ []) (cond (eqb code 2) (3 ∷ (2 ∷ [])) (3 ∷ (2 ∷ (1 ∷ []))))))) (ne_eqb code 3 not_3)
-      ∙ ap (λ b. behind_blanks (first_words_of q pos code (cond b (3 ∷ (2 ∷ [])) (3 ∷ (2 ∷ (1 ∷ []))))))
-      (ne_eqb code 2 not_2) ∙ split_words 3 (2 ∷ (1 ∷ [])) ∙ ap (λ t. part 3 ++ t) (split_words 2 (1 ∷ []))
+  whole_one not_3 not_2 = grind (arith, ne_eqb, split_words)
 
   -- whatever the code, the part of code 3 stands in front
   pub whole_first : (rest : List ℕ) × (behind_blanks (first_words_of q pos code (codes_down_to code)) ≡ part 3 ++ rest)
-  whole_first = elim (cases_eq code 3) [
-    | inl three ↦ ([], whole_three three ∙ sym (append-nil (part 3)))
-    | inr not_3 ↦ elim (cases_eq code 2) [
-      | inl two ↦ (part 2, whole_two two)
-      | inr not_2 ↦ (part 2 ++ part 1, whole_one not_3 not_2)
-    ]
-  ]
+  whole_first = grind (arith, cases_eq, whole_three, append-nil, whole_two, whole_one)
 
   -- and that of code 2 behind it, where the code is another
   pub whole_second : code ≢ 3
       → (rest : List ℕ) × (behind_blanks (first_words_of q pos code (codes_down_to code)) ≡ part 3 ++ (part 2 ++ rest))
-  whole_second not_3 = elim (cases_eq code 2) [
-    | inl two ↦ ([], whole_two two ∙ ap (λ t. part 3 ++ t) (sym (append-nil (part 2))))
-    | inr not_2 ↦ (part 1, whole_one not_3 not_2)
-  ]
+  whole_second not_3 = grind (arith, cases_eq, whole_two, append-nil, whole_one)
 
 -- words with one blank between each two are these words behind blanks, without the first blank
 pub joined_words : (words : List Word) → drop 1 (behind_blanks words) ≡ join_with_byte blank words
@@ -229,16 +180,12 @@ joined_words (word ∷ (next ∷ more)) = ap (λ t. word ++ (blank ∷ t)) (join
 pub text_words : (q : ReadingQuestion) (pos : BoardState) (code : ℕ) → code ≡ code_of q pos
     → drop 1 (behind_blanks (first_words_of q pos code (codes_down_to code))) ≡ first_text q pos
 unfolding first_text
-text_words q pos code e =
-    joined_words (first_words_of q pos code (codes_down_to code))
-    ∙ ap (λ k. join_with_byte blank (first_words_of q pos k (codes_down_to k))) e
+text_words q pos code e = grind (arith, joined_words)
 
 -- something is written
 pub some_text : (q : ReadingQuestion) (pos : BoardState) (code : ℕ)
     → 0 < length (behind_blanks (first_words_of q pos code (codes_down_to code)))
-some_text q pos code =
-    let first = whole_first q pos code in
-    subst (λ t. 0 < length t) (sym (first.1 ∙ ap (λ t. t ++ first.0) (under_words q pos code 3))) (omega arith)
+some_text q pos code = grind (arith, whole_first q pos code, under_words q pos code 3)
 
 -- a list without its first element is shorter by one
 pub one_less : (text : List ℕ) → 0 < length text → length text ≡ length (drop 1 text) + 1

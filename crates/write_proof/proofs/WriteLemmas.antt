@@ -1,17 +1,17 @@
 -- What is written at a node, by what is written at the nodes to which its moves lead.
 use Rattle.std.proofs.Common.{◌≡◌, ◌∙◌, ℕ, ◌-◌, ◌≤◌, Bool, true, false, cond, List, [], ◌∷◌, ◌++◌, length}
 use Rattle.std.proofs.Common.{Option, Some, None, Result, Ok, Err, refl, sym, ap, subst, arith, ltb, eqb, ◌||◌, ◌&&◌}
-use Rattle.std.proofs.Common.{not, is_some, ◌+◌, ◌*◌, ◌/◌, ◌<◌, ◌≢◌, drop}
+use Rattle.std.proofs.Common.{◌+◌, ◌*◌, ◌/◌, ◌<◌, ◌≢◌, drop}
 use Rattle.std.proofs.lemmas.Bool.{ne_eqb}
 use Rattle.std.specs.List.{filter_map, filter, range_with_len}
-use Rattle.std.specs.Option.{option_to_list, option_map}
+use Rattle.std.specs.Option.{option_to_list}
 use Rattle.std.specs.Result.{IsErrAnd}
 use Rattle.std.proofs.lemmas.List.{append-nil}
 use Rattle.go_rules.specs.Position.{BoardState}
 use Rattle.go_rules.specs.Play.{pass}
 use Rattle.go_rules.specs.Strings.{liberties}
 use Rattle.go_base.specs.Facts.{Fact}
-use Rattle.trial_board.specs.Trials.{Trying, KeepsTrial, after}
+use Rattle.trial_board.specs.Trials.{Trying, KeepsTrial}
 use Rattle.read_rules.proofs.CandidateLaws.{candidate_on}
 use Rattle.read_rules.specs.Candidates.{is_candidate}
 use Rattle.read_rules.specs.declared.node.Node.{Node}
@@ -33,8 +33,7 @@ use Rattle.write_proof.proofs.PutLemmas.{puts_both, puts_up, blanks_both, one_le
 -- where the trial moves and the position shown stay, so does the position after the moves
 pub here_stays : {L : Type 0} (shows : L → BoardState) (seen : L → Fact → Bool) (old new : Trying L)
     → KeepsTrial shows seen old new → position_on shows new ≡ position_on shows old
-here_stays shows seen old new stays =
-    ap (after (shows new.look)) stays.moves ∙ ap (λ (p : BoardState). after p old.moves) stays.shown
+here_stays shows seen old new stays = grind arith
 
 -- nothing is put where nothing is to be written
 pub nothing_put : (out more : List ℕ) → [] ≡ more → length out ≤ most_bytes → Puts {T = Unit {0}} out more out (Ok tt)
@@ -75,42 +74,30 @@ module _ (n : ℕ) (won : Bool) (node : Node) (here : BoardState) where
   pub next_words : (from p : ℕ) → from ≤ p → is_candidate node.turn here p ≡ true
       → ((k : ℕ) → from ≤ k → k < p → is_candidate node.turn here k ≡ false)
       → words_from from ≡ play_words p ++ words_from (p + 1)
-  next_words from p low is none =
-      walk_words (first_words n won) (child_of node here) (is_candidate node.turn here) (here.size * here.size) from p low
-      (candidate_on node.turn here p is) is none
+  next_words from p low is none = grind (arith, walk_words, candidate_on)
 
   -- what is written after a play that was made
   pub play_written : {T : Type 0} (p : ℕ) (child : Option Node) (next : Node) (new : BoardState) (old out : List ℕ)
       (r : Result T NoRoom) → LeadsTo node here p child new → child ≡ Some next
       → Puts old (behind_blanks (first_words n won next new)) out r
       → Puts old (behind_blanks (write_each (first_words n won) (option_to_list (child_of node here p)))) out r
-  play_written p child next new old out r leads is h =
-      let made = leads ∙ ap (option_map (λ (m : Node). (m, new))) is in
-      subst (λ ws. Puts old (behind_blanks ws) out r)
-      (sym (append-nil (first_words n won next new))
-      ∙ sym (ap (λ o. write_each (first_words n won) (option_to_list o)) made)) h
+  play_written p child next new old out r leads is h = grind (arith, append-nil)
 
   -- nothing is written after one that was not
   pub refused_written : (p : ℕ) (child : Option Node) (new : BoardState) → LeadsTo node here p child new → child ≡ None
       → [] ≡ behind_blanks (write_each (first_words n won) (option_to_list (child_of node here p)))
-  refused_written p child new leads is =
-      sym (ap (λ o. behind_blanks (write_each (first_words n won) (option_to_list o)))
-      (leads ∙ ap (option_map (λ (m : Node). (m, new))) is))
+  refused_written p child new leads is = grind arith
 
   -- the attacker does not pass
   pub no_pass_written : node.turn.attacker_to_play ≡ true
       → [] ≡ behind_blanks (write_each (first_words n won) (pass_children node here))
-  no_pass_written e =
-      sym (ap (λ b. behind_blanks (write_each (first_words n won) (cond b [] (passed node here ∷ [])))) e)
+  no_pass_written e = grind arith
 
   -- what is written after the defender's pass
   pub pass_written : {T : Type 0} (old out : List ℕ) (r : Result T NoRoom) → node.turn.attacker_to_play ≡ false
       → Puts old (behind_blanks (first_words n won (next_node node (allowance_of node)) (pass here))) out r
       → Puts old (behind_blanks (write_each (first_words n won) (pass_children node here))) out r
-  pass_written old out r e h =
-      subst (λ ws. Puts old (behind_blanks ws) out r)
-      (sym (append-nil (first_words n won (next_node node (allowance_of node)) (pass here)))
-      ∙ sym (ap (λ b. write_each (first_words n won) (cond b [] (passed node here ∷ []))) e)) h
+  pass_written old out r e h = grind (arith, append-nil)
 
   -- the words of a move are its own, and those at its child
   move_parts : (size : ℕ) (spot : Spot) → size ≡ here.size → Some spot ≡ first_move n node here
@@ -155,9 +142,7 @@ module _ (n : ℕ) (won : Bool) (node : Node) (here : BoardState) where
       ≡ behind_blanks (write_child (first_words n won) (child_after node here (At p)))
   unfolding child_after
   play_child p is =
-      let candidate = (first_move_gives n node here (At p) (sym is)).succeeds.candidate in
-      ap behind_blanks (sym (child_each (first_words n won) (child_of node here p))
-      ∙ sym (ap (λ b. write_child (first_words n won) (cond b (child_of node here p) None)) candidate))
+      grind (arith, first_move_gives n node here (At p) (sym is), child_each (first_words n won) (child_of node here p))
 
   -- the child after the pass
   pub pass_child : behind_blanks (write_each (first_words n won) (pass_children node here))
@@ -192,9 +177,7 @@ module _ (size s : ℕ) (same : size ≡ s) (spot : Spot) (more : List Word) (ol
 pub all_left : (write : Writer) (f : ℕ → Option (Node × BoardState)) (g : ℕ → Bool) (n : ℕ) (out : List ℕ)
     → out ++ behind_blanks (write_each write (filter_map f (filter g (range_with_len 0 (n - 0)))))
     ≡ out ++ behind_blanks (write_each write (filter_map f (filter g (range_with_len 0 n))))
-all_left write f g n out =
-    let less : n - 0 ≡ n = omega arith in
-    ap (λ m. out ++ behind_blanks (write_each write (filter_map f (filter g (range_with_len 0 m))))) less
+all_left write f g n out = grind arith
 
 -- The claim at a node with n plies left at which the defender cannot take back, by what was found of the target.
 module _ (n : ℕ) (node : Node) (here : BoardState) (captured : Bool)
@@ -203,44 +186,19 @@ module _ (n : ℕ) (node : Node) (here : BoardState) (captured : Bool)
   settled_by : (won : Bool) → is_settled n won node here ≡ cond won (captured && true)
       (cond captured (eqb n 0 && false) (eqb n 0 || has_too_many n node here))
   unfolding is_settled
-  settled_by won =
-      ap (λ o. cond won (is_captured here node.turn.target && not (is_some o))
-      (cond (is_captured here node.turn.target) (eqb n 0 && is_some o) (eqb n 0 || has_too_many n node here))) none
-      ∙ sym (ap (λ b. cond won (b && true) (cond b (eqb n 0 && false) (eqb n 0 || has_too_many n node here))) found)
+  settled_by won = grind arith
 
   -- that the attacker wins is settled where the target is captured
   pub settled_won : (won : Bool) → won ≡ true → captured ≡ is_settled n won node here
-  settled_won won e = sym (settled_by won
-      ∙ ap (λ b. cond b (captured && true)
-      (cond captured (eqb n 0 && false) (eqb n 0 || has_too_many n node here))) e ∙ by captured)
-    where
-      by : (b : Bool) → (b && true) ≡ b
-      by true = refl
-      by false = refl
+  settled_won won e = grind (arith, settled_by)
 
   -- that he does not is not, where it is
   pub settled_captured : (won : Bool) → won ≡ false → captured ≡ true → false ≡ is_settled n won node here
-  settled_captured won e taken = sym (settled_by won
-      ∙ ap (λ b. cond b (captured && true)
-      (cond captured (eqb n 0 && false) (eqb n 0 || has_too_many n node here))) e
-      ∙ ap (λ b. cond b (eqb n 0 && false) (eqb n 0 || has_too_many n node here)) taken ∙ by (eqb n 0))
-    where
-      by : (b : Bool) → (b && false) ≡ false
-      by true = refl
-      by false = refl
-
-  -- else it is by the plies left and the liberties
-  settled_standing : (won : Bool) → won ≡ false → captured ≡ false
-      → is_settled n won node here ≡ (eqb n 0 || has_too_many n node here)
-  settled_standing won e stands = settled_by won
-      ∙ ap (λ b. cond b (captured && true)
-      (cond captured (eqb n 0 && false) (eqb n 0 || has_too_many n node here))) e
-      ∙ ap (λ b. cond b (eqb n 0 && false) (eqb n 0 || has_too_many n node here)) stands
+  settled_captured won e taken = grind (arith, settled_by)
 
   -- it is where no ply is left
   pub settled_end : (won : Bool) → won ≡ false → captured ≡ false → n ≡ 0 → true ≡ is_settled n won node here
-  settled_end won e stands over =
-      sym (settled_standing won e stands ∙ ap (λ m. eqb m 0 || has_too_many n node here) over)
+  settled_end won e stands over = grind (arith, settled_by)
 
   -- or the target has too many liberties
   pub settled_many : (won : Bool) (many : ℕ) → won ≡ false → captured ≡ false → n ≢ 0
@@ -249,26 +207,14 @@ module _ (n : ℕ) (node : Node) (here : BoardState) (captured : Bool)
       || (ltb 4 many || (eqb node.turn.wide 0 && ltb (most_narrow node.turn.tree) many)))
       (ltb (n / 2) many) ≡ is_settled n won node here
   unfolding has_too_many has_many_liberties
-  settled_many won many e stands some is =
-      ap (λ m. cond node.turn.attacker_to_play (ltb ((n + 1) / 2) m
-      || (ltb 4 m || (eqb node.turn.wide 0 && ltb (most_narrow node.turn.tree) m)))
-      (ltb (n / 2) m)) is
-      ∙ sym (settled_standing won e stands ∙ ap (λ b. b || has_too_many n node here) (ne_eqb n 0 some))
+  settled_many won many e stands some is = grind (arith, settled_by, ne_eqb)
 
 -- The whole text, by its words behind blanks.
 module _ (bytes text : List ℕ) (is : drop 1 bytes ≡ text) where
   -- it is not too long if these are not
   pub short_text : length bytes ≤ most_bytes → length text ≤ 60000
-  short_text few = subst (λ t. length t ≤ 60000) is (by bytes few)
-    where
-      by : (bytes : List ℕ) → length bytes ≤ most_bytes → length (drop 1 bytes) ≤ 60000
-      by [] few = omega arith
-      by (x ∷ xs) few = omega (arith, few)
+  short_text few = grind arith
 
   -- and it is if these are
   pub long_text : most_bytes < length bytes → 60000 < length text
-  long_text many =
-      let some : 0 < length bytes = omega (arith, many) in
-      let less = one_less bytes some in
-      let same = ap length is in
-      omega (arith, less, same, many)
+  long_text many = grind (arith, one_less)

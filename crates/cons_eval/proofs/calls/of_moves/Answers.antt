@@ -10,9 +10,7 @@ use Rattle.cons_eval.proofs.calls.of_moves.Goals as goal
 
 -- no arguments have no last one
 pub returns-in-empty-clause-value : goal.returns-in-empty-clause-value
-returns-in-empty-clause-value g c =
-    sym (ap (if_there (moves_value (g.E.Env.view c.args.env.now).meanings c.args.function))
-    (none_last (g.E.Env.view c.args.env.now).meanings.point c.args.args.now c.in-empty.len_below))
+returns-in-empty-clause-value g c = grind (arith, none_last)
 
 -- the last argument has a point
 pub returns-in-Some-clause-value : goal.returns-in-Some-clause-value
@@ -40,11 +38,7 @@ returns-in-None-clause-value g c =
 
 -- no arguments ask for no reading
 pub returns-in-empty-clause-asked : goal.returns-in-empty-clause-asked
-returns-in-empty-clause-asked g c =
-    let old = g.E.Env.view c.args.env.now in
-    sym (ap (λ (o : Option (List (Option ℕ) × ℕ)).
-    counted (many_there (moves_readings old.meanings c.args.function) o) old.asked)
-    (none_last old.meanings.point c.args.args.now c.in-empty.len_below))
+returns-in-empty-clause-asked g c = grind (arith, none_last)
 
 -- with a point the function asks for its own
 pub returns-in-Some-clause-asked : goal.returns-in-Some-clause-asked

@@ -1,10 +1,6 @@
-use Rattle.std.proofs.Common.{◌≡◌, ◌+◌, ◌*◌, ◌<◌, ◌^◌, get_or, sym, ap, ◌∙◌, subst, arith}
+use Rattle.std.proofs.Common.{◌+◌, ◌*◌, ◌<◌, ◌^◌, get_or, sym, ap, ◌∙◌, subst, arith}
 use Rattle.dfa_core.specs.declared.automaton.Seen.TheVariants.{Off}
 use Rattle.dfa_core.specs.Words.{letter_number}
-use Rattle.dfa_core.proofs.Entries.{letter_below}
-use Rattle.dfa_shortcuts.specs.Openings.{word_number}
-use Rattle.dfa_match.specs.Rings.{ring_letters}
-use Rattle.dfa_match.specs.SeenLetters.{word_from}
 use Rattle.dfa_match.proofs.SeenWords.{word_from-zero}
 use Rattle.dfa_match.proofs.OpeningNumbers.{number_more, number_low, number_room, letter_tag}
 use Rattle.dfa_match.proofs.TurnedRings.{ring_by_steps}
@@ -12,11 +8,7 @@ use Rattle.dfa_match.proofs.rings.ring_number.Goals as goal
 
 -- no letter was read
 pub letters-init : goal.letters-init
-letters-init c = record {
-  value = sym (ap word_number (word_from-zero
-      (λ i. get_or c.args.padded.now.letters (c.args.corner + get_or c.args.steps.now i 0) Off) 1));
-  low = omega arith;
-}
+letters-init c = grind (arith, word_from-zero)
 
 -- the number of a ring has room
 pub overflow_mul-number : goal.overflow_mul-number
@@ -30,14 +22,7 @@ letter-requires-clause-step c = c.requires.steps.1.past (1 + c.letters.place) (o
 -- the number with one digit more has room
 pub overflow_add-number : goal.overflow_add-number
 overflow_add-number c =
-    grind (
-      arith,
-      number_room c.letters.place c.letters.number c.letters-test.true c.letters.invariant.low,
-      letter_tag c.letter.result,
-      letter_below c.letter.result,
-      c.letters-test.true,
-      c.letters.invariant.low,
-    )
+    grind (arith, number_room c.letters.place c.letters.number c.letters-test.true c.letters.invariant.low)
 
 -- one letter more was read
 pub letters-preserved : goal.letters-preserved
@@ -51,9 +36,4 @@ letters-preserved c = record {
 
 -- behind the last letter it is the number of the ring
 pub returns : goal.returns
-returns c t are =
-    let last : c.letters.place ≡ ring_letters = omega (arith, c.letters-test.false) in
-    c.letters.invariant.value
-    ∙ ap (λ n. word_number (word_from
-    (λ i. get_or c.args.padded.now.letters (c.args.corner + get_or c.args.steps.now i 0) Off) 1 n)) last
-    ∙ ap word_number (ring_by_steps c.args.padded.now.letters c.args.steps.now t c.args.corner are)
+returns c t are = grind (arith, ring_by_steps c.args.padded.now.letters c.args.steps.now t c.args.corner are)

@@ -14,9 +14,7 @@ offsets-init c = grind (arith, offset_at-zero, steps_none)
 
 -- the offset with the index is near
 pub apply-requires : goal.apply-requires
-apply-requires c = near_by_parts c.offsets.by _ _
-    (subst IsNear (sym (c.offsets.invariant.by c.offsets-test.true)) (offsets_near c.offsets.index c.offsets-test.true))
-    (omega (arith, ints)) (omega (arith, ints))
+apply-requires c = grind (arith, near_by_parts c.offsets.by, offsets_near c.offsets.index c.offsets-test.true, ints)
 
 -- so the next one can be found
 pub following-by-requires : goal.following-by-requires

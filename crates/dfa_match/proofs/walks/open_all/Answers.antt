@@ -16,8 +16,7 @@ on c = omega (arith, c.walks-test.true, c.walks.auto.walks, c.walks.invariant.lo
 
 -- the walk at the index was not changed before
 is_walk : (c : In-walks) → get_or c.walks.walks c.walks.index none ≡ get_or c.args.walks.now c.walks.index none
-is_walk c = same_next c.args.walks.now c.walks.walks c.walks.index none c.walks.invariant.rest
-    c.walks.invariant.long (on c)
+is_walk c = grind (arith, same_next, on)
 
 -- the walk at the index reads on the padded board
 pub behind_opening-next-requires-clause-corner : goal.behind_opening-next-requires-clause-corner

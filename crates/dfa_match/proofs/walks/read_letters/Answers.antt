@@ -24,8 +24,7 @@ read c = grind arith
 written : (c : After-read_on-met)
     → take c.args.walks.now.len (c.read_on-met.new.walks ++ drop (length c.read_on-met.new.walks)
     c.args.walks.now.items) ≡ c.read_on-met.new.walks
-written c = written_whole c.args.walks.now.len c.read_on-met.new.walks c.args.walks.now.items
-    (ap length (read c) ∙ length-map c.args.walks.now.items (next c) ∙ sym c.args.walks.now.ok.0)
+written c = grind (arith, written_whole, read, length-map)
 
 -- none of them has passed over more than 255 letters
 few_passed : (c : After-read_on-met) (n : ℕ) → All (λ w. w.letters < n) c.args.walks.now.items

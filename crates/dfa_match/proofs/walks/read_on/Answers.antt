@@ -1,6 +1,5 @@
-use Rattle.std.proofs.Common.{◌≡◌, ℕ, ◌+◌, ◌*◌, ◌<◌, ◌%◌, ◌++◌, bit_or, max, false, List, length, map, take}
-use Rattle.std.proofs.Common.{drop, get_or, arith, ap, sym, ◌∙◌, subst}
-use Rattle.std.specs.Int.{bit_at}
+use Rattle.std.proofs.Common.{◌≡◌, ℕ, ◌+◌, ◌*◌, ◌<◌, ◌%◌, ◌++◌, bit_or, false, List, length, map, take}
+use Rattle.std.proofs.Common.{drop, get_or, arith, ap, ◌∙◌}
 use Rattle.std.specs.List.{All}
 use Rattle.std.proofs.Math.ListN.{set}
 use Rattle.std.proofs.lemmas.Bool.{ne_eqb}
@@ -17,11 +16,7 @@ use Rattle.dfa_match.proofs.walks.read_on.Goals as goal
 
 -- a number that is joined of two is even only if both are
 or_even : (a b : ℕ) → bit_or a b % 2 ≡ 0 → (a % 2 ≡ 0) × (b % 2 ≡ 0)
-or_even a b even =
-    let none : max (bit_at a 0) (bit_at b 0) ≡ 0 = sym (bit_at_or a b 0) ∙ bit_at_lowest (bit_or a b) ∙ even in (
-      omega (arith, none, bit_at_lowest a),
-      omega (arith, none, bit_at_lowest b),
-    )
+or_even a b even = grind (arith, bit_at_or a b 0, bit_at_lowest (bit_or a b), bit_at_lowest a, bit_at_lowest b)
 
 -- an even entry is not that of an accepting row
 even_silent : (entry : ℕ) → entry % 2 ≡ 0 → is_accepting_entry entry ≡ false
@@ -39,8 +34,7 @@ none = record { entry = 0; letters = 0; corner = 0 }
 -- the next walk has read as few letters as it had at first
 next_few : (f : Walk → Walk) (xs ys : List Walk) (i n : ℕ) → i < length xs → ys ≡ map f (take i xs) ++ drop i xs
     → All (λ w. w.letters < n) xs → (get_or ys i none).letters < n
-next_few f xs ys i n low is read =
-    subst (λ (w : Walk). w.letters < n) (sym (next_same f xs ys i none low is)) (read i none low)
+next_few f xs ys i n low is read = grind (arith, next_same f xs ys i none low is)
 
 -- a walk at this row that has passed over so many letters behind the next one
 abbrev moved : Walk → ℕ → ℕ → Walk

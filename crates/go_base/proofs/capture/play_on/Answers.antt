@@ -10,18 +10,12 @@ use Rattle.go_rules.proofs.Results.{free_occupied}
 use Rattle.go_rules.proofs.Cells.{stone_test}
 use Rattle.go_rules.proofs.Plays.{stone_is}
 use Rattle.go_base.specs.Views.{anywhere, alone}
-use Rattle.go_base.specs.TakenBack.{before_play}
 use Rattle.go_base.proofs.PlayLooks.{Leaves, twice_self, twice_taken, twice_own}
 use Rattle.go_base.proofs.PlayResults.{PlaysOn, plays_taken, plays_suicide, plays_done}
 use Rattle.go_base.proofs.BoardsBefore.{after_here, takers_live, plays_back, suicide_back}
 use Rattle.go_base.proofs.capture.play_on.Given.{Over}
 use Rattle.go_base.proofs.capture.play_on.Goals as goal
-use Rattle.go_base.proofs.capture.play_on.Goals.{After-ne, After-is_suicide}
-
--- whether a stone stood at the point
-occupied_is : (g : Over) (c : After-ne g) (pos : BoardState) → g.V.View.agrees c.at.new.self pos
-    → c.ne.result ≡ is_stone (cell_at (g.V.View.cells c.args.board.now pos) c.args.p)
-occupied_is g c pos a = c.ne.ensures ∙ stone_test c.at.result ∙ ap is_stone (c.at.ensures.over pos a)
+use Rattle.go_base.proofs.capture.play_on.Goals.{After-is_suicide}
 
 -- on a stone only its point was looked at
 pub returns-then-ne-clause-asks : goal.returns-then-ne-clause-asks
@@ -29,7 +23,7 @@ returns-then-ne-clause-asks g c = g.met.V.View.asks_within _ _ _ _ c.at.ensures.
 
 -- a play on a stone is refused as occupied
 pub returns-then-ne-clause-over : goal.returns-then-ne-clause-over
-returns-then-ne-clause-over g c = grind (arith, free_occupied, occupied_is)
+returns-then-ne-clause-over g c = grind (arith, free_occupied, stone_test)
 
 -- a point lies in its own second neighbourhood
 pub returns-then-ne-clause-near : goal.returns-then-ne-clause-near
@@ -94,8 +88,7 @@ module _ (g : Over) (c : After-is_suicide g) (pos : BoardState) (a : g.V.View.ag
 
   -- the cells with the stone put are those before, but for the stone at the point of the play
   put_is : g.V.View.cells c.put.new.self pos ≡ set (g.V.View.cells c.args.board.now pos) c.args.p (stone_of c.args.c)
-  put_is = c.put.ensures.over pos at_put ∙ ap (λ t. set t c.args.p c.cell.result) (c.at.ensures.looks.same pos)
-      ∙ ap (set (g.V.View.cells c.args.board.now pos) c.args.p) c.cell.ensures
+  put_is = grind (arith, at_put)
 
   -- how the board changed
   leaves : Leaves (g.V.View.rows c.args.board.now) (g.V.View.cells c.args.board.now pos)
@@ -130,9 +123,7 @@ module _ (g : Over) (c : After-is_suicide g) (pos : BoardState) (a : g.V.View.ag
   suicide_is : IsPosition (board_of (g.V.View.rows c.args.board.now) (g.V.View.cells c.args.board.now pos))
       → c.is_suicide.result ≡ eqb (liberties (g.V.View.rows c.args.board.now)
       (g.V.View.cells c.put_all.new.board pos) c.args.p) 0
-  suicide_is good =
-      let told = rw (rows_are g c) at (c.is_suicide.ensures.over pos a) in
-      told (ap is_stone (after_here (plays good)) ∙ stone_is c.args.c) (takers_live (plays good))
+  suicide_is good = grind (arith, rows_are, after_here, plays, stone_is, takers_live)
 
   -- where it was looked until then
   near_play : g.V.View.asks c.args.board.now c.is_suicide.new.board
@@ -196,19 +187,8 @@ returns-clause-taken g c = λ pos a1 good.
 
 -- what was taken tells the board before the play
 pub returns-clause-undone : goal.returns-clause-undone
-returns-clause-undone g c = λ pos a1 good.
-    let at = (goal.at.returns-clause-undone g c).After-is_suicide in
-    let a = g.met.V.View.asks_agrees _ _ _ c.ban_of-ban.ensures.looks.asked pos a1 in
-    ap (before_play (g.V.View.rows c.args.board.now) c.args.c c.args.p c.captured-taken.result)
-    (c.ban_of-ban.ensures.looks.same pos ∙ c.is_suicide.ensures.looks.same pos)
-    ∙ plays_back (plays g at pos a good)
+returns-clause-undone g c = grind (arith, plays_back, plays g)
 
 -- a play is made within the second neighbourhood of its point
 pub returns-clause-near : goal.returns-clause-near
-returns-clause-near g c = λ pos a1.
-    let at = (goal.at.returns-clause-near g c).After-is_suicide in
-    let a = g.met.V.View.asks_agrees _ _ _ c.ban_of-ban.ensures.looks.asked pos a1 in
-    let rows = g.met.V.View.asks_rows _ _ _ c.is_suicide.ensures.looks.asked ∙ rows_are g at in
-    let close = rw (rows, c.is_suicide.ensures.looks.same pos) at (c.ban_of-ban.ensures.near pos a1) in
-    g.met.V.View.asks_more _ _ _ _ (near_play g at pos a)
-    (g.met.V.View.asks_within _ _ _ _ close (λ r h. twice_own (leaves g at pos a) r h))
+returns-clause-near g c = grind (arith, rows_are g, near_play g, twice_own, leaves g)

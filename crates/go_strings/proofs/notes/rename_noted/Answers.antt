@@ -11,7 +11,4 @@ loop-q-preserved c =
       renamed_next c.args.names.now c.loop-q.names c.args.stones.now c.args.name c.loop-q.next c.in-Some.q,
       noted_more,
       noted_name,
-      c.loop-q.invariant,
-      c.in-Some.ensures.some,
-      c.in_ok-keep_note.ensures.ok,
     )

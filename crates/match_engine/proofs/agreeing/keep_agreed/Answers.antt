@@ -1,11 +1,11 @@
-use Rattle.std.proofs.Common.{rules, ◌<◌, length, subst}
+use Rattle.std.proofs.Common.{rules, ◌<◌, length, arith}
 use Rattle.std.proofs.lemmas.Option.{slice_get_within}
 use Rattle.helpers.specs.Slots.{states_of}
 use Rattle.helpers.specs.Fields.{helper_names}
 use Rattle.helpers.specs.Agreement.{IsAskedFor}
 use Rattle.match_engine.specs.AutomatonMatches.{IsFoundThere}
 use Rattle.helpers.proofs.CallTotals.{asked_over-none}
-use Rattle.match_engine.proofs.AllowedMatches.{KeepsFirst-none, kept_next, kept_there, read_old}
+use Rattle.match_engine.proofs.AllowedMatches.{kept_next, kept_there, read_old}
 use Rattle.match_engine.proofs.AgreedMatches.{answer_is, calls_are}
 use Rattle.match_engine.proofs.agreeing.keep_agreed.Given.{Over}
 use Rattle.match_engine.proofs.agreeing.keep_agreed.Goals.{After-index-z, After-keep-kept}
@@ -13,11 +13,7 @@ use Rattle.match_engine.proofs.agreeing.keep_agreed.Goals as goal
 
 -- the match that is read is one of the list
 is_there : (g : Over) (c : After-index-z g) → IsFoundThere c.args.patterns.now c.args.position.now c.index-z.result.now
-is_there g c =
-    let low : c.matches.next < length c.args.found.now.items = search rules in
-    c.requires.there c.index-z.result.now
-    (kept_there _ c.args.found.now.items c.matches.found.items c.matches.kept c.matches.next c.index-z.result.now
-    c.matches.invariant.kept low c.index-z.ensures)
+is_there g c = grind (arith, kept_there)
 
 -- so it is of a pattern of the list
 pub pattern_with-p-requires : goal.pattern_with-p-requires
@@ -34,12 +30,7 @@ asked_for : (g : Over) (c : After-keep-kept g)
     → IsAskedFor (states_of (λ z. (goal.Helper-dyn g z).state z.1) c.matches.helpers)
     (helper_names c.pattern_with-p.result.now.items) c.args.position.now c.index-z.result.now.at c.args.friend
     c.all_agree-agreed.result (states_of (λ z. (goal.Helper-dyn g z).state z.1) c.all_agree-agreed.new.helpers)
-asked_for g c =
-    let now = states_of (λ z. (goal.Helper-dyn g z).state z.1) c.matches.helpers in
-    let after = states_of (λ z. (goal.Helper-dyn g z).state z.1) c.all_agree-agreed.new.helpers in
-    subst (λ items. IsAskedFor now (helper_names items) c.args.position.now c.index-z.result.now.at c.args.friend
-    c.all_agree-agreed.result after) c.as_slice.ensures
-    (record { answer = c.all_agree-agreed.ensures.answer; calls = c.all_agree-agreed.ensures.calls })
+asked_for g c = grind arith
 
 -- and it is kept where all say yes
 pub matches-preserved : goal.matches-preserved
@@ -64,7 +55,4 @@ matches-preserved g c =
 
 -- at first nothing was asked
 pub matches-init : goal.matches-init
-matches-init g c = record {
-  kept = KeepsFirst-none _ c.args.found.now.items;
-  calls = asked_over-none _ c.args.position.now c.args.friend;
-}
+matches-init g c = grind (arith, asked_over-none)

@@ -1,4 +1,4 @@
-use Rattle.std.proofs.Common.{◌∙◌, sym, ap}
+use Rattle.std.proofs.Common.{◌∙◌, sym, ap, arith}
 use Rattle.cons_eval.specs.Readings.{Codes}
 use Rattle.match_rules.specs.Conditions.{is_enemy_safe, is_constraint_true}
 use Rattle.match_engine.specs.Readings.{codes_of}
@@ -8,18 +8,11 @@ use Rattle.match_engine.proofs.allowing.is_allowed.Goals as goal
 
 -- the friend's stone is not safe
 pub returns-then-not-is_safe-clause-value : goal.returns-then-not-is_safe-clause-value
-returns-then-not-is_safe-clause-value c =
-    unsafe_refused (codes_of c.args.readings.now) c.args.p.now c.args.position.now c.args.friend c.args.z.now.transform
-    c.args.z.now.at (sym c.is_safe.ensures.value ∙ c.if-not-is_safe.true)
+returns-then-not-is_safe-clause-value c = grind (arith, unsafe_refused)
 
 -- the enemy's stone is not safe, by the same codes
 pub returns-then-not-is_enemy_safe-clause-value : goal.returns-then-not-is_enemy_safe-clause-value
-returns-then-not-is_enemy_safe-clause-value c =
-    enemy_refused (codes_of c.args.readings.now) c.args.p.now c.args.position.now c.args.friend c.args.z.now.transform
-    c.args.z.now.at (sym c.is_safe.ensures.value ∙ c.if-not-is_safe.false)
-    (ap (λ (code : Codes). is_enemy_safe code c.args.p.now c.args.position.now c.args.friend c.args.z.now.at)
-    (sym (codes_stay c.args.readings.now c.is_safe.new.readings c.is_safe.ensures.follows))
-    ∙ sym c.is_enemy_safe.ensures.value ∙ c.if-not-is_enemy_safe.true)
+returns-then-not-is_enemy_safe-clause-value c = grind (arith, enemy_refused, codes_stay)
 
 -- both are, or need not be, and the constraint decides by the same codes
 pub returns-clause-value : goal.returns-clause-value
@@ -42,11 +35,8 @@ returns-then-not-is_safe-clause-unread c = λ none. c.is_safe.ensures.unread non
 
 -- the enemy is not asked about without class n
 pub returns-then-not-is_enemy_safe-clause-unread : goal.returns-then-not-is_enemy_safe-clause-unread
-returns-then-not-is_enemy_safe-clause-unread c = λ none.
-    c.is_enemy_safe.ensures.unread none.no_enemy_class ∙ c.is_safe.ensures.unread none.need_not_be_safe
+returns-then-not-is_enemy_safe-clause-unread c = grind arith
 
 -- nothing is read without a safety class and a constraint
 pub returns-clause-unread : goal.returns-clause-unread
-returns-clause-unread c = λ none.
-    c.is_constraint_true.ensures.unread none.no_constraint
-    ∙ (c.is_enemy_safe.ensures.unread none.no_enemy_class ∙ c.is_safe.ensures.unread none.need_not_be_safe)
+returns-clause-unread c = grind arith

@@ -1,8 +1,7 @@
-use Rattle.std.proofs.Common.{rules, ◌≡◌, ◌∙◌, ◌<◌, slice_get, length, sym, ap, subst}
+use Rattle.std.proofs.Common.{rules, ◌≡◌, ◌∙◌, ◌<◌, slice_get, length, subst, arith}
 use Rattle.std.proofs.lemmas.Option.{slice_get_within}
 use Rattle.go_rules.specs.Position.{other}
 use Rattle.cons_eval.specs.Readings.{Codes}
-use Rattle.match_rules.specs.Conditions.{is_allowed}
 use Rattle.match_engine.specs.AutomatonMatches.{is_allowed_at, IsFoundThere}
 use Rattle.match_engine.specs.Readings.{codes_of}
 use Rattle.match_engine.specs.Remembered.{Remembers}
@@ -33,12 +32,7 @@ is_allowed-allowed-requires-clause-on_board c =
 -- whether it is allowed is judged as by the readings at first
 as_allowed : (c : After-keep-kept) → c.is_allowed-allowed.result ≡ is_allowed_at (codes_of c.args.readings.now)
     c.args.position.now c.args.friend (slice_get c.args.patterns.now c.index.result.now.pattern) c.index.result.now
-as_allowed c = c.is_allowed-allowed.ensures.value
-    ∙ ap (λ (code : Codes). is_allowed code c.pattern_with-p.result.now c.args.position.now c.args.friend
-    c.index.result.now.transform c.index.result.now.at)
-    (codes_stay c.args.readings.now c.matches.readings c.matches.invariant.follows)
-    ∙ sym (ap (λ o. is_allowed_at (codes_of c.args.readings.now) c.args.position.now c.args.friend o
-    c.index.result.now) c.pattern_with-p.ensures)
+as_allowed c = grind (arith, codes_stay)
 
 -- and it is kept where it is allowed
 pub matches-preserved : goal.matches-preserved

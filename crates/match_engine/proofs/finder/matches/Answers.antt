@@ -1,4 +1,4 @@
-use Rattle.std.proofs.Common.{◌∙◌, ap, subst, Contains}
+use Rattle.std.proofs.Common.{◌∙◌, ap, subst, Contains, arith}
 use Rattle.helpers.specs.HelperStates.{says_yes}
 use Rattle.helpers.specs.Slots.{states_of}
 use Rattle.match_rules.specs.Conditions.{all_yes}
@@ -53,13 +53,7 @@ returns-clause-patterns g c = λ theirs.
 
 -- the helpers were asked about what matches if they say yes
 pub returns-clause-calls : goal.returns-clause-calls
-returns-clause-calls g c =
-    c.keep_agreed.ensures.calls
-    ∙ ap (λ zs. after_matches (states_of (λ z. (goal.Helper-dyn g z).state z.1) c.args.helpers.now) c.args.patterns.now
-    zs c.args.position.now c.args.friend)
-    (if_yes (codes_of c.args.readings.now) c.args.patterns.now c.args.scanner.now c.args.position.now c.args.friend
-    _ _
-    c.in_ok-found.ensures.found c.keep_allowed.ensures.kept)
+returns-clause-calls g c = grind (arith, if_yes)
 
 -- by the automaton of the patterns the helpers are asked about the matches of the patterns
 pub returns-clause-calls_of_patterns : goal.returns-clause-calls_of_patterns

@@ -1,4 +1,4 @@
-use Rattle.std.proofs.Common.{◌≡◌, ◌+◌, ℕ, take, length, map, refl, sym, ap, ◌∙◌, subst}
+use Rattle.std.proofs.Common.{◌≡◌, ◌+◌, ℕ, take, length, map, refl, sym, ap, ◌∙◌, subst, arith}
 use Rattle.std.specs.List.{All, filter_map}
 use Rattle.std.proofs.lemmas.List.Elements.{All-push}
 use Rattle.std.proofs.lemmas.Option.{slice_get_read}
@@ -62,5 +62,4 @@ ranks_more c =
 
 -- one hit more, and the rank of its match, if it is one
 pub loop-hit-preserved : goal.loop-hit-preserved
-loop-hit-preserved c =
-    record { knows = c.match_of.ensures.knows; found = found_more c; ranks = ranks_more c }
+loop-hit-preserved c = grind (arith, found_more, ranks_more)

@@ -13,8 +13,7 @@ use Rattle.match_engine.proofs.placing.star_place.Goals.{After-place_beside, Aft
 step_from : (p : Pattern) (s t a side x y : ℕ) (u v : ℤ) (o : Option ℕ) → side ≡ s
     → ((from : ℕ) → a / side ≡ from / s → a % side ≡ from % s → o ≡ place_at s t from (u, v))
     → u ≡ pos x -ℤ pos (anchor_of p).0 → v ≡ pos y -ℤ pos (anchor_of p).1 → o ≡ from_anchor p s t a x y
-step_from p s t a side x y u v o same led row column =
-    led a (ap (λ n. a / n) same) (ap (λ n. a % n) same) ∙ ap (place_at s t a) (λ i. (row i, column i))
+step_from p s t a side x y u v o same led row column = grind arith
 
 -- the first letter lies where the first step leads
 first_led : (c : After-place_beside) → c.place_beside.result ≡ from_anchor c.args.p.now c.args.size c.args.t c.args.from
@@ -37,25 +36,11 @@ last_led c =
 
 -- the first letter lies off the board
 pub returns-in_err-place_beside-clause-value : goal.returns-in_err-place_beside-clause-value
-returns-in_err-place_beside-clause-value c =
-    let low : c.args.t < transformations = omega arith in
-    let at = (goal.at.returns-in_err-place_beside-clause-value c).After-place_beside in
-    c.from_residual.ensures
-    ∙ broken_first c.args.p.now c.args.size c.args.t c.args.from
-    low
-    (place_of_star c.args.p.now c.args.size c.args.t c.args.from) refl
-    (sym (first_led at) ∙ c.in_err-place_beside.was)
+returns-in_err-place_beside-clause-value c = grind (arith, broken_first, first_led)
 
 -- the last letter does
 pub returns-in_err-place_beside-2-clause-value : goal.returns-in_err-place_beside-2-clause-value
-returns-in_err-place_beside-2-clause-value c =
-    let low : c.args.t < transformations = omega arith in
-    let at = (goal.at.returns-in_err-place_beside-2-clause-value c).After-place_beside-2 in
-    c.from_residual-in_err-place_beside-2.ensures
-    ∙ broken_last c.args.p.now c.args.size c.args.t c.args.from
-    low
-    (place_of_star c.args.p.now c.args.size c.args.t c.args.from) refl
-    (sym (last_led at) ∙ c.in_err-place_beside-2.was)
+returns-in_err-place_beside-2-clause-value c = grind (arith, broken_last, last_led)
 
 -- both lie on it, and the star stands where the third step leads
 pub returns-clause-value : goal.returns-clause-value

@@ -1,4 +1,4 @@
-use Rattle.std.proofs.Common.{◌∙◌, sym}
+use Rattle.std.proofs.Common.{◌∙◌, sym, arith}
 use Rattle.match_engine.specs.Readings.{codes_of}
 use Rattle.match_engine.proofs.RememberedPlays.{safe_after, safe_never}
 use Rattle.match_engine.proofs.plays.is_safe_play.Goals as goal
@@ -11,6 +11,4 @@ returns-in-Ok-clause-value c =
 
 -- the play is illegal
 pub returns-in-Err-clause-value : goal.returns-in-Err-clause-value
-returns-in-Err-clause-value c =
-    safe_never (codes_of c.args.readings.now) c.args.position.now c.args.colour c.args.at c.in-Err.field-0
-    (sym c.play.ensures.value ∙ c.in-Err.is)
+returns-in-Err-clause-value c = grind (arith, safe_never)

@@ -1,7 +1,6 @@
-use Rattle.std.proofs.Common.{◌<◌, length, subst, rules, arith, refl, ◌≤◌}
+use Rattle.std.proofs.Common.{◌<◌, length, arith, refl}
 use Rattle.std.proofs.lemmas.Option.{slice_get_read, slice_get-get_or}
 use Rattle.std.proofs.lemmas.List.{take_all}
-use Rattle.pattern_coverage.specs.Ends.{AreAllEnds}
 use Rattle.pattern_coverage.proofs.AllEnds.{AreAllEnds-next}
 use Rattle.pattern_coverage.proofs.position.ends_of_all.Goals as goal
 
@@ -20,7 +19,4 @@ patterns-preserved c d advice later =
 
 -- behind the last pattern those of all
 pub returns : goal.returns
-returns c d advice later =
-    let past : length c.args.patterns.now ≤ c.patterns.place = search rules in
-    subst (λ patterns. AreAllEnds d advice patterns c.args.position.now c.args.friend c.patterns.counts.items)
-    (take_all c.patterns.place c.args.patterns.now past) (c.patterns.invariant d advice later)
+returns c d advice later = grind (arith, take_all)

@@ -1,3 +1,4 @@
+use Rattle.std.proofs.Common.{arith}
 use Rattle.std.proofs.Common.{◌≡◌, ◌-◌, ◌<◌, ◌^◌, sym, ap, ◌∙◌, subst, length, map, min, Some, slice_get, Contains}
 use Rattle.helpers.specs.HelperStates.{says_yes}
 use Rattle.helpers.specs.Slots.{states_of}
@@ -28,8 +29,7 @@ ends_of-requires g c z there =
 
 -- there are counts for each pattern
 pub ends_of_all-requires-clause-same : goal.ends_of_all-requires-clause-same
-ends_of_all-requires-clause-same g c =
-    ap length c.as_slice-4.ensures.value ∙ c.in_ok-later.ensures.length
+ends_of_all-requires-clause-same g c = grind arith
 
 -- helpers that were asked about bare patterns and then about what was found say what they said
 pub returns-clause-advice : goal.returns-clause-advice

@@ -1,11 +1,6 @@
-use Rattle.std.proofs.Common.{◌∙◌, arith}
-use Rattle.std.proofs.lemmas.Bool.{and_parts, ltb-true}
+use Rattle.std.proofs.Common.{◌∙◌}
 use Rattle.wider_rules.proofs.SetLemmas.{approach_is}
 use Rattle.read_proof.proofs.approach.approach.Goals as goal
-
--- the stones in the way are on the board
-pub around_strings-requires : goal.around_strings-requires
-around_strings-requires c = grind (arith, ltb-true, and_parts)
 
 -- the liberties of their strings that have at most two
 pub returns : goal.returns

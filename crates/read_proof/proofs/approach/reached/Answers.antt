@@ -1,11 +1,10 @@
-use Rattle.std.proofs.Common.{sym, ◌∙◌}
+use Rattle.std.proofs.Common.{arith}
 use Rattle.read_proof.proofs.ApproachLemmas.{holds_on, reached_is}
 use Rattle.read_proof.proofs.approach.reached.Goals as goal
 
 -- the stones of its colour next to the point are on the board
 pub all_liberties-requires : goal.all_liberties-requires
-all_liberties-requires c = λ q h.
-    holds_on c.args.pos.now.size c.args.pos.now.cells c.args.own c.args.l q (sym (c.next_to.ensures q) ∙ h)
+all_liberties-requires c = grind (arith, holds_on)
 
 -- their other liberties and the empty neighbours were gathered
 pub returns : goal.returns

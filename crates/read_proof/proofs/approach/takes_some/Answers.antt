@@ -1,12 +1,11 @@
-use Rattle.std.proofs.Common.{ap, sym, ◌∙◌}
+use Rattle.std.proofs.Common.{ap, ◌∙◌, arith}
 use Rattle.wider_rules.specs.Strings.{holds_next}
 use Rattle.read_proof.proofs.ApproachLemmas.{holds_on, takes_is}
 use Rattle.read_proof.proofs.approach.takes_some.Goals as goal
 
 -- the stones of the other colour next to the point are on the board
 pub last_liberties-requires : goal.last_liberties-requires
-last_liberties-requires c = λ q h.
-    holds_on c.args.pos.now.size c.args.pos.now.cells c.foe_of.result c.args.l q (sym (c.next_to.ensures q) ∙ h)
+last_liberties-requires c = grind (arith, holds_on)
 
 -- the point is the last liberty of one of them, or of none
 pub returns : goal.returns

@@ -1,12 +1,10 @@
-use Rattle.std.proofs.Common.{sym}
+use Rattle.std.proofs.Common.{sym, arith}
 use Rattle.read_proof.proofs.FoundLemmas.{beside_yes, beside_no}
 use Rattle.read_proof.proofs.beside.is_beside.Goals as goal
 
 -- a side is in the set
 pub returns-then-has_side : goal.returns-then-has_side
-returns-then-has_side c =
-    let found = rw c.size-size.ensures.value at (c.has_side.ensures.yes c.if-has_side.true) in
-    sym (beside_yes c.args.pos.now.size c.args.q c.loop-side.side found.0 c.args.points.now c.requires found.1 found.2)
+returns-then-has_side c = grind (arith, beside_yes c.args.pos.now.size c.args.q c.loop-side.side)
 
 -- no side is
 pub returns : goal.returns

@@ -1,5 +1,4 @@
-use Rattle.std.proofs.Common.{ap, sym, ◌∙◌, ◌||◌}
-use Rattle.std.specs.Cmp.{nat_cmp_total}
+use Rattle.std.proofs.Common.{ap, ◌∙◌, ◌||◌, arith}
 use Rattle.std.specs.FinSet as set
 use Rattle.wider_rules.proofs.StringLemmas.{joined}
 use Rattle.read_rules.proofs.CandidateLaws.{candidate_on}
@@ -20,5 +19,4 @@ returns-clause-value c = λ p.
 
 -- a candidate is on the board
 pub returns-clause-on_board : goal.returns-clause-on_board
-returns-clause-on_board c = λ p h.
-    candidate_on c.args.turn c.args.pos.now p (sym (returns-clause-value c p) ∙ h)
+returns-clause-on_board c = grind (arith, candidate_on, returns-clause-value)

@@ -1,4 +1,4 @@
-use Rattle.std.proofs.Common.{◌∙◌, ap, sym, true, false}
+use Rattle.std.proofs.Common.{◌∙◌, ap, sym, true, false, arith}
 use Rattle.std.specs.Str.{bytes_eq}
 use Rattle.vertices.specs.Words.{kept}
 use Rattle.read_rules.specs.declared.node.Node.{Node}
@@ -10,9 +10,7 @@ use Rattle.read_proof.proofs.checker.proved_under.Goals as goal
 
 -- no word is left
 pub returns-in_err-word : goal.returns-in_err-word
-returns-in_err-word c =
-    rw c.from_residual.ensures (under_none c.args.question.now c.args.pos.now _ c.args.more (words_in c.args.text.now)
-    c.in_err-word.ensures)
+returns-in_err-word c = grind (arith, under_none)
 
 -- the word is not the letter of the claim
 pub returns-then-not-is_letter : goal.returns-then-not-is_letter

@@ -1,12 +1,7 @@
 -- The enemies next to the near friends' strings that have few liberties may cut.
-use Rattle.std.proofs.Common.{◌∙◌, arith}
-use Rattle.std.proofs.lemmas.Bool.{and_parts, ltb-true}
+use Rattle.std.proofs.Common.{◌∙◌}
 use Rattle.wider_rules.proofs.SetLemmas.{cutter_is}
 use Rattle.read_proof.proofs.further.cutters.Goals as goal
-
--- the near friends are on the board
-pub around_strings-requires : goal.around_strings-requires
-around_strings-requires c = grind (arith, ltb-true, and_parts)
 
 -- the enemies next to their strings that have few liberties
 pub returns : goal.returns

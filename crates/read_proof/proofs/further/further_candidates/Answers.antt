@@ -1,5 +1,4 @@
-use Rattle.std.proofs.Common.{◌∙◌}
-use Rattle.std.specs.FinSet as set
+use Rattle.std.proofs.Common.{◌∙◌, arith}
 use Rattle.wider_rules.proofs.StringLemmas.{joined}
 use Rattle.read_proof.proofs.FurtherLemmas.{further_with_wide, further_without}
 use Rattle.read_proof.proofs.further.further_candidates.Goals as goal
@@ -13,6 +12,4 @@ returns-then-wide c = λ p.
 
 -- without a wide ply they are those of every ply
 pub returns-else-wide : goal.returns-else-wide
-returns-else-wide c = λ p.
-    further_without c.args.pos.now.size c.args.pos.now.cells c.args.target p c.args.wide c.args.attacker_to_play _
-    c.if-wide.false (c.always-found.ensures p)
+returns-else-wide c = grind (arith, further_without)

@@ -1,5 +1,5 @@
 -- The empty neighbours of the liberties are Net where these are three, and else Net is empty.
-use Rattle.std.proofs.Common.{eqb, ◌∙◌, sym}
+use Rattle.std.proofs.Common.{◌∙◌, sym, arith}
 use Rattle.std.proofs.lemmas.Bool.{eqb-true, eq-eqb, both_ways}
 use Rattle.std.specs.FinSet as set
 use Rattle.go_rules.specs.declared.Cell.TheVariants.{Empty}
@@ -18,8 +18,4 @@ returns-then-is_netted c = λ target p e.
 
 -- there are more or fewer
 pub returns : goal.returns
-returns c = λ target p e.
-    let pos = c.args.pos.now in
-    no_net pos.size pos.cells target c.args.liberties.now c.new.result c.count.result p e c.count.ensures.value
-    (λ three. both_ways (eqb c.count.result 3) (sym c.is_netted.ensures ∙ c.if-is_netted.false)
-    (eq-eqb c.count.result 3 three)) c.new.ensures
+returns c = grind (arith, no_net, both_ways, eq-eqb)

@@ -1,11 +1,6 @@
-use Rattle.std.proofs.Common.{◌∙◌, arith}
-use Rattle.std.proofs.lemmas.Bool.{and_parts, ltb-true}
+use Rattle.std.proofs.Common.{◌∙◌}
 use Rattle.wider_rules.proofs.SetLemmas.{rescue_is}
 use Rattle.read_proof.proofs.further.rescue.Goals as goal
-
--- the allies are on the board
-pub last_liberties-requires : goal.last_liberties-requires
-last_liberties-requires c = grind (arith, ltb-true, and_parts)
 
 -- their last liberties are Rescue
 pub returns : goal.returns

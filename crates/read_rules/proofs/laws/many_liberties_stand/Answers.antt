@@ -1,3 +1,4 @@
+use Rattle.std.proofs.Common.{arith}
 use Rattle.read_rules.proofs.LibertyLemmas.{play_takes_one, bounded, too_many-gives, too_many-from, many_too_many}
 use Rattle.read_rules.proofs.laws.many_liberties_stand.Goals as goal
 
@@ -7,8 +8,7 @@ returns-clause-one_liberty c = play_takes_one
 
 -- the test and the bound in words are one
 pub returns-clause-too_many : goal.returns-clause-too_many
-returns-clause-too_many c = λ tree attacker n k l.
-    (too_many-gives tree attacker n k l, too_many-from tree attacker n k l)
+returns-clause-too_many c = grind (arith, too_many-gives, too_many-from)
 
 -- a target with too many liberties is not captured
 pub returns-clause-stands : goal.returns-clause-stands

@@ -48,8 +48,7 @@ returns-then-not-has_some-clause-over g c =
 
 -- its looks lie in the active area
 pub returns-then-not-has_some-clause-near : goal.returns-then-not-has_some-clause-near
-returns-then-not-has_some-clause-near g c =
-    now_near g (goal.at.returns-then-not-has_some-clause-near g c).After-without-left
+returns-then-not-has_some-clause-near g c = grind (arith, now_near)
 
 -- the next number of plies
 pub depths-preserved : goal.depths-preserved

@@ -1,12 +1,10 @@
 -- What the search finds of the target's liberties on the view alone.
-use Rattle.std.proofs.Common.{◌≡◌, ℕ, Bool, List, arith}
+use Rattle.std.proofs.Common.{◌≡◌, ℕ, List, arith}
 use Rattle.go_rules.specs.declared.Cell.{Cell}
 use Rattle.go_rules.specs.Position.{BoardState}
-use Rattle.go_rules.specs.Neighbourhood.{neighbourhood_of}
 use Rattle.go_base.specs.declared.flood.Searched.{Searched}
-use Rattle.go_base.specs.Facts.{Fact, Agrees, AddsIn, agrees_before, same_size}
+use Rattle.go_base.specs.Facts.{Agrees, agrees_before, same_size}
 use Rattle.go_base.specs.Floods.{Searches}
-use Rattle.go_base.specs.Views.{alone}
 use Rattle.trial_board.specs.Overlays.{overlaid}
 use Rattle.trial_board.specs.SomeLiberties.{FindsLiberties}
 use Rattle.trial_board.proofs.OverlayLemmas.{none_overlaid}
@@ -27,11 +25,6 @@ returns-clause-grows g c = rw (← c.new-board.ensures.look) c.search-found.ensu
 found_on : {n s p most : ℕ} {cells board : List Cell} {found : Searched} → n ≡ s → cells ≡ board
     → Searches s board p most found → FindsLiberties n cells p most found.liberties
 found_on size is h = rw (size, is) (record { all = h.liberties; more = h.more })
-
--- and so is what is near a point
-near_on : {seen more : Fact → Bool} {n s : ℕ} {cells board : List Cell} (p : ℕ) → n ≡ s → cells ≡ board
-    → AddsIn seen more (neighbourhood_of s board (alone p)) → AddsIn seen more (neighbourhood_of n cells (alone p))
-near_on p size is h = rw (size, is) h
 
 -- A position that agrees with what is seen after the search.
 module _ (g : Over) (c : After-search-found g) (pos : BoardState)
@@ -54,7 +47,4 @@ returns-clause-over g c = λ pos a.
 
 -- the search looked beside the target
 pub returns-clause-near : goal.returns-clause-near
-returns-clause-near g c = λ pos a.
-    let d = (goal.at.returns-clause-near g c).After-search-found in
-    rw (← c.new-board.ensures.look)
-    (near_on c.args.turn.target (size g d pos a) (bare g d pos a) (c.search-found.ensures.near pos a).adds)
+returns-clause-near g c = grind (arith, size g, bare g)

@@ -4,16 +4,10 @@ use Rattle.go_base.specs.Facts.{agrees_before}
 use Rattle.go_base.proofs.PointNeighbourhoods.{close_alone}
 use Rattle.go_rules.proofs.Cells.{eq_is_same_cell}
 use Rattle.go_rules.proofs.Paths.{same_cell-true}
-use Rattle.go_base.specs.Facts.{Agrees, AddsIn}
-use Rattle.go_base.specs.Views.{alone}
-use Rattle.go_rules.specs.Neighbourhood.{neighbourhood_of}
-use Rattle.go_rules.specs.Position.{BoardState}
 use Rattle.trial_board.specs.Trials.{after}
 use Rattle.trial_board.proofs.AfterLemmas.{size-after}
 use Rattle.read_rules.proofs.AreaLemmas.{target_on}
 use Rattle.read_tree.proofs.StageLemmas.{its_count}
-use Rattle.read_tree.proofs.outlook.is_in_atari.Given.{Over}
-use Rattle.read_tree.proofs.outlook.is_in_atari.Goals.{After-cell}
 use Rattle.read_tree.proofs.outlook.is_in_atari.Goals as goal
 
 -- the target is the defender's and has one liberty, on each position that agrees, and it is no lone stone
@@ -34,16 +28,10 @@ returns-then-eq-clause-over g c = λ pos a yes.
       for_good = rw c.cell.ensures.stays.moves at (c.is_taken_for_good.ensures.over pos a yes);
     }
 
--- the look at the target lies in its neighbourhood
-cell_near : (g : Over) (c : After-cell g) (pos : BoardState) → Agrees (g.L.Look.seen c.cell.new.self.look) pos
-    → AddsIn (g.L.Look.seen c.args.board.now.look) (g.L.Look.seen c.cell.new.self.look)
-    (neighbourhood_of pos.size (after pos c.args.board.now.moves).cells (alone c.args.turn.target))
-cell_near g c pos a = grind (arith, target_on, close_alone)
-
 -- and so do those beside it
 pub returns-then-eq-clause-near : goal.returns-then-eq-clause-near
-returns-then-eq-clause-near g c = grind (arith, cell_near g)
+returns-then-eq-clause-near g c = grind (arith, target_on, close_alone)
 
 -- a target of the other colour is not looked around
 pub returns-else-eq-clause-near : goal.returns-else-eq-clause-near
-returns-else-eq-clause-near g c = λ pos a. cell_near g (goal.at.returns-else-eq-clause-near g c).After-cell pos a
+returns-else-eq-clause-near g c = grind (arith, target_on, close_alone)

@@ -1,11 +1,7 @@
 -- What the liberties that were found say of the node.
-use Rattle.std.proofs.Common.{◌∙◌, sym}
-use Rattle.go_base.specs.Facts.{agrees_before}
 use Rattle.trial_board.specs.Trials.{after}
 use Rattle.std.proofs.Common.{◌≡◌, arith}
-use Rattle.go_base.specs.Facts.{Agrees, AddsIn}
-use Rattle.go_base.specs.Views.{alone}
-use Rattle.go_rules.specs.Neighbourhood.{neighbourhood_of}
+use Rattle.go_base.specs.Facts.{Agrees}
 use Rattle.go_rules.specs.Position.{BoardState}
 use Rattle.go_rules.specs.Strings.{liberty_points}
 use Rattle.read_tree.proofs.outlook.outlook_of.Given.{Over}
@@ -19,18 +15,9 @@ returns-then-has_too_many-clause-over g c = grind arith
 -- The liberties that are known are not too many.
 module _ (g : Over) (c : After-can_take g) (pos : BoardState)
     (a : Agrees (g.L.Look.seen c.can_take.new.board.look) pos) where
-  -- a position that agrees now agreed before
-  before : Agrees (g.L.Look.seen c.args.board.now.look) pos
-  before = agrees_before c.can_take.ensures.stays.grows a
-
   -- they are all liberties of the target
   all_known : c.args.known.now ≡ liberty_points pos.size (after pos c.args.board.now.moves).cells c.args.turn.target
-  all_known = (c.requires.liberties pos before).all (sym c.has_too_many.ensures ∙ c.if-has_too_many.false)
-
-  -- the target, its liberties and what is beside it lie in its neighbourhood
-  looks_near : AddsIn (g.L.Look.seen c.args.board.now.look) (g.L.Look.seen c.can_take.new.board.look)
-      (neighbourhood_of pos.size (after pos c.args.board.now.moves).cells (alone c.args.turn.target))
-  looks_near = c.can_take.ensures.near pos a all_known
+  all_known = grind arith
 
 -- a target that is taken has not too many liberties
 pub returns-then-can_take-clause-over : goal.returns-then-can_take-clause-over
@@ -58,7 +45,7 @@ returns-then-can_take-clause-near g c = grind arith
 
 -- at a node that is to be read the looks lie in the target's neighbourhood
 pub returns-clause-near : goal.returns-clause-near
-returns-clause-near g c = λ pos a. looks_near g (goal.at.returns-clause-near g c).After-can_take pos a
+returns-clause-near g c = grind (arith, all_known)
 
 -- the position shown is one that agrees
 pub can_take-requires : goal.can_take-requires

@@ -75,12 +75,7 @@ module _ (g : Over) (c : After-better-best g) where
 
   -- its move is on the board
   read_on_board : IfSome c.better-best.result.at (IsOnBoard (g.L.Look.shows c.args.board.now.look).size)
-  read_on_board = rw c.better-best.ensures.is
-      (better_on c.loop-p.best c.args.turn.attacker_to_play c.succeeds_by_depths-good.result c.in-Some.p
-      (g.L.Look.shows c.args.board.now.look).size c.loop-p.invariant.on_board
-      (candidate_inside c.args.turn (g.L.Look.shows c.args.board.now.look)
-      c.args.board.now.moves c.in-Some.p (sym (c.candidates-candidates.ensures.answer c.in-Some.p)
-      ∙ c.in-Some.ensures.some.2)))
+  read_on_board = grind (arith, better_on, candidate_inside)
 
 -- one more candidate
 pub loop-p-preserved : goal.loop-p-preserved

@@ -1,37 +1,21 @@
 -- The first looks are at the target and its liberties, and those of the reading lie in the active area.
-use Rattle.std.proofs.Common.{◌≡◌, ◌≢◌, ◌*◌, ◌<◌, ◌∙◌, ℕ, Bool, [], true, refl, ap, sym, subst, arith, List}
+use Rattle.std.proofs.Common.{◌≡◌, ◌≢◌, ◌*◌, ◌<◌, ◌∙◌, [], true, refl, subst, arith}
 use Rattle.std.proofs.lemmas.Bool.{both_ways}
 use Rattle.std.specs.FinSet as set
-use Rattle.std.specs.Ordering.{nat_cmp}
-use Rattle.go_rules.specs.declared.Cell.{Cell}
-use Rattle.go_rules.specs.Strings.{cell_at, liberties}
-use Rattle.go_rules.specs.Position.{BoardState, stone_of}
-use Rattle.go_base.specs.Facts.{Agrees, AddsIn, CellIs, agrees_before, same_size}
-use Rattle.go_base.specs.Views.{alone}
+use Rattle.go_rules.specs.Position.{BoardState}
+use Rattle.go_base.specs.Facts.{Agrees}
 use Rattle.go_base.proofs.AddedFacts.{cell_near}
 use Rattle.go_base.proofs.PointNeighbourhoods.{close_alone}
-use Rattle.go_rules.specs.Neighbourhood.{neighbourhood_of}
-use Rattle.read_rules.specs.Answer.{first_turn}
-use Rattle.read_rules.specs.declared.question.ReadingQuestion.{ReadingQuestion}
 use Rattle.read_rules.specs.ActiveArea.{InActiveArea, AddsNear}
 use Rattle.read_rules.specs.Answer.{is_about, answer_of}
-use Rattle.read_rules.specs.Bound.{outlasts_at}
 use Rattle.read_rules.proofs.AnswerLemmas.{about_from, about_stands}
 use Rattle.read_rules.proofs.AreaLemmas.{AddsNear-trans, target_on}
-use Rattle.read_rules.specs.declared.turn.Turn.{Turn}
-use Rattle.read_tree.specs.Steps.{TellsLiberties, unread}
+use Rattle.read_tree.specs.Steps.{unread}
 use Rattle.read_tree.proofs.BestLemmas.{unread_answer, first_nodes}
 use Rattle.read_tree.proofs.StandingNodes.{near_asked, near_beside, standing_node}
 use Rattle.read_tree.proofs.reading.read.Given.{Over}
 use Rattle.read_tree.proofs.reading.read.Goals as goal
 use Rattle.read_tree.proofs.reading.read.Goals.{After-first_look-liberties, After-unread}
-
--- the liberties that were found are too many where the target's are
-many_at : (q : ReadingQuestion) (s : ℕ) (cells : List Cell) {turn : Turn} {known : set.FinSet nat_cmp} {many : Bool}
-    → turn ≡ first_turn q → many ≡ outlasts_at turn q.plies (set.len known)
-    → TellsLiberties turn q.plies s cells known
-    → many ≡ outlasts_at (first_turn q) q.plies (liberties s cells q.target)
-many_at q s cells {turn} first many tells = grind arith
 
 -- the target is on the board that is still shown
 still_on : (g : Over) (c : After-first_look-liberties g)
@@ -42,33 +26,17 @@ still_on g c = grind (arith, target_on)
 -- A position that agrees with what is seen after the first look.
 module _ (g : Over) (c : After-first_look-liberties g) (pos : BoardState)
     (a : Agrees (g.L.Look.seen c.first_look-liberties.result.look) pos) where
-  -- it agrees with what was seen at the beginning
-  at_start : Agrees (g.L.Look.seen c.cell-stone.new.self) pos
-  at_start = agrees_before c.first_look-liberties.ensures.grows a
-
   -- its size is that of the position shown
   size : pos.size ≡ (g.L.Look.shows c.args.look).size
-  size =
-      same_size (g.met.L.Look.sized c.cell-stone.new.self) at_start
-      ∙ ap (λ (p : BoardState). p.size) c.cell-stone.ensures.same
-
-  -- its target holds the stone that was seen there
-  stone : cell_at pos.cells c.args.question.target ≡ stone_of c.args.question.colour
-  stone =
-      let q = c.args.question in
-      let shown = subst (λ (p : BoardState). cell_at p.cells q.target ≡ c.cell-stone.result) c.cell-stone.ensures.same
-      ((g.met.L.Look.holds c.cell-stone.new.self).each (CellIs q.target c.cell-stone.result)
-      c.cell-stone.ensures.told) in
-      at_start.each (CellIs q.target c.cell-stone.result) c.cell-stone.ensures.told ∙ sym shown ∙ c.requires.stone
+  size = grind arith
 
   -- the question is about it
   about : is_about c.args.question pos ≡ true
-  about = about_from c.args.question pos (c.requires.size ∙ sym size) stone
+  about = grind (arith, about_from, size)
 
   -- the target is on its board
   inside : c.args.question.target < pos.size * pos.size
-  inside = target_on pos.size c.args.question.size c.args.question.target (size ∙ sym c.requires.size)
-      c.requires.on_board
+  inside = grind (arith, target_on, size)
 
   -- the first looks lie in the active area
   looks_near : AddsNear (g.L.Look.seen c.args.look) (g.L.Look.seen c.first_look-liberties.result.look)
@@ -88,18 +56,11 @@ shown_agrees g c = subst (Agrees (g.L.Look.seen c.first_look-liberties.result.lo
     (c.first_look-liberties.ensures.shown ∙ c.cell-stone.ensures.same)
     (g.met.L.Look.holds c.first_look-liberties.result.look)
 
--- the look at the target's stone lies beside it
-stone_near : (g : Over) (c : After-first_look-liberties g)
-    → AddsIn (g.L.Look.seen c.args.look) (g.L.Look.seen c.cell-stone.new.self)
-    (neighbourhood_of (g.L.Look.shows c.args.look).size (g.L.Look.shows c.args.look).cells
-    (alone c.args.question.target))
-stone_near g c = grind (arith, cell_near, close_alone, target_on)
-
 -- where the liberties that were found are too many, what is told without a reading is the answer to the question
 unread_told : (g : Over) (c : After-unread g) (pos : BoardState)
     → Agrees (g.L.Look.seen c.first_look-liberties.result.look) pos → is_about c.args.question pos ≡ true
     → c.args.question.target < pos.size * pos.size → c.unread.result ≡ answer_of c.args.question pos
-unread_told g c pos a about inside = grind (arith, many_at, unread_answer)
+unread_told g c pos a about inside = grind (arith, unread_answer)
 
 -- it is so on each position that agrees
 pub returns-then-has_too_many-clause-over : goal.returns-then-has_too_many-clause-over
@@ -111,12 +72,11 @@ returns-then-has_too_many-clause-answer g c = grind (arith, shown_agrees g, unre
 
 -- only the target and its liberties were looked at
 pub returns-then-has_too_many-clause-near : goal.returns-then-has_too_many-clause-near
-returns-then-has_too_many-clause-near g c = λ pos a.
-    looks_near g (goal.at.returns-then-has_too_many-clause-near g c).After-first_look-liberties pos a
+returns-then-has_too_many-clause-near g c = grind (arith, looks_near)
 
 -- no play was tried, and the looks lie near the target
 pub returns-then-has_too_many-clause-too_many : goal.returns-then-has_too_many-clause-too_many
-returns-then-has_too_many-clause-too_many g c = grind (arith, stone_near g, shown_agrees g)
+returns-then-has_too_many-clause-too_many g c = grind (arith, cell_near, close_alone, target_on, shown_agrees)
 
 -- the liberties that were found are the target's, and they are not too many
 pub read_through-requires : goal.read_through-requires
@@ -138,11 +98,8 @@ returns-clause-over g c = grind arith
 
 -- its looks lie in the active area too
 pub returns-clause-near : goal.returns-clause-near
-returns-clause-near g c = λ pos a.
-    let d = (goal.at.returns-clause-near g c).After-first_look-liberties in
-    let a0 = agrees_before c.read_through.ensures.stays.grows a in
-    AddsNear-trans (looks_near g d pos a0) (c.read_through.ensures.near pos a (about g d pos a0))
+returns-clause-near g c = grind (arith, looks_near g, about g)
 
 -- plays are tried only where the liberties are not too many
 pub returns-clause-too_many : goal.returns-clause-too_many
-returns-clause-too_many g c = grind (arith, both_ways, many_at, shown_agrees)
+returns-clause-too_many g c = grind (arith, both_ways, shown_agrees)

@@ -1,5 +1,5 @@
 -- The reply is one that the machine may give, and it is out or waits, or a reply broke off.
-use Rattle.std.proofs.Common.{refl, ap, inl, ◌∙◌}
+use Rattle.std.proofs.Common.{refl, ap, ◌∙◌, arith}
 use Rattle.gtp_lex.specs.Raw.{raw_line}
 use Rattle.machine_rules.specs.Heard.{heard}
 use Rattle.session_core.specs.Kept.{Kept, machine_of}
@@ -37,9 +37,7 @@ returns-in-Ok-clause-part g c =
 
 -- what waited broke off, and the line was not answered
 pub returns-in_err-flush-in-Err-clause-part : goal.returns-in_err-flush-in-Err-clause-part
-returns-in_err-flush-in-Err-clause-part g c =
-    passed_up c.from_residual.result c.in_err-flush-in-Err.field-0.0 _ c.from_residual.ensures.1
-    (record { cut = inl (c.in_err-flush-in-Err.ensures.part, refl) })
+returns-in_err-flush-in-Err-clause-part g c = grind (arith, passed_up)
 
 -- the points that a line names are on the board
 pub finish-reply-requires-clause-within : goal.finish-reply-requires-clause-within

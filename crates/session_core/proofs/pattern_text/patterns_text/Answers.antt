@@ -6,6 +6,4 @@ use Rattle.session_core.proofs.pattern_text.patterns_text.Goals as goal
 -- each pattern has a line of its own, below those that precede it in the list
 pub loop-p-preserved : goal.loop-p-preserved
 loop-p-preserved c =
-    patterns-next c.args.patterns.now c.loop-p.p-index c.p-item.result c.loop-p.text c.push_next.new.text
-    (omega arith) c.p-item.is
-    c.loop-p.invariant c.in_ok-push_next.ensures
+    grind (arith, patterns-next c.args.patterns.now c.loop-p.p-index c.p-item.result c.loop-p.text c.push_next.new.text)

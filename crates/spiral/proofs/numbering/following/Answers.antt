@@ -1,41 +1,25 @@
-use Rattle.std.proofs.Common.{◌≡◌, false, arith, inl, inr}
+use Rattle.std.proofs.Common.{◌≡◌, false, arith}
 use Rattle.std.proofs.lemmas.Int.{ints}
 use Rattle.spiral.proofs.NextOffsets.{is_top, fails-top, next-top, next-right, next-bottom, next-left, next-ring}
 use Rattle.spiral.proofs.Places.{offset_by_parts}
 use Rattle.spiral.proofs.numbering.following.Goals.{Joined-else-dr-dc-lt0, else-dr-dc-lt0-via-then-dr-dc-lt0+else-dr-dc}
-use Rattle.spiral.proofs.numbering.following.Goals.{else-dr-dc-lt0-via-else-dr-dc-lt0}
 use Rattle.spiral.proofs.numbering.following.Goals as goal
 
 -- the offset does not lie on the top
 below : (c : Joined-else-dr-dc-lt0) → is_top (c.args.dr, c.args.dc) ≡ false
-below c = fails-top (c.args.dr, c.args.dc) (elim c.else-dr-dc-lt0.branch [
-  | else-dr-dc-lt0-via-then-dr-dc-lt0+else-dr-dc w ↦ inr (omega (arith, ints))
-  | else-dr-dc-lt0-via-else-dr-dc-lt0 w ↦ inl (omega (arith, ints))
-])
+below c = grind (arith, fails-top, else-dr-dc-lt0-via-then-dr-dc-lt0+else-dr-dc, ints)
 
 -- on the top of the ring the next offset lies to the right
 pub returns-then-dr-dc : goal.returns-then-dr-dc
-returns-then-dr-dc c = λ i low here.
-    offset_by_parts _ _ _ _ _ (next-top (c.args.dr, c.args.dc) i low here (omega (arith, ints)) (omega (arith, ints)))
-    (omega (arith, ints)) (omega (arith, ints))
+returns-then-dr-dc c = grind (arith, offset_by_parts, next-top, ints)
 
 -- on the right side it lies below
 pub returns-then-dr-dc-2 : goal.returns-then-dr-dc-2
-returns-then-dr-dc-2 c = λ i low here.
-    offset_by_parts _ _ _ _ _ (next-right (
-      c.args.dr,
-      c.args.dc,
-    ) i low here (below (goal.at.returns-then-dr-dc-2 c).Joined-else-dr-dc-lt0) (omega (arith, ints)))
-    (omega (arith, ints)) (omega (arith, ints))
+returns-then-dr-dc-2 c = grind (arith, offset_by_parts, next-right, below, ints)
 
 -- on the bottom it lies to the left
 pub returns-then-dr-dc-gt0 : goal.returns-then-dr-dc-gt0
-returns-then-dr-dc-gt0 c = λ i low here.
-    offset_by_parts _ _ _ _ _ (next-bottom (
-      c.args.dr,
-      c.args.dc,
-    ) i low here (below (goal.at.returns-then-dr-dc-gt0 c).Joined-else-dr-dc-lt0) (omega (arith, ints))
-    (omega (arith, ints))) (omega (arith, ints)) (omega (arith, ints))
+returns-then-dr-dc-gt0 c = grind (arith, offset_by_parts, next-bottom, below, ints)
 
 -- on the left side it lies above
 pub returns-then-dr-dc-3 : goal.returns-then-dr-dc-3

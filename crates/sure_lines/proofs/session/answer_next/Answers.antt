@@ -2,23 +2,15 @@
 use Rattle.sure_lines.proofs.SessionLemmas.{answered-is, answered-none}
 use Rattle.sure_lines.proofs.TakenLines.{taken_line, no_line_taken}
 use Rattle.sure_lines.proofs.session.answer_next.Goals as goal
-use Rattle.std.proofs.Common.{◌∙◌, sym, ap}
+use Rattle.std.proofs.Common.{sym, arith}
 
 -- it was answered
 pub returns-in_ok-ended-in-Some-clause-answered : goal.returns-in_ok-ended-in-Some-clause-answered
-returns-in_ok-ended-in-Some-clause-answered g c =
-    let fed = c.feed-count.ensures.fed c.requires in
-    let line = taken_line c.args.lines.now c.feed-count.new.self c.take.new.self c.args.rest.now c.feed-count.result
-    c.take.result c.in-Some.taken fed c.in-Some.is c.take.ensures.none c.take.ensures.some in
-    answered-is _ _ _ _ _ _ _ _ line.2 (c.in_ok-ended-in-Some.ensures.answered _ line.1 line.0)
+returns-in_ok-ended-in-Some-clause-answered g c = grind (arith, taken_line, answered-is)
 
 -- nothing is held after it
 pub returns-in_ok-ended-in-Some-clause-held : goal.returns-in_ok-ended-in-Some-clause-held
-returns-in_ok-ended-in-Some-clause-held g c =
-    let fed = c.feed-count.ensures.fed c.requires in
-    let line = taken_line c.args.lines.now c.feed-count.new.self c.take.new.self c.args.rest.now c.feed-count.result
-    c.take.result c.in-Some.taken fed c.in-Some.is c.take.ensures.none c.take.ensures.some in
-    (ap (λ s. s.held) line.1 ∙ sym line.3, ap (λ s. s.waits) line.1)
+returns-in_ok-ended-in-Some-clause-held g c = grind (arith, taken_line)
 
 -- no line ended
 pub returns-in-None-clause-answered : goal.returns-in-None-clause-answered

@@ -1,18 +1,12 @@
 -- What was answered so far, and what the last call of the loop adds to it.
-use Rattle.std.proofs.Common.{◌∙◌, refl, ap, take, arith, rules}
-use Rattle.gtp_lex.specs.Lines.{LinesState}
+use Rattle.std.proofs.Common.{take, arith}
 use Rattle.sure_lines.proofs.SessionLemmas.{answered-by, answered-flag, so_far-none, so_far-more, session-ended}
 use Rattle.sure_lines.proofs.SessionLemmas.{session-done, nothing_taken}
 use Rattle.sure_lines.proofs.session.serve_lines.Goals as goal
 
 -- nothing was taken yet
 pub pieces-init : goal.pieces-init
-pieces-init g c = record {
-  so_far = so_far-none _ _ _ _ _ (ap (λ (l : LinesState). l.held) c.requires);
-  contents = refl;
-  open_ended = ap (λ (l : LinesState). l.waits) c.requires;
-  buffer = search rules;
-}
+pieces-init g c = grind (arith, so_far-none)
 
 -- the end came, and the rest was answered
 pub returns-in-Ok-answer_rest : goal.returns-in-Ok-answer_rest
@@ -32,15 +26,4 @@ returns-in-Ok-true g c = λ done.
 
 -- the lines of the piece were answered
 pub pieces-preserved : goal.pieces-preserved
-pieces-preserved g c =
-    let goes_on = c.in-Ok-false.field-0-test in
-    let held = c.in-Ok-false.ensures.held goes_on in
-    record {
-      so_far = so_far-more _ _ _ _ _ _ _ _ _ _ _ (take c.in-Ok.count c.next_piece.new.buf)
-          c.pieces.invariant.so_far c.in-Ok.ensures.bytes.0 _ held.0
-          (answered-flag _ _ _ _ _ _ _ _ goes_on
-          (answered-by _ _ _ _ _ _ _ _ c.pieces.invariant.contents c.in-Ok-false.ensures.answered));
-      contents = c.in-Ok-false.ensures.contents ∙ c.pieces.invariant.contents;
-      open_ended = held.1;
-      buffer = omega arith;
-    }
+pieces-preserved g c = grind (arith, so_far-more, answered-flag, answered-by)

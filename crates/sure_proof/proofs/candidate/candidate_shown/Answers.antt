@@ -6,8 +6,7 @@ use Rattle.sure_proof.proofs.candidate.candidate_shown.Goals as goal
 
 -- the candidate is on the board
 pub candidate_rests_on-requires-clause-on_board : goal.candidate_rests_on-requires-clause-on_board
-candidate_rests_on-requires-clause-on_board c =
-    candidate_on c.args.node.turn c.args.pos.now c.args.p c.requires.candidate
+candidate_rests_on-requires-clause-on_board c = grind (arith, candidate_on)
 
 -- which has no more points than the largest
 pub candidate_rests_on-requires-clause-small : goal.candidate_rests_on-requires-clause-small

@@ -1,5 +1,5 @@
 -- The play rests on its points, and what follows on the others.
-use Rattle.std.proofs.Common.{◌≡◌, ◌∙◌, ap, sym, inl, inr}
+use Rattle.std.proofs.Common.{◌≡◌, ◌∙◌, ap, arith}
 use Rattle.std.specs.FinSet as set
 use Rattle.read_rules.specs.Turns.{mover_of}
 use Rattle.sure_proof.specs.Rests.{Points, play_rests_on}
@@ -11,17 +11,7 @@ use Rattle.sure_proof.proofs.play.play_shown.Goals as goal
 
 -- these are points of the board
 pub returns-clause-on_board : goal.returns-clause-on_board
-returns-clause-on_board c = λ q inside.
-    let pos = c.args.pos.now in
-    let mover = mover_of c.args.node.turn in
-    let rests : Points = play_rests_on pos.size pos.cells mover c.args.after.now c.args.p in
-    let is : c.join.new.self ≡ set.union rests c.args.after.now = c.join.ensures
-    ∙ ap (λ S. set.union S c.args.after.now) (c.play_rests_on-points.ensures
-    ∙ ap (λ k. play_rests_on pos.size pos.cells k c.args.after.now c.args.p) c.mover.ensures) in
-    elim (in_union rests c.args.after.now q (ap (λ (S : Points). set.contains S q) (sym is) ∙ inside)) [
-      | inl its ↦ play_on pos.size pos.cells mover c.args.after.now c.args.p q c.requires.on_board its
-      | inr other ↦ c.requires.points q other
-    ]
+returns-clause-on_board c = grind (arith, in_union, play_on)
 
 -- the children are alike wherever a position agrees on them
 pub returns-clause-shown : goal.returns-clause-shown

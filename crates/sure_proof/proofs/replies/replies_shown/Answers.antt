@@ -1,5 +1,5 @@
 -- The replies that the zone asks for, guarded by the zone and its guard.
-use Rattle.std.proofs.Common.{◌≡◌, ◌∙◌, ap, sym, subst, inl, inr}
+use Rattle.std.proofs.Common.{◌≡◌, ◌∙◌, ap, sym, subst, arith}
 use Rattle.std.specs.FinSet as set
 use Rattle.go_rules.specs.Position.{other}
 use Rattle.read_rules.specs.Turns.{mover_of}
@@ -13,9 +13,7 @@ use Rattle.sure_proof.proofs.replies.replies_shown.Goals as goal
 
 -- the replies are points of the board
 pub returns-clause-on_board : goal.returns-clause-on_board
-returns-clause-on_board c = λ p inside.
-    asked_on c.args.pos.now.size c.args.pos.now.cells c.other.result c.args.zone.now p
-    (ap (λ (S : Points). set.contains S p) (sym c.guard_zone-asked.ensures.asked) ∙ inside)
+returns-clause-on_board c = grind (arith, asked_on)
 
 -- they are all that have to be read
 pub returns-clause-shown : goal.returns-clause-shown
@@ -37,13 +35,4 @@ returns-clause-shown c = λ here sound same.
 
 -- the points on which this rests are on the board
 pub returns-clause-zone : goal.returns-clause-zone
-returns-clause-zone c = λ q inside.
-    let pos = c.args.pos.now in
-    let zone = c.args.zone.now in
-    let guard : Points = guard_of pos.size pos.cells c.other.result zone in
-    let is : c.join.new.self ≡ set.union guard zone
-    = c.join.ensures ∙ ap (λ S. set.union S zone) c.guard_zone-asked.ensures.guard in
-    elim (in_union guard zone q (ap (λ (S : Points). set.contains S q) (sym is) ∙ inside)) [
-      | inl its ↦ guard_on pos.size pos.cells c.other.result zone q its
-      | inr other ↦ c.requires.on_board q other
-    ]
+returns-clause-zone c = grind (arith, in_union, guard_on)

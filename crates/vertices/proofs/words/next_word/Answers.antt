@@ -5,6 +5,4 @@ use Rattle.vertices.proofs.words.next_word.Goals as goal
 
 -- the front of what was not skipped is the first word
 pub returns : goal.returns
-returns c =
-    next_from c.args.text.now c.skipped.result c.word_len-len.result c.skipped.ensures.words c.skipped.ensures.word
-    (grind (arith, nat_tests)) c.word_len-len.ensures.first
+returns c = grind (arith, next_from, nat_tests)

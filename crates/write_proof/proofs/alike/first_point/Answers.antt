@@ -1,4 +1,4 @@
-use Rattle.std.proofs.Common.{◌≡◌, ◌∙◌, true, false, ap, sym, subst, arith, rules}
+use Rattle.std.proofs.Common.{◌≡◌, ◌∙◌, true, ap, sym, subst, arith, rules}
 use Rattle.std.specs.FinSet as set
 use Rattle.go_rules.specs.Position.{BoardState}
 use Rattle.read_rules.specs.GameTree.{succeeds}
@@ -7,7 +7,6 @@ use Rattle.read_tree.specs.Allowances.{under}
 use Rattle.read_tree.proofs.TableLemmas.{table_more}
 use Rattle.write_proof.specs.Printed.{position_on}
 use Rattle.write_proof.proofs.WriteLemmas.{here_stays}
-use Rattle.trial_board.specs.Trials.{Stays-trans}
 use Rattle.read_rules.specs.GameTree.{at_point}
 use Rattle.read_rules.proofs.WinLemmas.{first_success-none}
 use Rattle.read_tree.proofs.ReadyLemmas.{candidate_inside, point_after, ready_after}
@@ -15,11 +14,7 @@ use Rattle.write_proof.proofs.alike.first_point.Goals as goal
 
 -- no candidate was tried yet
 pub plays-init : goal.plays-init
-plays-init g c = record {
-  stays = c.candidates-candidates.ensures.stays;
-  table = table_more c.requires.table c.candidates-candidates.ensures.stays.grows;
-  none = λ ko asked q below. absurd (omega (arith, below));
-}
+plays-init g c = grind (arith, table_more c.requires.table c.candidates-candidates.ensures.stays.grows)
 
 -- the next candidate is on the board, and what the reader needs is as before
 pub play_success-requires : goal.play_success-requires
@@ -33,19 +28,7 @@ play_success-requires g c =
 
 -- it succeeds under none of the allowances, and none before it did
 pub plays-preserved : goal.plays-preserved
-plays-preserved g c =
-    let i = c.plays.invariant in
-    let found = c.in-Some.ensures.some in
-    let same = here_stays g.L.Look.shows g.L.Look.seen c.args.board.now c.plays.board i.stays in
-    record {
-      stays = Stays-trans i.stays c.play_success.ensures.stays;
-      table = c.play_success.ensures.table;
-      none = λ ko asked. none_up_to (set.contains c.candidates-candidates.result)
-          (succeeds c.args.plies (under c.args.turn ko) (position_on g.L.Look.shows c.args.board.now)) c.plays.next
-          c.in-Some.p (i.none ko asked) found.3 found.2
-          (subst (λ (pos : BoardState). succeeds c.args.plies (under c.args.turn ko) pos c.in-Some.p ≡ false) same
-          ((rw c.in-Never.is at c.play_success.ensures.success) ko asked));
-    }
+plays-preserved g c = grind (arith, here_stays, none_up_to)
 
 -- it is the first that succeeds under each
 pub returns-in-Always-clause-first : goal.returns-in-Always-clause-first
@@ -63,10 +46,7 @@ returns-in-Always-clause-first g c = λ ko asked.
 
 -- and is on the board
 pub returns-in-Always-clause-on_board : goal.returns-in-Always-clause-on_board
-returns-in-Always-clause-on_board g c =
-    candidate_inside c.args.turn (g.L.Look.shows c.args.board.now.look)
-    c.args.board.now.moves c.in-Some.p (sym (c.candidates-candidates.ensures.answer c.in-Some.p)
-    ∙ c.in-Some.ensures.some.2)
+returns-in-Always-clause-on_board g c = grind (arith, candidate_inside)
 
 -- of one allowance it is not told that it differs
 pub returns-in-Differs-clause-one : goal.returns-in-Differs-clause-one

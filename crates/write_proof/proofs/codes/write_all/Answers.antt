@@ -1,4 +1,4 @@
-use Rattle.std.proofs.Common.{◌≡◌, ◌∙◌, ◌++◌, ap, append_assoc, subst, Err}
+use Rattle.std.proofs.Common.{◌++◌, append_assoc, subst, Err, arith}
 use Rattle.go_rules.specs.Position.{BoardState}
 use Rattle.write_proof.specs.Printed.{Puts, position_on}
 use Rattle.write_proof.proofs.PutLemmas.{puts_both, puts_up, part, whole_three, whole_two, whole_one, whole_first}
@@ -34,41 +34,12 @@ returns-in_err-write_under-2 g c =
 
 -- the code is 3
 pub returns-then-code-eq3 : goal.returns-then-code-eq3
-returns-then-code-eq3 g c =
-    rw (whole_three c.args.question.now (position_on g.L.Look.shows c.args.board.now) c.args.code c.if-code-eq3.true)
-    c.in_ok-write_under.ensures.puts
+returns-then-code-eq3 g c = grind (arith, whole_three)
 
 -- the code is 2
 pub returns-then-code-eq2 : goal.returns-then-code-eq2
-returns-then-code-eq2 g c =
-    let q = c.args.question.now in
-    let pos = position_on g.L.Look.shows c.args.board.now in
-    let code = c.args.code in
-    let second = subst (λ (p : BoardState). c.write_under-2.new.out ≡ c.write_under.new.out ++ part q p code 2)
-    (here_stays g.L.Look.shows g.L.Look.seen c.args.board.now c.write_under.new.board c.write_under.ensures.stays)
-    c.in_ok-write_under-2.ensures.puts.0 in
-    rw (whole_two q pos code c.if-code-eq2.true) (
-      second ∙ ap (λ m. m ++ part q pos code 2) c.in_ok-write_under.ensures.puts.0
-          ∙ append_assoc c.args.out.now (part q pos code 3) (part q pos code 2),
-      c.in_ok-write_under-2.ensures.puts.1,
-    )
+returns-then-code-eq2 g c = grind (arith, part, here_stays, whole_two, append_assoc)
 
 -- the code is 1 or 0
 pub returns : goal.returns
-returns g c =
-    let q = c.args.question.now in
-    let pos = position_on g.L.Look.shows c.args.board.now in
-    let code = c.args.code in
-    let first = here_stays g.L.Look.shows g.L.Look.seen c.args.board.now c.write_under.new.board
-    c.write_under.ensures.stays in
-    let second = here_stays g.L.Look.shows g.L.Look.seen c.write_under.new.board c.write_under-2.new.board
-    c.write_under-2.ensures.stays ∙ first in
-    rw (whole_one q pos code c.if-code-eq3.false c.if-code-eq2.false)
-    (puts_both c.args.out.now c.write_under.new.out c.write_under-3.new.out (part q pos code 3)
-    (part q pos code 2 ++ part q pos code 1) c.write_under-3.result c.in_ok-write_under.ensures.puts.0
-    (puts_both c.write_under.new.out c.write_under-2.new.out c.write_under-3.new.out (part q pos code 2)
-    (part q pos code 1) c.write_under-3.result
-    (subst (λ (p : BoardState). c.write_under-2.new.out ≡ c.write_under.new.out ++ part q p code 2) first
-    c.in_ok-write_under-2.ensures.puts.0)
-    (subst (λ (p : BoardState). Puts c.write_under-2.new.out (part q p code 1) c.write_under-3.new.out
-    c.write_under-3.result) second c.write_under-3.ensures.puts)))
+returns g c = grind (arith, here_stays, whole_one, puts_both, part)

@@ -1,4 +1,4 @@
-use Rattle.std.proofs.Common.{◌≡◌, ◌∙◌, ℕ, Bool, List, ◌++◌, [], ◌∷◌, refl, ap, sym}
+use Rattle.std.proofs.Common.{◌≡◌, ℕ, Bool, List, ◌++◌, [], ◌∷◌, refl, ap, arith}
 use Rattle.go_rules.specs.Position.{BoardState}
 use Rattle.read_rules.specs.Answer.{first_turn}
 use Rattle.read_rules.specs.declared.question.ReadingQuestion.{ReadingQuestion}
@@ -16,11 +16,7 @@ claim_parts : (q : ReadingQuestion) (pos : BoardState) (won : Bool) (ko : Ko) (l
     → letter ≡ letter_of won → turn ≡ first_turn q
     → behind_blanks (letter ∷ []) ++ behind_blanks (first_words q.plies won (under turn ko) pos)
     ≡ behind_blanks (claim_words q pos won ko)
-claim_parts q pos won ko letter turn is first =
-    ap (λ w. behind_blanks (w ∷ []) ++ behind_blanks (first_words q.plies won (under turn ko) pos)) is
-    ∙ ap (λ (t : Turn). behind_blanks (letter_of won ∷ []) ++ behind_blanks (first_words q.plies won (under t ko) pos))
-    first
-    ∙ sym (blanks_both (letter_of won ∷ []) (first_words q.plies won (under (first_turn q) ko) pos))
+claim_parts q pos won ko letter turn is first = grind (arith, blanks_both)
 
 -- there is no room for the letter
 pub returns-in_err-put_word-clause-puts : goal.returns-in_err-put_word-clause-puts

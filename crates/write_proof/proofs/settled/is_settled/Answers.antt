@@ -1,8 +1,5 @@
 -- What was found of the target is what the rules say of it.
-use Rattle.std.proofs.Common.{◌≡◌, ◌∙◌, ap}
-use Rattle.go_rules.specs.declared.Cell.{Cell}
-use Rattle.go_rules.specs.declared.Cell.TheVariants.{Empty}
-use Rattle.go_rules.specs.Strings.{same_cell}
+use Rattle.std.proofs.Common.{◌≡◌, ◌∙◌, arith}
 use Rattle.go_rules.proofs.Cells.{eq_is_same_cell}
 use Rattle.read_rules.specs.GameTree.{is_captured}
 use Rattle.trial_board.proofs.AfterLemmas.{size-after}
@@ -17,30 +14,19 @@ use Rattle.write_proof.proofs.settled.is_settled.Goals.{After-eq-captured}
 -- whether the target is captured
 captured : (g : Over) (c : After-eq-captured g)
     → c.eq-captured.result ≡ is_captured (position_on g.L.Look.shows c.args.board.now) c.args.turn.target
-captured g c =
-    c.eq-captured.ensures ∙ eq_is_same_cell c.cell.result Empty ∙ ap (λ (x : Cell). same_cell x Empty)
-    c.cell.ensures.answer
+captured g c = grind (arith, eq_is_same_cell)
 
 -- the claim is that the attacker wins
 pub returns-then-won-clause-answer : goal.returns-then-won-clause-answer
-returns-then-won-clause-answer g c = λ ko none.
-    settled_won c.args.plies (under c.args.turn ko) (position_on g.L.Look.shows c.args.board.now) c.eq-captured.result
-    (captured g (goal.at.returns-then-won-clause-answer g c).After-eq-captured) none c.args.won c.if-won.true
+returns-then-won-clause-answer g c = grind (arith, settled_won, captured)
 
 -- the claim is that he does not, and the target is captured
 pub returns-then-captured-clause-answer : goal.returns-then-captured-clause-answer
-returns-then-captured-clause-answer g c = λ ko none.
-    settled_captured c.args.plies (under c.args.turn ko) (position_on g.L.Look.shows c.args.board.now)
-    c.eq-captured.result
-    (captured g (goal.at.returns-then-captured-clause-answer g c).After-eq-captured) none c.args.won c.if-won.false
-    c.if-captured.true
+returns-then-captured-clause-answer g c = grind (arith, settled_captured, captured)
 
 -- no ply is left
 pub returns-then-plies-eq0-clause-answer : goal.returns-then-plies-eq0-clause-answer
-returns-then-plies-eq0-clause-answer g c = λ ko none.
-    settled_end c.args.plies (under c.args.turn ko) (position_on g.L.Look.shows c.args.board.now) c.eq-captured.result
-    (captured g (goal.at.returns-then-plies-eq0-clause-answer g c).After-eq-captured) none c.args.won c.if-won.false
-    c.if-captured.false c.if-plies-eq0.true
+returns-then-plies-eq0-clause-answer g c = grind (arith, settled_end, captured)
 
 -- the target has too many liberties, or not
 pub returns-clause-answer : goal.returns-clause-answer

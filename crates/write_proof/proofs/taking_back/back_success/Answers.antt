@@ -1,5 +1,5 @@
 -- What is told of taking back is told of the play at the point of a lone stone that is lost.
-use Rattle.std.proofs.Common.{◌≡◌, ◌∙◌, true, ap, sym, subst}
+use Rattle.std.proofs.Common.{◌≡◌, ◌∙◌, true, ap, sym, subst, arith}
 use Rattle.std.proofs.lemmas.Bool.{not-true}
 use Rattle.go_base.specs.Facts.{Agrees}
 use Rattle.go_rules.specs.declared.Cell.{Cell}
@@ -9,7 +9,6 @@ use Rattle.go_rules.specs.Strings.{same_cell}
 use Rattle.go_rules.proofs.Cells.{eq_is_same_cell, ne_false_same}
 use Rattle.trial_board.proofs.AfterLemmas.{size-after}
 use Rattle.read_rules.specs.GameTree.{is_walled_in}
-use Rattle.read_tree.specs.Allowances.{under}
 use Rattle.read_tree.proofs.TakingLemmas.{lost_stated, lost_by_attacker, lost_free}
 use Rattle.write_proof.specs.Printed.{position_on}
 use Rattle.write_proof.proofs.BackLemmas.{cannot_take_back, lost_standing, success_back}
@@ -19,24 +18,15 @@ use Rattle.write_proof.proofs.taking_back.back_success.Goals as goal
 
 -- the tree is the stated one
 pub returns-then-not-is_wider-clause-success : goal.returns-then-not-is_wider-clause-success
-returns-then-not-is_wider-clause-success g c = λ ko asked.
-    cannot_take_back (under c.args.turn ko) (position_on g.L.Look.shows c.args.board.now)
-    (lost_stated (under c.args.turn ko) (position_on g.L.Look.shows c.args.board.now)
-    (sym c.is_wider.ensures ∙ c.if-not-is_wider.true))
+returns-then-not-is_wider-clause-success g c = grind (arith, cannot_take_back, lost_stated)
 
 -- it is the attacker's turn
 pub returns-then-turn-clause-success : goal.returns-then-turn-clause-success
-returns-then-turn-clause-success g c = λ ko asked.
-    cannot_take_back (under c.args.turn ko) (position_on g.L.Look.shows c.args.board.now)
-    (lost_by_attacker (under c.args.turn ko) (position_on g.L.Look.shows c.args.board.now) c.if-turn.true)
+returns-then-turn-clause-success g c = grind (arith, cannot_take_back, lost_by_attacker)
 
 -- the target stands
 pub returns-then-ne-clause-success : goal.returns-then-ne-clause-success
-returns-then-ne-clause-success g c = λ ko asked.
-    let stands = ap (λ (x : Cell). same_cell x Empty) (sym c.cell.ensures.answer)
-    ∙ sym (eq_is_same_cell c.cell.result Empty) ∙ not-true _ (sym c.ne.ensures ∙ c.if-ne.true) in
-    cannot_take_back (under c.args.turn ko) (position_on g.L.Look.shows c.args.board.now)
-    (lost_standing (under c.args.turn ko) (position_on g.L.Look.shows c.args.board.now) stands)
+returns-then-ne-clause-success g c = grind (arith, eq_is_same_cell, not-true, cannot_take_back, lost_standing)
 
 -- whether its point is walled in was found
 walled_is : (g : Over) (c : After-is_walled_in g)
@@ -54,11 +44,7 @@ walled_is g c =
 
 -- it was no lone stone
 pub returns-then-not-is_walled_in-clause-success : goal.returns-then-not-is_walled_in-clause-success
-returns-then-not-is_walled_in-clause-success g c = λ ko asked.
-    let d = (goal.at.returns-then-not-is_walled_in-clause-success g c).After-is_walled_in in
-    cannot_take_back (under c.args.turn ko) (position_on g.L.Look.shows c.args.board.now)
-    (lost_free (under c.args.turn ko) (position_on g.L.Look.shows c.args.board.now)
-    (sym (walled_is g d) ∙ c.if-not-is_walled_in.true))
+returns-then-not-is_walled_in-clause-success g c = grind (arith, cannot_take_back, lost_free, walled_is)
 
 -- it was, and the play at its point is told
 pub returns-clause-success : goal.returns-clause-success

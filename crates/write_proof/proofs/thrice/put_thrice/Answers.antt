@@ -1,4 +1,4 @@
-use Rattle.std.proofs.Common.{◌++◌}
+use Rattle.std.proofs.Common.{◌++◌, arith}
 use Rattle.write_proof.proofs.PutLemmas.{puts_both, puts_up}
 use Rattle.write_proof.proofs.thrice.put_thrice.Goals as goal
 
@@ -20,8 +20,4 @@ returns-in_err-put-2 c =
 
 -- the third stands behind the two
 pub returns : goal.returns
-returns c =
-    let part = c.args.part.now in
-    puts_both c.args.out.now c.put.new.out c.put-3.new.out part (part ++ part) c.put-3.result c.in_ok-put.ensures.0
-    (puts_both c.put.new.out c.put-2.new.out c.put-3.new.out part part c.put-3.result c.in_ok-put-2.ensures.0
-    c.put-3.ensures)
+returns c = grind (arith, puts_both)

@@ -6,8 +6,7 @@ use Rattle.dfa_core.proofs.table.ClosedTable.depth.Goals as goal
 -- each row has an entry for its depth
 pub index-requires : goal.index-requires
 index-requires c =
-    let low = has_depth c.self.inside c.args.self.now c.self.view_is c.self.invariant c.args.row c.requires in
-    omega (arith, c.self.inside.depths.ok.0)
+    grind (arith, has_depth c.self.inside c.args.self.now c.self.view_is c.self.invariant c.args.row c.requires)
 
 -- the entry is the row's depth
 pub returns : goal.returns

@@ -1,7 +1,5 @@
-use Rattle.std.proofs.Common.{◌+◌, ◌*◌, ◌∙◌, ap, get_or, arith}
+use Rattle.std.proofs.Common.{◌+◌, ◌*◌, arith}
 use Rattle.std.proofs.lemmas.List.{get_or_read_under}
-use Rattle.dfa_core.specs.Automata.{row_at}
-use Rattle.dfa_core.specs.Entries.{row_of}
 use Rattle.dfa_core.proofs.ShownTables.{has_entry, entry_at}
 use Rattle.dfa_core.proofs.table.ClosedTable.target.Goals as goal
 
@@ -15,11 +13,9 @@ index-requires c =
 -- the entry is that of the row's target for the letter
 pub returns : goal.returns
 returns c =
-    let within = has_entry c.self.inside c.args.self.now c.self.view_is c.self.invariant c.args.row c.requires
-    c.column.result c.column.ensures.bound in
-    c.row_in.ensures ∙ ap row_of (get_or_read_under c.self.inside.entries.items
-    (4 * c.args.row + c.column.result) c.self.inside.entries.len c.index.result.now 0 c.index.ensures
-    (omega (arith, c.self.inside.entries.ok.0)) c.self.inside.entries.ok.0)
-    ∙ entry_at c.self.inside c.args.self.now c.self.view_is c.self.invariant c.args.row c.requires c.column.result
-    c.column.ensures.bound
-    ∙ ap (λ k. get_or (row_at c.args.self.now c.args.row).targets k 0) c.column.ensures.value
+    grind (
+      arith,
+      has_entry c.self.inside c.args.self.now c.self.view_is c.self.invariant c.args.row c.requires c.column.result c.column.ensures.bound,
+      get_or_read_under c.self.inside.entries.items (4 * c.args.row + c.column.result) c.self.inside.entries.len c.index.result.now 0 c.index.ensures,
+      entry_at c.self.inside c.args.self.now c.self.view_is c.self.invariant c.args.row c.requires c.column.result c.column.ensures.bound,
+    )

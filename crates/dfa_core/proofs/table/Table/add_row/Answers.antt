@@ -29,21 +29,17 @@ row_of c = record {
 -- the depths before, and that of the row
 one_depth : (c : After-push_reserved-3)
     → c.push_reserved-2.new.self.items ≡ c.self.inside.depths.items ++ c.args.depth ∷ []
-one_depth c = c.push_reserved-2.ensures.items
-    ∙ ap (λ xs. xs ++ c.args.depth ∷ []) c.in_ok-make_room.ensures.depths
+one_depth c = grind arith
 
 -- the row comes behind the others, and the lists still belong together
 grown : (c : After-push_reserved-3)
     → (rows_in (new_table c) ≡ rows_in (old_table c) ++ row_of c ∷ []) × IsFlat (new_table c)
 grown c =
-    grown-rows (old_table c) (new_table c)
-    c.args.targets_of_row c.append.new.numbers.items c.args.first.now c.args.second.now c.args.depth c.len-3.result
-    c.self.invariant.flat (omega arith)
-    (c.append_targets.ensures ∙ ap (λ xs. xs ++ c.args.targets_of_row) c.in_ok-make_room.ensures.targets)
-    (c.push_reserved.ensures.items ∙ ap (λ xs. xs ++ c.len-3.result ∷ []) c.in_ok-make_room.ensures.starts)
-    (c.len-3.ensures ∙ c.append-2.new.numbers.ok.0)
-    (c.append.ensures.items ∙ ap (λ xs. xs ++ c.args.first.now) c.in_ok-make_room.ensures.numbers)
-    c.append-2.ensures.items (one_depth c)
+    grind (
+      arith,
+      grown-rows (old_table c) (new_table c) c.args.targets_of_row c.append.new.numbers.items c.args.first.now c.args.second.now c.args.depth c.len-3.result c.self.invariant.flat,
+      one_depth c,
+    )
 
 -- the row has its kind
 kinds : (c : After-push_reserved-3) → AreKinds (rows_in (new_table c)) c.push_reserved-3.new.self.items

@@ -41,6 +41,4 @@ invariant_of-result c = closed_entries c.self.inside.targets.items c.self.inside
 
 -- the rows are as they were
 pub returns : goal.returns
-returns c = closed_rows c.self.inside.targets.items c.self.inside.starts.items c.self.inside.numbers.items
-    c.self.inside.depths.items _ c.self.inside.kinds.items (written (goal.at.returns c).After-write_kinds)
-    ∙ c.self.view_is
+returns c = grind (arith, closed_rows, written)

@@ -4,8 +4,7 @@ use Rattle.dfa_match.proofs.cursor.Cursor.next.Goals as goal
 
 -- the next point stands in the same row
 pub returns-then-self-side : goal.returns-then-self-side
-returns-then-self-side c = λ m is.
-    cursor_in_row c.args.size m c.args.self is (omega (arith, c.if-self-side.true, c.get-side.ensures.value))
+returns-then-self-side c = grind (arith, cursor_in_row)
 
 -- or the next row begins
 pub returns-else-self-side : goal.returns-else-self-side

@@ -1,4 +1,4 @@
-use Rattle.std.proofs.Common.{◌≡◌, ℕ, ◌*◌, ◌<◌, ◌≤◌, subst, ap, ◌∙◌, refl, arith}
+use Rattle.std.proofs.Common.{◌≡◌, ℕ, ◌*◌, ◌<◌, ◌≤◌, subst, ap, ◌∙◌, arith}
 use Rattle.go_rules.specs.Board.{largest_size}
 use Rattle.go_rules.specs.Position.{BoardState}
 use Rattle.go_rules.specs.Strings.{cell_at}
@@ -12,12 +12,11 @@ use Rattle.dfa_match.proofs.padded_board.PaddedBoard.of.Goals as goal
 
 -- before the first point each place is off the board, and the cursor is that of the first point
 pub points-init : goal.points-init
-points-init g c = record {
-  shows = refl;
-  at = c.first-at.ensures c.size-size.result (omega (arith, c.get.ensures.at_least));
-  padded = padded_none (g.L.Look.shows c.args.look.now) c.args.friend c.no_letters-letters.result
-      c.no_letters-letters.ensures;
-}
+points-init g c =
+    grind (
+      arith,
+      padded_none (g.L.Look.shows c.args.look.now) c.args.friend c.no_letters-letters.result c.no_letters-letters.ensures,
+    )
 
 -- the point is one of the board
 on : (g : Over) (c : In-points g) → c.points.p < c.size-size.result * c.size-size.result
@@ -25,8 +24,7 @@ on g c = subst (λ n. c.points.p < n) c.points-p-end.ensures.value c.points-test
 
 -- the square around it lies on the padded board
 square_low : (g : Over) (c : In-points g) → c.points.at.corner ≤ last_corner
-square_low g c = cursor_corner c.size-size.result c.points.p c.points.at c.points.invariant.at
-    (omega (arith, c.get.ensures.at_least)) c.get.ensures.at_most (on g c)
+square_low g c = grind (arith, cursor_corner, on)
 
 -- so the next cursor may be asked for
 pub next-at-requires-clause-corner : goal.next-at-requires-clause-corner

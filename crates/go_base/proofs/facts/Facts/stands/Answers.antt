@@ -1,18 +1,11 @@
-use Rattle.std.proofs.Common.{false, refl, sym, ◌∙◌, arith}
-use Rattle.std.proofs.lemmas.Bool.{both_ways, eqb-true, eqb-false, not-true, not-false}
+use Rattle.std.proofs.Common.{false, sym, ◌∙◌, arith}
+use Rattle.std.proofs.lemmas.Bool.{both_ways, eqb-true, not-false}
 use Rattle.go_base.proofs.StandingFacts.{stands_all, size_stands, cells_stand, ban_stands}
 use Rattle.go_base.proofs.facts.Facts.stands.Goals as goal
 
 -- a position of another size does not agree
 pub returns-then-ne : goal.returns-then-ne
-returns-then-ne c =
-    grind (
-      arith,
-      both_ways false refl,
-      eqb-false c.args.self.now.size c.size.result,
-      size_stands c.args.self.now c.args.position.now,
-      not-true,
-    )
+returns-then-ne c = grind (arith, size_stands c.args.self.now c.args.position.now)
 
 -- nor one where a cell is not as it was seen
 pub returns-then-not-cells_stand : goal.returns-then-not-cells_stand

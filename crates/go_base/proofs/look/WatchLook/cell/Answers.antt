@@ -12,10 +12,7 @@ returns-clause-grows c = grind arith
 
 -- the cell is seen
 pub returns-clause-told : goal.returns-clause-told
-returns-clause-told c =
-    let w = c.args.self.now in
-    cell_told w.facts c.see.new.self w.position.now w.holds c.args.p c.requires c.cell-cell.result c.cell-cell.ensures
-    c.see.ensures
+returns-clause-told c = grind (arith, cell_told)
 
 -- and nothing else
 pub returns-clause-only : goal.returns-clause-only

@@ -12,10 +12,7 @@ returns-clause-grows c = grind arith
 
 -- the ban is seen
 pub returns-clause-told : goal.returns-clause-told
-returns-clause-told c =
-    let w = c.args.self.now in
-    rw c.bans.ensures (ban_told w.facts c.ask.new.self w.position.now w.holds w.ban c.args.p c.requires c.args.c
-    c.ask.ensures)
+returns-clause-told c = grind (arith, ban_told)
 
 -- and nothing else
 pub returns-clause-only : goal.returns-clause-only

@@ -1,21 +1,16 @@
-use Rattle.std.proofs.Common.{◌≡◌, true, ap, sym, ◌∙◌, arith}
+use Rattle.std.proofs.Common.{ap, sym, ◌∙◌, arith}
 use Rattle.std.specs.FinSet as set
 use Rattle.go_base.proofs.Lowest.{not_member}
 use Rattle.go_base.proofs.Marks.{contains-small, no_members}
 use Rattle.go_base.proofs.points.PointSet.take_first.Goals as goal
-use Rattle.go_base.proofs.points.PointSet.take_first.Goals.{In-Some}
-
--- the first point that is marked is a member
-member : (c : In-Some) → set.contains c.args.self.now c.in-Some.q ≡ true
-member c = grind (arith, contains-small)
 
 -- the point that was found is a member, so it can be taken out
 pub take-requires-clause-member : goal.take-requires-clause-member
-take-requires-clause-member c = member (goal.at.take-requires-clause-member c).In-Some
+take-requires-clause-member c = grind (arith, contains-small)
 
 -- the point that was found was a member, and was taken out
 pub returns-clause-some : goal.returns-clause-some
-returns-clause-some c = grind (arith, member)
+returns-clause-some c = grind (arith, contains-small)
 
 -- no point before it is marked
 pub returns-clause-least : goal.returns-clause-least

@@ -1,5 +1,4 @@
-use Rattle.std.proofs.Common.{sym, ap, ◌∙◌}
-use Rattle.go_rules.specs.Play.{is_legal}
+use Rattle.std.proofs.Common.{arith}
 use Rattle.go_strings.proofs.ShownBoards.{shown, shown_point}
 use Rattle.go_strings.proofs.board.StringBoard.is_legal.Goals as goal
 
@@ -10,5 +9,4 @@ is_allowed-requires-clause-on_board c =
 
 -- the play is judged on what stands
 pub returns : goal.returns
-returns c = c.is_allowed.ensures ∙ sym (ap (λ pos. is_legal pos c.args.c c.args.p)
-    (shown c.self.inside c.args.self.now c.self.invariant c.self.view_is))
+returns c = grind (arith, shown)

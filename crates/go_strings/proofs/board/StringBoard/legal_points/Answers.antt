@@ -14,12 +14,4 @@ loop-p-preserved c = grind (arith, set_below-passes, set_below-fails)
 
 -- all were
 pub returns : goal.returns
-returns c =
-    grind (
-      arith,
-      legal_points-all (reached c.args.self.now) c.args.c,
-      c.points-p-end.ensures.value,
-      c.size.ensures.value,
-      c.loop-p-test.false,
-      c.loop-p.invariant,
-    )
+returns c = grind (arith, legal_points-all (reached c.args.self.now) c.args.c)

@@ -1,6 +1,4 @@
-use Rattle.std.proofs.Common.{sym, ap, ◌∙◌}
-use Rattle.go_rules.specs.Strings.{liberties}
-use Rattle.go_rules.specs.Position.{BoardState}
+use Rattle.std.proofs.Common.{arith}
 use Rattle.go_strings.proofs.ShownBoards.{shown, shown_point}
 use Rattle.go_strings.proofs.board.StringBoard.liberties.Goals as goal
 
@@ -11,5 +9,4 @@ liberty_count-requires-clause-on_board c =
 
 -- the liberties of the string that stands there are counted
 pub returns : goal.returns
-returns c = c.liberty_count.ensures ∙ sym (ap (λ (pos : BoardState). liberties pos.size pos.cells c.args.p)
-    (shown c.self.inside c.args.self.now c.self.invariant c.self.view_is))
+returns c = grind (arith, shown)

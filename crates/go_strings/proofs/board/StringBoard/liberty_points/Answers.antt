@@ -1,6 +1,4 @@
-use Rattle.std.proofs.Common.{sym, ap, ◌∙◌}
-use Rattle.go_rules.specs.Strings.{liberty_points}
-use Rattle.go_rules.specs.Position.{BoardState}
+use Rattle.std.proofs.Common.{arith}
 use Rattle.go_strings.proofs.ShownBoards.{shown, shown_point}
 use Rattle.go_strings.proofs.board.StringBoard.liberty_points.Goals as goal
 
@@ -11,5 +9,4 @@ liberties_at-requires-clause-on_board c =
 
 -- the string that stands there is shown
 pub returns : goal.returns
-returns c = c.liberties_at.ensures ∙ sym (ap (λ (pos : BoardState). liberty_points pos.size pos.cells c.args.p)
-    (shown c.self.inside c.args.self.now c.self.invariant c.self.view_is))
+returns c = grind (arith, shown)

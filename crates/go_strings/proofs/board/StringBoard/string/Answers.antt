@@ -1,6 +1,4 @@
-use Rattle.std.proofs.Common.{sym, ap, ◌∙◌}
-use Rattle.go_rules.specs.Strings.{string_at}
-use Rattle.go_rules.specs.Position.{BoardState}
+use Rattle.std.proofs.Common.{arith}
 use Rattle.go_strings.proofs.ShownBoards.{shown, shown_point}
 use Rattle.go_strings.proofs.board.StringBoard.string.Goals as goal
 
@@ -11,5 +9,4 @@ stones_at-requires-clause-on_board c =
 
 -- the string that stands there is shown
 pub returns : goal.returns
-returns c = c.stones_at.ensures ∙ sym (ap (λ (pos : BoardState). string_at pos.size pos.cells c.args.p)
-    (shown c.self.inside c.args.self.now c.self.invariant c.self.view_is))
+returns c = grind (arith, shown)

@@ -1,9 +1,9 @@
-use Rattle.std.proofs.Common.{sym, ap, subst, ◌∙◌}
+use Rattle.std.proofs.Common.{sym, ap, subst, ◌∙◌, arith}
 use Rattle.std.specs.Option.{option_copied}
 use Rattle.read_cache.specs.Variants.{IsFirstStanding}
 use Rattle.read_cache.proofs.Places.{found_right}
 use Rattle.read_cache.proofs.MapEntries.{variants_of-there, variants_of-none, variants_are}
-use Rattle.read_cache.proofs.StandingVariants.{StandsAt-by, IsMissing-by, IsMissing-none, answer_at}
+use Rattle.read_cache.proofs.StandingVariants.{StandsAt-by, answer_at}
 use Rattle.read_cache.proofs.cache.Cache.standing.Goals as goal
 
 -- the first that stands, with its answer
@@ -33,18 +33,8 @@ returns-in-Some-first_standing-clause-right g c =
 
 -- none stands
 pub returns-in-None-first_standing-clause-none : goal.returns-in-None-first_standing-clause-none
-returns-in-None-first_standing-clause-none g c =
-    let map = c.self.inside.kept in
-    let at_key = sym c.value_of.ensures ∙ ap option_copied c.in-Some.is in
-    let there = variants_of-there g.Q.PartialEq.eq c.args.q.now map.entries map.cap c.args.self.now
-    c.self.view_is c.in-Some.kept.now at_key in
-    IsMissing-by g.Q.PartialEq.eq c.args.q.now c.args.position.now c.args.self.now c.in-Some.kept.now
-    c.as_slice.result.now there c.as_slice.ensures c.in-None-first_standing.ensures.none
+returns-in-None-first_standing-clause-none g c = grind (arith, variants_of-there)
 
 -- there are none
 pub returns-in-None-clause-none : goal.returns-in-None-clause-none
-returns-in-None-clause-none g c =
-    let map = c.self.inside.kept in
-    IsMissing-none g.Q.PartialEq.eq c.args.q.now c.args.position.now c.args.self.now
-    (variants_of-none g.Q.PartialEq.eq c.args.q.now map.entries map.cap c.args.self.now c.self.view_is
-    (sym c.value_of.ensures ∙ ap option_copied c.in-None.is))
+returns-in-None-clause-none g c = grind (arith, variants_of-none)

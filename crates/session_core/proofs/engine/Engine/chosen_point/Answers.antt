@@ -1,5 +1,5 @@
 -- The match that is chosen is among those that were found.
-use Rattle.std.proofs.Common.{◌<◌, ◌*◌, IfSome, is_err, inl, inr, refl, sym, ap, subst, ◌∙◌}
+use Rattle.std.proofs.Common.{◌<◌, ◌*◌, IfSome, inl, refl, sym, subst, ◌∙◌, arith}
 use Rattle.std.proofs.lemmas.Result.{err_from_is_err_and}
 use Rattle.session_core.proofs.ChosenMoves.{choice-there, among-same}
 use Rattle.session_core.proofs.engine.Engine.chosen_point.Goals as goal
@@ -30,8 +30,4 @@ returns-clause-asked g c = inl c.in_ok-found.ensures.asked
 
 -- without memory for what was found none was asked
 pub returns-in_err-found-clause-asked : goal.returns-in_err-found-clause-asked
-returns-in_err-found-clause-asked g c =
-    inr (
-      ap is_err (err_from_is_err_and c.from_residual.result c.from_residual.ensures.1).1,
-      c.in_err-found.ensures.unasked,
-    )
+returns-in_err-found-clause-asked g c = grind (arith, err_from_is_err_and)

@@ -1,26 +1,8 @@
 -- No helper has the name, and none is taken out.
-use Rattle.std.proofs.Common.{◌≡◌, [], ap, ◌∙◌}
-use Rattle.helpers.specs.Slots.{states_of}
-use Rattle.helpers.specs.HelperStates.{SlotState, named, after_remove}
-use Rattle.machine_rules.specs.Effects.{succeeded}
-use Rattle.machine_rules.specs.Heard.{word_at}
-use Rattle.machine_rules.specs.HelperCommands.{with_helpers}
-use Rattle.session_core.specs.EngineView.{machine_with}
+use Rattle.std.proofs.Common.{arith}
 use Rattle.session_core.proofs.HelperAnswers.{none-named, remove-none, nothing-there, not-there}
 use Rattle.session_core.proofs.engine.Engine.drop_helper.Goals as goal
 
 -- it is told that no helper has the name
 pub returns : goal.returns
-returns g c =
-    let kept = c.args.self.now in
-    let before = states_of (λ z. (goal.Helper-dyn g z).state z.1) c.args.helpers.now in
-    let after = states_of (λ z. (goal.Helper-dyn g z).state z.1) c.remove.new.self in
-    let name = word_at c.args.line.now c.args.span in
-    let is : c.as_slice.result.now ≡ name = c.as_slice.ensures ∙ c.in-Ok.ensures in
-    let missing = none-named before c.as_slice.result.now name is
-    (nothing-there (λ (s : SlotState). s.helper) (named c.as_slice.result.now before) c.in-None.ensures.found) in
-    let same = c.remove.ensures.after ∙ ap (λ n. after_remove n before) is ∙ remove-none name before missing in
-    not-there (machine_with before kept) name
-    (succeeded [] (with_helpers (machine_with before kept) (after_remove name before))) (machine_with after kept)
-    missing
-    (ap (λ helpers. machine_with helpers kept) same)
+returns g c = grind (arith, none-named, nothing-there, remove-none, not-there)

@@ -1,13 +1,6 @@
 -- What the automaton finds on the position is what the matcher finds on the session's board.
-use Rattle.std.proofs.Common.{◌≡◌, refl, sym, ap, subst, ◌∙◌}
+use Rattle.std.proofs.Common.{refl, sym, ap, subst, ◌∙◌, arith}
 use Rattle.go_rules.specs.Position.{BoardState}
-use Rattle.helpers.specs.HelperStates.{says_yes}
-use Rattle.helpers.specs.Slots.{states_of}
-use Rattle.match_engine.specs.AutomatonMatches.{automaton_matches}
-use Rattle.match_engine.specs.HelperCalls.{after_matches}
-use Rattle.match_engine.specs.Readings.{codes_at}
-use Rattle.match_rules.specs.Conditions.{all_yes}
-use Rattle.session_core.specs.EngineView.{EngineView, machine_with}
 use Rattle.session_core.specs.MatcherView.{NumbersPatterns}
 use Rattle.session_core.proofs.ChosenMoves.{list-among, among-same}
 use Rattle.session_core.proofs.ListedMatches.{of_session}
@@ -22,12 +15,7 @@ matches-requires g c = record {
 
 -- the matches of the patterns were found
 pub returns-clause-found : goal.returns-clause-found
-returns-clause-found g c =
-    let advice = says_yes (states_of (λ z. (goal.Helper-dyn g z).state z.1) c.args.helpers.now) in
-    of_session c.args.matcher.now c.args.self.now _ _ _ _ c.patterns.ensures c.scanner.ensures.value
-    c.position-position.ensures.value (ap (λ (k : EngineView). k.depths) c.self.view_is)
-    (λ ps rows b d. c.in_ok-found.found.items ≡ automaton_matches (codes_at d) advice rows ps b c.args.friend)
-    c.in_ok-found.ensures.automaton
+returns-clause-found g c = grind (arith, of_session)
 
 -- they are among the patterns and on the board
 pub returns-clause-among : goal.returns-clause-among
@@ -39,13 +27,4 @@ returns-clause-among g c =
 
 -- the helpers were asked about them
 pub returns-clause-asked : goal.returns-clause-asked
-returns-clause-asked g c =
-    let view = c.self.view_is in
-    let before = states_of (λ z. (goal.Helper-dyn g z).state z.1) c.args.helpers.now in
-    let after = states_of (λ z. (goal.Helper-dyn g z).state z.1) c.matches.new.helpers in
-    depths-kept _ _ c.in_ok-found.ensures.follows.depths ∙ ap (machine_with after) view
-    ∙ ap (λ helpers. machine_with helpers c.args.self.now) (of_session c.args.matcher.now c.args.self.now _ _ _ _
-    c.patterns.ensures c.scanner.ensures.value c.position-position.ensures.value
-    (ap (λ (k : EngineView). k.depths) view) (λ ps rows b d. after ≡ after_matches before ps
-    (automaton_matches (codes_at d) all_yes rows ps b c.args.friend) b c.args.friend)
-    c.in_ok-found.ensures.calls)
+returns-clause-asked g c = grind (arith, depths-kept, of_session)

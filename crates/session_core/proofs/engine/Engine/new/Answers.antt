@@ -1,5 +1,5 @@
 -- A session begins with the empty board.
-use Rattle.std.proofs.Common.{◌≡◌, ℕ, List, codes, ap, ◌∙◌, rules}
+use Rattle.std.proofs.Common.{◌≡◌, ℕ, List, codes, rules, arith}
 use Rattle.go_history.specs.Games.{Game, new_game}
 use Rattle.kept_connections.specs.Connections.{ConnectionsView}
 use Rattle.match_engine.specs.ReadingDepths.{ReadingDepths}
@@ -31,11 +31,7 @@ first_is : (game : Game) (s : ℕ) (komi : List ℕ) (readings : ReadingsView) (
     (depths : ReadingDepths) (capacity : ℕ) → game ≡ new_game s → s ≡ first_size → komi ≡ codes "0.0"
     → readings ≡ first_readings depths capacity → links ≡ first_links depths.plies capacity
     → kept_of game komi readings links ≡ first_kept depths capacity
-first_is game s komi readings links depths capacity new size zero none unasked =
-    ap (λ g. kept_of g komi readings links) (new ∙ ap new_game size)
-    ∙ ap (λ k. kept_of (new_game first_size) k readings links) zero
-    ∙ ap (λ r. kept_of (new_game first_size) (codes "0.0") r links) none
-    ∙ ap (kept_of (new_game first_size) (codes "0.0") (first_readings depths capacity)) unasked
+first_is game s komi readings links depths capacity new size zero none unasked = grind arith
 
 -- readings and connections have the plies of the options
 pub invariant_of-result : goal.invariant_of-result

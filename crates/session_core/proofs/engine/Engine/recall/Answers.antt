@@ -1,17 +1,12 @@
 -- An answer that was kept is one call of the readings, on the session's board, and was counted.
-use Rattle.std.proofs.Common.{ap, ◌∙◌, rules}
+use Rattle.std.proofs.Common.{ap, ◌∙◌, rules, arith}
 use Rattle.session_core.specs.EngineView.{machine_with}
-use Rattle.session_core.proofs.LineCounts.{ReadsAs-inside}
 use Rattle.session_core.proofs.StoneAnswers.{depths-kept, succeeded-read}
 use Rattle.session_core.proofs.engine.Engine.recall.Goals as goal
 
 -- attack or defend on a stone makes one reading, of the session's position and at the session's depths
 pub returns-clause-read : goal.returns-clause-read
-returns-clause-read c =
-    ReadsAs-inside c.args.self.now c.args.kind c.args.p (search rules) c.self.inside c.count_reading.new.self
-    c.position-position.result c.in-Some.answer c.find_kept.new.self c.self.view_is c.position-position.ensures.value
-    c.count_reading.ensures.kept c.in-Some.ensures.read c.size.ensures.position c.find_kept.ensures.rest
-    c.count_reading.ensures.refused (search rules) (search rules)
+returns-clause-read c = grind arith
 
 -- its answer is told
 pub returns-clause-answer : goal.returns-clause-answer

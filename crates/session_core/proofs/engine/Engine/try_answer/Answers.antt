@@ -1,5 +1,5 @@
 -- What a line says is answered as it says.
-use Rattle.std.proofs.Common.{sym, ap, subst, ◌∙◌, ◌++◌, append-nil}
+use Rattle.std.proofs.Common.{sym, ap, subst, ◌∙◌, ◌++◌, append-nil, arith}
 use Rattle.gtp_cmd.specs.declared.commands.Parsed.{Parsed}
 use Rattle.gtp_cmd.specs.declared.commands.Parsed.TheVariants.{Refused}
 use Rattle.helpers.specs.Slots.{states_of}
@@ -44,9 +44,4 @@ returns-in-Ok-clause-answers g c = λ missed file.
 
 -- a command that may take long leaves its line
 pub returns-in-Err-clause-left : goal.returns-in-Err-clause-left
-returns-in-Err-clause-left g c = λ missed.
-    left-command _ _ c.args.line.now c.args.said c.in-Command.id c.in-Command.command c.in-Err.work c.in-Command.is
-    c.in-Err.ensures.slow
-    (λ i. kept_with (states_of (λ z. (goal.Helper-dyn g z).state z.1) (c.in-Err.ensures.helpers i)) missed
-    (c.in-Err.ensures.same i))
-    c.requires.within c.requires.spans
+returns-in-Err-clause-left g c = grind (arith, left-command)

@@ -1,13 +1,11 @@
 -- Each command that may take long was done, and only a game record is loaded.
-use Rattle.std.proofs.Common.{refl}
-use Rattle.session_core.specs.MatcherView.{matcher_of}
+use Rattle.std.proofs.Common.{refl, arith}
 use Rattle.session_core.proofs.LoadAnswers.{done-same, missed-same, done-unloaded, missed-unloaded}
 use Rattle.session_core.proofs.engine.Engine.work_on.Goals as goal
 
 -- an attack
 pub returns-in-Attack-clause-answer : goal.returns-in-Attack-clause-answer
-returns-in-Attack-clause-answer g c =
-    done-unloaded c.in-Attack.is _ (matcher_of c.args.matcher.now) _ _ _ _ refl (λ _. c.read.ensures.answer _)
+returns-in-Attack-clause-answer g c = grind (arith, done-unloaded)
 
 -- it misses no file
 pub returns-in-Attack-clause-missed : goal.returns-in-Attack-clause-missed
@@ -15,8 +13,7 @@ returns-in-Attack-clause-missed g c = missed-unloaded c.in-Attack.is _ _ _ refl
 
 -- a defence
 pub returns-in-Defend-clause-answer : goal.returns-in-Defend-clause-answer
-returns-in-Defend-clause-answer g c =
-    done-unloaded c.in-Defend.is _ (matcher_of c.args.matcher.now) _ _ _ _ refl (λ _. c.read-in-Defend.ensures.answer _)
+returns-in-Defend-clause-answer g c = grind (arith, done-unloaded)
 
 -- it misses no file
 pub returns-in-Defend-clause-missed : goal.returns-in-Defend-clause-missed
@@ -24,8 +21,7 @@ returns-in-Defend-clause-missed g c = missed-unloaded c.in-Defend.is _ _ _ refl
 
 -- a list of matches
 pub returns-in-Match-clause-answer : goal.returns-in-Match-clause-answer
-returns-in-Match-clause-answer g c =
-    done-unloaded c.in-Match.is _ (matcher_of c.args.matcher.now) _ _ _ _ refl (λ _. c.list_matches.ensures.answer)
+returns-in-Match-clause-answer g c = grind (arith, done-unloaded)
 
 -- it misses no file
 pub returns-in-Match-clause-missed : goal.returns-in-Match-clause-missed
@@ -33,8 +29,7 @@ returns-in-Match-clause-missed g c = missed-unloaded c.in-Match.is _ _ _ refl
 
 -- the proof of an attack
 pub returns-in-AttackProof-clause-answer : goal.returns-in-AttackProof-clause-answer
-returns-in-AttackProof-clause-answer g c =
-    done-unloaded c.in-AttackProof.is _ (matcher_of c.args.matcher.now) _ _ _ _ refl (λ _. c.print_proof.ensures _)
+returns-in-AttackProof-clause-answer g c = grind (arith, done-unloaded)
 
 -- it misses no file
 pub returns-in-AttackProof-clause-missed : goal.returns-in-AttackProof-clause-missed
@@ -42,9 +37,7 @@ returns-in-AttackProof-clause-missed g c = missed-unloaded c.in-AttackProof.is _
 
 -- the proof of a defence
 pub returns-in-DefendProof-clause-answer : goal.returns-in-DefendProof-clause-answer
-returns-in-DefendProof-clause-answer g c =
-    done-unloaded c.in-DefendProof.is _ (matcher_of c.args.matcher.now) _ _ _ _ refl
-    (λ _. c.print_proof-in-DefendProof.ensures _)
+returns-in-DefendProof-clause-answer g c = grind (arith, done-unloaded)
 
 -- it misses no file
 pub returns-in-DefendProof-clause-missed : goal.returns-in-DefendProof-clause-missed
@@ -52,8 +45,7 @@ returns-in-DefendProof-clause-missed g c = missed-unloaded c.in-DefendProof.is _
 
 -- the check of a proof
 pub returns-in-CheckProof-clause-answer : goal.returns-in-CheckProof-clause-answer
-returns-in-CheckProof-clause-answer g c =
-    done-unloaded c.in-CheckProof.is _ (matcher_of c.args.matcher.now) _ _ _ _ refl (λ _. c.check_proof.ensures _)
+returns-in-CheckProof-clause-answer g c = grind (arith, done-unloaded c.in-CheckProof.is)
 
 -- it misses no file
 pub returns-in-CheckProof-clause-missed : goal.returns-in-CheckProof-clause-missed
@@ -61,8 +53,7 @@ returns-in-CheckProof-clause-missed g c = missed-unloaded c.in-CheckProof.is _ _
 
 -- a connection
 pub returns-in-Connect-clause-answer : goal.returns-in-Connect-clause-answer
-returns-in-Connect-clause-answer g c =
-    done-unloaded c.in-Connect.is _ (matcher_of c.args.matcher.now) _ _ _ _ refl (λ _. c.tell_link.ensures.answer _)
+returns-in-Connect-clause-answer g c = grind (arith, done-unloaded c.in-Connect.is)
 
 -- it misses no file
 pub returns-in-Connect-clause-missed : goal.returns-in-Connect-clause-missed
@@ -70,9 +61,7 @@ returns-in-Connect-clause-missed g c = missed-unloaded c.in-Connect.is _ _ _ ref
 
 -- a cut
 pub returns-in-Disconnect-clause-answer : goal.returns-in-Disconnect-clause-answer
-returns-in-Disconnect-clause-answer g c =
-    done-unloaded c.in-Disconnect.is _ (matcher_of c.args.matcher.now) _ _ _ _ refl
-    (λ _. c.tell_link-in-Disconnect.ensures.answer _)
+returns-in-Disconnect-clause-answer g c = grind (arith, done-unloaded c.in-Disconnect.is)
 
 -- it misses no file
 pub returns-in-Disconnect-clause-missed : goal.returns-in-Disconnect-clause-missed
@@ -80,8 +69,7 @@ returns-in-Disconnect-clause-missed g c = missed-unloaded c.in-Disconnect.is _ _
 
 -- a move that is played
 pub returns-in-GenMove-clause-answer : goal.returns-in-GenMove-clause-answer
-returns-in-GenMove-clause-answer g c =
-    done-unloaded c.in-GenMove.is _ (matcher_of c.args.matcher.now) _ _ _ _ refl (λ _. c.make_move.ensures.answer)
+returns-in-GenMove-clause-answer g c = grind (arith, done-unloaded)
 
 -- it misses no file
 pub returns-in-GenMove-clause-missed : goal.returns-in-GenMove-clause-missed
@@ -89,8 +77,7 @@ returns-in-GenMove-clause-missed g c = missed-unloaded c.in-GenMove.is _ _ _ ref
 
 -- a move that is told
 pub returns-in-RegGenMove-clause-answer : goal.returns-in-RegGenMove-clause-answer
-returns-in-RegGenMove-clause-answer g c =
-    done-unloaded c.in-RegGenMove.is _ (matcher_of c.args.matcher.now) _ _ _ _ refl (λ _. c.tell_move.ensures.answer)
+returns-in-RegGenMove-clause-answer g c = grind (arith, done-unloaded)
 
 -- it misses no file
 pub returns-in-RegGenMove-clause-missed : goal.returns-in-RegGenMove-clause-missed
@@ -98,9 +85,7 @@ returns-in-RegGenMove-clause-missed g c = missed-unloaded c.in-RegGenMove.is _ _
 
 -- a game record
 pub returns-in-Load-clause-answer : goal.returns-in-Load-clause-answer
-returns-in-Load-clause-answer g c =
-    let done = c.load_record.ensures.answer in
-    done-same c.in-Load.is _ (matcher_of c.args.matcher.now) _ _ _ _ (done.0, done.1, done.2 _)
+returns-in-Load-clause-answer g c = grind (arith, done-same)
 
 -- which may be missed
 pub returns-in-Load-clause-missed : goal.returns-in-Load-clause-missed

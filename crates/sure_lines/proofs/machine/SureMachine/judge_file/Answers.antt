@@ -1,6 +1,5 @@
 -- The answer says what the loader said of the file, and whether its text is a proof.
-use Rattle.std.proofs.Common.{subst, ◌∙◌}
-use Rattle.sure_lines.specs.Answers.{IsAnswer}
+use Rattle.std.proofs.Common.{arith}
 use Rattle.sure_lines.specs.Files.{named_file, word_at}
 use Rattle.sure_lines.specs.ProofCommands.{judged, proof_in}
 use Rattle.sure_lines.proofs.FileAnswers.{some_file, file-answered}
@@ -8,17 +7,7 @@ use Rattle.sure_lines.proofs.machine.SureMachine.judge_file.Goals as goal
 
 -- the text of the file was judged
 pub returns-in-Ok-clause-answer : goal.returns-in-Ok-clause-answer
-returns-in-Ok-clause-answer g c =
-    let word = word_at c.args.line.now c.args.name in
-    let file = c.in-Ok.file.items in
-    let machine = c.args.self.now in
-    let effect = judged machine c.args.kind c.args.p c.args.code in (
-      file,
-      c.in-Ok.ensures.text.1,
-      file-answered word c.in-Ok.ensures.text.0 machine (effect (proof_in file)) c.judge.result machine
-          (subst (λ text. IsAnswer (effect text) c.judge.result machine machine)
-          (c.as_slice.ensures.value ∙ c.joined.ensures) c.judge.ensures),
-    )
+returns-in-Ok-clause-answer g c = grind (arith, file-answered)
 
 -- no text was loaded, whatever the file is
 pub returns-in-Err-clause-answer : goal.returns-in-Err-clause-answer

@@ -1,7 +1,6 @@
 -- The answer says what the loader said of the file, and what its text is as a record.
-use Rattle.std.proofs.Common.{subst}
+use Rattle.std.proofs.Common.{arith}
 use Rattle.sgf_rules.specs.Game.{game_of}
-use Rattle.sure_lines.specs.Answers.{IsAnswer}
 use Rattle.sure_lines.specs.Files.{named_file, word_at}
 use Rattle.sure_lines.specs.RecordCommands.{recorded}
 use Rattle.sure_lines.proofs.FileAnswers.{some_file, file-answered}
@@ -9,17 +8,7 @@ use Rattle.sure_lines.proofs.machine.SureMachine.load_record.Goals as goal
 
 -- the file's text was read as a record
 pub returns-in-Ok-clause-answer : goal.returns-in-Ok-clause-answer
-returns-in-Ok-clause-answer g c =
-    let word = word_at c.args.line.now c.args.span in
-    let file = c.in-Ok.contents.items in
-    let old = c.args.self.now in (
-      file,
-      c.in-Ok.ensures.text.1,
-      file-answered word c.in-Ok.ensures.text.0 old (recorded old (game_of file)) c.set_record.result
-          c.set_record.new.self
-          (subst (λ text. IsAnswer (recorded old (game_of text)) c.set_record.result old c.set_record.new.self)
-          c.as_slice.ensures.value c.set_record.ensures),
-    )
+returns-in-Ok-clause-answer g c = grind (arith, file-answered)
 
 -- no text was loaded, whatever the file is
 pub returns-in-Err-clause-answer : goal.returns-in-Err-clause-answer
