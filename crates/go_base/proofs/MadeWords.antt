@@ -1,10 +1,10 @@
 -- Words that are made word by word of two others.
 use Rattle.std.proofs.Common.{◌≡◌, ℕ, ◌+◌, ◌-◌, ◌^◌, ◌/◌, ◌<◌, ◌≤◌}
-use Rattle.std.proofs.Common.{◌&&◌, Bool, false, not, eqb, List, length, get_or, bit_and}
+use Rattle.std.proofs.Common.{◌&&◌, Bool, not, eqb, List, length, get_or, bit_and}
 use Rattle.std.proofs.Common.{min, zero, suc, refl, sym, arith, inl, inr, get_or-set_same, get_or-set_other}
-use Rattle.std.proofs.Math.ListN.{set, get_or-eq_default, length-set}
+use Rattle.std.proofs.Math.ListN.{set, length-set}
 use Rattle.std.proofs.lemmas.Bool.{cases_eq, cases_lt}
-use Rattle.std.proofs.lemmas.Nat.Bits.{bit_at_and, bit_at-lt, bit_at-zero, bit_at_not}
+use Rattle.std.proofs.lemmas.Nat.Bits.{bit_at_and, bit_at-lt, bit_at_not}
 use Rattle.std.specs.Int.{bit_at, bit_not, w64}
 use Rattle.go_base.specs.Bits.{set_words, is_marked}
 
@@ -32,7 +32,3 @@ pub record IsMadeBelow (test : Bool → Bool → Bool) (old more : List ℕ) (n 
   pub length : length new ≡ set_words
   pub made : (q : ℕ) → q / 64 < n → is_marked new q ≡ test (is_marked old q) (is_marked more q)
   pub rest : (j : ℕ) → n ≤ j → get_or new j 0 ≡ get_or old j 0
-
--- no point past the last word is marked
-none_past : (words : List ℕ) (q : ℕ) → length words ≡ set_words → set_words ≤ q / 64 → is_marked words q ≡ false
-none_past words q ten g = grind (arith, get_or-eq_default, bit_at-zero)

@@ -1,7 +1,7 @@
 -- The least point that words mark, by a note of the words in use.
 use Rattle.std.proofs.Common.{◌≡◌, ◌≢◌, ℕ, ◌+◌, ◌*◌, ◌/◌, ◌%◌, ◌<◌, ◌≤◌, true, false, List, get_or, refl, sym, ap}
 use Rattle.std.proofs.Common.{arith, inl, inr, ◌∙◌, bit_and, bit_or, ◌^◌}
-use Rattle.std.proofs.lemmas.Bool.{cases_Bool, cases_eq, cases_lt, both_ways, eqb-true}
+use Rattle.std.proofs.lemmas.Bool.{cases_eq, cases_lt, both_ways, eqb-true}
 use Rattle.std.proofs.lemmas.Nat.{div-mul-add, mod-mul-add}
 use Rattle.std.proofs.lemmas.Nat.Bits.{bit_at-zero, bit_at_and, bit_at_set_same, bit_at_set_other}
 use Rattle.std.proofs.lemmas.Nat.Bits.{bit_at_clear_same, bit_at_clear_other}
@@ -74,10 +74,6 @@ IsNoteOf-last old new used p is on here elsewhere none =
 module _ (words : List ℕ) (used first next : ℕ) (is : IsNoteOf words used)
     (rest : (k : ℕ) → first % 64 ≤ k → k < 64 → bit_at (get_or words (first / 64) 0) k ≡ 0)
     (unused : (k : ℕ) → first / 64 + 1 ≤ k → k < next → bit_at used k ≡ 0) where
-  -- no point is marked from the first on in its own word, nor in a word up to the next one in use
-  none_until : (r : ℕ) → first ≤ r → r / 64 < next → is_marked words r ≡ false
-  none_until r low under = grind (arith, cases_Bool, cases_eq, eqb-true)
-
   module _ (bit : ℕ) (noted : bit_at used next ≡ 1) (bound : bit ≤ 64) (beyond : first / 64 + 1 ≤ next)
       (misses : (k : ℕ) → 0 ≤ k → k < bit → bit_at (get_or words next 0) k ≡ 0) where
     -- the lowest bit of the next word in use is that of the first point that is marked

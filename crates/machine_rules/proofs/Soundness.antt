@@ -9,7 +9,6 @@ use Rattle.go_rules.specs.declared.Move.{Move}
 use Rattle.gtp_cmd.specs.declared.commands.Parsed.{Parsed}
 use Rattle.gtp_cmd.specs.declared.commands.Parsed.TheVariants as parsed
 use Rattle.gtp_cmd.specs.declared.refusals.RefuseText.{RefuseText}
-use Rattle.gtp_cmd.specs.declared.refusals.RefuseText.TheVariants.{VertexEmpty}
 use Rattle.machine_rules.specs.Machine.{Machine}
 use Rattle.machine_rules.specs.Matcher.{Matcher}
 use Rattle.machine_rules.specs.Calls.{AreSameButCalls}
@@ -28,8 +27,7 @@ use Rattle.go_rules.specs.Position.{BoardState}
 use Rattle.machine_rules.specs.Loads.{Load, load_in, IsFileOf}
 use Rattle.machine_rules.specs.BoardCommands.{resized, taken_back}
 use Rattle.machine_rules.specs.Step.{Input, effect_of, parsed_step, step_on, step}
-use Rattle.machine_rules.specs.Counting.{is_read, is_parsed_read, is_read_line}
-use Rattle.machine_rules.specs.ReadingCommands.{answer_text, reading_of}
+use Rattle.machine_rules.specs.Counting.{is_parsed_read, is_read_line}
 use Rattle.machine_rules.specs.Soundness.{IsRefusal, IsSuccess, AreExcuses, IsSound}
 use Rattle.machine_rules.proofs.QuietHelpers.{raised-quiet}
 use Rattle.gtp_cmd.specs.declared.commands.Command.{Command}
@@ -179,41 +177,11 @@ step-total matcher contents old line =
     let file = some_file contents (load_in old line) in
     (step_on matcher old file.0 line, (file.0, file.1, refl))
 
--- a reading that is answered with a code tells something, which has no excuse
-read-effect : (matcher : Matcher) (old : Machine) (input : Input) (c : Command) → is_read old c ≡ true
-    → (text : List ℕ) × (effect_of matcher old input c ≡ succeeded text old)
-read-effect matcher old input (command.Attack p) stone =
-    let text = answer_text old.base.size (reading_of old Attack p) in
-    (text, ap (λ b. cond b (succeeded text old) (refused old VertexEmpty)) stone)
-read-effect matcher old input (command.Defend p) stone =
-    let text = answer_text old.base.size (reading_of old Defend p) in
-    (text, ap (λ b. cond b (succeeded text old) (refused old VertexEmpty)) stone)
-read-effect matcher old input _ none = absurd (let same : false ≡ true = none in cc)
-
--- so does what a line says that asks for it
-read-parsed : (matcher : Matcher) (old : Machine) (input : Input) (p : Parsed) → is_parsed_read old p ≡ true
-    → (id : Option ℕ) × (text : List ℕ) × (parsed_step matcher old input p ≡ replied id (succeeded text old))
-read-parsed matcher old input (parsed.Command id c) reads =
-    let said = read-effect matcher old input c reads in (id, said.0, ap (replied id) said.1)
-read-parsed matcher old input _ none = absurd (let same : false ≡ true = none in cc)
-
 -- a line is counted as what it says
 pub read-heard : (m : Machine) (line : RawLine) → is_read_line m line ≡ is_parsed_read m (heard m line)
 unfolding is_read_line
 read-heard m TooLong = refl
 read-heard m (Line text) = refl
-
--- the line on a text
-read-line_on : (matcher : Matcher) (old : Machine) (file : List ℕ) (line : RawLine) → is_read_line old line ≡ true
-    → (id : Option ℕ) × (text : List ℕ) × (step_on matcher old file line ≡ replied id (succeeded text old))
-unfolding step_on
-read-line_on matcher old file line reads = grind (arith, read-parsed, read-heard)
-
--- a line that asks for a reading and is answered with a code is told some text, and the machine stays
-pub read-line : (matcher : Matcher) (contents : Contents) (old : Machine) (line : RawLine) (given : Step Machine)
-    → step matcher contents old line given → is_read_line old line ≡ true
-    → (id : Option ℕ) × (text : List ℕ) × (given ≡ replied id (succeeded text old))
-read-line matcher contents old line given (file, of, is) reads = grind (arith, read-line_on matcher old file line reads)
 
 -- what is tested one after another passes where all of it does
 all-pass : {T : Type 0} (a b c : Bool) (kept first second third : T) → (a && (b && c)) ≡ true

@@ -15,10 +15,6 @@ pub record KeepsFirst (test : Match → Bool) (old now : List Match) (k n : ℕ)
   pub kept : take k now ≡ filter test (take n old)
   pub rest : drop n now ≡ drop n old
 
--- of no element none is kept
-pub KeepsFirst-none : (test : Match → Bool) (old : List Match) → KeepsFirst test old old 0 0
-KeepsFirst-none test old = grind arith
-
 module _ (test : Match → Bool) (old now : List Match) (k n : ℕ) (z : Match) (before : KeepsFirst test old now k n)
     (low : n < length old) (read : z ≡ get_or now n z) where
   -- the element that is read is the one of before

@@ -118,15 +118,3 @@ IsAtHand-kept key pos n here answer old new hand sound agree has =
     (λ (fresh : WasFresh same_key key Rests here answer old.answers new.answers).
     IsAmongFirst-stands same_key key hand.variant n old.answers.kept here hand.among
     (Stands-agree key hand.variant pos here hand.rests hand.stands sound agree) fresh.missing)
-
--- as many questions may be kept after a reading as before
-pub HasRead-capacity : (key : Key) (pos : BoardState) (answer : Answer) (old new : ReadingsView)
-    → HasRead key pos answer old new
-    → new.answers.kept.1 ≡ old.answers.kept.1
-HasRead-capacity key pos answer old new has = grind arith
-
--- where no keeping is counted as refused after a reading, none was before
-pub HasRead-refused : (key : Key) (pos : BoardState) (answer : Answer) (old new : ReadingsView)
-    → HasRead key pos answer old new
-    → new.answers.refused ≡ 0 → old.answers.refused ≡ 0
-HasRead-refused key pos answer old new has none = grind (arith, kept_cases)

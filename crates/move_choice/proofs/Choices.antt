@@ -212,10 +212,6 @@ module _ (found rest : List Match) (first : Match) (place : found ≡ first ∷ 
       take_more found (i + 1) z (omega (arith, ap length place))
       ∙ ap (λ y. take (i + 1) found ++ y ∷ []) (one_of_rest i z ∙ sym here)
 
-  -- the first alone
-  pub IsFirst-first : (w : Match → ℕ) → IsFirst w (take 1 found) first
-  IsFirst-first w = subst (λ l. IsFirst w (take 1 l) first) (sym place) (IsFirst-alone w first)
-
   -- one match more, which is not preferred
   pub IsFirst-keeps_more : (w : Match → ℕ) (i : ℕ) (c z : Match) → i < length rest → z ≡ get_or rest i z
       → IsFirst w (take (i + 1) found) c → is_preferred w z c ≡ false → IsFirst w (take (i + 1 + 1) found) c

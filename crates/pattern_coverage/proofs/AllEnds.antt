@@ -1,5 +1,5 @@
 -- The ends of all tries of a pattern: those behind the move, those at it, and the rest at the diagram.
-use Rattle.std.proofs.Common.{◌≡◌, ℕ, zero, suc, ◌+◌, ◌-◌, ◌*◌, ◌<◌, ◌≤◌, Bool, true, false, ◌&&◌, eqb}
+use Rattle.std.proofs.Common.{◌≡◌, ℕ, ◌+◌, ◌-◌, ◌*◌, ◌<◌, ◌≤◌, Bool, true, false, ◌&&◌, eqb}
 use Rattle.std.proofs.Common.{List, []}
 use Rattle.std.proofs.Common.{◌∷◌, length, map, count_by, Some, Option, slice_get, get_or, refl, sym, ap, ◌∙◌}
 use Rattle.std.proofs.Common.{subst, arith, Contains, ◌++◌, take, min, ◌^◌, Result, Ok, Err, IfOk, OnOk}
@@ -66,26 +66,6 @@ module _ (d : Depths) (advice : Advice) (p : Pattern) (board : BoardState) (frie
       seven_counts (λ (try : ℕ × ℕ). part_at d advice p board friend try.0 try.1)
       (λ try. part-low d advice p board friend try.0 try.1) (tries_of p board.size)
       ∙ try_count p board.size
-
-  -- Six counts, and the rest of the tries as the first.
-  module _ (diagram move stone enemy constraint helper matched : ℕ)
-      (e1 : move ≡ ends_at d advice p board friend 1) (e2 : stone ≡ ends_at d advice p board friend 2)
-      (e3 : enemy ≡ ends_at d advice p board friend 3) (e4 : constraint ≡ ends_at d advice p board friend 4)
-      (e5 : helper ≡ ends_at d advice p board friend 5) (e6 : matched ≡ ends_at d advice p board friend 6)
-      (all : diagram + (move + (stone + (enemy + (constraint + (helper + matched)))))
-      ≡ count_of p.mark * (board.size * board.size)) where
-    -- these are all ends
-    pub seven_ends : (part : ℕ) → part < 7
-        → get_or (diagram ∷ move ∷ stone ∷ enemy ∷ constraint ∷ helper ∷ matched ∷ []) part 0
-        ≡ ends_at d advice p board friend part
-    seven_ends zero low = omega (arith, e1, e2, e3, e4, e5, e6, all, all_tries)
-    seven_ends (suc zero) low = e1
-    seven_ends (suc (suc zero)) low = e2
-    seven_ends (suc (suc (suc zero))) low = e3
-    seven_ends (suc (suc (suc (suc zero)))) low = e4
-    seven_ends (suc (suc (suc (suc (suc zero))))) low = e5
-    seven_ends (suc (suc (suc (suc (suc (suc zero)))))) low = e6
-    seven_ends (suc (suc (suc (suc (suc (suc (suc part))))))) low = absurd (omega arith)
 
   -- a try that ends behind the move is one whose diagram fits with a legal move
   late_fits : (part t m : ℕ) → 2 ≤ part

@@ -1,6 +1,6 @@
 -- What holds of each kept variant goes on to hold, where equal questions are one.
 use Rattle.std.proofs.Common.{◌≡◌, ◌⊎◌, inl, inr, sym, subst, Bool, true, Contains, List, [], ◌∷◌, ◌++◌, ◌+◌, take}
-use Rattle.std.proofs.Common.{drop, Option, Some, None, refl, ℕ, arith}
+use Rattle.std.proofs.Common.{drop, Option, Some, None, refl, ℕ}
 use Rattle.std.specs.Map.{lookup}
 use Rattle.std.specs.Option.{option_map_or}
 use Rattle.std.proofs.lemmas.List.Elements.{Contains-append_left, Contains-append_right, Contains-append_cases}
@@ -60,10 +60,6 @@ module _ {Q A : Type 0} (P : Q → Variant A → Type 0) (eq : Q → Q → Bool)
   -- P holds of a question with each of its variants
   abbrev OfEach : Q → List (Variant A) → Type 0
   OfEach q vs = (v : Variant A) → Contains vs v → P q v
-
-  -- nothing is kept
-  pub HoldsOfEach-none : (kept : Kept Q A) → kept.0 ≡ [] → HoldsOfEach P kept
-  HoldsOfEach-none kept none = grind arith
 
   -- the variants of a question are among those that are kept
   pub of_question : (q : Q) (old : Kept Q A) (vs : List (Variant A)) (v : Variant A) → HoldsOfEach P old

@@ -1,9 +1,9 @@
 -- What holds after questions were asked through a cache.
-use Rattle.std.proofs.Common.{◌≡◌, Bool, true, Option, Some, None, IfSome, IfNone, inl, inr, sym, subst, arith}
+use Rattle.std.proofs.Common.{◌≡◌, Bool, true, Option, Some, None, IfSome, IfNone, sym, subst, arith}
 use Rattle.go_rules.specs.Position.{BoardState}
 use Rattle.read_cache.specs.declared.variants.Variant.{Variant}
 use Rattle.read_cache.specs.Kept.{Kept, HoldsOfEach, IsFound, kept_first}
-use Rattle.read_cache.specs.Keeping.{Keeping, Follows, RestsOn, WasAnswered, WasAsked}
+use Rattle.read_cache.specs.Keeping.{Keeping, Follows, RestsOn}
 use Rattle.read_cache.proofs.Each.{HoldsOfEach-found, HoldsOfEach-kept, found_holds}
 
 -- questions after questions
@@ -29,10 +29,3 @@ module _ {Q A : Type 0} (Rests : Q → Variant A → Type 0) (eq : Q → Q → B
       → IfSome answer (RestsOn Rests q pos)
   RestsOn-found pos None found = found
   RestsOn-found pos (Some answer) found = grind (arith, found_holds Rests eq one q pos old new answer rest found)
-
--- a question that was answered was asked
-pub WasAsked-answered : {Q A E : Type 0} (eq : Q → Q → Bool) (q : Q) (Rests : Q → Variant A → Type 0)
-    (Takes : E → Type 0) (pos : BoardState) (answer : A) (effort : Option E) (old new : Keeping Q A)
-    → WasAnswered eq q Rests Takes pos answer effort old new → WasAsked eq q Rests pos answer old new
-WasAsked-answered eq q Rests Takes pos answer None old new answered = inr answered.kept
-WasAsked-answered eq q Rests Takes pos answer (Some e) old new answered = inl answered.fresh

@@ -1,11 +1,11 @@
 -- Which variants stand, one after another.
 use Rattle.std.proofs.Common.{◌≡◌, ◌∙◌, inl, inr, sym, ap, subst, Contains, List, [], ◌∷◌, ◌++◌, ℕ, ◌+◌, ◌-◌, ◌<◌}
-use Rattle.std.proofs.Common.{le_of_lt, le_refl, arith, length, get_or, take, drop, Bool, Some, None}
+use Rattle.std.proofs.Common.{le_of_lt, le_refl, arith, length, get_or, take, drop, Bool, Some}
 use Rattle.std.proofs.lemmas.List.{take_more, drop_more, take-append-drop, length-take-le, get_or-append_right}
 use Rattle.std.proofs.lemmas.List.Elements.{Contains-append_cases}
 use Rattle.lru.proofs.Splits.{Contains-cons, Contains-nil}
 use Rattle.go_rules.specs.Position.{BoardState}
-use Rattle.read_cache.specs.Kept.{Kept, variants_of, IsMissing}
+use Rattle.read_cache.specs.Kept.{Kept, variants_of}
 use Rattle.read_cache.specs.Places.{StandsAt}
 use Rattle.read_cache.specs.Variants.{Stands, NoneStands, IsFirstStanding}
 use Rattle.read_cache.specs.declared.variants.Variant.{Variant}
@@ -59,12 +59,3 @@ module _ {Q A : Type 0} (eq : Q → Q → Bool) (q : Q) (pos : BoardState) (old 
   StandsAt-by items slice again place d kept is is_again first =
       let here = subst (λ vs. IsFirstStanding pos vs place) is first in
       record { variants = items; is_kept = kept; first = here; answer_is = answer_at here d is_again }
-
-  -- none of the kept variants stands
-  pub IsMissing-by : (items slice : List (Variant A)) → variants_of eq q old ≡ Some items → slice ≡ items
-      → NoneStands pos slice → IsMissing eq q pos old
-  IsMissing-by items slice kept is none = grind arith
-
-  -- there are none
-  pub IsMissing-none : variants_of eq q old ≡ None → IsMissing eq q pos old
-  IsMissing-none none = record { none = λ variants there. absurd (let no = sym none ∙ there in cc) }

@@ -149,10 +149,6 @@ module _ (link : Link) (s : ℕ) (here : BoardState) (of_a of_b : set.FinSet nat
       → is_connecting_move link here p ≡ true
   crossing_is_move p h = stage_moves link s here of_a of_b size a_is b_is p ∙ or_left _ _ (or_right _ _ h)
 
-  -- a capture beside either is one
-  pub capture_is_move : (p : ℕ) → is_capture s here.cells link.a link.b p ≡ true → is_connecting_move link here p ≡ true
-  capture_is_move p h = stage_moves link s here of_a of_b size a_is b_is p ∙ or_right _ _ h
-
   -- each connecting move is in one of the stages
   pub move_stage : (p : ℕ) → is_connecting_move link here p ≡ true
       → (set.contains of_a p && set.contains of_b p ≡ true)

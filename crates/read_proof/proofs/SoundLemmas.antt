@@ -109,12 +109,6 @@ plays_give f g P zero a p child all low high chosen e = absurd (omega arith)
 plays_give f g P (suc n) a p child all low high chosen e =
     grind (arith, plays_give f g P n (a + 1) p child (at_others f P a (filter g (range_with_len (a + 1) n)) (g a) all))
 
--- each child of the rows is one of a row
-pub both_rows : (P : Node × BoardState → Type 0) (xs ys : List (Node × BoardState)) → AllByRecursion P xs
-    → AllByRecursion P ys → AllByRecursion P (xs ++ ys)
-both_rows P [] ys first second = second
-both_rows P (x ∷ xs) ys first second = (first.0, both_rows P xs ys first.1 second)
-
 -- what holds of each of the joined rows holds of each of both
 each_row : (P : Node × BoardState → Type 0) (xs ys : List (Node × BoardState)) → AllByRecursion P (xs ++ ys)
     → AllByRecursion P xs × AllByRecursion P ys

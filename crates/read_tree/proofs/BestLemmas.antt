@@ -175,10 +175,6 @@ module _ (n : ℕ) (turn : Turn) (here : BoardState) where
     move = λ ne. absurd (ne refl);
   }
 
-  -- before any move
-  pub best_nothing : turn.attacker_to_play ≡ true → IsBest n turn here nowhere (record { code = 0; at = None })
-  best_nothing attacks = best_none (λ more lo hi. no_pass turn.attacker_to_play _ attacks)
-
   -- a pass that saves is the first move
   pass_first : (code : ℕ) → pass_saves n (node_of turn code) here ≡ true
       → Some Pass ≡ first_move n (node_of turn code) here
@@ -267,18 +263,6 @@ module _ (n : ℕ) (turn : Turn) (here : BoardState) where
             no_move = λ e. absurd (omega arith);
             move = λ ne. (At p, refl, first_at code above bounded asked.1);
           }
-
-  -- no candidate is left
-  pub best_all : (cands : ℕ → Bool) (next : ℕ) (best : Answer)
-      → ((q : ℕ) → cands q ≡ is_candidate turn here q)
-      → IsBest n turn here (λ q. ltb q next && cands q) best
-      → ((q : ℕ) → next ≤ q → cands q ≡ false) → IsBest n turn here (is_candidate turn here) best
-  best_all cands next best same i rest = best_of (is_candidate turn here) i (λ more lo hi q.
-      ap (λ b. b && succeeds n (node_of turn more) here q) (sym (same q))
-      ∙ elim (cases_lt q next) [
-        | inl l ↦ off_alone (ltb q next) (cands q) _ (lt-ltb q next l) (i.no_point more lo hi q)
-        | inr g ↦ ap (λ b. b && succeeds n (node_of turn more) here q) (rest q g)
-      ])
 
   -- no code is greater than 3
   pub best_three : (tried : ℕ → Bool) (best : Answer) → IsBest n turn here tried best → best.code ≡ 3 → (all : ℕ → Bool)

@@ -56,11 +56,6 @@ module _ (n : ℕ) (node : Node) (p : ℕ) (here : BoardState) (sound : IsPositi
   each_by next new zone None is alike = refl
   each_by next new zone (Some child) is alike = some_by next new zone (Some child) is alike
 
-  -- one that cannot be made cannot be made there
-  each_none : (o : Option (Node × BoardState)) → AreAlikeChildren after None o → each_child (surely_wins n) o ≡ true
-  each_none None alike = refl
-  each_none (Some child) alike = absurd alike
-
 -- a play that captures shows it wherever it looks the same
 pub some_shown : (n : ℕ) (node : Node) (p : ℕ) (pos next_pos : BoardState) (next : Node) (after Z : ℕ → Bool)
     → p < pos.size * pos.size → child_of node pos p ≡ Some (next, next_pos) → IsZone n next next_pos after

@@ -262,11 +262,6 @@ pub Answered-nil : (step : LineStep) (lines : List RawLine) (a : Standing) → l
     → Answered step lines false a a
 Answered-nil step lines a none = grind (arith, RunsTo-is, RunsTo-nil)
 
--- lines were answered as those that equal them were
-pub Answered-is : (step : LineStep) (xs ys : List RawLine) (ended : Bool) (a b : Standing) → xs ≡ ys
-    → Answered step ys ended a b → Answered step xs ended a b
-Answered-is step xs ys ended a b same answered = subst (λ l. Answered step l ended a b) (sym same) answered
-
 -- lines were answered after what stays
 pub Answered-after : (step : LineStep) (lines : List RawLine) (ended : Bool) (kept : Kept) (a b : OutputState)
     (c : Standing) → KeepsOutput a b → Answered step lines ended (standing_at kept b) c

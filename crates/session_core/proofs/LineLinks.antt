@@ -1,20 +1,17 @@
 -- What a line asks of a session's connections, and what is told of that.
 use Rattle.std.proofs.Common.{◌≡◌, ℕ, true, List, Option, Some, None, refl, sym, ap, subst, ◌∙◌, arith}
-use Rattle.go_rules.specs.Position.{BoardState, IsPosition}
+use Rattle.go_rules.specs.Position.{BoardState}
 use Rattle.helpers.specs.HelperStates.{SlotState}
 use Rattle.connect_rules.specs.Linkages.{asked_on, linkage_of}
 use Rattle.connect_rules.specs.declared.question.LinkKind.{LinkKind}
 use Rattle.connect_rules.specs.declared.question.LinkQuestion.{LinkQuestion}
 use Rattle.connect_rules.specs.declared.question.Linkage.{Linkage}
-use Rattle.read_cache.specs.Kept.{HoldsOfEach}
-use Rattle.kept_connections.specs.Connections.{ConnectionsView, Rests, HasAsked, key_on}
-use Rattle.machine_rules.specs.Counting.{counted}
 use Rattle.machine_rules.specs.Effects.{succeeded}
 use Rattle.machine_rules.specs.LinkCommands.{linked, linkage_at, linkage_text}
-use Rattle.machine_rules.specs.LinkQuestions.{have_one_colour, asks_link_at}
+use Rattle.machine_rules.specs.LinkQuestions.{have_one_colour}
 use Rattle.machine_rules.specs.Machine.{Machine}
 use Rattle.machine_rules.proofs.Soundness.{linked-succeeded}
-use Rattle.session_core.specs.AskedLinks.{LinksAs, LinksNothing, CountsFreshLinks}
+use Rattle.session_core.specs.AskedLinks.{LinksAs, LinksNothing}
 use Rattle.session_core.specs.CommandAnswers.{IsAnswer}
 use Rattle.session_core.specs.EngineView.{EngineView, board_of, machine_alone, machine_with}
 use Rattle.session_core.specs.declared.answer.Answer.{Answer}
@@ -25,19 +22,6 @@ pub unasked-links : (old new : EngineView) (asks : Option LinkQuestion) → Link
     → ((q : LinkQuestion) → asks ≡ Some q → ⊥) → LinksNothing old new
 unasked-links old new None links never = links
 unasked-links old new (Some q) links never = absurd (never q refl)
-
--- The connections were asked once on the board of a session, where stones of one colour stand at both points.
-module _ (old new : EngineView) (kind : LinkKind) (a b : ℕ)
-    (one : have_one_colour (machine_alone old) a b ≡ true) where
-  -- the question about the strings of the two points was asked
-  pub LinksAs-once : (pos : BoardState) (linkage : Linkage) (before after : ConnectionsView)
-      → pos ≡ board_of old → before ≡ old.links → before.plies ≡ old.depths.plies → new.links ≡ after
-      → HasAsked (key_on pos kind a b before.plies) pos linkage before.answers after.answers
-      → IsPosition pos → HoldsOfEach Rests after.answers.kept
-      → new.counts.links.connections ≡ counted old.counts.links.connections true
-      → CountsFreshLinks old → CountsFreshLinks new
-      → LinksAs (asks_link_at (machine_alone old) kind a b) old new
-  LinksAs-once pos linkage before after board was plies is asked sound rest connections fresh_before fresh = grind arith
 
 -- the answer to a question on the board of a session, at its plies, is that of its machine
 linkage-here : (session : EngineView) (kind : LinkKind) (a b : ℕ) (pos : BoardState) (n : ℕ) (linkage : Linkage)

@@ -1,11 +1,10 @@
 -- What a session's reply to a line says of its machine.
-use Rattle.machine_rules.proofs.Soundness.{success_apart, read-line, link-line}
-use Rattle.std.proofs.Common.{◌≡◌, ℕ, Bool, true, List, [], ◌∷◌, Option, Some, inl, inr, ap, ◌∙◌, arith}
+use Rattle.machine_rules.proofs.Soundness.{success_apart, link-line}
+use Rattle.std.proofs.Common.{◌≡◌, ℕ, Bool, List, [], ◌∷◌, Option, Some, inl, inr, ap, ◌∙◌, arith}
 use Rattle.gtp_rules.specs.Lines.{RawLine}
 use Rattle.gtp_rules.specs.Steps.{Fallback, Step}
 use Rattle.gtp_rules.specs.Transcript.{IsOneOf, MayGive, MayAnswer}
 use Rattle.machine_rules.specs.Calls.{AreSameButCalls, quiet}
-use Rattle.machine_rules.specs.Counting.{is_read_line}
 use Rattle.machine_rules.specs.Effects.{succeeded, replied}
 use Rattle.machine_rules.specs.Files.{Contents}
 use Rattle.connect_rules.specs.declared.question.LinkQuestion.{LinkQuestion}
@@ -20,13 +19,6 @@ succeeded-not_refused : (old new : Machine) (id : Option ℕ) (text bytes : List
     → MayGive (replied id (succeeded text old)) bytes new ends → IsRefusal bytes → ⊥
 succeeded-not_refused old new id text bytes ends (inl may) refusal = success_apart bytes _ may.0 refusal
 succeeded-not_refused old new id text bytes ends (inr may) refusal = absurd may.0
-
--- a line that was refused is no reading that was answered with a code
-pub read-not_refused : (matcher : Matcher) (contents : Contents) (old : Machine) (line : RawLine) (bytes : List ℕ)
-    (new : Machine) (ends : Bool) → MayAnswer (step matcher contents) old line bytes new ends → IsRefusal bytes
-    → is_read_line old line ≡ true → ⊥
-read-not_refused matcher contents old line bytes new ends (given, gives, may) refusal reads =
-    grind (arith, read-line matcher contents old line given gives reads, succeeded-not_refused old new)
 
 -- a line that asks about a connection is not refused
 pub link-not_refused : (matcher : Matcher) (contents : Contents) (old : Machine) (line : RawLine) (bytes : List ℕ)

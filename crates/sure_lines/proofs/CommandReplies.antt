@@ -2,10 +2,10 @@
 use Rattle.std.proofs.Common.{◌≡◌, ℕ, false, List, [], ◌∷◌, map, Option, inl, inr, refl, ap}
 use Rattle.std.proofs.Common.{arith}
 use Rattle.gtp_rules.specs.Transcript.{IsOneOf, MayGive}
-use Rattle.gtp_cmd.specs.Replies.{success_text, refusal_text}
+use Rattle.gtp_cmd.specs.Replies.{refusal_text}
 use Rattle.gtp_cmd.specs.declared.refusals.RefuseText.{RefuseText}
 use Rattle.sure_lines.specs.Effects.{Effect, IsExcused, fallback, replied}
-use Rattle.sure_lines.specs.Answers.{Succeeds, IsAnswer}
+use Rattle.sure_lines.specs.Answers.{IsAnswer}
 use Rattle.sure_lines.specs.declared.answer.Answer.TheVariants as answer
 use Rattle.sure_lines.specs.Machine.{Machine}
 
@@ -17,11 +17,6 @@ excused-told id old (excuse ∷ excuses) text (inl is) = inl (ap (refusal_text i
 excused-told id old (excuse ∷ excuses) text (inr is) = inr (excused-told id old excuses text is)
 
 module _ (id : Option ℕ) (effect : Effect) (old new : Machine) where
-  -- a success is told behind the id
-  pub gives-success : (result bytes : List ℕ) → bytes ≡ success_text id result → Succeeds effect result new
-      → MayGive (replied id old effect) bytes new false
-  gives-success result bytes is succeeds = grind arith
-
   -- so is an excuse
   pub gives-excuse : (text : RefuseText) (bytes : List ℕ) → bytes ≡ refusal_text id text
       → IsExcused effect.excuses text → new ≡ old → MayGive (replied id old effect) bytes new false

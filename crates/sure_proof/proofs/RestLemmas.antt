@@ -1,6 +1,6 @@
 -- The sets of points as loops and looks find them.
-use Rattle.std.proofs.Common.{◌≡◌, ◌∙◌, ℕ, ◌+◌, ◌*◌, ◌<◌, ◌≤◌, ◌&&◌, Bool, true, false, not, cond, List, Option}
-use Rattle.std.proofs.Common.{Some, None, refl, sym, ap, arith, ltb, leb, add-one}
+use Rattle.std.proofs.Common.{◌≡◌, ◌∙◌, ℕ, ◌+◌, ◌*◌, ◌<◌, ◌≤◌, ◌&&◌, Bool, true, false, not, List, Option}
+use Rattle.std.proofs.Common.{Some, None, refl, sym, ap, arith, leb, add-one}
 use Rattle.std.specs.Option.{option_map, option_and_then}
 use Rattle.std.specs.FinSet as sets
 use Rattle.std.specs.Prelude.{IfSome, IfNone}
@@ -14,14 +14,12 @@ use Rattle.go_rules.specs.Strings.{cell_at, same_cell, is_liberty, is_in_string,
 use Rattle.go_base.specs.Floods.{enemy_points}
 use Rattle.go_base.specs.Sides.{neighbour_at}
 use Rattle.read_rules.specs.Candidates.{is_empty_beside}
-use Rattle.read_rules.specs.declared.turn.Turn.{Turn}
-use Rattle.read_rules.specs.Trees.{is_wider}
 use Rattle.go_rules.proofs.Counts.{first_below_is, first_below_none, any_below_same, any_below_from, any_below_false}
 use Rattle.go_rules.proofs.Sets.{contains-set_below, len-set_below}
 use Rattle.sure_proof.specs.Rests.{Points, union_below, first_of, first_within, two_within, shown_by, shows_atari}
 use Rattle.sure_proof.specs.Rests.{is_empty_at, has_empty_neighbour}
-use Rattle.sure_proof.specs.Rests.{is_open, open_neighbour, most_of_enemy, weak_enemy_at, linked_at}
-use Rattle.sure_proof.specs.Rests.{else_point, shown_at}
+use Rattle.sure_proof.specs.Rests.{is_open, open_neighbour, weak_enemy_at, linked_at}
+use Rattle.sure_proof.specs.Rests.{else_point}
 use Rattle.wider_rules.specs.Further.{is_weak_enemy, is_linked, few_of_parted}
 use Rattle.wider_rules.proofs.StringLemmas.{has_enemy}
 
@@ -48,10 +46,6 @@ module _ (Z S : Points) where
   pub within_by : (first second : Option ℕ) → first_of (sets.intersection S Z) ≡ first → first_of S ≡ second
       → first_within Z S ≡ else_point first second
   within_by first second a b = ap (λ o. else_point o (first_of S)) a ∙ ap (else_point first) b
-
-  -- without a first point there are no two
-  pub two_none : first_within Z S ≡ None → two_within Z S ≡ None
-  two_none e = grind arith
 
   -- behind the first come those of the rest
   pub two_behind : (l : ℕ) (o : Option ℕ) → first_within Z S ≡ Some l → first_within Z (sets.remove S l) ≡ o
@@ -191,18 +185,3 @@ module _ (s : ℕ) (cells : List Cell) (target p : ℕ) where
       → linked_at s cells target p ≡ None
   unfolding linked_at
   linked_none n all none = grind (arith, first_below_none)
-
--- What shows a candidate, beside the target's string.
-module _ (turn : Turn) (s : ℕ) (cells : List Cell) (p : ℕ) where
-  -- a weak enemy, if there is one
-  pub shown_weak : (q : ℕ) → weak_enemy_at (most_of_enemy turn.tree) s cells turn.target p ≡ Some q
-      → shown_at turn s cells p ≡ Some q
-  unfolding shown_at
-  shown_weak q is = grind arith
-
-  -- if there is none, a linked string in a wide ply of the wider tree
-  pub shown_linked : (b : Bool) → (ltb 0 turn.wide && is_wider turn.tree) ≡ b
-      → weak_enemy_at (most_of_enemy turn.tree) s cells turn.target p ≡ None
-      → shown_at turn s cells p ≡ cond b (linked_at s cells turn.target p) None
-  unfolding shown_at
-  shown_linked b wide is = grind arith
